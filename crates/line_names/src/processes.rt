@@ -1,0 +1,126 @@
+//! Processes and sets of them.
+ghost use Rattle.std.specs.Prelude.{◌≡◌, ◌≢◌, ◌<◌, ◌≤◌, ℕ, false, IsTrue, OkIff};
+ghost use Rattle.line_names.specs.Sets.{nobody, with_member, is_member};
+
+use crate::limits::MOST_PROCESSES;
+use std::error::Error;
+use std::fmt;
+use std::marker::Model;
+
+/// The number of a process, from 0.
+///
+/// It is below `MOST_PROCESSES`; whether a computation has that process is asked where one is at hand.
+#[derive(Clone, Copy, Debug, PartialEq, Eq, PartialOrd, Ord, Hash)]
+pub struct ProcId {
+    value: u32,
+}
+
+impl Model for ProcId {
+    ghost use Rattle.std.specs.Prelude.{ℕ, ◌<◌};
+    ghost use Rattle.line_names.specs.declared.limits.TheConstants.{MOST_PROCESSES};
+
+    ghost Value = { ℕ };
+
+    ghost view = { λ p. p.value };
+
+    ghost invariant = { λ p. p.value < MOST_PROCESSES };
+
+    ghost inverse = { λ n. record { value = n } };
+}
+
+impl ProcId {
+    /// The process of this number, among `n` processes.
+    pub fn try_new(value: u32, n: u32) -> Result<ProcId, ProcIdError>
+        requires { n ≤ MOST_PROCESSES }
+        ensures { OkIff result (value < n) value }
+    {
+        if value < n {
+            Ok(ProcId { value })
+        } else {
+            Err(ProcIdError::NoSuchProcess)
+        }
+    }
+
+    /// Its number.
+    pub fn get(self) -> u32
+        ensures value { result ≡ self }
+        ensures few { result < MOST_PROCESSES }
+    {
+        self.value
+    }
+}
+
+/// Why there is no such name of a process.
+#[derive(Clone, Copy, Debug, PartialEq, Eq, Hash)]
+pub enum ProcIdError {
+    NoSuchProcess,
+}
+
+impl ProcIdError {
+    /// The number of the refusal, as replies show it.
+    pub fn code(self) -> u32
+        ensures { result ≡ 1 }
+    {
+        match self {
+            ProcIdError::NoSuchProcess => 1,
+        }
+    }
+}
+
+impl fmt::Display for ProcIdError {
+    fn fmt<W: fmt::Write>(&self, f: &mut fmt::Formatter<W>) -> fmt::Result {
+        match self {
+            ProcIdError::NoSuchProcess => {
+                f.write_str("the number is not below the number of processes")
+            }
+        }
+    }
+}
+
+impl Error for ProcIdError {}
+
+/// A set of processes, as the failed ones.
+#[derive(Clone, Copy, Debug, PartialEq, Eq)]
+pub struct ProcSet {
+    members: [bool; MOST_PROCESSES],
+}
+
+impl Model for ProcSet {
+    ghost use Rattle.std.specs.Prelude.{Bool, List};
+
+    ghost Value = { List Bool };
+
+    ghost view = { λ s. s.members };
+
+    ghost inverse = { λ members. record { members = members } };
+}
+
+impl ProcSet {
+    /// The set that has no process.
+    pub fn empty() -> ProcSet
+        ensures value { result ≡ nobody }
+        ensures none { (q : ℕ) → is_member result q ≡ false }
+    {
+        ProcSet {
+            members: [false; MOST_PROCESSES],
+        }
+    }
+
+    /// The set with one more process; with a member of it, the set as it is.
+    pub fn with(self, p: ProcId) -> ProcSet
+        ensures value { result ≡ with_member self p }
+        ensures member { IsTrue (is_member result p) }
+        ensures others { (q : ℕ) → q ≢ p → is_member result q ≡ is_member self q }
+    {
+        let mut members = self.members;
+        members[p.get() as usize] = true;
+        ProcSet { members }
+    }
+
+    /// Whether the process is in the set.
+    pub fn has(&self, p: ProcId) -> bool
+        ensures { result ≡ is_member self.now p }
+    {
+        self.members[p.get() as usize]
+    }
+}
