@@ -1,3 +1,4 @@
+pub mod Names
 pub mod Order
 pub mod Lines
 pub mod Sets

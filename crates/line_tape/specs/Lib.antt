@@ -1,0 +1,10 @@
+pub mod Event
+pub mod Front
+pub mod History
+pub mod Line
+pub mod Survival
+pub mod Chain
+pub mod Transit
+pub mod Restart
+pub mod Views
+pub mod Kept

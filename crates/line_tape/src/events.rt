@@ -1,0 +1,106 @@
+//! Events, and the states that checks store.
+ghost use Rattle.std.specs.Prelude.{◌≡◌, IfOk, MatchOption, Some, None};
+ghost use Rattle.line_tape.specs.Event.{state_of};
+
+use line_names::{Body, MsgName, ProcId};
+use std::alloc::{AllocError, Global};
+use std::marker::Model;
+
+/// The bytes that a check stores, to go on from.
+#[derive(Debug, Drop)]
+pub struct State {
+    bytes: Vec<u8>,
+}
+
+impl Model for State {
+    ghost use Rattle.std.specs.Prelude.{ℕ, List};
+
+    ghost Value = { List ℕ };
+
+    ghost view = { λ s. s.bytes.items };
+}
+
+impl State {
+    /// The state of these bytes.
+    ///
+    /// It may be of any length; a tape takes at most `MOST_STATE` bytes.
+    pub fn of(bytes: Vec<u8>) -> State
+        ensures { result ≡ bytes.items }
+    {
+        State { bytes }
+    }
+
+    /// Its bytes.
+    pub fn bytes(&self) -> &[u8]
+        ensures { result.now ≡ self.now }
+    {
+        self.bytes.as_slice()
+    }
+
+    /// Its bytes, for the caller to keep.
+    pub fn into_bytes(self) -> Vec<u8>
+        ensures { result.items ≡ self }
+    {
+        self.bytes
+    }
+
+    /// The same bytes in memory of their own.
+    pub fn copy(&self, alloc: Global) -> Result<State, AllocError>
+        ensures { IfOk result (λ state. state ≡ self.now) }
+    {
+        let bytes = Vec::from_slice(alloc, self.bytes.as_slice())?;
+        Ok(State { bytes })
+    }
+}
+
+/// What happens at a process.
+#[derive(Debug, Drop)]
+pub enum Event {
+    /// It sent a message to another process, under the incarnation that it had.
+    Send { to: ProcId, inc: u16, body: Body },
+    /// It received a message.
+    Recv { message: MsgName },
+    /// It took a check; one that belongs to a round carries the round's number.
+    Check { state: State, round: Option<u32> },
+    /// It received the marker of a round.
+    Mark { from: ProcId, round: u32 },
+}
+
+impl Event {
+    /// The bytes that it stores, where it is a check.
+    pub fn state(&self) -> Option<&[u8]>
+        ensures { MatchOption result (state_of self.now ≡ None) (λ bytes. state_of self.now ≡ Some bytes.now) }
+    {
+        match self {
+            Event::Send { .. } => None,
+            Event::Recv { .. } => None,
+            Event::Check { state, .. } => Some(state.bytes()),
+            Event::Mark { .. } => None,
+        }
+    }
+
+    /// The same event in memory of its own.
+    pub fn copy(&self, alloc: Global) -> Result<Event, AllocError>
+        ensures { IfOk result (λ event. event ≡ self.now) }
+    {
+        match self {
+            Event::Send { to, inc, body } => Ok(Event::Send {
+                to: *to,
+                inc: *inc,
+                body: body.copy(),
+            }),
+            Event::Recv { message } => Ok(Event::Recv { message: *message }),
+            Event::Check { state, round } => {
+                let state = state.copy(alloc)?;
+                Ok(Event::Check {
+                    state,
+                    round: *round,
+                })
+            }
+            Event::Mark { from, round } => Ok(Event::Mark {
+                from: *from,
+                round: *round,
+            }),
+        }
+    }
+}

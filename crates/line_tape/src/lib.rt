@@ -1,0 +1,13 @@
+//! Tapes and histories, with the definitions that every other crate of recline cites.
+//!
+//! A history has one tape of events for each process. A choice of a process is its initial state, one of its checks or where it stands now; a line picks one choice for each process. What is consistent, which line is the latest, what is in transit and what a restart leaves is defined in `specs/`, over plain lists of events.
+#![tactic(auto)]
+
+mod events;
+mod limits;
+mod receipts;
+mod tapes;
+
+pub use events::{Event, State};
+pub use limits::{MOST_EVENTS, MOST_STATE};
+pub use tapes::{Tape, TapeError};

@@ -1,0 +1,7 @@
+//! How many, and how long.
+
+/// The greatest number of events of one tape.
+pub const MOST_EVENTS: usize = 1_000_000;
+
+/// The greatest length of the state that a check stores, in bytes.
+pub const MOST_STATE: usize = 4_096;

@@ -1,0 +1,342 @@
+//! The tape of one process.
+ghost use Rattle.std.specs.Prelude.{◌≡◌, ◌≢◌, ◌<◌, ◌≤◌, ◌+◌, ◌↔◌, [], ◌∷◌, ◌++◌, length, OnOk, OnErr, IfOk, IsErrOf, IsOk, IsTrue, Contains, slice_get, vec_len, vec_capacity, Some, false};
+ghost use Rattle.std.specs.Option.{SomeIff};
+ghost use Rattle.line_tape.specs.declared.events.Event.TheVariants.{Recv};
+ghost use Rattle.line_tape.specs.declared.tapes.TapeError.TheVariants.{StateTooLong, TapeFull, OutOfMemory};
+ghost use Rattle.line_tape.specs.Event.{checks, sends, stored_state, Holds, HasLongState, IsShort};
+ghost use Rattle.line_tape.specs.Front.{place, front, HasChoice};
+ghost use Rattle.line_tape.specs.Kept.{AreRows};
+
+use crate::events::Event;
+use crate::limits::{MOST_EVENTS, MOST_STATE};
+use crate::receipts::Receipts;
+use line_names::{Choice, MOST_BODY, MsgName};
+use std::alloc::{AllocError, Global};
+use std::error::Error;
+use std::fmt;
+use std::marker::Model;
+
+/// Where a check stands: how many events, and how many sends, are before the choice of it.
+#[derive(Clone, Copy)]
+pub struct CheckRow {
+    pub place: u32,
+    pub sends: u32,
+}
+
+/// The events of one process, in their order.
+///
+/// Beside them it keeps where its checks stand, the incarnations of its sends and where each message was first received, so that no question scans the events.
+#[derive(Drop)]
+pub struct Tape {
+    events: Vec<Event>,
+    checks: Vec<CheckRow>,
+    incarnations: Vec<u16>,
+    receipts: Receipts,
+}
+
+impl Model for Tape {
+    ghost use Rattle.std.specs.Prelude.{◌-◌, min, vec_len, vec_capacity};
+    ghost use Rattle.line_tape.specs.Views.{TapeView};
+
+    ghost Value = { TapeView };
+
+    ghost use Rattle.line_tape.specs.Kept.{IsIndexed, receipts_room};
+
+    ghost view = { λ t. record {
+        events = t.events.items;
+        room = min (min (vec_capacity t.events - vec_len t.events) (receipts_room t.receipts))
+            (min (vec_capacity t.checks - vec_len t.checks) (vec_capacity t.incarnations - vec_len t.incarnations))
+    } };
+
+    ghost invariant = { λ t. IsIndexed t.events.items t.checks.items t.incarnations.items t.receipts };
+}
+
+/// Whether the event stores or carries more than a tape takes. A body never does.
+fn is_too_long(event: &Event) -> bool
+    ensures long { IsTrue result ↔ HasLongState event.now }
+    ensures short { result ≡ false → IsShort event.now }
+{
+    match event {
+        Event::Send { body, .. } => body.bytes().len() > MOST_BODY,
+        Event::Recv { .. } => false,
+        Event::Check { state, .. } => state.bytes().len() > MOST_STATE,
+        Event::Mark { .. } => false,
+    }
+}
+
+#[tactic(auto, using(crate::proofs::RowLemmas::sends_le))]
+/// Keeps the rows and the incarnations right for an event that is added, where there is room for it.
+fn note_event(
+    event: &Event,
+    events: &[Event],
+    checks: &mut Vec<CheckRow>,
+    incarnations: &mut Vec<u16>,
+)
+    requires rows { AreRows events.now checks.old.items incarnations.old.items }
+    requires few { length events.now < MOST_EVENTS }
+    requires checks_room { vec_len checks.old < vec_capacity checks.old }
+    requires sends_room { vec_len incarnations.old < vec_capacity incarnations.old }
+    ensures rows { AreRows (events.now ++ event.now ∷ []) checks.new.items incarnations.new.items }
+    ensures checks_room { (vec_capacity checks.old ≤ vec_capacity checks.new) × (vec_len checks.new ≤ vec_len checks.old + 1) }
+    ensures sends_room { (vec_capacity incarnations.old ≤ vec_capacity incarnations.new) × (vec_len incarnations.new ≤ vec_len incarnations.old + 1) }
+{
+    match event {
+        Event::Send { inc, .. } => {
+            incarnations.push(*inc).unwrap();
+        }
+        Event::Check { .. } => {
+            let row = CheckRow {
+                place: events.len() as u32 + 1,
+                sends: incarnations.len() as u32,
+            };
+            checks.push(row).unwrap();
+        }
+        Event::Recv { .. } => {}
+        Event::Mark { .. } => {}
+    }
+}
+
+impl Tape {
+    /// The tape of a process that has done nothing yet.
+    pub fn new(alloc: Global) -> Tape
+        ensures { result.events ≡ [] }
+    {
+        Tape {
+            events: Vec::new(alloc),
+            checks: Vec::new(alloc),
+            incarnations: Vec::new(alloc),
+            receipts: Receipts::new(alloc),
+        }
+    }
+
+    /// How many events it has.
+    pub fn len(&self) -> u32
+        ensures value { result ≡ length self.now.events }
+        ensures few { result ≤ MOST_EVENTS }
+    {
+        self.events.len() as u32
+    }
+
+    /// Whether it has no event yet.
+    pub fn is_empty(&self) -> bool
+        ensures { IsTrue result ↔ (self.now.events ≡ []) }
+    {
+        self.events.is_empty()
+    }
+
+    /// The event behind `i` others.
+    pub fn event(&self, i: u32) -> &Event
+        requires { i < length self.now.events }
+        ensures { slice_get self.now.events i ≡ Some result.now }
+    {
+        &self.events[i as usize]
+    }
+
+    /// How many sends it has.
+    #[tactic(auto, using(crate::proofs::RowLemmas::sends_le))]
+    pub fn sends(&self) -> u32
+        ensures value { result ≡ sends self.now.events }
+        ensures few { result ≤ MOST_EVENTS }
+    {
+        self.incarnations.len() as u32
+    }
+
+    /// How many checks it has, its initial state not counted.
+    #[tactic(auto, using(crate::proofs::RowLemmas::checks_le))]
+    pub fn checks(&self) -> u32
+        ensures value { result ≡ checks self.now.events }
+        ensures few { result ≤ MOST_EVENTS }
+    {
+        self.checks.len() as u32
+    }
+
+    /// How many events stand before a choice; none where the tape has no such check.
+    pub fn place(&self, choice: Choice) -> Option<u32>
+        ensures { SomeIff result (HasChoice self.now.events choice) (place self.now.events choice) }
+    {
+        match choice {
+            Choice::Check(0) => Some(0),
+            Choice::Check(c) => {
+                if c <= self.checks() {
+                    Some(self.checks[c as usize - 1].place)
+                } else {
+                    None
+                }
+            }
+            Choice::Now => Some(self.len()),
+        }
+    }
+
+    /// How many sends stand before a choice.
+    pub fn sends_before(&self, choice: Choice) -> u32
+        requires { HasChoice self.now.events choice }
+        ensures { result ≡ sends (front self.now.events choice) }
+    {
+        match choice {
+            Choice::Check(0) => 0,
+            Choice::Check(c) => self.checks[c as usize - 1].sends,
+            Choice::Now => self.sends(),
+        }
+    }
+
+    /// Whether the send of that number, counted from 0, stands before a choice and has that incarnation.
+    pub fn sent_before(&self, choice: Choice, inc: u16, number: u32) -> bool
+        requires { HasChoice self.now.events choice }
+        ensures { IsTrue result ↔ Holds (front self.now.events choice) inc number }
+    {
+        number < self.sends_before(choice) && self.incarnations[number as usize] == inc
+    }
+
+    /// Whether a receipt of the message stands before a choice.
+    pub fn received_before(&self, choice: Choice, message: &MsgName) -> bool
+        requires { HasChoice self.now.events choice }
+        ensures { IsTrue result ↔ Contains (front self.now.events choice) (Recv message.now) }
+    {
+        match self.place(choice) {
+            Some(end) => self.receipts.is_before(message, end),
+            None => false,
+        }
+    }
+
+    /// The events that stand before a choice.
+    #[tactic(auto, using(crate::proofs::FrontLemmas::place_le))]
+    pub fn front(&self, choice: Choice) -> &[Event]
+        requires { HasChoice self.now.events choice }
+        ensures { result.now ≡ front self.now.events choice }
+    {
+        match self.place(choice) {
+            Some(place) => &self.events[..place as usize],
+            None => &[],
+        }
+    }
+
+    /// The bytes that a check stores; none for the initial state, which is check 0.
+    pub fn state(&self, check: u32) -> &[u8]
+        requires { check ≤ checks self.now.events }
+        ensures { result.now ≡ stored_state self.now.events check }
+    {
+        if check == 0 {
+            return &[];
+        }
+        let place = self.checks[check as usize - 1].place;
+        match self.events[place as usize - 1].state() {
+            Some(bytes) => bytes,
+            None => unreachable!(),
+        }
+    }
+
+    /// Makes room for so many further events: the next `k` pushes take no memory.
+    pub fn reserve(&mut self, k: u32) -> Result<(), AllocError>
+        ensures same { self.new.events ≡ self.old.events }
+        ensures ok { OnOk result (k ≤ self.new.room) }
+        ensures succeeds { k ≤ self.old.room → IsOk result }
+        ensures room { self.old.room ≤ self.new.room }
+    {
+        self.events.reserve(k as usize)?;
+        self.checks.reserve(k as usize)?;
+        self.incarnations.reserve(k as usize)?;
+        self.receipts.reserve(k as usize)
+    }
+
+    /// Adds an event at the end, in room that was made for it.
+    fn append(&mut self, event: Event)
+        requires room { 0 < self.old.room }
+        requires few { length self.old.events < MOST_EVENTS }
+        requires short { IsShort event }
+        ensures events { self.new.events ≡ self.old.events ++ event ∷ [] }
+        ensures room { self.old.room ≤ self.new.room + 1 }
+    {
+        let place = self.events.len() as u32;
+        note_event(
+            &event,
+            &self.events,
+            &mut self.checks,
+            &mut self.incarnations,
+        );
+        self.receipts.note(&event, place);
+        self.events.push(event).unwrap();
+    }
+
+    /// Adds an event at the end.
+    pub fn push(&mut self, event: Event) -> Result<(), TapeError>
+        ensures ok { OnOk result (self.new.events ≡ self.old.events ++ event ∷ []) }
+        ensures err { OnErr result (self.new.events ≡ self.old.events) }
+
+        // The refusals, in their order.
+        ensures long { IsErrOf result TapeError.StateTooLong ↔ HasLongState event }
+        ensures full { IsErrOf result TapeError.TapeFull
+            ↔ ((HasLongState event → ⊥) × (length self.old.events ≡ MOST_EVENTS)) }
+
+        // With room there is no want of memory, and one event takes room for one at most.
+        ensures room { 0 < self.old.room → result ≢ Err TapeError.OutOfMemory }
+        ensures spent { self.old.room ≤ self.new.room + 1 }
+    {
+        if is_too_long(&event) {
+            return Err(TapeError::StateTooLong);
+        }
+        if self.events.len() >= MOST_EVENTS {
+            return Err(TapeError::TapeFull);
+        }
+        self.reserve(1)?;
+        self.append(event);
+        Ok(())
+    }
+
+    /// The same events in memory of their own.
+    pub fn copy(&self, alloc: Global) -> Result<Tape, AllocError>
+        ensures { IfOk result (λ tape. tape.events ≡ self.now.events) }
+    {
+        let mut tape = Tape::new(alloc);
+        tape.reserve(self.len())?;
+        for event in &self.events {
+            tape.append(event.copy(alloc)?);
+        }
+        Ok(tape)
+    }
+}
+
+/// Why an event was not added to a tape.
+#[derive(Clone, Copy, Debug, PartialEq, Eq, Hash)]
+pub enum TapeError {
+    OutOfMemory,
+    StateTooLong,
+    TapeFull,
+}
+
+impl TapeError {
+    /// The number of the refusal, as replies show it.
+    pub fn code(self) -> u32
+        ensures memory { self ≡ TapeError.OutOfMemory → result ≡ 0 }
+        ensures long { self ≡ TapeError.StateTooLong → result ≡ 5 }
+        ensures full { self ≡ TapeError.TapeFull → result ≡ 3 }
+    {
+        match self {
+            TapeError::OutOfMemory => 0,
+            TapeError::StateTooLong => 5,
+            TapeError::TapeFull => 3,
+        }
+    }
+}
+
+impl fmt::Display for TapeError {
+    fn fmt<W: fmt::Write>(&self, f: &mut fmt::Formatter<W>) -> fmt::Result {
+        match self {
+            TapeError::OutOfMemory => f.write_str("out of memory"),
+            TapeError::StateTooLong => write!(f, "the state is longer than {MOST_STATE} bytes"),
+            TapeError::TapeFull => write!(f, "the tape has no room under {MOST_EVENTS} events"),
+        }
+    }
+}
+
+impl Error for TapeError {}
+
+impl From<AllocError> for TapeError {
+    ghost use Rattle.std.specs.Prelude.{◌≡◌};
+    ghost use Rattle.line_tape.specs.declared.tapes.TapeError.TheVariants.{OutOfMemory};
+
+    ghost from_gives = { λ _ e. e ≡ OutOfMemory };
+
+    fn from(_refused: AllocError) -> TapeError {
+        TapeError::OutOfMemory
+    }
+}
