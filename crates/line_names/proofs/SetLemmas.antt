@@ -1,5 +1,5 @@
 -- Members of sets of processes.
-use Rattle.std.proofs.Common.{◌≡◌, ℕ, zero, suc, false, List, [], ◌∷◌, get_or, replicate, refl}
+use Rattle.std.proofs.Common.{◌≡◌, ℕ, zero, suc, false, replicate, refl}
 use Rattle.line_names.specs.Sets.{is_member}
 
 -- a set that has no process has none of them

@@ -35,14 +35,18 @@ with_event history p event =
 abbrev pub with_incarnation : List Process → ℕ → ℕ → List Process
 with_incarnation history p inc = slice_set history p (record (process_at history p) { incarnation = inc })
 
--- a tape of n processes, within the limits
-pub record IsTape (n : ℕ) (process : Process) : Type 0 where
-  pub few : length process.tape ≤ MOST_EVENTS
-  pub short : All IsShort process.tape
+-- what holds of the events of every tape: it keeps within the limits
+pub record IsTape (events : List Event) : Type 0 where
+  pub few : length events ≤ MOST_EVENTS
+  pub short : All IsShort events
+
+-- what holds of every process among n: its events name these alone
+pub record IsProcess (n : ℕ) (process : Process) : Type 0 where
+  pub tape : IsTape process.tape
   pub named : All (NamesBelow n) process.tape
 
 -- what holds of every history
 pub record IsHistory (history : List Process) : Type 0 where
   pub some : 1 ≤ length history
   pub few : length history ≤ MOST_PROCESSES
-  pub tapes : All (IsTape (length history)) history
+  pub processes : All (IsProcess (length history)) history

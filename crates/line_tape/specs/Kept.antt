@@ -1,15 +1,15 @@
 -- What a tape keeps beside its events, so that no question scans them.
-use Rattle.std.specs.Prelude.{◌≡◌, ℕ, suc, ◌<◌, ◌≤◌, List, length, take, slice_index_or, All, Option, Some, None, Contains}
+use Rattle.std.specs.Prelude.{◌≡◌, ℕ, suc, ◌<◌, ◌≤◌, List, length, take, slice_index_or, Option, Some, None, Contains}
 use Rattle.std.specs.HashMap.{get, spare}
 use Rattle.line_names.specs.declared.messages.MsgName.{MsgName}
 use Rattle.line_names.specs.Names.{is_name}
 use Rattle.line_tape.specs.declared.events.Event.{Event}
 use Rattle.line_tape.specs.declared.events.Event.TheVariants.{Recv}
-use Rattle.line_tape.specs.declared.limits.TheConstants.{MOST_EVENTS}
 use Rattle.line_tape.specs.declared.receipts.Receipts.{Receipts}
 use Rattle.line_tape.specs.declared.tapes.CheckRow.{CheckRow}
-use Rattle.line_tape.specs.Event.{checks, incarnations_sent, sends, IsShort}
+use Rattle.line_tape.specs.Event.{checks, incarnations_sent, sends}
 use Rattle.line_tape.specs.Front.{check_place}
+use Rattle.line_tape.specs.History.{IsTape}
 
 -- the row of the check that stands at this index, counted from 0
 pub record IsRow (events : List Event) (index : ℕ) (row : CheckRow) : Type 0 where
@@ -40,9 +40,8 @@ first_place receipts = get is_name receipts.first
 abbrev pub receipts_room : Receipts → ℕ
 receipts_room receipts = spare receipts.first
 
--- events within the limits of a tape, and an index that answers for them
+-- the events of a tape, and an index that answers for them
 pub record IsIndexed (events : List Event) (rows : List CheckRow) (incarnations : List ℕ) (receipts : Receipts) : Type 0 where
-  pub few : length events ≤ MOST_EVENTS
-  pub short : All IsShort events
+  pub tape : IsTape events
   pub checked : AreRows events rows incarnations
   pub received : AreFirst events (first_place receipts)

@@ -8,3 +8,5 @@ pub mod Transit
 pub mod Restart
 pub mod Views
 pub mod Kept
+pub mod Plain
+pub mod Refusals

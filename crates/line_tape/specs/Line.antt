@@ -31,7 +31,11 @@ pub record IsOrphan (history : List Process) (line : List Choice) (q : ℕ) (mes
   pub received : IsReceivedBefore history line q message
   pub unsent : IsSentBefore history line message → ⊥
 
--- no message is received before the line that is not sent before it
+-- each message that is received among these events is sent before the line
+abbrev pub AreSentBefore : List Process → List Choice → List Event → Type 0
+AreSentBefore history line events =
+    (message : MsgName) → Contains events (Recv message) → IsSentBefore history line message
+
+-- no process has received a message before the line that is not sent before it
 abbrev pub IsConsistent : List Process → List Choice → Type 0
-IsConsistent history line =
-    (q : ℕ) (message : MsgName) → IsReceivedBefore history line q message → IsSentBefore history line message
+IsConsistent history line = (q : ℕ) → AreSentBefore history line (events_before history line q)

@@ -1,6 +1,6 @@
 //! Events, and the states that checks store.
-ghost use Rattle.std.specs.Prelude.{◌≡◌, IfOk, MatchOption, Some, None};
-ghost use Rattle.line_tape.specs.Event.{state_of};
+ghost use Rattle.std.specs.Prelude.{◌≡◌, ◌↔◌, IsTrue, IfOk, MatchOption, Some, None};
+ghost use Rattle.line_tape.specs.Event.{state_of, NamesBelow};
 
 use line_names::{Body, MsgName, ProcId};
 use std::alloc::{AllocError, Global};
@@ -67,6 +67,18 @@ pub enum Event {
 }
 
 impl Event {
+    /// Whether each process that it names is below `n`.
+    pub fn names_below(&self, n: u32) -> bool
+        ensures { IsTrue result ↔ NamesBelow n self.now }
+    {
+        match self {
+            Event::Send { to, .. } => to.get() < n,
+            Event::Recv { message } => message.from.get() < n,
+            Event::Check { .. } => true,
+            Event::Mark { from, .. } => from.get() < n,
+        }
+    }
+
     /// The bytes that it stores, where it is a check.
     pub fn state(&self) -> Option<&[u8]>
         ensures { MatchOption result (state_of self.now ≡ None) (λ bytes. state_of self.now ≡ Some bytes.now) }

@@ -4,10 +4,20 @@
 #![tactic(auto)]
 
 mod events;
+mod histories;
+mod laws;
 mod limits;
+mod lines;
+mod marks;
 mod receipts;
+mod survival;
 mod tapes;
 
 pub use events::{Event, State};
+pub use histories::{CountError, History, HistoryError};
+pub use laws::chain_makes_latest;
 pub use limits::{MOST_EVENTS, MOST_STATE};
+pub use lines::{is_consistent, is_sent_before};
+pub use marks::{MarkError, Marks};
+pub use survival::{first_ceilings, latest_choice, next_lower, survives};
 pub use tapes::{Tape, TapeError};

@@ -5,6 +5,7 @@ ghost use Rattle.line_tape.specs.declared.events.Event.TheVariants.{Recv};
 ghost use Rattle.line_tape.specs.declared.tapes.TapeError.TheVariants.{StateTooLong, TapeFull, OutOfMemory};
 ghost use Rattle.line_tape.specs.Event.{checks, sends, stored_state, Holds, HasLongState, IsShort};
 ghost use Rattle.line_tape.specs.Front.{place, front, HasChoice};
+ghost use Rattle.line_tape.specs.History.{IsTape};
 ghost use Rattle.line_tape.specs.Kept.{AreRows};
 
 use crate::events::Event;
@@ -112,7 +113,7 @@ impl Tape {
     /// How many events it has.
     pub fn len(&self) -> u32
         ensures value { result ≡ length self.now.events }
-        ensures few { result ≤ MOST_EVENTS }
+        ensures limits { IsTape self.now.events }
     {
         self.events.len() as u32
     }
@@ -270,11 +271,14 @@ impl Tape {
         // With room there is no want of memory, and one event takes room for one at most.
         ensures room { 0 < self.old.room → result ≢ Err TapeError.OutOfMemory }
         ensures spent { self.old.room ≤ self.new.room + 1 }
+
+        ensures limits { IsTape self.new.events }
     {
+        let len = self.events.len();
         if is_too_long(&event) {
             return Err(TapeError::StateTooLong);
         }
-        if self.events.len() >= MOST_EVENTS {
+        if len >= MOST_EVENTS {
             return Err(TapeError::TapeFull);
         }
         self.reserve(1)?;

@@ -1,0 +1,72 @@
+-- The latest surviving choice, and the next lower one.
+use Rattle.std.proofs.Common.{◌≡◌, ◌≢◌, ℕ, zero, suc, ◌-◌, ◌≤◌, Bool, true, false, not, ◌&&◌, leb, cond, List, refl, sym, ap, ◌∙◌, arith}
+use Rattle.std.proofs.lemmas.Bool.{false≢true}
+use Rattle.std.proofs.lemmas.Bool.Decides.{nat_tests}
+use Rattle.line_names.specs.declared.choices.Choice.{Choice}
+use Rattle.line_names.specs.declared.choices.Choice.TheVariants.{Check as AtCheck, Now}
+use Rattle.line_names.specs.Order.{IsNoLater}
+use Rattle.line_tape.specs.Event.{checks}
+use Rattle.line_tape.specs.History.{Process, tape_at}
+use Rattle.line_tape.specs.Survival.{survives, is_damaged}
+use Rattle.line_tape.specs.Chain.{latest_check, latest_choice, next_lower}
+use Rattle.line_tape.specs.Views.{MarksView}
+
+pub IsNoLater-refl : (a : Choice) → IsNoLater a a
+IsNoLater-refl (AtCheck a) = omega arith
+IsNoLater-refl Now = tt
+
+-- a check that passes is at most the latest one
+latest_check_at : (passes : Choice → Bool) (c a : ℕ) (b : Bool) → b ≡ passes (AtCheck (suc c)) → a ≤ suc c → passes (AtCheck a) ≡ true → (a ≤ c → IsNoLater (AtCheck a) (latest_check passes c)) → IsNoLater (AtCheck a) (cond b (AtCheck (suc c)) (latest_check passes c))
+latest_check_at passes c a true e h l rest = h
+latest_check_at passes c a false e h l rest =
+    let apart : a ≢ suc c = λ q. false≢true (e ∙ ap (λ k. passes (AtCheck k)) (sym q) ∙ l) in
+    rest (omega arith)
+
+pub latest_check_above : (passes : Choice → Bool) (c a : ℕ) → a ≤ c → passes (AtCheck a) ≡ true → IsNoLater (AtCheck a) (latest_check passes c)
+latest_check_above passes zero a h l = h
+latest_check_above passes (suc c) a h l = latest_check_at passes c a (passes (AtCheck (suc c))) refl h l (λ k. latest_check_above passes c a k l)
+
+latest_check_passes_at : (passes : Choice → Bool) (c : ℕ) (b : Bool) → b ≡ passes (AtCheck (suc c)) → passes (latest_check passes c) ≡ true → passes (cond b (AtCheck (suc c)) (latest_check passes c)) ≡ true
+latest_check_passes_at passes c true e rest = sym e
+latest_check_passes_at passes c false e rest = rest
+
+pub latest_check_passes : (passes : Choice → Bool) (c : ℕ) → passes (AtCheck 0) ≡ true → passes (latest_check passes c) ≡ true
+latest_check_passes passes zero h = h
+latest_check_passes passes (suc c) h = latest_check_passes_at passes c (passes (AtCheck (suc c))) refl (latest_check_passes passes c h)
+
+module _ (history : List Process) (marks : MarksView) (failed : List Bool) (p : ℕ) where
+  -- a surviving check is one of the tape's
+  pub survives_within : (c : ℕ) → survives history marks failed p (AtCheck c) ≡ true → c ≤ checks (tape_at history p)
+  survives_within zero h = omega arith
+  survives_within (suc c) h =
+      elim (leb (suc c) (checks (tape_at history p))) as (λ b. b ≡ leb (suc c) (checks (tape_at history p)) → (b && not (is_damaged marks p (suc c))) ≡ true → suc c ≤ checks (tape_at history p)) [ true ↦ λ e k. grind (arith, nat_tests) | false ↦ λ e k. absurd (false≢true k) ] refl h
+
+  latest_choice_at : (b : Bool) → b ≡ survives history marks failed p Now → (c : Choice) → survives history marks failed p c ≡ true → IsNoLater c (cond b Now (latest_check (survives history marks failed p) (checks (tape_at history p))))
+  latest_choice_at true e (AtCheck c) h = tt
+  latest_choice_at true e Now h = tt
+  latest_choice_at false e (AtCheck c) h = latest_check_above (survives history marks failed p) (checks (tape_at history p)) c (survives_within c h) h
+  latest_choice_at false e Now h = absurd (false≢true (e ∙ h))
+
+  -- no surviving choice is later than the latest
+  pub latest_choice_above : (c : Choice) → survives history marks failed p c ≡ true → IsNoLater c (latest_choice history marks failed p)
+  latest_choice_above c h = latest_choice_at (survives history marks failed p Now) refl c h
+
+  latest_choice_survives_at : (b : Bool) → b ≡ survives history marks failed p Now → survives history marks failed p (cond b Now (latest_check (survives history marks failed p) (checks (tape_at history p)))) ≡ true
+  latest_choice_survives_at true e = sym e
+  latest_choice_survives_at false e = latest_check_passes (survives history marks failed p) (checks (tape_at history p)) refl
+
+  pub latest_choice_survives : survives history marks failed p (latest_choice history marks failed p) ≡ true
+  latest_choice_survives = latest_choice_survives_at (survives history marks failed p Now) refl
+
+  pub next_lower_survives : (c : Choice) → survives history marks failed p (next_lower history marks failed p c) ≡ true
+  next_lower_survives (AtCheck c) = latest_check_passes (survives history marks failed p) (c - 1) refl
+  next_lower_survives Now = latest_check_passes (survives history marks failed p) (checks (tape_at history p)) refl
+
+  -- a surviving choice that is earlier than c is no later than the next lower one
+  pub next_lower_above : (c d : Choice) → IsNoLater d c → d ≢ c → survives history marks failed p d ≡ true → IsNoLater d (next_lower history marks failed p c)
+  next_lower_above (AtCheck c) (AtCheck d) h apart l =
+      let other : d ≢ c = λ q. apart (ap AtCheck q) in
+      latest_check_above (survives history marks failed p) (c - 1) d (omega arith) l
+  next_lower_above (AtCheck c) Now h apart l = absurd h
+  next_lower_above Now (AtCheck d) h apart l = latest_check_above (survives history marks failed p) (checks (tape_at history p)) d (survives_within d l) l
+  next_lower_above Now Now h apart l = absurd (apart refl)
