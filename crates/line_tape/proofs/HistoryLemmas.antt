@@ -1,13 +1,11 @@
 -- What is seen of a history once one of its processes is written.
-use Rattle.std.proofs.Common.{◌≡◌, ◌≢◌, ℕ, ◌+◌, ◌<◌, ◌≤◌, List, [], ◌∷◌, ◌++◌, length, map, get_or, set, sym, ap, ◌∙◌, subst, arith}
+use Rattle.std.proofs.Common.{◌≡◌, ◌≢◌, ℕ, ◌<◌, List, length, map, get_or, set, sym, ap, ◌∙◌, subst, arith}
 use Rattle.std.specs.List.{All}
 use Rattle.std.proofs.lemmas.List.{map-set, get_or-map, get_or-set_same, get_or-set_other, length-map, length-set}
-use Rattle.std.proofs.lemmas.List.Elements.{All-set, All-push, All-get_or}
+use Rattle.std.proofs.lemmas.List.Elements.{All-set, All-get_or}
 use Rattle.std.proofs.Math.Seq.{map-set_same}
-use Rattle.line_tape.specs.declared.events.Event.{Event}
 use Rattle.line_tape.specs.declared.histories.ProcessTape.{ProcessTape}
-use Rattle.line_tape.specs.Event.{NamesBelow}
-use Rattle.line_tape.specs.History.{Process, fresh, process_at, tape_at, with_event, IsTape, IsProcess, IsHistory}
+use Rattle.line_tape.specs.History.{Process, fresh, process_at, IsProcess, IsHistory}
 use Rattle.line_tape.specs.Plain.{plain, room_of}
 
 -- a history stays one where a process of it is written

@@ -1,29 +1,40 @@
 -- What is received and sent before a line, as its events are gone through.
-use Rattle.std.proofs.Common.{◌≡◌, ℕ, zero, suc, ◌<◌, ◌≤◌, List, [], ◌∷◌, ◌++◌, length, take, get_or, inl, inr, refl, sym, ap, ◌∙◌, subst, arith}
-use Rattle.std.specs.List.{Contains, slice_get}
+use Rattle.std.proofs.Common.{◌≡◌, ℕ, zero, suc, ◌<◌, ◌≤◌, List, [], ◌∷◌, ◌++◌, length, ◌⊎◌, inl, inr, Option, Some, None, refl, ap, ◌∙◌, subst, sym, arith}
+use Rattle.std.specs.List.{Contains}
 use Rattle.std.proofs.lemmas.Bool.{cases_lt}
 use Rattle.std.proofs.lemmas.List.{get_or_past}
-use Rattle.std.proofs.lemmas.List.Elements.{Contains-push_cases}
+use Rattle.std.proofs.lemmas.List.Elements.{Contains-push_cases, Contains-append_left, Contains-push}
 use Rattle.line_names.specs.declared.choices.Choice.{Choice}
 use Rattle.line_names.specs.declared.choices.Choice.TheVariants.{Check as AtCheck, Now}
 use Rattle.line_names.specs.declared.messages.MsgName.{MsgName}
 use Rattle.line_names.specs.Lines.{choice_at}
 use Rattle.line_tape.specs.declared.events.Event.{Event}
 use Rattle.line_tape.specs.declared.events.Event.TheVariants.{Recv}
-use Rattle.line_tape.specs.Event.{Holds}
 use Rattle.line_tape.specs.Front.{front}
-use Rattle.line_tape.specs.History.{Process, fresh, process_at, tape_at}
-use Rattle.line_tape.specs.Line.{events_before, IsSentBefore, AreSentBefore, IsConsistent}
+use Rattle.line_tape.specs.History.{Process, fresh, tape_at}
+use Rattle.line_tape.specs.Line.{events_before, IsSentBefore, IsOrphanAmong, AreSentBefore, IsFoundAmong, IsConsistent}
 
--- one event more, which receives nothing but what is sent before the line
-pub AreSentBefore-push : (history : List Process) (line : List Choice) (seen : List Event) (event : Event) → ((message : MsgName) → event ≡ Recv message → IsSentBefore history line message) → AreSentBefore history line seen → AreSentBefore history line (seen ++ event ∷ [])
-AreSentBefore-push history line seen event sent before =
-    λ message received. elim (Contains-push_cases seen event (Recv message) received) [ inl earlier ↦ before message earlier | inr now ↦ sent message now ]
+module _ (history : List Process) (line : List Choice) (seen : List Event) (event : Event) where
+  -- one event more, which receives nothing but what is sent before the line
+  pub found-sent : (best : Option MsgName) → ((message : MsgName) → event ≡ Recv message → IsSentBefore history line message) → IsFoundAmong history line seen best → IsFoundAmong history line (seen ++ event ∷ []) best
+  found-sent None sent before = λ message received. elim (Contains-push_cases seen event (Recv message) received) [
+    | inl earlier ↦ before message earlier
+    | inr now ↦ sent message now
+  ]
+  found-sent (Some best) sent before = record {
+    received = Contains-append_left seen (event ∷ []) (Recv best) before.received;
+    unsent = before.unsent;
+  }
 
--- an event at a place is among the events
-pub Contains-at : (events : List Event) (i : ℕ) (event : Event) (message : MsgName) → i < length events → event ≡ get_or events i event → event ≡ Recv message → Contains events (Recv message)
-Contains-at events i event message within at is =
-    (i, within, subst (λ (x : Event). get_or events i x ≡ x) is (sym at))
+  -- the receipt of a message that is not sent before the line
+  pub found-orphan : (best : Option MsgName) (message named : MsgName) → event ≡ Recv message → (IsSentBefore history line message → ⊥) → (named ≡ message) ⊎ (best ≡ Some named) → IsFoundAmong history line seen best → IsOrphanAmong history line (seen ++ event ∷ []) named
+  found-orphan best message named is unsent (inl same) before = record {
+    received = subst (Contains (seen ++ event ∷ [])) (is ∙ ap Recv (sym same)) (Contains-push seen event);
+    unsent = λ sent. unsent (subst (IsSentBefore history line) same sent);
+  }
+  found-orphan best message named is unsent (inr same) before =
+      let orphan : IsOrphanAmong history line seen named = subst (IsFoundAmong history line seen) same before in
+      record { received = Contains-append_left seen (event ∷ []) (Recv named) orphan.received; unsent = orphan.unsent }
 
 -- past the processes of a history nothing happened
 pub tape_at-past : (history : List Process) (p : ℕ) → length history ≤ p → tape_at history p ≡ []

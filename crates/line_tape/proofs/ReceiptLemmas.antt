@@ -1,8 +1,8 @@
 -- First receipts as the events grow, and before a place.
-use Rattle.std.proofs.Common.{◌≡◌, ℕ, suc, ◌+◌, ◌<◌, ◌≤◌, ◌↔◌, true, false, List, [], ◌∷◌, ◌++◌, length, take, drop, Option, Some, None, Bool, cond, refl, sym, ap, ◌∙◌, subst, arith, inl, inr}
+use Rattle.std.proofs.Common.{◌≡◌, ℕ, suc, ◌<◌, ◌↔◌, true, false, List, [], ◌∷◌, ◌++◌, length, take, drop, Option, Some, None, Bool, cond, refl, sym, ap, ◌∙◌, subst, arith, inl, inr}
 use Rattle.std.specs.List.{Contains}
-use Rattle.std.specs.Prelude.{◌==◌, ◌&&◌, Result, Ok, OnOk, is_some}
-use Rattle.std.proofs.lemmas.Bool.{cases_lt, false≢true, eqb-true, eq-eqb}
+use Rattle.std.specs.Prelude.{Result, Ok, OnOk, is_some}
+use Rattle.std.proofs.lemmas.Bool.{cases_lt, false≢true}
 use Rattle.std.proofs.lemmas.List.{length_push, take-append-drop, take_all, take-append-le}
 use Rattle.std.proofs.lemmas.List.Elements.{Contains-push, Contains-push_cases, Contains-append_left}
 use Rattle.line_names.specs.declared.messages.MsgName.{MsgName}
@@ -18,7 +18,7 @@ IsFirst-some events e m i (l, c, n) =
     (omega (arith, length_push events e), subst (λ (xs : List Event). Contains xs (Recv m)) (sym (take-append-le (suc i) events (e ∷ []) (omega arith))) c, λ k. n (subst (λ (xs : List Event). Contains xs (Recv m)) (take-append-le i events (e ∷ []) (omega arith)) k))
 
 pub IsFirst-none : (events : List Event) (e : Event) (m : MsgName) → (e ≡ Recv m → ⊥) → IsFirst events m None → IsFirst (events ++ e ∷ []) m None
-IsFirst-none events e m miss h = λ c. elim (Contains-push_cases events e (Recv m) c) [ | inl k ↦ h k | inr q ↦ miss q ]
+IsFirst-none events e m miss h = λ c. elim (Contains-push_cases events e (Recv m) c) [ inl k ↦ h k | inr q ↦ miss q ]
 
 pub IsFirst-new : (events : List Event) (m : MsgName) → IsFirst events m None → IsFirst (events ++ Recv m ∷ []) m (Some (length events))
 IsFirst-new events m h =
@@ -32,7 +32,7 @@ IsFirst-push events e m (Some i) miss h = IsFirst-some events e m i h
 -- a first receipt is before a place where a receipt is
 pub first_before : (events : List Event) (m : MsgName) (i n : ℕ) → IsFirst events m (Some i) → (i < n) ↔ Contains (take n events) (Recv m)
 first_before events m i n (l, c, none) =
-    (λ h. Contains-take_more events (suc i) n (Recv m) (omega arith) c, λ k. elim (cases_lt i n) [ | inl h ↦ h | inr g ↦ absurd (none (Contains-take_more events n i (Recv m) (omega arith) k)) ])
+    (λ h. Contains-take_more events (suc i) n (Recv m) (omega arith) c, λ k. elim (cases_lt i n) [ inl h ↦ h | inr g ↦ absurd (none (Contains-take_more events n i (Recv m) (omega arith) k)) ])
 
 pub none_before : (events : List Event) (m : MsgName) (n : ℕ) → IsFirst events m None → Contains (take n events) (Recv m) → ⊥
 none_before events m n h k = h (subst (λ (xs : List Event). Contains xs (Recv m)) (take-append-drop n events) (Contains-append_left (take n events) (drop n events) (Recv m) k))

@@ -1,5 +1,5 @@
 -- What a tape keeps beside its events, so that no question scans them.
-use Rattle.std.specs.Prelude.{◌≡◌, ℕ, suc, ◌<◌, ◌≤◌, List, length, take, slice_index_or, Option, Some, None, Contains}
+use Rattle.std.specs.Prelude.{◌≡◌, ℕ, suc, ◌<◌, List, length, take, slice_index_or, Option, Some, None, Contains}
 use Rattle.std.specs.HashMap.{get, spare}
 use Rattle.line_names.specs.declared.messages.MsgName.{MsgName}
 use Rattle.line_names.specs.Names.{is_name}

@@ -1,5 +1,5 @@
 -- Lines, and which of them are consistent (Elnozahy, Alvisi, Wang and Johnson, ACM Computing Surveys 34(3), 2002).
-use Rattle.std.specs.Prelude.{◌≡◌, ℕ, List, length, Contains}
+use Rattle.std.specs.Prelude.{◌≡◌, ℕ, List, length, Contains, Option, Some, None}
 use Rattle.line_names.specs.declared.choices.Choice.{Choice}
 use Rattle.line_names.specs.declared.messages.MsgName.{MsgName}
 use Rattle.line_names.specs.Lines.{choice_at}
@@ -26,15 +26,24 @@ IsSentBefore history line message = Holds (events_before history line message.fr
 abbrev pub IsReceivedBefore : List Process → List Choice → ℕ → MsgName → Type 0
 IsReceivedBefore history line q message = Contains (events_before history line q) (Recv message)
 
--- an orphan at process q: it has received the message before the line, which is not sent before it
-pub record IsOrphan (history : List Process) (line : List Choice) (q : ℕ) (message : MsgName) : Type 0 where
-  pub received : IsReceivedBefore history line q message
+-- an orphan among these events: a message received there that is not sent before the line
+pub record IsOrphanAmong (history : List Process) (line : List Choice) (events : List Event) (message : MsgName) : Type 0 where
+  pub received : Contains events (Recv message)
   pub unsent : IsSentBefore history line message → ⊥
+
+-- an orphan at process q: it has received the message before the line, which is not sent before it
+abbrev pub IsOrphan : List Process → List Choice → ℕ → MsgName → Type 0
+IsOrphan history line q message = IsOrphanAmong history line (events_before history line q) message
 
 -- each message that is received among these events is sent before the line
 abbrev pub AreSentBefore : List Process → List Choice → List Event → Type 0
 AreSentBefore history line events =
     (message : MsgName) → Contains events (Recv message) → IsSentBefore history line message
+
+-- an orphan is found among these events, or none is and there is none
+abbrev pub IsFoundAmong : List Process → List Choice → List Event → Option MsgName → Type 0
+IsFoundAmong history line events None = AreSentBefore history line events
+IsFoundAmong history line events (Some message) = IsOrphanAmong history line events message
 
 -- no process has received a message before the line that is not sent before it
 abbrev pub IsConsistent : List Process → List Choice → Type 0

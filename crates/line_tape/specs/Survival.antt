@@ -1,5 +1,5 @@
 -- Surviving choices, and the latest line of them: the recovery line (Elnozahy, Alvisi, Wang and Johnson, ACM Computing Surveys 34(3), 2002).
-use Rattle.std.specs.Prelude.{◌≡◌, ℕ, zero, suc, ◌-◌, ◌==◌, nat_le, Bool, true, not, ◌&&◌, IsTrue, if◌then◌else◌, List, [], length, slice_index_or}
+use Rattle.std.specs.Prelude.{◌≡◌, ℕ, zero, suc, ◌==◌, nat_le, Bool, true, not, ◌&&◌, IsTrue, List, [], length, slice_index_or}
 use Rattle.std.specs.List.{list_any}
 use Rattle.line_names.specs.declared.choices.Choice.{Choice}
 use Rattle.line_names.specs.declared.choices.Choice.TheVariants.{Check as AtCheck, Now}

@@ -93,7 +93,8 @@ impl History {
         requires { p < length self.now.processes }
         ensures { result ≡ incarnation_at self.now.processes p }
     {
-        self.processes[p.get() as usize].incarnation
+        let process = &self.processes[p.get() as usize];
+        process.incarnation
     }
 
     /// Has a process go on under another incarnation.
@@ -129,7 +130,7 @@ impl History {
             ↔ ((p < length self.old.processes) × NamesBelow (length self.old.processes) event × HasLongState event) }
         ensures full { IsErrOf result HistoryError.TapeFull
             ↔ ((p < length self.old.processes) × NamesBelow (length self.old.processes) event
-                × (HasLongState event → ⊥) × (length (tape_at self.old.processes p) ≡ MOST_EVENTS)) }
+            × (HasLongState event → ⊥) × (length (tape_at self.old.processes p) ≡ MOST_EVENTS)) }
 
         // With room there is no want of memory, and one event takes room for one at most.
         ensures room { 0 < room_at self.old p → result ≢ Err HistoryError.OutOfMemory }
@@ -184,7 +185,10 @@ impl fmt::Display for CountError {
         match self {
             CountError::OutOfMemory => f.write_str("out of memory"),
             CountError::BadCount => {
-                write!(f, "the number of processes is not from 1 to {MOST_PROCESSES}")
+                write!(
+                    f,
+                    "the number of processes is not from 1 to {MOST_PROCESSES}"
+                )
             }
         }
     }

@@ -13,5 +13,4 @@ ghost use Rattle.line_tape.specs.Views.{MarksView};
 pub fn chain_makes_latest()
     ensures { (history : List Process) (marks : MarksView) (failed : List Bool) (entries : List Passed) (line : List Choice)
         → IsChain history marks failed entries line → IsLatest history marks failed line }
-{
-}
+{}

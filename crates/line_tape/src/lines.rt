@@ -1,8 +1,7 @@
-//! What is sent before a line, and whether a line is consistent.
-ghost use Rattle.std.specs.Prelude.{◌≡◌, ◌<◌, ◌↔◌, IsTrue, length};
-ghost use Rattle.line_names.specs.declared.messages.MsgName.{MsgName};
-ghost use Rattle.line_tape.specs.declared.events.Event.TheVariants.{Recv};
-ghost use Rattle.line_tape.specs.Line.{events_before, IsLine, IsSentBefore, AreSentBefore, IsConsistent};
+//! What is sent before a line, what is an orphan of it, and whether it is consistent.
+ghost use Rattle.std.specs.Prelude.{◌≡◌, ◌⊎◌, ◌<◌, ◌++◌, ◌↔◌, [], ◌∷◌, List, IsTrue, Some, length};
+ghost use Rattle.line_tape.specs.declared.events.Event.{Event};
+ghost use Rattle.line_tape.specs.Line.{events_before, IsLine, IsSentBefore, IsFoundAmong, IsConsistent};
 
 use crate::events::Event;
 use crate::histories::History;
@@ -22,35 +21,66 @@ pub fn is_sent_before(history: &History, line: &Line, message: &MsgName) -> bool
         .sent_before(line.at(p), message.inc, message.number)
 }
 
-/// Whether the event is no receipt, or that of a message which is sent before the line.
-fn receives_sent(history: &History, line: &Line, event: &Event) -> bool
-    requires { IsLine history.now.processes line.now }
-    ensures { IsTrue result ↔ ((message : MsgName) → event.now ≡ Recv message
-        → IsSentBefore history.now.processes line.now message) }
+/// Of two orphans, that of the lower sender, and of one sender that of the greater number.
+fn first_to_name(best: Option<MsgName>, other: MsgName) -> MsgName
+    ensures { (result ≡ other) ⊎ (best ≡ Some result) }
 {
-    match event {
-        Event::Recv { message } => is_sent_before(history, line, message),
-        Event::Send { .. } => true,
-        Event::Check { .. } => true,
-        Event::Mark { .. } => true,
-    }
-}
-
-/// Whether each message that a process has received before the line is sent before it.
-fn are_sent_before(history: &History, line: &Line, q: ProcId) -> bool
-    requires line { IsLine history.now.processes line.now }
-    requires process { q < length history.now.processes }
-    ensures { IsTrue result ↔ AreSentBefore history.now.processes line.now (events_before history.now.processes line.now q) }
-{
-    for event in history.tape(q).front(line.at(q)) {
-        if !receives_sent(history, line, event) {
-            return false;
+    match best {
+        None => other,
+        Some(best) => {
+            if best.from < other.from || (best.from == other.from && other.number <= best.number) {
+                best
+            } else {
+                other
+            }
         }
     }
-    true
 }
 
-/// Whether no message is received before the line that is not sent before it. It looks once at each event before the line.
+/// The orphan to name once one more event is looked at.
+fn with_event(
+    history: &History,
+    line: &Line,
+    event: &Event,
+    best: Option<MsgName>,
+) -> Option<MsgName>
+    requires { IsLine history.now.processes line.now }
+    ensures { (seen : List Event) → IsFoundAmong history.now.processes line.now seen best
+        → IsFoundAmong history.now.processes line.now (seen ++ event.now ∷ []) result }
+{
+    match event {
+        Event::Recv { message } => {
+            if is_sent_before(history, line, message) {
+                best
+            } else {
+                Some(first_to_name(best, *message))
+            }
+        }
+        Event::Send { .. } => best,
+        Event::Check { .. } => best,
+        Event::Mark { .. } => best,
+    }
+}
+
+/// An orphan at a process, if there is one: of several that of the lowest sender, and of that sender the one with the greatest number.
+///
+/// It looks once at each event before the process's choice.
+pub fn orphan_at(history: &History, line: &Line, q: ProcId) -> Option<MsgName>
+    requires line { IsLine history.now.processes line.now }
+    requires process { q < length history.now.processes }
+    ensures { IsFoundAmong history.now.processes line.now (events_before history.now.processes line.now q) result }
+{
+    let events = history.tape(q).front(line.at(q));
+    let mut best = None;
+    for event in events {
+        best = with_event(history, line, event, best);
+    }
+    best
+}
+
+/// Whether no message is received before the line that is not sent before it.
+///
+/// It looks once at each event before the line.
 pub fn is_consistent(history: &History, line: &Line) -> bool
     requires { IsLine history.now.processes line.now }
     ensures { IsTrue result ↔ IsConsistent history.now.processes line.now }
@@ -58,7 +88,7 @@ pub fn is_consistent(history: &History, line: &Line) -> bool
     let n = history.n();
     for q in 0..n {
         let p = ProcId::try_new(q, n).unwrap();
-        if !are_sent_before(history, line, p) {
+        if orphan_at(history, line, p).is_some() {
             return false;
         }
     }

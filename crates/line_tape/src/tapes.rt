@@ -44,9 +44,9 @@ impl Model for Tape {
     ghost use Rattle.line_tape.specs.Kept.{IsIndexed, receipts_room};
 
     ghost view = { λ t. record {
-        events = t.events.items;
-        room = min (min (vec_capacity t.events - vec_len t.events) (receipts_room t.receipts))
-            (min (vec_capacity t.checks - vec_len t.checks) (vec_capacity t.incarnations - vec_len t.incarnations))
+      events = t.events.items;
+      room = min (min (vec_capacity t.events - vec_len t.events) (receipts_room t.receipts))
+          (min (vec_capacity t.checks - vec_len t.checks) (vec_capacity t.incarnations - vec_len t.incarnations));
     } };
 
     ghost invariant = { λ t. IsIndexed t.events.items t.checks.items t.incarnations.items t.receipts };

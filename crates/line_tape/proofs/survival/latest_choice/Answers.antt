@@ -2,13 +2,12 @@
 use Rattle.std.proofs.Common.{◌≡◌, Bool, true, cond, List, sym, ap, ◌∙◌, subst}
 use Rattle.line_tape.specs.declared.events.Event.{Event}
 use Rattle.line_names.specs.declared.choices.Choice.{Choice}
-use Rattle.line_names.specs.declared.choices.Choice.TheVariants.{Check as AtCheck, Now}
+use Rattle.line_names.specs.declared.choices.Choice.TheVariants.{Now}
 use Rattle.line_names.specs.Order.{IsNoLater}
 use Rattle.line_tape.specs.Event.{checks}
-use Rattle.line_tape.specs.History.{Process, tape_at}
+use Rattle.line_tape.specs.History.{tape_at}
 use Rattle.line_tape.specs.Survival.{survives}
-use Rattle.line_tape.specs.Chain.{latest_check, latest_choice, next_lower}
-use Rattle.line_tape.specs.Views.{MarksView}
+use Rattle.line_tape.specs.Chain.{latest_check, latest_choice}
 use Rattle.line_tape.proofs.ChoiceLemmas.{latest_choice_survives, latest_choice_above}
 use Rattle.line_tape.proofs.survival.latest_choice.Goals as goal
 

@@ -1,13 +1,11 @@
 -- The definition's two laws, at what was found.
 use Rattle.std.proofs.Common.{◌≡◌, true, sym, ap, ◌∙◌, subst}
 use Rattle.line_names.specs.declared.choices.Choice.{Choice}
-use Rattle.line_names.specs.declared.choices.Choice.TheVariants.{Check as AtCheck, Now}
 use Rattle.line_names.specs.Order.{IsNoLater}
 use Rattle.line_tape.specs.Event.{checks}
-use Rattle.line_tape.specs.History.{Process, tape_at}
+use Rattle.line_tape.specs.History.{tape_at}
 use Rattle.line_tape.specs.Survival.{survives}
-use Rattle.line_tape.specs.Chain.{latest_check, latest_choice, next_lower}
-use Rattle.line_tape.specs.Views.{MarksView}
+use Rattle.line_tape.specs.Chain.{latest_check, next_lower}
 use Rattle.line_tape.proofs.ChoiceLemmas.{next_lower_survives, next_lower_above}
 use Rattle.line_tape.proofs.survival.next_lower.Goals as goal
 

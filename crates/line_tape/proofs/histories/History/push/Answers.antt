@@ -1,15 +1,15 @@
 -- One tape takes the event, or refuses it and stays.
-use Rattle.std.proofs.Common.{◌≡◌, ◌≢◌, ◌<◌, ◌≤◌, ◌+◌, ◌++◌, ◌∷◌, [], length, map, set, List, ℕ, refl, sym, ap, ◌∙◌, subst, arith}
+use Rattle.std.proofs.Common.{◌≡◌, ◌<◌, ◌++◌, ◌∷◌, [], length, map, set, List, ℕ, sym, ap, ◌∙◌, subst, arith}
 use Rattle.std.specs.Prelude.{Result, Ok, Err, OnErr, All}
 use Rattle.std.proofs.lemmas.List.{length-map}
 use Rattle.std.proofs.lemmas.List.Elements.{All-push}
 use Rattle.line_tape.specs.declared.events.Event.{Event}
 use Rattle.line_tape.specs.declared.histories.ProcessTape.{ProcessTape}
 use Rattle.line_tape.specs.Event.{NamesBelow}
-use Rattle.line_tape.specs.History.{Process, process_at, IsProcess, IsHistory, with_incarnation, with_event}
+use Rattle.line_tape.specs.History.{Process, process_at, IsProcess, IsHistory, with_event}
 use Rattle.line_tape.specs.Plain.{plain, room_of}
 use Rattle.line_tape.specs.Views.{HistoryView, room_at}
-use Rattle.line_tape.proofs.HistoryLemmas.{IsHistory-set, IsHistory-at, plain-old, plain-written, plain-same, rooms-same, room-old, room-new, room-other}
+use Rattle.line_tape.proofs.HistoryLemmas.{IsHistory-set, IsHistory-at, plain-old, plain-written, plain-same, room-old, room-new, room-other}
 use Rattle.line_tape.proofs.histories.History.push.Goals as goal
 
 on_err : {T E P : Type 0} (r : Result T E) → P → OnErr r P

@@ -1,15 +1,13 @@
 -- One tape gets room, and nothing else is seen to change.
-use Rattle.std.proofs.Common.{◌≡◌, ◌≢◌, ◌<◌, ◌≤◌, ◌+◌, ◌++◌, ◌∷◌, [], length, map, set, List, ℕ, refl, sym, ap, ◌∙◌, subst, arith}
+use Rattle.std.proofs.Common.{◌≡◌, ◌<◌, ◌≤◌, length, map, set, List, ℕ, sym, ap, ◌∙◌, subst, arith}
 use Rattle.std.specs.Prelude.{OnOk}
 use Rattle.std.proofs.lemmas.List.{length-map}
-use Rattle.std.proofs.lemmas.List.Elements.{All-push}
 use Rattle.line_tape.specs.declared.events.Event.{Event}
 use Rattle.line_tape.specs.declared.histories.ProcessTape.{ProcessTape}
-use Rattle.line_tape.specs.Event.{NamesBelow}
-use Rattle.line_tape.specs.History.{Process, process_at, IsProcess, IsHistory, with_incarnation, with_event}
+use Rattle.line_tape.specs.History.{Process, IsHistory}
 use Rattle.line_tape.specs.Plain.{plain, room_of}
 use Rattle.line_tape.specs.Views.{HistoryView, room_at}
-use Rattle.line_tape.proofs.HistoryLemmas.{IsHistory-set, IsHistory-at, plain-old, plain-written, plain-same, rooms-same, room-old, room-new, room-other}
+use Rattle.line_tape.proofs.HistoryLemmas.{plain-same, room-old, room-new, room-other}
 use Rattle.line_tape.proofs.histories.History.reserve.Goals as goal
 
 pub invariant_of-self : goal.invariant_of-self

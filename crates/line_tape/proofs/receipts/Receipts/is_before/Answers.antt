@@ -1,4 +1,4 @@
-use Rattle.std.proofs.Common.{◌≡◌, Some, None, sym, subst, arith}
+use Rattle.std.proofs.Common.{Some, None, sym, subst}
 use Rattle.std.proofs.lemmas.Bool.{ltb-true, lt-ltb, false≢true}
 use Rattle.line_tape.specs.Kept.{IsFirst}
 use Rattle.line_tape.proofs.ReceiptLemmas.{first_before, none_before}

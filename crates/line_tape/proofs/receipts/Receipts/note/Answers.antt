@@ -14,9 +14,9 @@ returns-then-not-contains_key-clause-first c =
 pub returns-else-not-contains_key-clause-first : goal.returns-else-not-contains_key-clause-first
 returns-else-not-contains_key-clause-first c =
     λ events at first. AreFirst-push _ _ _ (λ q none e.
-        let same : q ≡ c.in-Recv.message = cc (e, c.in-Recv.is) in
-        let missing : first_place c.args.self.now c.in-Recv.message ≡ None = subst (λ (x : MsgName). first_place c.args.self.now x ≡ None) same none in
-        false≢true (sym (ap is_some missing) ∙ sym c.contains_key.ensures ∙ c.if-not-contains_key.false)) first
+    let same : q ≡ c.in-Recv.message = cc (e, c.in-Recv.is) in
+    let missing : first_place c.args.self.now c.in-Recv.message ≡ None = subst (λ (x : MsgName). first_place c.args.self.now x ≡ None) same none in
+    false≢true (sym (ap is_some missing) ∙ sym c.contains_key.ensures ∙ c.if-not-contains_key.false)) first
 
 pub returns-in-Send-clause-first : goal.returns-in-Send-clause-first
 returns-in-Send-clause-first c = λ events at first. AreFirst-push _ _ _ (λ q none e. cc (e, c.in-Send.is)) first
