@@ -37,7 +37,7 @@ pub record AreCeilings (history : List Process) (marks : MarksView) (failed : Li
   pub surviving : (p : ℕ) → survives history marks failed p (choice_at ceilings p) ≡ true
   pub above : (other : List Choice) → IsRecoverable history marks failed other → IsNowhereLater other ceilings
 
-choice-past : (line : List Choice) (p : ℕ) → length line ≤ p → choice_at line p ≡ AtCheck 0
+pub choice-past : (line : List Choice) (p : ℕ) → length line ≤ p → choice_at line p ≡ AtCheck 0
 choice-past line p h = get_or_past line p (AtCheck 0) h
 
 -- a choice of a line after one of them is set

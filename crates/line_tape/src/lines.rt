@@ -7,6 +7,23 @@ use crate::events::Event;
 use crate::histories::History;
 use line_names::{Line, MsgName, ProcId};
 
+/// Whether the line has one choice for each process, which its tape has.
+pub fn is_line(history: &History, line: &Line) -> bool
+    ensures { IsTrue result ↔ IsLine history.now.processes line.now }
+{
+    let n = history.n();
+    if line.len() != n {
+        return false;
+    }
+    for q in 0..n {
+        let p = ProcId::try_new(q, n).unwrap();
+        if history.tape(p).place(line.at(p)).is_none() {
+            return false;
+        }
+    }
+    true
+}
+
 /// Whether the message's send stands before the line.
 pub fn is_sent_before(history: &History, line: &Line, message: &MsgName) -> bool
     requires { IsLine history.now.processes line.now }

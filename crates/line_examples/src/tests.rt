@@ -1,0 +1,186 @@
+//! Limits and refusals, and the histories again, through the calls.
+use crate::tests::build::{Did, failed, history_of, process};
+use crate::tests::search::latest_of_two;
+use line_names::{Body, BodyError, Choice, ProcId, ProcIdError};
+use line_tape::{CountError, Event, History, HistoryError, MOST_EVENTS, MOST_STATE, MarkError, Marks, State, Tape, TapeError, survives};
+use std::test::Fail;
+
+mod build;
+mod search;
+
+/// a, b and c as in the picture of the README.
+const DOMINO: [Did; 9] = [
+    Did::Sends(0, 1),
+    Did::Receives(1, 0, 0),
+    Did::Checks(1),
+    Did::Sends(1, 0),
+    Did::Receives(0, 1, 0),
+    Did::Checks(0),
+    Did::Sends(0, 1),
+    Did::Receives(1, 0, 1),
+    Did::Checks(1),
+];
+
+/// Each sends to the other, both receive, both take a check.
+const CROSSED: [Did; 6] = [
+    Did::Sends(0, 1),
+    Did::Sends(1, 0),
+    Did::Receives(1, 0, 0),
+    Did::Receives(0, 1, 0),
+    Did::Checks(0),
+    Did::Checks(1),
+];
+
+/// A check of each, and then the domino.
+const ROUND: [Did; 11] = [
+    Did::Checks(0),
+    Did::Checks(1),
+    Did::Sends(0, 1),
+    Did::Receives(1, 0, 0),
+    Did::Checks(1),
+    Did::Sends(1, 0),
+    Did::Receives(0, 1, 0),
+    Did::Checks(0),
+    Did::Sends(0, 1),
+    Did::Receives(1, 0, 1),
+    Did::Checks(1),
+];
+
+#[test]
+fn limits_of_histories(rt: HostRuntime) -> Result<(), Fail> {
+    for n in [1, 64] {
+        let history = History::new(rt.alloc(), n)?;
+        assert_eq!(rt; history.n(), n);
+    }
+    for n in [0, 65, u32::MAX] {
+        assert_eq!(rt; History::new(rt.alloc(), n).err(), Some(CountError::BadCount), "at {n}");
+    }
+    Ok(())
+}
+
+#[test]
+fn limits_of_names(rt: HostRuntime) -> Result<(), Fail> {
+    assert_eq!(rt; ProcId::try_new(1, 2)?.get(), 1);
+    assert_eq!(rt; ProcId::try_new(2, 2), Err(ProcIdError::NoSuchProcess));
+    assert_eq!(rt; Body::try_new(&[7; 64])?.bytes().len(), 64);
+    assert_eq!(rt; Body::try_new(&[7; 65]), Err(BodyError::BodyTooLong));
+    Ok(())
+}
+
+#[test]
+fn limits_of_states(rt: HostRuntime) -> Result<(), Fail> {
+    let bytes = vec![in rt.alloc(); 7; MOST_STATE + 1]?;
+    let fits = State::of(Vec::from_slice(rt.alloc(), &bytes[..MOST_STATE])?);
+    let mut tape = Tape::new(rt.alloc());
+    tape.push(Event::Check { state: fits, round: None })?;
+    assert_eq!(rt; tape.checks(), 1);
+    assert_eq!(rt; tape.state(1).len(), MOST_STATE);
+    let long = Event::Check { state: State::of(bytes), round: None };
+    assert_eq!(rt; tape.push(long), Err(TapeError::StateTooLong));
+    Ok(())
+}
+
+#[test]
+fn full_tape(rt: HostRuntime) -> Result<(), Fail> {
+    let mut tape = Tape::new(rt.alloc());
+    for _event in 0..MOST_EVENTS {
+        tape.push(Event::Check { state: State::of(Vec::new(rt.alloc())), round: None })?;
+    }
+    assert_eq!(rt; tape.len(), 1_000_000);
+    assert_eq!(rt; tape.checks(), 1_000_000);
+    let more = Event::Check { state: State::of(Vec::new(rt.alloc())), round: None };
+    assert_eq!(rt; tape.push(more), Err(TapeError::TapeFull));
+    Ok(())
+}
+
+#[test]
+fn refused_events(rt: HostRuntime) -> Result<(), Fail> {
+    let mut history = History::new(rt.alloc(), 2)?;
+    let third = ProcId::try_new(2, 3)?;
+    let body = Body::try_new(b"a")?;
+    let event = Event::Send { to: third, inc: 0, body };
+    assert_eq!(rt; history.push(process(0)?, event), Err(HistoryError::NoSuchProcess));
+    let event = Event::Mark { from: process(0)?, round: 1 };
+    assert_eq!(rt; history.push(third, event), Err(HistoryError::NoSuchProcess));
+    Ok(())
+}
+
+#[test]
+fn copies_and_rooms(rt: HostRuntime) -> Result<(), Fail> {
+    let mut history = history_of(rt.alloc(), &DOMINO)?;
+    assert_eq!(rt; history.n(), 2);
+    history.reserve(process(0)?, 3)?;
+    history.set_incarnation(process(1)?, 5);
+    let copy = history.copy(rt.alloc())?;
+    assert_eq!(rt; copy.n(), 2);
+    assert_eq!(rt; copy.incarnation(process(1)?), 5);
+    Ok(())
+}
+
+#[test]
+fn damage_refusals(rt: HostRuntime) -> Result<(), Fail> {
+    let mut marks = Marks::new(rt.alloc(), 1)?;
+    let only = ProcId::try_new(0, 1)?;
+    assert_eq!(rt; marks.mark(only, 0), Err(MarkError::InitialDamage));
+    marks.mark(only, 1)?;
+    assert_eq!(rt; marks.mark(only, 1), Err(MarkError::AlreadyDamaged));
+    assert_eq!(rt; (marks.has(only, 1), marks.has(only, 2)), (true, false));
+    Ok(())
+}
+
+/// The latest line of a history of two processes, by trying all.
+fn latest_line(
+    rt: &HostRuntime,
+    all: &[Did],
+    damaged: &[(u32, u32)],
+    lost: &[u32],
+) -> Result<Option<(Choice, Choice)>, Fail> {
+    let history = history_of(rt.alloc(), all)?;
+    let mut marks = Marks::new(rt.alloc(), 2)?;
+    for (p, check) in damaged {
+        let p = process(*p)?;
+        marks.mark(p, *check)?;
+    }
+    latest_of_two(rt, rt.alloc(), &history, &marks, &failed(lost)?)
+}
+
+#[test]
+fn domino(rt: HostRuntime) -> Result<(), Fail> {
+    let both_back = Some((Choice::Check(0), Choice::Check(0)));
+    assert_eq!(rt; latest_line(&rt, &DOMINO, &[], &[0])?, both_back);
+    Ok(())
+}
+
+#[test]
+fn one_process_back(rt: HostRuntime) -> Result<(), Fail> {
+    let one_back = Some((Choice::Now, Choice::Check(2)));
+    assert_eq!(rt; latest_line(&rt, &DOMINO, &[], &[1])?, one_back);
+    let none_back = Some((Choice::Now, Choice::Now));
+    assert_eq!(rt; latest_line(&rt, &DOMINO, &[], &[])?, none_back);
+    Ok(())
+}
+
+#[test]
+fn consistent_checks(rt: HostRuntime) -> Result<(), Fail> {
+    let checks = Some((Choice::Check(1), Choice::Check(1)));
+    assert_eq!(rt; latest_line(&rt, &CROSSED, &[], &[0, 1])?, checks);
+    Ok(())
+}
+
+#[test]
+fn replay(rt: HostRuntime) -> Result<(), Fail> {
+    let line = Some((Choice::Check(1), Choice::Check(0)));
+    assert_eq!(rt; latest_line(&rt, &[Did::Sends(0, 1), Did::Checks(0)], &[], &[0, 1])?, line);
+    let received = [Did::Sends(0, 1), Did::Checks(0), Did::Receives(1, 0, 0)];
+    assert_eq!(rt; latest_line(&rt, &received, &[], &[0, 1])?, line);
+    Ok(())
+}
+
+#[test]
+fn damaged_round(rt: HostRuntime) -> Result<(), Fail> {
+    let round = Some((Choice::Check(1), Choice::Check(1)));
+    assert_eq!(rt; latest_line(&rt, &ROUND, &[], &[0])?, round);
+    let damaged = Some((Choice::Check(1), Choice::Check(0)));
+    assert_eq!(rt; latest_line(&rt, &ROUND, &[(1, 1)], &[0])?, damaged);
+    Ok(())
+}

@@ -1,0 +1,2 @@
+pub mod LedLemmas
+pub mod MovedLemmas

@@ -1,0 +1,25 @@
+use Rattle.std.proofs.Common.{◌≤◌, ◌+◌, ◌*◌, length, arith}
+use Rattle.line_tape.specs.declared.limits.TheConstants.{MOST_EVENTS}
+use Rattle.line_tape.specs.Chain.{IsChain, first_ceilings}
+use Rattle.line_tape.proofs.ChainLemmas.{latest_from_chain}
+use Rattle.line_tape.proofs.LineLemmas.{IsConsistent-below}
+use Rattle.line_plan.specs.Search.{height}
+use Rattle.line_plan.proofs.LedLemmas.{height-first}
+use Rattle.line_plan.proofs.planner.plan_history.Goals as goal
+
+chain : (c : goal.Then-not-lowered) → IsChain c.args.history.now.processes c.args.marks.now c.args.failed.now c.sweep.new.certificate.items c.sweep.new.line
+chain c = record {
+  leads = c.in_ok-lowered.ensures.led;
+  consistent = IsConsistent-below c.args.history.now.processes c.sweep.new.line (c.in_ok-lowered.ensures.none c.if-not-lowered.true);
+}
+
+pub overflow_add-sweeps : goal.overflow_add-sweeps
+overflow_add-sweeps c =
+    omega (arith, height-first c.args.history.now.processes c.args.marks.now c.args.failed.now c.n-n.ensures.limits, c.n-n.ensures.limits.few)
+
+pub returns-then-not-lowered-clause-latest : goal.returns-then-not-lowered-clause-latest
+returns-then-not-lowered-clause-latest c =
+    latest_from_chain c.args.history.now.processes c.args.marks.now c.args.failed.now c.sweep.new.certificate.items c.sweep.new.line (chain c)
+
+pub returns-then-not-lowered-clause-chain : goal.returns-then-not-lowered-clause-chain
+returns-then-not-lowered-clause-chain c = chain c

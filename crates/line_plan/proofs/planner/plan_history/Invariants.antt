@@ -1,0 +1,14 @@
+use Rattle.std.proofs.Common.{◌≤◌, ◌+◌, vec_len}
+use Rattle.line_tape.specs.Chain.{first_ceilings}
+use Rattle.line_plan.specs.Search.{IsLed, height}
+use Rattle.line_plan.proofs.planner.plan_history.Given as goal
+
+abbrev pub invariant-sweeps : goal.invariant-sweeps
+invariant-sweeps l = record {
+  led : IsLed l.history.processes l.marks l.failed l.certificate.items l.line;
+  few : l.sweeps ≤ vec_len l.certificate;
+  paid : vec_len l.certificate + height l.history.processes l.line ≤ height l.history.processes (first_ceilings l.history.processes l.marks l.failed);
+}
+
+abbrev pub decreases-sweeps : goal.decreases-sweeps
+decreases-sweeps l = height l.history.processes l.line

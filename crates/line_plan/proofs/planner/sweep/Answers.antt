@@ -1,0 +1,16 @@
+use Rattle.std.proofs.Common.{◌≡◌, ℕ, vec_len, subst, arith}
+use Rattle.line_tape.specs.Line.{events_before, AreSentBefore}
+use Rattle.line_plan.proofs.MovedLemmas.{IsMoved-on, AreSentBelow-on}
+use Rattle.line_plan.proofs.planner.sweep.Goals as goal
+
+pub loop-q-preserved : goal.loop-q-preserved
+loop-q-preserved c =
+    let at : c.unwrap-at.result ≡ c.loop-q.q = (rw c.unwrap-at.ensures at c.try_new.ensures).1 in
+    record {
+      led = c.in_ok-moved.ensures.led;
+      moved = IsMoved-on c.args.history.now.processes c.args.line.now c.loop-q.line c.visit.new.line (vec_len c.args.certificate.now) (vec_len c.loop-q.certificate) (vec_len c.visit.new.certificate) c.loop-q.lowered c.in_ok-moved.moved c.loop-q.invariant.moved c.in_ok-moved.ensures.moved;
+      none = AreSentBelow-on c.args.history.now.processes c.loop-q.line c.visit.new.line (vec_len c.loop-q.certificate) (vec_len c.visit.new.certificate) c.loop-q.q c.loop-q.lowered c.in_ok-moved.moved c.in_ok-moved.ensures.moved c.loop-q.invariant.none (subst (λ (q : ℕ). AreSentBefore c.args.history.now.processes c.visit.new.line (events_before c.args.history.now.processes c.visit.new.line q)) at c.in_ok-moved.ensures.none);
+    }
+
+pub returns-clause-none : goal.returns-clause-none
+returns-clause-none c = λ h q l. c.loop-q.invariant.none h q (omega arith)

@@ -1,0 +1,12 @@
+use Rattle.std.proofs.Common.{vec_len}
+use Rattle.line_plan.specs.Search.{IsLed, IsMoved, height}
+use Rattle.line_plan.proofs.planner.visit.Given as goal
+
+abbrev pub invariant-orphans : goal.invariant-orphans
+invariant-orphans l = record {
+  led : IsLed l.history.processes l.marks l.failed l.certificate.items l.line;
+  moved : IsMoved l.history.processes l.initial.line (vec_len l.initial.certificate) l.lowered l.line (vec_len l.certificate);
+}
+
+abbrev pub decreases-orphans : goal.decreases-orphans
+decreases-orphans l = height l.history.processes l.line

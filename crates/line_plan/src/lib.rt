@@ -1,0 +1,8 @@
+//! The planner: the latest line of surviving choices that has no orphan, and a certificate that it is.
+#![tactic(auto)]
+
+mod planner;
+mod plans;
+
+pub use planner::plan_history;
+pub use plans::{Plan, PlanError};
