@@ -1,8 +1,14 @@
 //! Limits and refusals, and the histories again, through the calls.
 use crate::tests::build::{Did, failed, history_of, process};
 use crate::tests::search::latest_of_two;
-use line_names::{Body, BodyError, Choice, ProcId, ProcIdError};
-use line_tape::{CountError, Event, History, HistoryError, MOST_EVENTS, MOST_STATE, MarkError, Marks, State, Tape, TapeError, survives};
+use line_names::{Body, BodyError, Choice, MsgName, Passed, ProcId, ProcIdError};
+use line_plan::{Plan, plan_history};
+use line_tape::{
+    CountError, Event, History, HistoryError, MOST_EVENTS, MOST_STATE, MarkError, Marks, State,
+    Tape, TapeError, survives,
+};
+use std::alloc::Global;
+use std::process::Abort;
 use std::test::Fail;
 
 mod build;
@@ -53,7 +59,11 @@ fn limits_of_histories(rt: HostRuntime) -> Result<(), Fail> {
         assert_eq!(rt; history.n(), n);
     }
     for n in [0, 65, u32::MAX] {
-        assert_eq!(rt; History::new(rt.alloc(), n).err(), Some(CountError::BadCount), "at {n}");
+        assert_eq!(rt;
+            History::new(rt.alloc(), n).err(),
+            Some(CountError::BadCount),
+            "at {n}"
+        );
     }
     Ok(())
 }
@@ -72,10 +82,16 @@ fn limits_of_states(rt: HostRuntime) -> Result<(), Fail> {
     let bytes = vec![in rt.alloc(); 7; MOST_STATE + 1]?;
     let fits = State::of(Vec::from_slice(rt.alloc(), &bytes[..MOST_STATE])?);
     let mut tape = Tape::new(rt.alloc());
-    tape.push(Event::Check { state: fits, round: None })?;
+    tape.push(Event::Check {
+        state: fits,
+        round: None,
+    })?;
     assert_eq!(rt; tape.checks(), 1);
     assert_eq!(rt; tape.state(1).len(), MOST_STATE);
-    let long = Event::Check { state: State::of(bytes), round: None };
+    let long = Event::Check {
+        state: State::of(bytes),
+        round: None,
+    };
     assert_eq!(rt; tape.push(long), Err(TapeError::StateTooLong));
     Ok(())
 }
@@ -84,11 +100,17 @@ fn limits_of_states(rt: HostRuntime) -> Result<(), Fail> {
 fn full_tape(rt: HostRuntime) -> Result<(), Fail> {
     let mut tape = Tape::new(rt.alloc());
     for _event in 0..MOST_EVENTS {
-        tape.push(Event::Check { state: State::of(Vec::new(rt.alloc())), round: None })?;
+        tape.push(Event::Check {
+            state: State::of(Vec::new(rt.alloc())),
+            round: None,
+        })?;
     }
     assert_eq!(rt; tape.len(), 1_000_000);
     assert_eq!(rt; tape.checks(), 1_000_000);
-    let more = Event::Check { state: State::of(Vec::new(rt.alloc())), round: None };
+    let more = Event::Check {
+        state: State::of(Vec::new(rt.alloc())),
+        round: None,
+    };
     assert_eq!(rt; tape.push(more), Err(TapeError::TapeFull));
     Ok(())
 }
@@ -98,10 +120,23 @@ fn refused_events(rt: HostRuntime) -> Result<(), Fail> {
     let mut history = History::new(rt.alloc(), 2)?;
     let third = ProcId::try_new(2, 3)?;
     let body = Body::try_new(b"a")?;
-    let event = Event::Send { to: third, inc: 0, body };
-    assert_eq!(rt; history.push(process(0)?, event), Err(HistoryError::NoSuchProcess));
-    let event = Event::Mark { from: process(0)?, round: 1 };
-    assert_eq!(rt; history.push(third, event), Err(HistoryError::NoSuchProcess));
+    let event = Event::Send {
+        to: third,
+        inc: 0,
+        body,
+    };
+    assert_eq!(rt;
+        history.push(process(0)?, event),
+        Err(HistoryError::NoSuchProcess)
+    );
+    let event = Event::Mark {
+        from: process(0)?,
+        round: 1,
+    };
+    assert_eq!(rt;
+        history.push(third, event),
+        Err(HistoryError::NoSuchProcess)
+    );
     Ok(())
 }
 
@@ -128,59 +163,136 @@ fn damage_refusals(rt: HostRuntime) -> Result<(), Fail> {
     Ok(())
 }
 
-/// The latest line of a history of two processes, by trying all.
+/// The latest line of a history of two processes, by trying all; the planner has to find the same.
 fn latest_line(
-    rt: &HostRuntime,
+    rt: &impl Abort,
+    alloc: Global,
     all: &[Did],
-    damaged: &[(u32, u32)],
+    damaged: Option<(u32, u32)>,
     lost: &[u32],
 ) -> Result<Option<(Choice, Choice)>, Fail> {
-    let history = history_of(rt.alloc(), all)?;
-    let mut marks = Marks::new(rt.alloc(), 2)?;
-    for (p, check) in damaged {
-        let p = process(*p)?;
-        marks.mark(p, *check)?;
+    let history = history_of(alloc, all)?;
+    let mut marks = Marks::new(alloc, 2)?;
+    if let Some((p, check)) = damaged {
+        marks.mark(process(p)?, check)?;
     }
-    latest_of_two(rt, rt.alloc(), &history, &marks, &failed(lost)?)
+    let failed = failed(lost)?;
+    let found = latest_of_two(rt, alloc, &history, &marks, &failed)?;
+    let plan = plan_history(alloc, &history, &marks, &failed)?;
+    let planned = (plan.line.at(process(0)?), plan.line.at(process(1)?));
+    assert_eq!(rt; Some(planned), found);
+    Ok(found)
 }
 
 #[test]
 fn domino(rt: HostRuntime) -> Result<(), Fail> {
     let both_back = Some((Choice::Check(0), Choice::Check(0)));
-    assert_eq!(rt; latest_line(&rt, &DOMINO, &[], &[0])?, both_back);
+    assert_eq!(rt;
+        latest_line(&rt, rt.alloc(), &DOMINO, None, &[0])?,
+        both_back
+    );
     Ok(())
 }
 
 #[test]
 fn one_process_back(rt: HostRuntime) -> Result<(), Fail> {
     let one_back = Some((Choice::Now, Choice::Check(2)));
-    assert_eq!(rt; latest_line(&rt, &DOMINO, &[], &[1])?, one_back);
+    assert_eq!(rt;
+        latest_line(&rt, rt.alloc(), &DOMINO, None, &[1])?,
+        one_back
+    );
     let none_back = Some((Choice::Now, Choice::Now));
-    assert_eq!(rt; latest_line(&rt, &DOMINO, &[], &[])?, none_back);
+    assert_eq!(rt;
+        latest_line(&rt, rt.alloc(), &DOMINO, None, &[])?,
+        none_back
+    );
     Ok(())
 }
 
 #[test]
 fn consistent_checks(rt: HostRuntime) -> Result<(), Fail> {
     let checks = Some((Choice::Check(1), Choice::Check(1)));
-    assert_eq!(rt; latest_line(&rt, &CROSSED, &[], &[0, 1])?, checks);
+    assert_eq!(rt;
+        latest_line(&rt, rt.alloc(), &CROSSED, None, &[0, 1])?,
+        checks
+    );
     Ok(())
 }
 
 #[test]
 fn replay(rt: HostRuntime) -> Result<(), Fail> {
     let line = Some((Choice::Check(1), Choice::Check(0)));
-    assert_eq!(rt; latest_line(&rt, &[Did::Sends(0, 1), Did::Checks(0)], &[], &[0, 1])?, line);
+    let unreceived = [Did::Sends(0, 1), Did::Checks(0)];
+    assert_eq!(rt;
+        latest_line(&rt, rt.alloc(), &unreceived, None, &[0, 1])?,
+        line
+    );
     let received = [Did::Sends(0, 1), Did::Checks(0), Did::Receives(1, 0, 0)];
-    assert_eq!(rt; latest_line(&rt, &received, &[], &[0, 1])?, line);
+    assert_eq!(rt;
+        latest_line(&rt, rt.alloc(), &received, None, &[0, 1])?,
+        line
+    );
     Ok(())
 }
 
 #[test]
 fn damaged_round(rt: HostRuntime) -> Result<(), Fail> {
     let round = Some((Choice::Check(1), Choice::Check(1)));
-    assert_eq!(rt; latest_line(&rt, &ROUND, &[], &[0])?, round);
+    assert_eq!(rt; latest_line(&rt, rt.alloc(), &ROUND, None, &[0])?, round);
     let damaged = Some((Choice::Check(1), Choice::Check(0)));
-    assert_eq!(rt; latest_line(&rt, &ROUND, &[(1, 1)], &[0])?, damaged);
+    assert_eq!(rt;
+        latest_line(&rt, rt.alloc(), &ROUND, Some((1, 1)), &[0])?,
+        damaged
+    );
+    Ok(())
+}
+
+/// An entry of a certificate of two processes: the choice passed over, and the message's sender and number.
+fn passed(at: u32, choice: Choice, from: u32, number: u32) -> Result<Passed, Fail> {
+    let from = process(from)?;
+    let message = MsgName {
+        from,
+        inc: 0,
+        number,
+    };
+    Ok(Passed {
+        at: process(at)?,
+        choice,
+        message,
+    })
+}
+
+/// The plan of a history of two processes of which the first failed.
+fn plan_of(alloc: Global, all: &[Did]) -> Result<Plan, Fail> {
+    let history = history_of(alloc, all)?;
+    let marks = Marks::new(alloc, 2)?;
+    Ok(plan_history(alloc, &history, &marks, &failed(&[0])?)?)
+}
+
+#[test]
+fn domino_is_certified(rt: HostRuntime) -> Result<(), Fail> {
+    let plan = plan_of(rt.alloc(), &DOMINO)?;
+    assert_eq!(rt; plan.sweeps, 3);
+    let want = [
+        passed(1, Choice::Now, 0, 1)?,
+        passed(1, Choice::Check(2), 0, 1)?,
+        passed(0, Choice::Check(1), 1, 0)?,
+        passed(1, Choice::Check(1), 0, 0)?,
+    ];
+    assert_eq!(rt; plan.certificate.as_slice(), want.as_slice());
+    Ok(())
+}
+
+#[test]
+fn round_is_certified(rt: HostRuntime) -> Result<(), Fail> {
+    let plan = plan_of(rt.alloc(), &ROUND)?;
+    assert_eq!(rt; plan.sweeps, 3);
+    let want = [
+        passed(1, Choice::Now, 0, 1)?,
+        passed(1, Choice::Check(3), 0, 1)?,
+        passed(0, Choice::Check(2), 1, 0)?,
+        passed(1, Choice::Check(2), 0, 0)?,
+    ];
+    assert_eq!(rt; plan.certificate.as_slice(), want.as_slice());
     Ok(())
 }

@@ -17,22 +17,19 @@ pub fn domino()
     ensures transit { in_transit domino_history (AtCheck 0 ∷ AtCheck 0 ∷ []) ≡ [] }
     ensures transit_now { in_transit domino_history (Now ∷ Now ∷ []) ≡ [] }
     ensures transit_between { in_transit domino_history (Now ∷ AtCheck 1 ∷ []) ≡ first_life 0 1 ∷ [] }
-{
-}
+{}
 
 /// A message that is sent before the line and not received at all is in transit.
 pub fn replay()
     ensures { in_transit replay_history (AtCheck 1 ∷ AtCheck 0 ∷ []) ≡ first_life 0 0 ∷ [] }
-{
-}
+{}
 
 /// So is one that is received after the line; at a line that has the receipt it is not.
 pub fn received_after_the_line()
     ensures after { in_transit received_history (AtCheck 1 ∷ AtCheck 0 ∷ []) ≡ first_life 0 0 ∷ [] }
     ensures before { in_transit received_history (AtCheck 1 ∷ Now ∷ []) ≡ [] }
     ensures unsent { in_transit received_history (AtCheck 0 ∷ AtCheck 0 ∷ []) ≡ [] }
-{
-}
+{}
 
 /// A damaged check does not survive, the checks beside it do.
 pub fn damaged_round()
@@ -44,8 +41,7 @@ pub fn damaged_round()
     ensures passed { next_lower round_history second_marked first_failed 1 (AtCheck 2) ≡ AtCheck 0 }
     ensures latest { latest_choice round_history second_marked first_failed 0 ≡ AtCheck 2 }
     ensures transit { in_transit round_history (AtCheck 1 ∷ AtCheck 0 ∷ []) ≡ [] }
-{
-}
+{}
 
 /// A restart cuts each tape to its choice, raises the incarnation of each process that goes back, takes marks out and rounds off, and keeps the damage of checks that are kept.
 pub fn restart_after_a_replay()
@@ -55,5 +51,4 @@ pub fn restart_after_a_replay()
         ≡ record { incarnation = 1; tape = Check (0xa1 ∷ []) None ∷ [] } ∷ record { incarnation = 1; tape = [] } ∷ [] }
     ensures kept { restarted_marks second_marked (AtCheck 1 ∷ AtCheck 1 ∷ []) ≡ second_marked }
     ensures cut { restarted_marks second_marked (AtCheck 1 ∷ AtCheck 0 ∷ []) ≡ unmarked }
-{
-}
+{}

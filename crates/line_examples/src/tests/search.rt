@@ -33,10 +33,12 @@ fn is_recoverable(
     let mut line = Line::new();
     line.push(first);
     line.push(second);
-    Ok(survives(history, marks, failed, process(0)?, first)
-        && survives(history, marks, failed, process(1)?, second)
-        && is_line(history, &line)
-        && is_consistent(history, &line))
+    Ok(
+        survives(history, marks, failed, process(0)?, first)
+            && survives(history, marks, failed, process(1)?, second)
+            && is_line(history, &line)
+            && is_consistent(history, &line),
+    )
 }
 
 /// The recoverable lines of two processes.
