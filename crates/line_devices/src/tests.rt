@@ -37,6 +37,7 @@ fn reads_the_bytes_in_order(rt: HostRuntime) -> Result<(), Fail> {
 }
 
 // An endless source, and sources of just the most bytes and of one more.
+#[derive(Drop)]
 struct Zeros {
     left: u64,
 }

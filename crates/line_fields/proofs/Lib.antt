@@ -1,0 +1,5 @@
+pub mod FieldLemmas
+pub mod HexLemmas
+pub mod NumLemmas
+pub mod RowLemmas
+pub mod TextLemmas

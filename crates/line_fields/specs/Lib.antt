@@ -1,0 +1,5 @@
+pub mod Bytes
+pub mod Faults
+pub mod Fields
+pub mod Records
+pub mod Rows
