@@ -3,3 +3,5 @@ pub mod Faults
 pub mod Fields
 pub mod Records
 pub mod Rows
+pub mod Texts
+pub mod Writers
