@@ -22,6 +22,14 @@ fn is_struck(fail_at: &mut Option<u64>) -> bool
     }
 }
 
+// Counts a fault.
+fn count_fault(faults: &mut u64) -> DeviceFault
+    ensures { faults.new ≡ one_more faults.old }
+{
+    *faults = faults.saturating_add(1);
+    DeviceFault
+}
+
 /// Bytes in memory that come at most `step` at a time. One call may be set to fail.
 #[derive(Drop)]
 pub struct MemSource {
@@ -80,8 +88,7 @@ impl Source for MemSource {
         ensures err { OnErr result (self.new ≡ record self.old { fail_at = next_call self.old.fail_at; faults = one_more self.old.faults }) }
     {
         if is_struck(&mut self.fail_at) {
-            self.faults = self.faults.saturating_add(1);
-            return Err(DeviceFault);
+            return Err(count_fault(&mut self.faults));
         }
         let count = (self.bytes.len() - self.at).min(self.step).min(into.len());
         into[..count].copy_from_slice(&self.bytes[self.at..self.at + count]);
@@ -138,14 +145,6 @@ impl MemSink {
     {
         self.bytes.as_slice()
     }
-
-    // Counts a fault.
-    fn fault(&mut self) -> DeviceFault
-        ensures { self.new ≡ record self.old { faults = one_more self.old.faults } }
-    {
-        self.faults = self.faults.saturating_add(1);
-        DeviceFault
-    }
 }
 
 impl Sink for MemSink {
@@ -166,11 +165,11 @@ impl Sink for MemSink {
         ensures err { OnErr result (self.new ≡ record self.old { fail_at = next_call self.old.fail_at; faults = one_more self.old.faults }) }
     {
         if is_struck(&mut self.fail_at) {
-            return Err(self.fault());
+            return Err(count_fault(&mut self.faults));
         }
         let count = self.step.min(from.len());
         if self.bytes.extend_from_slice(&from[..count]).is_err() {
-            return Err(self.fault());
+            return Err(count_fault(&mut self.faults));
         }
         Ok(count)
     }
@@ -181,7 +180,7 @@ impl Sink for MemSink {
         ensures err { OnErr result (self.new ≡ record self.old { fail_at = next_call self.old.fail_at; faults = one_more self.old.faults }) }
     {
         if is_struck(&mut self.fail_at) {
-            return Err(self.fault());
+            return Err(count_fault(&mut self.faults));
         }
         Ok(())
     }

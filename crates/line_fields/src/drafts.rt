@@ -121,7 +121,7 @@ impl Draft {
         match push_hex(&mut self.digits, bytes) {
             Ok(()) => push(&mut self.record, self.digits.as_slice()),
             Err(refused) => {
-                self.record.clear();
+                self.clear();
                 Err(refused)
             }
         }

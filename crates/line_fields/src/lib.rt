@@ -17,3 +17,6 @@ pub use fields::{hex, number};
 pub use laws::{bytes_are_read_again, numbers_are_read_again, records_are_few};
 pub use records::{RecordReader, Row};
 pub use writers::{RecordWriter, put_record};
+
+#[cfg(test)]
+mod tests;
