@@ -1,6 +1,5 @@
 -- Reading bytes pair by pair.
-use Rattle.std.proofs.Common.{◌≡◌, ℕ, ◌+◌, ◌*◌, List, [], ◌∷◌, ◌++◌, Result, Ok, Err, refl, sym, ap, ◌∙◌, append_assoc}
-use Rattle.std.proofs.Common.{◌≤◌, ◌<◌, ◌-◌, ◌==◌, true, false, length, take, drop, get_or, arith, eqb-true}
+use Rattle.std.proofs.Common.{◌≡◌, ℕ, ◌+◌, ◌*◌, List, [], ◌∷◌, ◌++◌, Result, Ok, Err, refl, sym, ap, ◌∙◌, append_assoc, ◌≤◌, ◌<◌, ◌-◌, ◌==◌, true, false, length, take, drop, get_or, arith, eqb-true}
 use Rattle.std.proofs.lemmas.List.{append-nil, drop_more}
 use Rattle.line_fields.proofs.TextLemmas.{rest_is}
 use Rattle.line_fields.specs.declared.faults.Fault.{Fault}
@@ -11,36 +10,39 @@ use Rattle.line_fields.specs.Fields.{◌>>=◌, digit, hex}
 abbrev pub with_front : {A : Type 0} → List A → Result (List A) Fault → Result (List A) Fault
 with_front front read = read >>= λ x. Ok (front ++ x)
 
+-- a byte moves from what is still read to what was
 regroup : {A : Type 0} (front : List A) (x : A) (read : Result (List A) Fault) → with_front front (read >>= λ xs. Ok (x ∷ xs)) ≡ with_front (front ++ (x ∷ [])) read
 regroup front x (Ok xs) = ap Ok (sym (append_assoc front (x ∷ []) xs))
 regroup front x (Err f) = refl
 
-pub hex_more : (front : List ℕ) (first second high low : ℕ) (rest : List ℕ) → digit first ≡ Ok high → digit second ≡ Ok low
+-- two digits more, a wrong first one, a wrong second one, a last one alone, and the end
+hex_more : (front : List ℕ) (first second high low : ℕ) (rest : List ℕ) → digit first ≡ Ok high → digit second ≡ Ok low
     → with_front front (hex (first ∷ second ∷ rest)) ≡ with_front (front ++ ((16 * high + low) ∷ [])) (hex rest)
 unfolding hex
 hex_more front first second high low rest h l = rw (h, l) (regroup front (16 * high + low) (hex rest))
 
-pub hex_first : (front : List ℕ) (first second : ℕ) (rest : List ℕ) (f : Fault) → digit first ≡ Err f → with_front front (hex (first ∷ second ∷ rest)) ≡ Err f
+hex_first : (front : List ℕ) (first second : ℕ) (rest : List ℕ) (f : Fault) → digit first ≡ Err f → with_front front (hex (first ∷ second ∷ rest)) ≡ Err f
 unfolding hex
 hex_first front first second rest f h = rw h refl
 
-pub hex_second : (front : List ℕ) (first second high : ℕ) (rest : List ℕ) (f : Fault) → digit first ≡ Ok high → digit second ≡ Err f → with_front front (hex (first ∷ second ∷ rest)) ≡ Err f
+hex_second : (front : List ℕ) (first second high : ℕ) (rest : List ℕ) (f : Fault) → digit first ≡ Ok high → digit second ≡ Err f → with_front front (hex (first ∷ second ∷ rest)) ≡ Err f
 unfolding hex
 hex_second front first second high rest f h l = rw (h, l) refl
 
-pub hex_odd : (front : List ℕ) (c : ℕ) → with_front front (hex (c ∷ [])) ≡ Err BadNumber
+hex_odd : (front : List ℕ) (c : ℕ) → with_front front (hex (c ∷ [])) ≡ Err BadNumber
 unfolding hex
 hex_odd front c = refl
 
-pub hex_end : (front : List ℕ) → with_front front (hex []) ≡ Ok front
+hex_end : (front : List ℕ) → with_front front (hex []) ≡ Ok front
 unfolding hex
 hex_end front = ap Ok (append-nil front)
 
--- the same of a list of two or more
-pub two_more : (xs : List ℕ) → 2 ≤ length xs → xs ≡ get_or xs 0 0 ∷ get_or xs 1 0 ∷ take (length xs - 2) (drop 2 xs)
+-- a list of two or more, as a slice pattern takes it apart
+two_more : (xs : List ℕ) → 2 ≤ length xs → xs ≡ get_or xs 0 0 ∷ get_or xs 1 0 ∷ take (length xs - 2) (drop 2 xs)
 two_more xs h =
     drop_more xs 0 0 (omega arith) ∙ ap (λ ys. get_or xs 0 0 ∷ ys) (drop_more xs 1 0 (omega arith)) ∙ ap (λ ys. get_or xs 0 0 ∷ get_or xs 1 0 ∷ ys) (sym (rest_is xs 2))
 
+-- the same by the first bytes of a slice
 pub more_at : (front xs : List ℕ) (high low : ℕ) → 2 ≤ length xs → digit (get_or xs 0 0) ≡ Ok high → digit (get_or xs 1 0) ≡ Ok low
     → with_front front (hex xs) ≡ with_front (front ++ ((16 * high + low) ∷ [])) (hex (take (length xs - 2) (drop 2 xs)))
 more_at front xs high low two h l =

@@ -50,7 +50,7 @@ plain_hex (byte ∷ rest) fit =
 abbrev plain_writer : WriterBuilder
 plain_writer = with_flexible default_writer true
 
-not_mark : (b mark : ℕ) → is_field_byte b ≡ true → is_field_byte mark ≡ false → (b == mark) ≡ false
+pub not_mark : (b mark : ℕ) → is_field_byte b ≡ true → is_field_byte mark ≡ false → (b == mark) ≡ false
 not_mark b mark plain bad = elim (cases_Bool (b == mark)) [
   | inl same ↦ let at : is_field_byte mark ≡ true = subst (λ n. is_field_byte n ≡ true) (eqb-true b mark same) plain in cc (sym bad ∙ at)
   | inr other ↦ other
@@ -76,7 +76,7 @@ body_is field (next ∷ others) plain rest =
     let p = and_parts (is_plain_field next) (list_all is_plain_field others) rest in
     rw (field_text-plain field plain) (ap (λ (t : List ℕ). field ++ (44 ∷ t)) (body_is next others p.0 p.1))
 
-not_true : (b : Bool) → not b ≡ true → b ≡ false
+pub not_true : (b : Bool) → not b ≡ true → b ≡ false
 not_true true h = cc h
 not_true false h = refl
 

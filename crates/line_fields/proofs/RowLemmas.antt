@@ -12,15 +12,17 @@ use Rattle.csv.proofs.ReadFacts.{rows-end, rows-more}
 use Rattle.line_fields.specs.Rows.{rows_from, rows_at, rows_left, IsReading}
 
 -- the rows of what a read gives
-pub rows_then : Option Read → List (List (List ℕ))
+rows_then : Option Read → List (List (List ℕ))
 rows_then None = []
 rows_then (Some p) = p.0 ∷ rows_from p.1 [] [] p.2
 
+-- the rows go with either side of a choice
 cond_then : (b : Bool) (p : Read) (o : Option Read) (xs ys : List (List (List ℕ))) → xs ≡ rows_then (Some p) → ys ≡ rows_then o → cond b xs ys ≡ rows_then (cond b (Some p) o)
 cond_then true p o xs ys e f = e
 cond_then false p o xs ys e f = f
 
-pub rows_of_next : (s : State) (fields : List (List ℕ)) (field xs : List ℕ) → rows_from s fields field xs ≡ rows_then (next_record default_config s fields field xs)
+-- the rows from a state are the next read's record and those after it
+rows_of_next : (s : State) (fields : List (List ℕ)) (field xs : List ℕ) → rows_from s fields field xs ≡ rows_then (next_record default_config s fields field xs)
 unfolding rows_from next_record rows_then
 rows_of_next s fields field [] = cond_then (ends_at_end s) (fields ++ (field ∷ []), st.StartRecord, []) None _ _ refl refl
 rows_of_next s fields field (c ∷ rest) =
@@ -33,7 +35,7 @@ some_from None h = cc h
 some_from (Some x) h = (x, refl)
 
 -- a read that found a record
-pub row_read : (a b : Reader (Bor (List ℕ))) (f : List (List ℕ)) → IsReading a → ReadRecord (λ (s : Bor (List ℕ)). Some s.now) a b true f → took_first b ≡ true → is_flexible b ≡ is_flexible a
+row_read : (a b : Reader (Bor (List ℕ))) (f : List (List ℕ)) → IsReading a → ReadRecord (λ (s : Bor (List ℕ)). Some s.now) a b true f → took_first b ≡ true → is_flexible b ≡ is_flexible a
     → IsReading b × (rows_left a ≡ f ∷ rows_left b)
 unfolding Reached rows_then
 row_read a b f h r first flexible =
@@ -53,7 +55,7 @@ row_read a b f h r first flexible =
     (new, before ∙ (ap (λ h. h ∷ rows_from p.1 [] [] p.2) (sym is_f) ∙ ap (λ t. f ∷ t) moved))
 
 -- a read at the end
-pub row_end : (a b : Reader (Bor (List ℕ))) (f : List (List ℕ)) → IsReading a → ReadRecord (λ (s : Bor (List ℕ)). Some s.now) a b false f → rows_left a ≡ []
+row_end : (a b : Reader (Bor (List ℕ))) (f : List (List ℕ)) → IsReading a → ReadRecord (λ (s : Bor (List ℕ)). Some s.now) a b false f → rows_left a ≡ []
 unfolding rows_then
 row_end a b f h r =
     let rem : Bor (List ℕ) → Option (List ℕ) = λ s. Some s.now in

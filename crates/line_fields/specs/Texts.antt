@@ -16,6 +16,10 @@ abbrev pub has_name : Record → Bool
 has_name [] = false
 has_name (name ∷ others) = not (length name == 0)
 
+-- a record as it may be written: with a name, and of plain fields
+abbrev pub is_written : Record → Bool
+is_written fields = has_name fields && list_all is_plain_field fields
+
 -- a hexadecimal digit, of lower case
 abbrev pub hex_digit : ℕ → ℕ
 hex_digit value = if nat_lt value 10 then 48 + value else 87 + value

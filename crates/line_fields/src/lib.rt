@@ -14,7 +14,9 @@ pub use bytes::is_plain;
 pub use drafts::Draft;
 pub use faults::{Fault, ReadError};
 pub use fields::{hex, number};
-pub use laws::{bytes_are_read_again, numbers_are_read_again, records_are_few};
+pub use laws::{
+    bytes_are_read_again, numbers_are_read_again, records_are_few, records_are_read_again,
+};
 pub use records::{RecordReader, Row};
 pub use writers::{RecordWriter, put_record};
 

@@ -1,6 +1,6 @@
 //! The records of an input text, one at a time, read by `csv`.
 
-ghost use Rattle.std.specs.Prelude.{◌≡◌, ◌+◌, ◌≤◌, ◌∷◌, [], IfOk, IsTrue, MatchBool, OnErr, OnOk, length};
+ghost use Rattle.std.specs.Prelude.{◌≡◌, ◌==◌, ◌+◌, ◌≤◌, ◌∷◌, [], IfOk, IsTrue, MatchBool, OnErr, OnOk, length};
 ghost use Rattle.csv.specs.Records.{fields_of};
 ghost use Rattle.line_fields.specs.Bytes.{is_input_text};
 ghost use Rattle.line_fields.specs.Records.{field, records_of_text};
@@ -40,6 +40,13 @@ impl Row {
         ensures { result ≡ length self.now }
     {
         self.record.len()
+    }
+
+    /// Whether it has no fields.
+    pub fn is_empty(&self) -> bool
+        ensures { result ≡ (length self.now == 0) }
+    {
+        self.record.is_empty()
     }
 
     /// The field at a place, counted from 0, or an empty one past the last.

@@ -3,10 +3,10 @@ use Rattle.csv.specs.Reading.{source_of, reader_state, strip_bom}
 use Rattle.csv.specs.declared.parser.State.TheVariants as st
 use Rattle.line_fields.specs.Rows.{rows_at, rows_from}
 use Rattle.line_fields.specs.Records.{records_of_text}
-use Rattle.line_fields.proofs.TextLemmas.{no_bom, rows_of_text}
+use Rattle.line_fields.proofs.MachineLemmas.{no_byte_order_mark, rows_of_text}
 use Rattle.line_fields.proofs.records.reader_over.Goals as goal
 
 pub returns-clause-rows : goal.returns-clause-rows
 returns-clause-rows c =
     let fr = c.from_reader.ensures in
-    rw (fr.state, fr.source, no_bom c.args.text.now c.requires) (rows_of_text c.args.text.now c.requires)
+    rw (fr.state, fr.source, no_byte_order_mark c.args.text.now c.requires) (rows_of_text c.args.text.now c.requires)
