@@ -21,10 +21,13 @@ puts_more a b c i n xs h k = rw (take-add i n xs) (puts_both a b c (take i xs) (
 
 -- some bytes, and a front of what comes after them: the rule by which texts put in turn go out as a front of them all
 pub front_then : (a b c : Option (List ℕ)) (pre piece post : List ℕ) → Puts a b pre → PutsFront b c piece → PutsFront a c (pre ++ (piece ++ post))
-front_then a b c pre piece post h (front, rest, parts, k) =
+front_then None b c pre piece post h k = tt
+front_then (Some p) None c pre piece post h k = absurd h
+front_then (Some p) (Some q) None pre piece post h k = absurd k
+front_then (Some p) (Some q) (Some r) pre piece post h (front, rest, parts, k) =
     let whole : pre ++ (piece ++ post) ≡ (pre ++ front) ++ (rest ++ post) =
     ap (λ (t : List ℕ). pre ++ (t ++ post)) parts ∙ ap (λ (t : List ℕ). pre ++ t) (append_assoc front rest post) ∙ sym (append_assoc pre front (rest ++ post)) in
-    (pre ++ front, rest ++ post, whole, puts_both a b c pre front h k)
+    (pre ++ front, rest ++ post, whole, k ∙ ap (λ (t : List ℕ). t ++ front) h ∙ append_assoc p pre front)
 
 -- a front of some bytes, and a front of all that follows it
 pub front_more : (a b c : Option (List ℕ)) (i : ℕ) (xs : List ℕ) → Puts a b (take i xs) → PutsFront b c (drop i xs) → PutsFront a c xs
@@ -40,9 +43,18 @@ fills_both (Some p) None c xs ys h k = absurd h
 fills_both (Some p) (Some q) None xs ys h k = absurd k
 fills_both (Some p) (Some q) (Some r) xs ys h k = h ∙ ap (λ (t : List ℕ). xs ++ t) k ∙ sym (append_assoc xs ys r)
 
+-- bytes that came were in front
+pub fills_front : (a b : Option (List ℕ)) (xs : List ℕ) → Fills a b xs → FillsFront a b
+fills_front None b xs h = tt
+fills_front (Some p) None xs h = absurd h
+fills_front (Some p) (Some q) xs h = (xs, h)
+
 -- some bytes, and then perhaps some more
 pub fills_then : (a b c : Option (List ℕ)) (xs : List ℕ) → Fills a b xs → FillsFront b c → FillsFront a c
-fills_then a b c xs h (bytes, k) = (xs ++ bytes, fills_both a b c xs bytes h k)
+fills_then None b c xs h k = tt
+fills_then (Some p) None c xs h k = absurd h
+fills_then (Some p) (Some q) None xs h k = absurd k
+fills_then (Some p) (Some q) (Some r) xs h (bytes, k) = (xs ++ bytes, h ∙ ap (λ (t : List ℕ). xs ++ t) k ∙ sym (append_assoc xs bytes r))
 
 -- a fill of no bytes at the end: nothing is left of what was told at first
 pub all_read : (a b c : Option (List ℕ)) (text : List ℕ) (n : ℕ) (into xs : List ℕ) → a ≡ Some xs → Fills a b text → n ≡ 0 → Fills b c (take n into) → IsDone b → c ≡ Some []

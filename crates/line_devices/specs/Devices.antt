@@ -7,9 +7,11 @@ Fills None new bytes = ⊤
 Fills (Some old) None bytes = ⊥
 Fills (Some old) (Some new) bytes = old ≡ bytes ++ new
 
--- some bytes came, or none
+-- what is left is the end of what was left, perhaps all of it or none
 abbrev pub FillsFront : Option (List ℕ) → Option (List ℕ) → Type 0
-FillsFront old new = (bytes : List ℕ) × Fills old new bytes
+FillsFront None new = ⊤
+FillsFront (Some old) None = ⊥
+FillsFront (Some old) (Some new) = (bytes : List ℕ) × (old ≡ bytes ++ new)
 
 -- nothing is left
 abbrev pub IsDone : Option (List ℕ) → Type 0
@@ -24,7 +26,9 @@ Puts (Some old) (Some new) bytes = new ≡ old ++ bytes
 
 -- a front of these bytes was taken, perhaps all of them or none
 abbrev pub PutsFront : Option (List ℕ) → Option (List ℕ) → List ℕ → Type 0
-PutsFront old new bytes = (front : List ℕ) × (rest : List ℕ) × (bytes ≡ front ++ rest) × Puts old new front
+PutsFront None new bytes = ⊤
+PutsFront (Some old) None bytes = ⊥
+PutsFront (Some old) (Some new) bytes = (front : List ℕ) × (rest : List ℕ) × (bytes ≡ front ++ rest) × (new ≡ old ++ front)
 
 -- a count of faults after one more, which stays at its greatest value
 abbrev pub one_more : ℕ → ℕ

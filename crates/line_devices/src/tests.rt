@@ -60,6 +60,64 @@ impl Source for Zeros {
     }
 }
 
+// Devices that fail, and tell nothing of their bytes.
+#[derive(Drop)]
+struct Broken {
+    faults: u64,
+}
+
+impl Source for Broken {
+    ghost use Rattle.std.specs.Prelude.{None};
+
+    ghost left = { λ _. None };
+
+    ghost faults = { λ s. s.faults };
+
+    fn fill(&mut self, _into: &mut [u8]) -> Result<usize, DeviceFault> {
+        self.faults = self.faults.saturating_add(1);
+        Err(DeviceFault)
+    }
+
+    fn failures(&self) -> u64 {
+        self.faults
+    }
+}
+
+impl Sink for Broken {
+    ghost use Rattle.std.specs.Prelude.{None};
+
+    ghost taken = { λ _. None };
+
+    ghost faults = { λ s. s.faults };
+
+    fn put(&mut self, _from: &[u8]) -> Result<usize, DeviceFault> {
+        self.faults = self.faults.saturating_add(1);
+        Err(DeviceFault)
+    }
+
+    fn finish(&mut self) -> Result<(), DeviceFault> {
+        self.faults = self.faults.saturating_add(1);
+        Err(DeviceFault)
+    }
+
+    fn failures(&self) -> u64 {
+        self.faults
+    }
+}
+
+#[test]
+fn counts_failures_to_the_greatest_value(rt: HostRuntime) {
+    for (faults, want) in [(0u64, 1u64), (u64::MAX - 1, u64::MAX), (u64::MAX, u64::MAX)] {
+        let mut source = Broken { faults };
+        let got = read_all(rt.alloc(), &mut source);
+        assert_eq!(rt; got.map(|text| text.len()), Err(ReadRefused::Failed));
+        assert_eq!(rt; Source::failures(&source), want);
+        let mut sink = Broken { faults };
+        assert_eq!(rt; put_all(&mut sink, b"a"), Err(DeviceFault));
+        assert_eq!(rt; Sink::failures(&sink), want);
+    }
+}
+
 #[test]
 fn reads_no_more_than_the_limit(rt: HostRuntime) {
     for (left, want) in [

@@ -1,5 +1,5 @@
 use Rattle.std.proofs.Common.{arith}
-use Rattle.line_devices.proofs.PutLemmas.{all_read, fills_both, fills_then}
+use Rattle.line_devices.proofs.PutLemmas.{all_read, fills_both, fills_front, fills_then}
 use Rattle.line_devices.proofs.sources.read_all.Goals as goal
 
 pub returns-in_default-clause-lost : goal.returns-in_default-clause-lost
@@ -10,7 +10,7 @@ returns-then-count-eq0-clause-ended g c xs told =
     all_read _ _ _ _ _ _ xs told c.loop-turn.invariant.read c.if-count-eq0.true c.in-Ok.ensures.moves (c.in-Ok.ensures.end (omega arith) c.if-count-eq0.true)
 
 pub returns-then-count-len-clause-lost : goal.returns-then-count-len-clause-lost
-returns-then-count-len-clause-lost g c = (_, fills_both _ _ _ _ _ c.loop-turn.invariant.read c.in-Ok.ensures.moves)
+returns-then-count-len-clause-lost g c = fills_front _ _ _ (fills_both _ _ _ _ _ c.loop-turn.invariant.read c.in-Ok.ensures.moves)
 
 pub returns-then-is_err-clause-lost : goal.returns-then-is_err-clause-lost
-returns-then-is_err-clause-lost g c = (_, fills_both _ _ _ _ _ c.loop-turn.invariant.read c.in-Ok.ensures.moves)
+returns-then-is_err-clause-lost g c = fills_front _ _ _ (fills_both _ _ _ _ _ c.loop-turn.invariant.read c.in-Ok.ensures.moves)
