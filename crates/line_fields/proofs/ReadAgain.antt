@@ -1,11 +1,10 @@
 -- The records of a text that was written are those that were written.
-use Rattle.std.proofs.Common.{◌≡◌, ℕ, ◌==◌, ◌&&◌, ◌||◌, Bool, true, false, not, List, [], ◌∷◌, ◌++◌, length, map, refl, sym, ap, ◌∙◌, append_assoc, eq-eqb}
-use Rattle.std.specs.Prelude.{nat_le, filter}
+use Rattle.std.proofs.Common.{◌≡◌, ℕ, ◌==◌, ◌&&◌, Bool, true, false, not, List, [], ◌∷◌, ◌++◌, refl, ap, ◌∙◌, append_assoc, eq-eqb}
+use Rattle.std.specs.Prelude.{nat_le}
 use Rattle.std.specs.List.{list_all, join_with_byte}
-use Rattle.std.proofs.lemmas.List.{append-nil}
 use Rattle.std.proofs.lemmas.List.Folds.{list_all-append}
 use Rattle.std.proofs.lemmas.Bool.{and_parts}
-use Rattle.line_fields.specs.Bytes.{is_allowed, is_input_text}
+use Rattle.line_fields.specs.Bytes.{is_input_text}
 use Rattle.line_fields.specs.Records.{Record, cut, is_line, parts, records_of_lines, records_of_text, without}
 use Rattle.line_fields.specs.Texts.{has_name, is_field_byte, is_plain_field, is_written, record_text, records_text}
 use Rattle.line_fields.proofs.PlainLemmas.{not_mark, not_true}

@@ -1,5 +1,5 @@
 -- What a read of a row does to the rows that a reader has left.
-use Rattle.std.proofs.Common.{◌≡◌, ◌∙◌, ◌++◌, ◌∷◌, [], ℕ, List, Bool, true, false, cond, Option, Some, None, Bor, refl, sym, ap, subst, rules, inl, inr}
+use Rattle.std.proofs.Common.{◌≡◌, ◌∙◌, ◌++◌, ◌∷◌, [], ℕ, List, Bool, true, false, cond, Option, Some, None, Bor, refl, sym, ap, inl}
 use Rattle.std.specs.Prelude.{IsSome, MatchBool, Result, Ok, Err, IfOk, OnOk}
 use Rattle.csv.specs.Machine.{Read, step, is_end, fields_after, field_after, ends_at_end, next_record}
 use Rattle.csv.specs.Reading.{default_config, source_of, Ready, Reached, ReadRecord, is_flexible, took_first, reader_trim}

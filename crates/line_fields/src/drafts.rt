@@ -34,19 +34,19 @@ impl Model for Draft {
 }
 
 // Adds a field, or leaves none.
-fn push(record: &mut ByteRecord, field: &[u8]) -> Result<(), AllocError>
-    requires whole { partial_of record.old ≡ [] }
-    requires plain { list_all is_plain_field (fields_of record.old) ≡ true }
+fn push(row: &mut ByteRecord, field: &[u8]) -> Result<(), AllocError>
+    requires whole { partial_of row.old ≡ [] }
+    requires plain { list_all is_plain_field (fields_of row.old) ≡ true }
     requires plain_field { is_plain_field field.now ≡ true }
-    ensures whole { partial_of record.new ≡ [] }
-    ensures plain { list_all is_plain_field (fields_of record.new) ≡ true }
-    ensures ok { OnOk result (fields_of record.new ≡ fields_of record.old ++ field.now ∷ []) }
-    ensures err { OnErr result (fields_of record.new ≡ []) }
+    ensures whole { partial_of row.new ≡ [] }
+    ensures plain { list_all is_plain_field (fields_of row.new) ≡ true }
+    ensures ok { OnOk result (fields_of row.new ≡ fields_of row.old ++ field.now ∷ []) }
+    ensures err { OnErr result (fields_of row.new ≡ []) }
 {
-    match record.push_field(field) {
+    match row.push_field(field) {
         Ok(()) => Ok(()),
         Err(refused) => {
-            record.clear();
+            row.clear();
             Err(refused)
         }
     }

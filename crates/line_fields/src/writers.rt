@@ -40,14 +40,14 @@ fn writer_over(alloc: Global) -> Writer<Vec<u8>>
 }
 
 // Writes a record whose fields need no quotes.
-fn write(writer: &mut Writer<Vec<u8>>, record: &ByteRecord) -> Result<(), Error>
+fn write(writer: &mut Writer<Vec<u8>>, row: &ByteRecord) -> Result<(), Error>
     requires writing { IsWriting writer.old }
-    requires plain { IsTrue (list_all is_plain_field (fields_of record.now)) }
-    requires named { IsTrue (has_name (fields_of record.now)) }
+    requires plain { IsTrue (list_all is_plain_field (fields_of row.now)) }
+    requires named { IsTrue (has_name (fields_of row.now)) }
     ensures writing { OnOk result (IsWriting writer.new) }
-    ensures text { OnOk result (text_of writer.new ≡ text_of writer.old ++ record_text (fields_of record.now)) }
+    ensures text { OnOk result (text_of writer.new ≡ text_of writer.old ++ record_text (fields_of row.now)) }
 {
-    writer.write_byte_record(record)
+    writer.write_byte_record(row)
 }
 
 // Over memory a writer of `csv` fails for want of it alone.
@@ -59,16 +59,16 @@ fn let_go(_error: Error) -> AllocError {
 fn write_or_empty(
     alloc: Global,
     writer: &mut Writer<Vec<u8>>,
-    record: &ByteRecord,
+    row: &ByteRecord,
 ) -> Result<(), AllocError>
     requires writing { IsWriting writer.old }
-    requires plain { IsTrue (list_all is_plain_field (fields_of record.now)) }
-    requires named { IsTrue (has_name (fields_of record.now)) }
+    requires plain { IsTrue (list_all is_plain_field (fields_of row.now)) }
+    requires named { IsTrue (has_name (fields_of row.now)) }
     ensures writing { IsWriting writer.new }
-    ensures ok { OnOk result (text_of writer.new ≡ text_of writer.old ++ record_text (fields_of record.now)) }
+    ensures ok { OnOk result (text_of writer.new ≡ text_of writer.old ++ record_text (fields_of row.now)) }
     ensures err { OnErr result (text_of writer.new ≡ []) }
 {
-    match write(writer, record) {
+    match write(writer, row) {
         Ok(()) => Ok(()),
         Err(error) => {
             *writer = writer_over(alloc);
@@ -91,12 +91,12 @@ impl RecordWriter {
     /// Writes a record behind those that were put before: its fields joined by commas, and a line feed.
     ///
     /// Where a growth is refused, the records that were put before are lost too.
-    pub fn put(&mut self, record: &Draft) -> Result<(), AllocError>
-        requires { IsTrue (has_name record.now) }
-        ensures ok { OnOk result (self.new ≡ self.old ++ record_text record.now) }
+    pub fn put(&mut self, draft: &Draft) -> Result<(), AllocError>
+        requires { IsTrue (has_name draft.now) }
+        ensures ok { OnOk result (self.new ≡ self.old ++ record_text draft.now) }
         ensures err { OnErr result (self.new ≡ []) }
     {
-        write_or_empty(self.alloc, &mut self.writer, &record.record)
+        write_or_empty(self.alloc, &mut self.writer, &draft.record)
     }
 
     /// The text of all records that were put.
@@ -123,12 +123,12 @@ impl RecordWriter {
 /// Writes one record behind some bytes, which stay as they are where a growth is refused.
 ///
 /// A `RecordWriter` is cheaper for several records.
-pub fn put_record(alloc: Global, out: &mut Vec<u8>, record: &Draft) -> Result<(), AllocError>
-    requires { IsTrue (has_name record.now) }
-    ensures ok { OnOk result (out.new.items ≡ out.old.items ++ record_text record.now) }
+pub fn put_record(alloc: Global, out: &mut Vec<u8>, draft: &Draft) -> Result<(), AllocError>
+    requires { IsTrue (has_name draft.now) }
+    ensures ok { OnOk result (out.new.items ≡ out.old.items ++ record_text draft.now) }
     ensures err { OnErr result (out.new.items ≡ out.old.items) }
 {
     let mut writer = RecordWriter::new(alloc);
-    writer.put(record)?;
+    writer.put(draft)?;
     writer.append_to(out)
 }

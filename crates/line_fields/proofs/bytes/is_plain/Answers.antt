@@ -1,4 +1,4 @@
-use Rattle.std.proofs.Common.{◌≡◌, ◌∙◌, ◌&&◌, ◌+◌, sym, ap, refl, get_or, arith}
+use Rattle.std.proofs.Common.{◌∙◌, ◌+◌, sym, ap, refl, get_or, arith}
 use Rattle.line_fields.specs.Bytes.{is_allowed}
 use Rattle.line_fields.proofs.TextLemmas.{plain_at, plain_end, rest_is}
 use Rattle.line_fields.proofs.bytes.is_plain.Goals as goal

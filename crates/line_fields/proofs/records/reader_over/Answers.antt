@@ -1,8 +1,3 @@
-use Rattle.std.proofs.Common.{◌∙◌, ap, rules, ◌≡◌, Some, Bor, List, ℕ}
-use Rattle.csv.specs.Reading.{source_of, reader_state, strip_bom}
-use Rattle.csv.specs.declared.parser.State.TheVariants as st
-use Rattle.line_fields.specs.Rows.{rows_at, rows_from}
-use Rattle.line_fields.specs.Records.{records_of_text}
 use Rattle.line_fields.proofs.MachineLemmas.{no_byte_order_mark, rows_of_text}
 use Rattle.line_fields.proofs.records.reader_over.Goals as goal
 

@@ -1,4 +1,3 @@
-use Rattle.std.proofs.Common.{◌∙◌}
 use Rattle.line_fields.proofs.PlainLemmas.{plain_hex}
 use Rattle.line_fields.proofs.drafts.Draft.bytes.Goals as goal
 

@@ -1,4 +1,3 @@
-use Rattle.std.proofs.Common.{◌+◌, ◌≤◌, length, ◌≡◌, List, ℕ}
 use Rattle.line_fields.proofs.TextLemmas.{length-records_of_text}
 use Rattle.line_fields.proofs.records.RecordReader.open.Goals as goal
 
