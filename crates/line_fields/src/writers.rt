@@ -12,6 +12,8 @@ use std::alloc::{AllocError, Global};
 use std::marker::Model;
 
 /// The text of the records that were put, each in a line of its own.
+///
+/// It holds a buffer of some 8 KiB beside the text, so that one writer is best kept for many records.
 #[derive(Drop)]
 pub struct RecordWriter {
     alloc: Global,
@@ -50,7 +52,7 @@ fn write(writer: &mut Writer<Vec<u8>>, row: &ByteRecord) -> Result<(), Error>
     writer.write_byte_record(row)
 }
 
-// Over memory a writer of `csv` fails for want of it alone.
+// An error of `csv` over memory is answered as want of memory.
 fn let_go(_error: Error) -> AllocError {
     AllocError
 }
