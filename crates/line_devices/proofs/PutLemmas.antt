@@ -1,0 +1,66 @@
+-- What several puts in a row put, and several fills in a row fill.
+use Rattle.std.proofs.Common.{◌≡◌, ℕ, ◌+◌, ◌-◌, List, [], ◌++◌, length, take, drop, Option, Some, None, sym, ap, ◌∙◌, append_assoc, arith}
+use Rattle.std.proofs.lemmas.List.{append-nil, length-drop, take-append-drop, take_all}
+use Rattle.std.proofs.Math.Seq.{take-add}
+use Rattle.line_devices.specs.Devices.{Fills, FillsFront, IsDone, Puts, PutsFront}
+
+-- a slice from a place on is all that follows that place
+pub slice_from : (i : ℕ) (xs : List ℕ) → take (length xs - i) (drop i xs) ≡ drop i xs
+slice_from i xs = let long = length-drop i xs in take_all (length xs - i) (drop i xs) (omega (arith, long))
+
+-- two puts, one after the other
+pub puts_both : (a b c : Option (List ℕ)) (xs ys : List ℕ) → Puts a b xs → Puts b c ys → Puts a c (xs ++ ys)
+puts_both None b c xs ys h k = tt
+puts_both (Some p) None c xs ys h k = absurd h
+puts_both (Some p) (Some q) None xs ys h k = absurd k
+puts_both (Some p) (Some q) (Some r) xs ys h k = k ∙ ap (λ (t : List ℕ). t ++ ys) h ∙ append_assoc p xs ys
+
+-- a front of some bytes, and a front of those after it
+pub puts_more : (a b c : Option (List ℕ)) (i n : ℕ) (xs : List ℕ) → Puts a b (take i xs) → Puts b c (take n (drop i xs)) → Puts a c (take (i + n) xs)
+puts_more a b c i n xs h k = rw (take-add i n xs) (puts_both a b c (take i xs) (take n (drop i xs)) h k)
+
+-- some bytes, and a front of what comes after them: the rule by which texts put in turn go out as a front of them all
+pub front_then : (a b c : Option (List ℕ)) (pre piece post : List ℕ) → Puts a b pre → PutsFront b c piece → PutsFront a c (pre ++ (piece ++ post))
+front_then None b c pre piece post h k = tt
+front_then (Some p) None c pre piece post h k = absurd h
+front_then (Some p) (Some q) None pre piece post h k = absurd k
+front_then (Some p) (Some q) (Some r) pre piece post h (front, rest, parts, k) =
+    let whole : pre ++ (piece ++ post) ≡ (pre ++ front) ++ (rest ++ post) =
+    ap (λ (t : List ℕ). pre ++ (t ++ post)) parts ∙ ap (λ (t : List ℕ). pre ++ t) (append_assoc front rest post) ∙ sym (append_assoc pre front (rest ++ post)) in
+    (pre ++ front, rest ++ post, whole, k ∙ ap (λ (t : List ℕ). t ++ front) h ∙ append_assoc p pre front)
+
+-- a front of some bytes, and a front of all that follows it
+pub front_more : (a b c : Option (List ℕ)) (i : ℕ) (xs : List ℕ) → Puts a b (take i xs) → PutsFront b c (drop i xs) → PutsFront a c xs
+front_more a b c i xs h k =
+    let whole : take i xs ++ (drop i xs ++ []) ≡ xs = ap (λ (t : List ℕ). take i xs ++ t) (append-nil (drop i xs)) ∙ take-append-drop i xs in
+    let P : List ℕ → Type 0 = λ t. PutsFront a c t in
+    rw (← whole) (front_then a b c (take i xs) (drop i xs) [] h k)
+
+-- two fills, one after the other
+pub fills_both : (a b c : Option (List ℕ)) (xs ys : List ℕ) → Fills a b xs → Fills b c ys → Fills a c (xs ++ ys)
+fills_both None b c xs ys h k = tt
+fills_both (Some p) None c xs ys h k = absurd h
+fills_both (Some p) (Some q) None xs ys h k = absurd k
+fills_both (Some p) (Some q) (Some r) xs ys h k = h ∙ ap (λ (t : List ℕ). xs ++ t) k ∙ sym (append_assoc xs ys r)
+
+-- bytes that came were in front
+pub fills_front : (a b : Option (List ℕ)) (xs : List ℕ) → Fills a b xs → FillsFront a b
+fills_front None b xs h = tt
+fills_front (Some p) None xs h = absurd h
+fills_front (Some p) (Some q) xs h = (xs, h)
+
+-- some bytes, and then perhaps some more
+pub fills_then : (a b c : Option (List ℕ)) (xs : List ℕ) → Fills a b xs → FillsFront b c → FillsFront a c
+fills_then None b c xs h k = tt
+fills_then (Some p) None c xs h k = absurd h
+fills_then (Some p) (Some q) None xs h k = absurd k
+fills_then (Some p) (Some q) (Some r) xs h (bytes, k) = (xs ++ bytes, h ∙ ap (λ (t : List ℕ). xs ++ t) k ∙ sym (append_assoc xs bytes r))
+
+-- a fill of no bytes at the end: nothing is left of what was told at first
+pub all_read : (a b c : Option (List ℕ)) (text : List ℕ) (n : ℕ) (into xs : List ℕ) → a ≡ Some xs → Fills a b text → n ≡ 0 → Fills b c (take n into) → IsDone b → c ≡ Some []
+all_read None b c text n into xs told h none k done = cc told
+all_read (Some p) None c text n into xs told h none k done = absurd h
+all_read (Some p) (Some q) None text n into xs told h none k done = absurd k
+all_read (Some p) (Some q) (Some r) text n into xs told h none k done =
+    let same : q ≡ r = k ∙ ap (λ (i : ℕ). take i into ++ r) none in
+    ap Some (sym same ∙ done)

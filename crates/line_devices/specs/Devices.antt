@@ -1,0 +1,35 @@
+-- What a source and a sink tell of the bytes that a call moves.
+use Rattle.std.specs.Prelude.{◌≡◌, ◌+◌, ◌-◌, ◌^◌, ◌++◌, ℕ, List, [], Option, Some, None, min, ⊤}
+
+-- these bytes came, and were the first of those that were left
+abbrev pub Fills : Option (List ℕ) → Option (List ℕ) → List ℕ → Type 0
+Fills None new bytes = ⊤
+Fills (Some old) None bytes = ⊥
+Fills (Some old) (Some new) bytes = old ≡ bytes ++ new
+
+-- what is left is the end of what was left, perhaps all of it or none
+abbrev pub FillsFront : Option (List ℕ) → Option (List ℕ) → Type 0
+FillsFront None new = ⊤
+FillsFront (Some old) None = ⊥
+FillsFront (Some old) (Some new) = (bytes : List ℕ) × (old ≡ bytes ++ new)
+
+-- nothing is left
+abbrev pub IsDone : Option (List ℕ) → Type 0
+IsDone None = ⊤
+IsDone (Some left) = left ≡ []
+
+-- these bytes were taken, behind those that were taken before
+abbrev pub Puts : Option (List ℕ) → Option (List ℕ) → List ℕ → Type 0
+Puts None new bytes = ⊤
+Puts (Some old) None bytes = ⊥
+Puts (Some old) (Some new) bytes = new ≡ old ++ bytes
+
+-- a front of these bytes was taken, perhaps all of them or none
+abbrev pub PutsFront : Option (List ℕ) → Option (List ℕ) → List ℕ → Type 0
+PutsFront None new bytes = ⊤
+PutsFront (Some old) None bytes = ⊥
+PutsFront (Some old) (Some new) bytes = (front : List ℕ) × (rest : List ℕ) × (bytes ≡ front ++ rest) × (new ≡ old ++ front)
+
+-- a count of faults after one more, which stays at its greatest value
+abbrev pub one_more : ℕ → ℕ
+one_more faults = min (faults + 1) (2 ^ 64 - 1)

@@ -1,0 +1,10 @@
+pub mod FieldLemmas
+pub mod HexLemmas
+pub mod MachineLemmas
+pub mod NumLemmas
+pub mod PlainLemmas
+pub mod ReadAgain
+pub mod RoundLemmas
+pub mod RowLemmas
+pub mod TextLemmas
+pub mod WriterLemmas

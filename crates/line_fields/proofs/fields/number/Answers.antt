@@ -1,0 +1,33 @@
+use Rattle.std.proofs.Common.{◌≡◌, ◌∙◌, sym, refl, arith, ◌+◌, ◌*◌, ◌-◌, ◌<◌, false, length, get_or, take, drop, le-leb}
+use Rattle.std.proofs.lemmas.Bool.{lt-leb}
+use Rattle.std.specs.Prelude.{nat_le}
+use Rattle.line_fields.proofs.NumLemmas.{num_is, num_empty, num_bad, num_large, more_at, no_digit_at, end_at}
+use Rattle.line_fields.proofs.fields.number.Goals as goal
+use Rattle.line_fields.proofs.fields.number.Goals.{then-is_empty-via-then-is_empty, then-is_empty-via-else-is_empty+then-value-least}
+
+pub returns-then-not-is_ascii_digit-clause-exact : goal.returns-then-not-is_ascii_digit-clause-exact
+returns-then-not-is_ascii_digit-clause-exact c =
+    let stops = no_digit_at _ _ _ _ c.in-len1-up.len_at_least (sym c.is_ascii_digit.ensures.value ∙ c.if-not-is_ascii_digit.true) in
+    sym (num_bad _ _ _ (sym c.loop-rest.invariant.same ∙ stops))
+
+pub returns-then-more-from-clause-exact : goal.returns-then-more-from-clause-exact
+returns-then-more-from-clause-exact c =
+    let xs = c.loop-rest.rest.now in
+    let more = more_at c.args.least c.args.most c.loop-rest.value xs c.in-len1-up.len_at_least (sym c.is_ascii_digit.ensures.value ∙ c.if-not-is_ascii_digit.false) in
+    let over : c.args.most < c.loop-rest.value * 10 + (get_or xs 0 0 - 48) = omega arith in
+    sym (num_bad _ _ _ (sym c.loop-rest.invariant.same ∙ more ∙ num_large c.args.least c.args.most (c.loop-rest.value * 10 + (get_or xs 0 0 - 48)) (take (length xs - 1) (drop 1 xs)) over))
+
+pub returns-then-is_empty-clause-exact : goal.returns-then-is_empty-clause-exact
+returns-then-is_empty-clause-exact c =
+    elim c.then-is_empty.branch [
+      | then-is_empty-via-then-is_empty w ↦ sym (num_empty _ _ _ (sym c.is_empty.ensures ∙ w.if-is_empty.true))
+      | then-is_empty-via-else-is_empty+then-value-least w ↦
+          let below : nat_le c.args.least c.loop-rest.value ≡ false = lt-leb _ _ w.if-value-least.true in
+          sym (num_bad _ _ _ (sym c.loop-rest.invariant.same ∙ end_at _ _ _ _ c.in_default.len_below c.loop-rest.invariant.small ∙ rw below refl))
+    ]
+
+pub returns-clause-exact : goal.returns-clause-exact
+returns-clause-exact c =
+    let some = sym c.is_empty.ensures ∙ c.if-is_empty.false in
+    let least = le-leb _ _ c.if-value-least.false in
+    sym (num_is _ _ _ some ∙ (sym c.loop-rest.invariant.same ∙ end_at _ _ _ _ c.in_default.len_below c.loop-rest.invariant.small ∙ rw least refl))

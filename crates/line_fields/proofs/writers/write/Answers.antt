@@ -1,0 +1,10 @@
+use Rattle.std.proofs.lemmas.Result.{on_ok_weaker}
+use Rattle.csv.specs.Records.{fields_of}
+use Rattle.line_fields.proofs.WriterLemmas.{one_record_more}
+use Rattle.line_fields.proofs.writers.write.Goals as goal
+
+pub returns-clause-text : goal.returns-clause-text
+returns-clause-text c =
+    on_ok_weaker c.write_byte_record.result
+    (λ told. one_record_more c.args.writer.now c.write_byte_record.new.self (fields_of c.args.row.now) c.requires.writing c.requires.plain c.requires.named told)
+    c.write_byte_record.ensures.bytes

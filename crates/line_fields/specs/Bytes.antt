@@ -1,0 +1,16 @@
+-- Which bytes an input text may have.
+use Rattle.std.specs.Prelude.{ℕ, List, [], ◌∷◌, Bool, true, false, not, ◌==◌, ◌&&◌, ◌||◌, nat_le}
+
+-- a line feed comes first
+abbrev pub begins_with_feed : List ℕ → Bool
+begins_with_feed [] = false
+begins_with_feed (byte ∷ rest) = byte == 10
+
+-- a byte that may stand before these: 32 to 126 but the double quote, a line feed, or a carriage return directly before one
+abbrev pub is_allowed : ℕ → List ℕ → Bool
+is_allowed byte rest = (nat_le 32 byte && nat_le byte 126 && not (byte == 34)) || (byte == 10) || ((byte == 13) && begins_with_feed rest)
+
+-- each byte is allowed where it stands
+unfoldable pub is_input_text : List ℕ → Bool
+is_input_text [] = true
+is_input_text (byte ∷ rest) = is_allowed byte rest && is_input_text rest

@@ -1,0 +1,7 @@
+pub mod Bytes
+pub mod Faults
+pub mod Fields
+pub mod Records
+pub mod Rows
+pub mod Texts
+pub mod Writers

@@ -1,0 +1,24 @@
+//! Records of texts: which bytes a text may have, its records and their fields, the numbers and bytes
+//! that fields spell, and how records are written.
+#![tactic(auto)]
+
+mod bytes;
+mod drafts;
+mod faults;
+mod fields;
+mod laws;
+mod records;
+mod writers;
+
+pub use bytes::is_plain;
+pub use drafts::Draft;
+pub use faults::{Fault, ReadError};
+pub use fields::{hex, number};
+pub use laws::{
+    bytes_are_read_again, numbers_are_read_again, records_are_few, records_are_read_again,
+};
+pub use records::{RecordReader, Row};
+pub use writers::{RecordWriter, put_record};
+
+#[cfg(test)]
+mod tests;
