@@ -296,3 +296,27 @@ fn round_is_certified(rt: HostRuntime) -> Result<(), Fail> {
     assert_eq!(rt; plan.certificate.as_slice(), want.as_slice());
     Ok(())
 }
+
+#[test]
+fn errors_read_well(rt: HostRuntime) -> Result<(), Fail> {
+    let names = format!(in rt.alloc();
+        "{}; {}",
+        ProcIdError::NoSuchProcess,
+        BodyError::BodyTooLong
+    )?;
+    assert_eq!(rt;
+        names.as_str(),
+        "the number is not below the number of processes; the body is longer than 64 bytes"
+    );
+    let tapes = format!(in rt.alloc(); "{}; {}", TapeError::StateTooLong, HistoryError::TapeFull)?;
+    assert_eq!(rt;
+        tapes.as_str(),
+        "the state is longer than 4096 bytes; the tape has no room under 1000000 events"
+    );
+    let others = format!(in rt.alloc(); "{}; {}", CountError::BadCount, MarkError::InitialDamage)?;
+    assert_eq!(rt;
+        others.as_str(),
+        "the number of processes is not from 1 to 64; the initial state of a process cannot be damaged"
+    );
+    Ok(())
+}
