@@ -1,6 +1,6 @@
 //! Limits and refusals, and the histories again, through the calls.
 use crate::tests::build::{Did, failed, history_of, process};
-use crate::tests::search::latest_of_two;
+use crate::tests::search::{is_consistent_line, latest_of_two};
 use line_names::{Body, BodyError, Choice, MsgName, Passed, ProcId, ProcIdError};
 use line_plan::{Plan, plan_history};
 use line_tape::{
@@ -182,6 +182,29 @@ fn latest_line(
     let planned = (plan.line.at(process(0)?), plan.line.at(process(1)?));
     assert_eq!(rt; Some(planned), found);
     Ok(found)
+}
+
+#[test]
+fn consistent_lines(rt: HostRuntime) -> Result<(), Fail> {
+    let history = history_of(rt.alloc(), &DOMINO)?;
+    for (first, second, want) in [
+        (Choice::Check(0), Choice::Check(0), true),
+        (Choice::Now, Choice::Check(2), true),
+        (Choice::Now, Choice::Now, true),
+        (Choice::Check(0), Choice::Check(1), false),
+        (Choice::Check(1), Choice::Check(1), false),
+        (Choice::Check(1), Choice::Check(2), false),
+        (Choice::Check(1), Choice::Now, false),
+        (Choice::Now, Choice::Check(1), false),
+        (Choice::Now, Choice::Check(3), false),
+    ] {
+        assert_eq!(rt;
+            is_consistent_line(&history, first, second),
+            want,
+            "at {first:?}, {second:?}"
+        );
+    }
+    Ok(())
 }
 
 #[test]
