@@ -1,0 +1,24 @@
+-- The command that is built is the one that the definition says.
+use Rattle.std.proofs.Common.{rules, Bor, ap, ap₂, refl, codes, true, map, List, ◌≡◌, ◌∙◌}
+use Rattle.std.proofs.lemmas.Result.{IfErr-weaker, IfOk-weaker}
+use Rattle.clap.specs.Words.{App, app_of, is_simple, new_app, Text, subcommand_of, takes, with_subcommand}
+use Rattle.clap.proofs.OnLiterals.{clap_on_literals}
+use Rattle.clap.specs.Simple.{app_of_fields}
+use Rattle.line_cli.specs.Words.{recline}
+use Rattle.line_cli.proofs.words.matches_of_words.Goals as goal
+
+simple : is_simple recline ≡ true
+unfolding clap_on_literals
+simple = refl
+
+pub returns : goal.returns
+returns c =
+    let run_is : app_of c.about-run.result ≡ new_app (codes "run") = ap app_of_fields c.about-run.ensures ∙ c.new.ensures.app in
+    let top_is : app_of c.about.result ≡ new_app (codes "recline") = ap app_of_fields c.about.ensures ∙ c.new-2.ensures.app in
+    let recline_is : app_of c.in_ok-recline.recline ≡ recline = c.in_ok-recline.ensures.shape (search rules) ∙ ap₂ with_subcommand top_is (ap (λ (a : App). a.top) run_is) in
+    let words : List Text = map (λ (w : Bor Text). w.now) c.args.words.now in
+    let parse = c.try_get_matches_from in
+    record {
+      ok = IfOk-weaker parse.result _ _ (λ m h. (h (ap is_simple recline_is ∙ simple)).1 ∙ ap (λ (a : App). subcommand_of a words) recline_is) parse.ensures.matches;
+      err = IfErr-weaker parse.result _ _ (λ e h t. h (ap (λ (a : App). takes a words) recline_is ∙ t)) parse.ensures.passes;
+    }

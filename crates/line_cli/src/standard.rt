@@ -1,0 +1,106 @@
+//! Standard input and output, of which nothing is told.
+ghost use Rattle.std.specs.Prelude.{None};
+
+use line_devices::{DeviceFault, Sink, Source};
+use std::io::{Read, Write};
+
+/// The bytes of a reader.
+pub struct ReadSource<R: Read> {
+    reader: R,
+    faults: u64,
+}
+
+impl<R: Read> ReadSource<R> {
+    /// A source of what the reader gives.
+    pub fn new(reader: R) -> Self {
+        ReadSource { reader, faults: 0 }
+    }
+}
+
+impl<R: Read + Drop> Drop for ReadSource<R> {
+    fn drop(self) {
+        let ReadSource {
+            reader: _,
+            faults: _,
+        } = self;
+    }
+}
+
+impl<R: Read> Source for ReadSource<R> {
+    ghost left = { λ _. None };
+
+    ghost faults = { λ s. s.faults };
+
+    fn fill(&mut self, into: &mut [u8]) -> Result<usize, DeviceFault> {
+        match self.reader.read(into) {
+            Ok(count) => Ok(count),
+            Err(_) => {
+                self.faults = self.faults.saturating_add(1);
+                Err(DeviceFault)
+            }
+        }
+    }
+
+    fn failures(&self) -> u64 {
+        self.faults
+    }
+}
+
+/// What a writer takes. A writer that takes nothing of some bytes has failed.
+pub struct WriteSink<W: Write> {
+    writer: W,
+    faults: u64,
+}
+
+impl<W: Write> WriteSink<W> {
+    /// A sink into the writer.
+    pub fn new(writer: W) -> Self {
+        WriteSink { writer, faults: 0 }
+    }
+}
+
+impl<W: Write + Drop> Drop for WriteSink<W> {
+    fn drop(self) {
+        let WriteSink {
+            writer: _,
+            faults: _,
+        } = self;
+    }
+}
+
+impl<W: Write> Sink for WriteSink<W> {
+    ghost taken = { λ _. None };
+
+    ghost faults = { λ s. s.faults };
+
+    fn put(&mut self, from: &[u8]) -> Result<usize, DeviceFault> {
+        match self.writer.write(from) {
+            Ok(count) => {
+                if count == 0 && !from.is_empty() {
+                    self.faults = self.faults.saturating_add(1);
+                    Err(DeviceFault)
+                } else {
+                    Ok(count)
+                }
+            }
+            Err(_) => {
+                self.faults = self.faults.saturating_add(1);
+                Err(DeviceFault)
+            }
+        }
+    }
+
+    fn finish(&mut self) -> Result<(), DeviceFault> {
+        match self.writer.flush() {
+            Ok(()) => Ok(()),
+            Err(_) => {
+                self.faults = self.faults.saturating_add(1);
+                Err(DeviceFault)
+            }
+        }
+    }
+
+    fn failures(&self) -> u64 {
+        self.faults
+    }
+}

@@ -1,0 +1,85 @@
+//! The command line.
+ghost use Rattle.std.specs.Prelude.{◌≡◌, IfOk, IfErr, Some, true, map};
+ghost use Rattle.clap.specs.Words.{kind_of, subcommand_of, subcommand_rows_of, takes};
+ghost use Rattle.line_cli.specs.Words.{recline, named, word_of};
+
+use clap::error::ErrorKind;
+use clap::{ArgMatches, Command, Error};
+use std::alloc::Global;
+
+/// What the program is asked to do.
+#[derive(Clone, Copy, Debug, PartialEq, Eq)]
+pub enum Job {
+    /// Runs a script.
+    Run,
+}
+
+/// Why there is no job.
+#[derive(Debug, Drop)]
+pub enum LineFault {
+    /// Help was asked for; its text.
+    Help(String),
+    /// The words are no command of the program.
+    Bad,
+    OutOfMemory,
+}
+
+/// What `clap` finds in the words, the program's name first.
+fn matches_of_words<'a>(alloc: Global, words: &'a [&'a str]) -> Result<ArgMatches<'a>, Error>
+    ensures ok { IfOk result (λ m. subcommand_rows_of m ≡ subcommand_of recline (map (λ w. w.now) words.entry.now)) }
+    ensures err { IfErr result (λ e. takes recline (map (λ w. w.now) words.entry.now) ≡ true
+        → kind_of e ≡ ErrorKind.OutOfMemory) }
+{
+    let run = Command::new(alloc, "run")
+        .about("Reads a script on standard input and writes the replies on standard output");
+    let recline = Command::new(alloc, "recline")
+        .about("Plans where the processes of a failed computation go back to, and proves it")
+        .subcommand(run)?;
+    recline.try_get_matches_from(words)
+}
+
+/// What a failed look at the words tells.
+fn fault_of(alloc: Global, error: &Error) -> LineFault {
+    match error.kind() {
+        ErrorKind::DisplayHelp => match format!(in alloc; "{error}") {
+            Ok(text) => LineFault::Help(text),
+            Err(_) => LineFault::OutOfMemory,
+        },
+        ErrorKind::OutOfMemory => LineFault::OutOfMemory,
+        _ => LineFault::Bad,
+    }
+}
+
+/// The job that the words ask for, the program's name first.
+pub fn command_of<'a>(alloc: Global, words: &'a [&'a str]) -> Result<Job, LineFault>
+    ensures { IfOk result (λ job. named (map (λ w. w.now) words.entry.now) ≡ Some (word_of job)) }
+{
+    match matches_of_words(alloc, words) {
+        Ok(matches) => match matches.subcommand_name() {
+            Some("run") => Ok(Job::Run),
+            _ => Err(LineFault::Bad),
+        },
+        Err(error) => Err(fault_of(alloc, &error)),
+    }
+}
+
+#[cfg(test)]
+mod tests {
+    use super::*;
+    use std::test::Fail;
+
+    #[test]
+    fn words_ask_for_a_job(rt: HostRuntime) -> Result<(), Fail> {
+        let run = ["recline", "run"];
+        assert!(rt; matches!(command_of(rt.alloc(), &run), Ok(Job::Run)));
+        let unknown = ["recline", "walk"];
+        assert!(rt; matches!(command_of(rt.alloc(), &unknown), Err(LineFault::Bad)));
+        let help = ["recline", "--help"];
+        assert!(rt; matches!(command_of(rt.alloc(), &help), Err(LineFault::Help(_))));
+        let nothing = ["recline"];
+        assert!(rt; matches!(command_of(rt.alloc(), &nothing), Err(LineFault::Bad)));
+        let more = ["recline", "run", "script"];
+        assert!(rt; matches!(command_of(rt.alloc(), &more), Err(LineFault::Bad)));
+        Ok(())
+    }
+}
