@@ -1,29 +1,67 @@
 //! The program `recline`.
+//!
+//! It ends with status 0 where all was done, 1 where a step was refused, 2 for bad input or a bad command line, and 3 for want of memory or a device that failed. A fault has one line on standard error.
 #![tactic(auto)]
 
 mod standard;
+mod status;
 mod words;
 
 use crate::standard::{ReadSource, WriteSink};
+use crate::status::status_of_fault;
 use crate::words::{Job, LineFault, command_of};
-use line_devices::{put_all, read_all};
+use line_text::run_text;
+use std::alloc::Global;
 use std::process::ExitCode;
+use std::{env, io};
+
+/// Runs the script on standard input, and says how that went.
+fn run(rt: &(impl Input + Print + Eprint), alloc: Global) -> io::Result<u8> {
+    let mut source = ReadSource::new(rt.reader());
+    let mut sink = WriteSink::new(io::writer(rt));
+    match run_text(alloc, &mut source, &mut sink) {
+        Ok(done) => Ok(if done.refused == 0 { 0 } else { 1 }),
+        Err(fault) => {
+            eprintln!(rt; "recline: {fault}")?;
+            Ok(status_of_fault(fault.code))
+        }
+    }
+}
+
+/// Does what the words ask for, the program's name first, and says how that went.
+fn done(rt: &(impl Input + Print + Eprint), alloc: Global, words: &[&str]) -> io::Result<u8> {
+    match command_of(alloc, words) {
+        Ok(Job::Run) => run(rt, alloc),
+        Err(LineFault::Help(text)) => {
+            print!(rt; "{text}")?;
+            Ok(0)
+        }
+        Err(LineFault::Bad) => {
+            eprintln!(rt; "recline: bad command line")?;
+            Ok(2)
+        }
+        Err(LineFault::OutOfMemory) => {
+            eprintln!(rt; "recline: 0 OutOfMemory")?;
+            Ok(3)
+        }
+    }
+}
+
+fn status(rt: &HostRuntime, alloc: Global) -> io::Result<u8> {
+    let mut given = Vec::new(alloc);
+    for word in env::args(rt)? {
+        given.push(word)?;
+    }
+    let mut words = Vec::new(alloc);
+    for word in &given {
+        words.push(word.as_str())?;
+    }
+    done(rt, alloc, &words)
+}
 
 fn main(rt: HostRuntime) -> ExitCode {
-    let words = ["recline", "run"];
-    match command_of(rt.alloc(), &words) {
-        Ok(Job::Run) => {}
-        Err(_) => return ExitCode::from(2),
-    }
-    let mut source = ReadSource::new(rt.reader());
-    match read_all(rt.alloc(), &mut source) {
-        Ok(text) => {
-            let mut sink = WriteSink::new(std::io::writer(&rt));
-            match put_all(&mut sink, text.as_slice()) {
-                Ok(()) => ExitCode::from(0),
-                Err(_) => ExitCode::from(3),
-            }
-        }
-        Err(_) => ExitCode::from(2),
+    match status(&rt, rt.alloc()) {
+        Ok(status) => ExitCode::from(status),
+        Err(_) => ExitCode::from(3),
     }
 }

@@ -1,0 +1,13 @@
+//! How the program ends.
+ghost use Rattle.std.specs.Prelude.{◌≡◌};
+ghost use Rattle.line_cli.specs.Status.{status_of};
+
+/// The status that goes with a fault of a text, by its number: 3 for want of memory (0), a source (36), a sink (37) or a thread (39) that failed, and 2 for the others.
+pub fn status_of_fault(code: u32) -> u8
+    ensures { result ≡ status_of code }
+{
+    match code {
+        0 | 36 | 37 | 39 => 3,
+        _ => 2,
+    }
+}
