@@ -1,6 +1,6 @@
 -- What is known of a step that no cause refuses, and of one that is refused.
-use Rattle.std.proofs.Common.{◌≡◌, ℕ, ◌<◌, ◌≤◌, Bool, true, false, cond, List, length, Option, Some, None, refl, sym, ap, ◌∙◌, subst, arith}
-use Rattle.std.specs.Prelude.{◌||◌, ◌==◌, not, nat_le}
+use Rattle.std.proofs.Common.{◌≡◌, ℕ, ◌<◌, ◌≤◌, Bool, true, false, cond, List, length, Option, Some, None, refl, ap, subst, arith}
+use Rattle.std.specs.Prelude.{◌||◌, ◌==◌, not}
 use Rattle.std.proofs.lemmas.Bool.{or_parts, leb-false, ltb-false, eqb-true, eqb-false, not-false}
 use Rattle.line_tape.specs.declared.limits.TheConstants.{MOST_EVENTS, MOST_STATE}
 use Rattle.line_tape.specs.History.{tape_at}
@@ -10,7 +10,7 @@ use Rattle.line_world.specs.declared.replies.Answer.TheVariants.{Refused}
 use Rattle.line_world.specs.declared.replies.StepError.{StepError}
 use Rattle.line_world.specs.declared.replies.StepError.TheVariants.{NoSuchProcess, TapeFull, StateTooLong, ToSelf, LinkEmpty, BadPick}
 use Rattle.line_world.specs.Machine.{Machine, items_on}
-use Rattle.line_world.specs.Refusals.{first_cause, has_stranger, is_stranger, is_full, is_long, refusal_of, IsRefused}
+use Rattle.line_world.specs.Refusals.{has_stranger, is_stranger, is_full, is_long, refusal_of, IsRefused}
 use Rattle.line_world.specs.Runs.{Takes}
 
 -- where no cause holds, the first one doesn't, nor does any other

@@ -13,7 +13,7 @@ use Rattle.line_world.specs.declared.limits.TheConstants.{LAST_INCARNATION}
 use Rattle.line_world.specs.declared.steps.Step.{Step}
 use Rattle.line_world.specs.declared.steps.Step.TheVariants.{Send, Deliver, Check, Recover}
 use Rattle.line_world.specs.declared.replies.StepError.{StepError}
-use Rattle.line_world.specs.declared.replies.StepError.TheVariants.{OutOfMemory, NoSuchProcess, TapeFull, StateTooLong, ToSelf, LinkEmpty, BadPick, NoMoreIncarnations}
+use Rattle.line_world.specs.declared.replies.StepError.TheVariants.{NoSuchProcess, TapeFull, StateTooLong, ToSelf, LinkEmpty, BadPick, NoMoreIncarnations}
 use Rattle.line_world.specs.Machine.{Machine, items_on}
 
 -- the first cause that holds

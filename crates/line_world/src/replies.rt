@@ -1,5 +1,5 @@
 //! What the machine answers.
-ghost use Rattle.std.specs.Prelude.{◌≡◌};
+ghost use Rattle.std.specs.Prelude.{◌≡◌, ◌↔◌, IsTrue};
 
 use crate::limits::LAST_INCARNATION;
 use line_names::{MsgName, ProcId};
@@ -69,6 +69,22 @@ pub enum StepError {
 }
 
 impl StepError {
+    /// Whether memory was wanted, so that the step may be done once there is some.
+    pub fn is_out_of_memory(self) -> bool
+        ensures { IsTrue result ↔ (self ≡ StepError.OutOfMemory) }
+    {
+        match self {
+            StepError::OutOfMemory => true,
+            StepError::NoSuchProcess
+            | StepError::TapeFull
+            | StepError::StateTooLong
+            | StepError::ToSelf
+            | StepError::LinkEmpty
+            | StepError::BadPick
+            | StepError::NoMoreIncarnations => false,
+        }
+    }
+
     /// The number of the refusal, as replies show it.
     pub fn code(self) -> u32
         ensures memory { self ≡ StepError.OutOfMemory → result ≡ 0 }

@@ -296,8 +296,12 @@ impl World {
         for step in steps {
             match self.step(alloc, step) {
                 Ok(reply) => done.push(Answer::Done(reply)).unwrap(),
-                Err(StepError::OutOfMemory) => return Err(RunStopped { done }),
-                Err(e) => done.push(Answer::Refused(e)).unwrap(),
+                Err(e) => {
+                    if e.is_out_of_memory() {
+                        return Err(RunStopped { done });
+                    }
+                    done.push(Answer::Refused(e)).unwrap();
+                }
             }
         }
         Ok(done)

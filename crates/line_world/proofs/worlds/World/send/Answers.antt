@@ -1,5 +1,5 @@
 -- The first cause refuses, or the message is put.
-use Rattle.std.proofs.Common.{◌≡◌, ℕ, List, [], length, None, sym, ap, ◌∙◌, subst, arith}
+use Rattle.std.proofs.Common.{◌≡◌, List, [], length, None, sym, ap, ◌∙◌, subst, arith}
 use Rattle.line_names.specs.declared.messages.MsgName.{MsgName}
 use Rattle.line_tape.specs.History.{Process, tape_at}
 use Rattle.line_world.specs.declared.replies.Reply.TheVariants.{Sent}
@@ -32,10 +32,11 @@ put_message-requires-clause-few c =
 pub returns-clause-done : goal.returns-clause-done
 returns-clause-done c =
     let none : refusal_of c.args.self.now (Send c.args.from c.args.to c.args.body.now) ≡ None = sym (c.send_refusal.ensures c.args.body.now) ∙ c.in_default.is in
-    let new : Machine = record { mode = c.self.inside.mode; history = c.put_message.new.history.processes; marks = c.self.inside.marks } in
-    (none,
-    subst (λ (m : Machine). Sends m c.args.from c.args.to c.args.body.now (Sent c.in_ok-message.message) new) c.self.view_is
-        (record {
-          reply_is = ap (λ (m : MsgName). Sent m) c.in_ok-message.ensures.name;
-          new_is = ap (λ (h : List Process). let m : Machine = record { mode = c.self.inside.mode; history = h; marks = c.self.inside.marks } in m) c.in_ok-message.ensures.sent;
-        }))
+    let new : Machine = record { mode = c.self.inside.mode; history = c.put_message.new.history.processes; marks = c.self.inside.marks } in (
+      none,
+      subst (λ (m : Machine). Sends m c.args.from c.args.to c.args.body.now (Sent c.in_ok-message.message) new) c.self.view_is
+          (record {
+            reply_is = ap (λ (m : MsgName). Sent m) c.in_ok-message.ensures.name;
+            new_is = ap (λ (h : List Process). let m : Machine = record { mode = c.self.inside.mode; history = h; marks = c.self.inside.marks } in m) c.in_ok-message.ensures.sent;
+          }),
+    )
