@@ -1,0 +1,2 @@
+pub mod RecoverLemmas
+pub mod ReadLemmas
