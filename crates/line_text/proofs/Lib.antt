@@ -1,2 +1,3 @@
 pub mod RecoverLemmas
 pub mod ReadLemmas
+pub mod ReplyLemmas
