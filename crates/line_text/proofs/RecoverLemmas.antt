@@ -9,7 +9,7 @@ use Rattle.line_fields.specs.declared.faults.Fault.{Fault}
 use Rattle.line_fields.specs.declared.faults.Fault.TheVariants as faults
 use Rattle.line_fields.specs.Fields.{◌>>=◌}
 use Rattle.line_fields.specs.Records.{Record, field}
-use Rattle.line_text.specs.declared.stand_in.Step.TheVariants.{Recover}
+use Rattle.line_world.specs.declared.steps.Step.TheVariants.{Recover}
 use Rattle.line_text.specs.declared.commands.Command.{Command}
 use Rattle.line_text.specs.declared.commands.Command.TheVariants.{Do}
 use Rattle.line_text.specs.Scripts.{plain, numbers, recover_of, refused}

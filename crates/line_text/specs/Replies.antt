@@ -7,8 +7,12 @@ use Rattle.line_names.specs.declared.messages.MsgName.{MsgName}
 use Rattle.line_names.specs.Lines.{choice_at}
 use Rattle.line_fields.specs.Records.{Record}
 use Rattle.line_fields.specs.Texts.{hex_text}
-use Rattle.line_text.specs.declared.stand_in.Reply.{Reply}
-use Rattle.line_text.specs.declared.stand_in.Reply.TheVariants.{Sent, Took, Checked, Recovered}
+use Rattle.line_world.specs.declared.replies.Reply.{Reply}
+use Rattle.line_world.specs.declared.replies.Reply.TheVariants.{Sent, Took, Checked, Recovered}
+use Rattle.line_world.specs.declared.replies.StepError.{StepError}
+use Rattle.line_world.specs.declared.replies.StepError.TheVariants as errors
+use Rattle.line_world.specs.declared.replies.Answer.{Answer}
+use Rattle.line_world.specs.declared.replies.Answer.TheVariants as answers
 use Rattle.line_text.specs.Faults.{name_of}
 
 -- what stands where there is nothing
@@ -68,3 +72,19 @@ reply_records (Sent message) = sent message ∷ []
 reply_records (Took message forced) = took message forced ∷ []
 reply_records (Checked at check) = checked at check ∷ []
 reply_records (Recovered plan states incarnations) = recovered plan.sweeps ∷ lines plan.line incarnations.items states.items
+
+-- the number of a refused step
+abbrev pub refusal_code : StepError → ℕ
+refusal_code errors.OutOfMemory = 0
+refusal_code errors.NoSuchProcess = 1
+refusal_code errors.TapeFull = 3
+refusal_code errors.StateTooLong = 5
+refusal_code errors.ToSelf = 17
+refusal_code errors.LinkEmpty = 18
+refusal_code errors.BadPick = 19
+refusal_code errors.NoMoreIncarnations = 24
+
+-- the records of an answer
+abbrev pub answer_records : Answer → List Record
+answer_records (answers.Done reply) = reply_records reply
+answer_records (answers.Refused error) = refused (refusal_code error) ∷ []

@@ -7,10 +7,10 @@ ghost use Rattle.line_fields.specs.Fields as fields;
 ghost use Rattle.line_fields.specs.Records as records;
 ghost use Rattle.line_text.specs.Scripts as spec;
 
-use crate::stand_in::{Mode, Step};
 use line_fields::{Fault, ReadError, Row, hex, number};
 use line_names::{Body, MOST_PROCESSES, ProcId, ProcSet};
 use line_tape::State;
+use line_world::{Mode, Step};
 use std::alloc::Global;
 
 /// What a record of a script asks for.

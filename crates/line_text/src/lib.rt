@@ -5,13 +5,11 @@ mod commands;
 mod faults;
 mod replies;
 mod scripts;
-mod stand_in;
 
 pub use commands::Command;
 pub use faults::{TextFault, name_of};
-pub use replies::{put_refusal, put_reply, write_reply};
+pub use replies::{put_answer, put_refusal, put_reply, write_reply};
 pub use scripts::{Script, read_script};
-pub use stand_in::{Mode, Reply, Step};
 
 #[cfg(test)]
 mod tests;

@@ -5,10 +5,10 @@ ghost use Rattle.line_fields.specs.Texts.{is_plain_field, record_text, records_t
 ghost use Rattle.line_text.specs.Replies as spec;
 
 use crate::faults::name_of;
-use crate::stand_in::Reply;
 use line_fields::{Draft, RecordWriter};
 use line_names::{Choice, MsgName, ProcId};
 use line_tape::State;
+use line_world::{Answer, Reply, StepError};
 use std::alloc::{AllocError, Global};
 
 // Begins a record with its name and the name of a message.
@@ -206,6 +206,29 @@ pub fn put_refusal(
     draft.number(u64::from(code))?;
     draft.word(name_of(code).as_bytes())?;
     writer.put(draft)
+}
+
+// The number of a refused step.
+fn refusal_code(error: StepError) -> u32
+    ensures { result ≡ spec.refusal_code error }
+{
+    error.code()
+}
+
+/// Writes the records of a reply, or of a refusal, behind the records that were written before.
+///
+/// Where a growth is refused, the records that were written before are lost too.
+pub fn put_answer(
+    writer: &mut RecordWriter,
+    draft: &mut Draft,
+    answer: &Answer,
+) -> Result<(), AllocError>
+    ensures { OnOk result (writer.new ≡ writer.old ++ records_text (spec.answer_records answer.now)) }
+{
+    match answer {
+        Answer::Done(reply) => put_reply(writer, draft, reply),
+        Answer::Refused(error) => put_refusal(writer, draft, refusal_code(*error)),
+    }
 }
 
 /// The text of a reply.

@@ -7,8 +7,8 @@ ghost use Rattle.line_text.specs.Reads.{Reads, Yields, YieldsScript};
 
 use crate::commands::{Command, World, command_in, is_last, world_of};
 use crate::faults::{TextError, TextFault, error_at, fault_at};
-use crate::stand_in::Mode;
 use line_fields::{Fault, RecordReader, Row, is_plain};
+use line_world::Mode;
 use std::alloc::Global;
 
 /// What a text asks of a machine.

@@ -3,6 +3,7 @@ use line_fields::{Draft, RecordWriter};
 use line_names::{Certificate, Choice, Line, MsgName, ProcId, ProcSet};
 use line_plan::Plan;
 use line_tape::State;
+use line_world::{Answer, Mode, Reply, Step, StepError};
 use std::alloc::{AllocError, Global};
 use std::fmt::Write;
 use std::test::Fail;
@@ -288,8 +289,18 @@ fn writes_a_line(rt: HostRuntime) -> Result<(), Fail> {
 fn writes_refusals(rt: HostRuntime) -> Result<(), Fail> {
     let mut draft = Draft::new(rt.alloc());
     let mut writer = RecordWriter::new(rt.alloc());
-    for code in [1u32, 2, 3, 5, 17, 18, 19, 24] {
+    for code in [1u32, 2] {
         put_refusal(&mut writer, &mut draft, code)?;
+    }
+    for error in [
+        StepError::TapeFull,
+        StepError::StateTooLong,
+        StepError::ToSelf,
+        StepError::LinkEmpty,
+        StepError::BadPick,
+        StepError::NoMoreIncarnations,
+    ] {
+        put_answer(&mut writer, &mut draft, &Answer::Refused(error))?;
     }
     let text = writer.into_bytes()?;
     assert_eq!(rt;
