@@ -15,3 +15,6 @@ pub use limits::LAST_INCARNATION;
 pub use replies::{Answer, Reply, RunStopped, StepError};
 pub use steps::{Mode, Step};
 pub use worlds::World;
+
+#[cfg(test)]
+mod tests;
