@@ -5,3 +5,4 @@ pub mod HistoryLemmas
 pub mod ChoiceLemmas
 pub mod ChainLemmas
 pub mod LineLemmas
+pub mod NextLemmas

@@ -5,6 +5,8 @@ pub mod Line
 pub mod Survival
 pub mod Chain
 pub mod Transit
+pub mod Rounds
+pub mod Fit
 pub mod Restart
 pub mod Views
 pub mod Kept

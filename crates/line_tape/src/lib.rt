@@ -4,7 +4,9 @@
 #![tactic(auto)]
 
 mod events;
+mod fits;
 mod histories;
+mod items;
 mod laws;
 mod limits;
 mod lines;
@@ -14,7 +16,9 @@ mod survival;
 mod tapes;
 
 pub use events::{Event, State};
+pub use fits::event_fits;
 pub use histories::{CountError, History, HistoryError};
+pub use items::Item;
 pub use laws::chain_makes_latest;
 pub use limits::{MOST_EVENTS, MOST_STATE};
 pub use lines::{is_consistent, is_line, is_sent_before, orphan_at};

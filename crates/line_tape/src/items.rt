@@ -1,0 +1,9 @@
+//! What links carry.
+use line_names::MsgName;
+
+/// An item of a link: a message, or the marker of a round.
+#[derive(Clone, Copy, Debug, PartialEq, Eq)]
+pub enum Item {
+    Message(MsgName),
+    Marker(u32),
+}

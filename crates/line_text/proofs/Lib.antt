@@ -1,0 +1,3 @@
+pub mod RecoverLemmas
+pub mod ReadLemmas
+pub mod ReplyLemmas

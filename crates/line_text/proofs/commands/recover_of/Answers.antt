@@ -1,0 +1,33 @@
+use Rattle.std.proofs.Common.{◌≡◌, ◌∙◌, sym, ◌<◌, ◌≤◌, true, false, length, arith}
+use Rattle.std.specs.Prelude.{nat_lt}
+use Rattle.std.proofs.lemmas.Result.{err_from_is_err_and}
+use Rattle.line_text.proofs.RecoverLemmas.{recover_start, recover_more, recover_refused, recover_fault, recover_end, is_below, is_not_below}
+use Rattle.line_text.proofs.commands.recover_of.Goals.{in-Ok, in-Err}
+use Rattle.line_text.proofs.commands.recover_of.Goals as goal
+
+pub loop-place-init : goal.loop-place-init
+loop-place-init c = rw c.empty-failed.ensures.value (recover_start c.args.n c.args.row.now)
+
+pub returns-in_err-p : goal.returns-in_err-p
+returns-in_err-p c =
+    let p = err_from_is_err_and c.from_residual.result c.from_residual.ensures.1 in
+    let lt : c.loop-place.place < length c.args.row.now = omega arith in
+    rw (p.1, p.2) (sym (recover_fault _ _ _ _ _ _ lt (sym c.in_err-p.ensures)) ∙ c.loop-place.invariant)
+
+pub loop-place-preserved : goal.loop-place-preserved
+loop-place-preserved c =
+    let lt : c.loop-place.place < length c.args.row.now = omega arith in
+    elim c.match-try_new.branch [
+      | in-Ok w ↦ rw (w.failed-is, w.below-is, w.with-failed.ensures.value, w.in-Ok.ensures.1) (sym (recover_more _ _ _ _ _ _ lt (sym c.in_ok-p.ensures) (is_below _ _ w.in-Ok.ensures.0)) ∙ c.loop-place.invariant)
+      | in-Err w ↦ rw (w.failed-is, w.below-is) (sym (recover_refused _ _ _ _ _ _ lt (sym c.in_ok-p.ensures) (is_not_below _ _ w.in-Err.ensures)) ∙ c.loop-place.invariant)
+    ]
+
+pub returns-then-not-below : goal.returns-then-not-below
+returns-then-not-below c =
+    let le : length c.args.row.now ≤ c.loop-place.place = omega arith in
+    rw c.refused.ensures (rw c.if-not-below.true at (sym (recover_end c.args.n c.loop-place.place c.loop-place.below c.loop-place.failed c.args.row.now le) ∙ c.loop-place.invariant))
+
+pub returns : goal.returns
+returns c =
+    let le : length c.args.row.now ≤ c.loop-place.place = omega arith in
+    rw c.if-not-below.false at (sym (recover_end c.args.n c.loop-place.place c.loop-place.below c.loop-place.failed c.args.row.now le) ∙ c.loop-place.invariant)

@@ -1,0 +1,5 @@
+use Rattle.line_text.proofs.ReplyLemmas.{code_is}
+use Rattle.line_text.proofs.replies.refusal_code.Goals as goal
+
+pub returns : goal.returns
+returns c = let told = c.code.ensures in code_is _ _ told.memory told.process told.full told.long told.itself told.empty told.pick told.incarnations

@@ -1,0 +1,90 @@
+-- The records that are written for what the machine answers.
+use Rattle.std.specs.Prelude.{ℕ, List, [], ◌∷◌, length, map, Option, Some, None, codes, decimal, slice_index_or}
+use Rattle.std.specs.List.{range_with_len}
+use Rattle.line_names.specs.declared.choices.Choice.{Choice}
+use Rattle.line_names.specs.declared.choices.Choice.TheVariants.{Check, Now}
+use Rattle.line_names.specs.declared.messages.MsgName.{MsgName}
+use Rattle.line_names.specs.Lines.{choice_at}
+use Rattle.line_fields.specs.Records.{Record}
+use Rattle.line_fields.specs.Texts.{hex_text}
+use Rattle.line_world.specs.declared.replies.Reply.{Reply}
+use Rattle.line_world.specs.declared.replies.Reply.TheVariants.{Sent, Took, Checked, Recovered}
+use Rattle.line_world.specs.declared.replies.StepError.{StepError}
+use Rattle.line_world.specs.declared.replies.StepError.TheVariants as errors
+use Rattle.line_world.specs.declared.replies.Answer.{Answer}
+use Rattle.line_world.specs.declared.replies.Answer.TheVariants as answers
+use Rattle.line_text.specs.Faults.{name_of}
+
+-- what stands where there is nothing
+abbrev pub none_text : List ℕ
+none_text = codes "-"
+
+-- sent,FROM,INC,NUMBER
+abbrev pub sent : MsgName → Record
+sent m = codes "sent" ∷ decimal m.from ∷ decimal m.inc ∷ decimal m.number ∷ []
+
+-- the round of a forced check, where one was taken
+abbrev pub round_text : Option ℕ → List ℕ
+round_text None = none_text
+round_text (Some round) = decimal round
+
+-- took,FROM,INC,NUMBER,ROUND
+abbrev pub took : MsgName → Option ℕ → Record
+took m forced = codes "took" ∷ decimal m.from ∷ decimal m.inc ∷ decimal m.number ∷ round_text forced ∷ []
+
+-- checked,P,C
+abbrev pub checked : ℕ → ℕ → Record
+checked p check = codes "checked" ∷ decimal p ∷ decimal check ∷ []
+
+-- recovered,SWEEPS,ENTRIES,REPLAYS, where entries and replays aren't counted yet
+abbrev pub recovered : ℕ → Record
+recovered sweeps = codes "recovered" ∷ decimal sweeps ∷ decimal 0 ∷ decimal 0 ∷ []
+
+-- a choice: the number of a check, or now
+abbrev pub choice_text : Choice → List ℕ
+choice_text (Check check) = decimal check
+choice_text Now = codes "now"
+
+-- the state that a process goes on from, where it is a stored one
+abbrev pub state_text : Option (List ℕ) → List ℕ
+state_text None = none_text
+state_text (Some bytes) = hex_text bytes
+
+-- line,P,CHOICE,INC,HEX
+abbrev pub line : ℕ → Choice → ℕ → Option (List ℕ) → Record
+line p choice inc state = codes "line" ∷ decimal p ∷ choice_text choice ∷ decimal inc ∷ state_text state ∷ []
+
+-- the line record of process p
+abbrev pub line_of : List Choice → List ℕ → List (Option (List ℕ)) → ℕ → Record
+line_of choices incarnations states p = line p (choice_at choices p) (slice_index_or incarnations p 0) (slice_index_or states p None)
+
+-- the line records of the processes in their order
+abbrev pub lines : List Choice → List ℕ → List (Option (List ℕ)) → List Record
+lines choices incarnations states = map (line_of choices incarnations states) (range_with_len 0 (length choices))
+
+-- refused,CODE,NAME
+abbrev pub refused : ℕ → Record
+refused code = codes "refused" ∷ decimal code ∷ name_of code ∷ []
+
+-- the records of a reply
+abbrev pub reply_records : Reply → List Record
+reply_records (Sent message) = sent message ∷ []
+reply_records (Took message forced) = took message forced ∷ []
+reply_records (Checked at check) = checked at check ∷ []
+reply_records (Recovered plan states incarnations) = recovered plan.sweeps ∷ lines plan.line incarnations.items states.items
+
+-- the number of a refused step
+abbrev pub refusal_code : StepError → ℕ
+refusal_code errors.OutOfMemory = 0
+refusal_code errors.NoSuchProcess = 1
+refusal_code errors.TapeFull = 3
+refusal_code errors.StateTooLong = 5
+refusal_code errors.ToSelf = 17
+refusal_code errors.LinkEmpty = 18
+refusal_code errors.BadPick = 19
+refusal_code errors.NoMoreIncarnations = 24
+
+-- the records of an answer
+abbrev pub answer_records : Answer → List Record
+answer_records (answers.Done reply) = reply_records reply
+answer_records (answers.Refused error) = refused (refusal_code error) ∷ []

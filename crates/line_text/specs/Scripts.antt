@@ -1,0 +1,168 @@
+-- Which script a list of records spells, and the first fault where it spells none.
+use Rattle.std.specs.Prelude.{ℕ, ◌+◌, nat_le, nat_lt, ◌==◌, ◌&&◌, Bool, true, false, not, List, [], ◌∷◌, length, drop, fold, Result, Ok, Err, if◌then◌else◌, codes}
+use Rattle.std.specs.Str.{bytes_eq}
+use Rattle.std.specs.List.{list_all}
+use Rattle.line_names.specs.declared.limits.TheConstants.{MOST_BODY, MOST_PROCESSES}
+use Rattle.line_names.specs.Sets.{nobody, with_member}
+use Rattle.line_fields.specs.declared.faults.Fault.{Fault}
+use Rattle.line_fields.specs.declared.faults.Fault.TheVariants as faults
+use Rattle.line_fields.specs.Bytes.{is_input_text}
+use Rattle.line_fields.specs.Faults.{code_of}
+use Rattle.line_fields.specs.Fields.{◌>>=◌, want, num, hex}
+use Rattle.line_fields.specs.Records.{Record, field, records_of_text}
+use Rattle.line_world.specs.declared.steps.Mode.{Mode}
+use Rattle.line_world.specs.declared.steps.Mode.TheVariants.{Fifo}
+use Rattle.line_world.specs.declared.steps.Step.{Step}
+use Rattle.line_world.specs.declared.steps.Step.TheVariants.{Send, Deliver, Check, Recover}
+use Rattle.line_text.specs.declared.commands.Command.{Command}
+use Rattle.line_text.specs.declared.commands.Command.TheVariants.{Do, Refused}
+use Rattle.line_text.specs.declared.commands.Kind.{Kind}
+use Rattle.line_text.specs.declared.commands.Kind.TheVariants as kinds
+use Rattle.line_text.specs.declared.commands.World.{World}
+use Rattle.line_text.specs.declared.faults.TextFault.{TextFault}
+
+-- a number in its widest range, and the place of an item on a link
+abbrev pub plain : List ℕ → Result ℕ Fault
+plain text = num 0 4294967295 text
+
+abbrev pub place : List ℕ → Result ℕ Fault
+place text = num 0 18446744073709551615 text
+
+-- how links deliver
+abbrev pub mode_named : List ℕ → Result Mode Fault
+mode_named text = if bytes_eq text (codes "fifo") then Ok Fifo else Err faults.BadRecord
+
+-- world,1,N,MODE
+unfoldable pub world_of : Record → Result World Fault
+world_of r = do
+  first ← want (bytes_eq (field r 0) (codes "world")) faults.NoWorld
+  long ← want (length r == 4) faults.BadRecord
+  version ← plain (field r 1)
+  n ← plain (field r 2)
+  known ← want (version == 1) faults.BadVersion
+  within ← want (nat_le 1 n && nat_le n MOST_PROCESSES) faults.BadCount
+  mode ← mode_named (field r 3)
+  Ok (record { n = n; mode = mode })
+
+-- a command that is refused, before any step
+abbrev pub refused : Fault → Command
+refused fault = Refused (code_of fault)
+
+-- a command whose processes are all below n, else one that is refused
+abbrev pub below : ℕ → List ℕ → Command → Command
+below n processes command = if list_all (λ p. nat_lt p n) processes then command else refused faults.NoSuchProcess
+
+-- a command whose body isn't too long, else one that is refused
+abbrev pub with_body : List ℕ → Command → Command
+with_body body command = if nat_le (length body) MOST_BODY then command else refused faults.BodyTooLong
+
+-- send,FROM,TO,HEX
+unfoldable pub send_of : ℕ → Record → Result Command Fault
+send_of n r = do
+  from ← plain (field r 1)
+  to ← plain (field r 2)
+  body ← hex (field r 3)
+  Ok (below n (from ∷ to ∷ []) (with_body body (Do (Send from to body))))
+
+-- deliver,FROM,TO,PICK,HEX
+unfoldable pub deliver_of : ℕ → Record → Result Command Fault
+deliver_of n r = do
+  from ← plain (field r 1)
+  to ← plain (field r 2)
+  pick ← place (field r 3)
+  state ← hex (field r 4)
+  Ok (below n (from ∷ to ∷ []) (Do (Deliver from to pick state)))
+
+-- check,P,HEX
+unfoldable pub check_of : ℕ → Record → Result Command Fault
+check_of n r = do
+  at ← plain (field r 1)
+  state ← hex (field r 2)
+  Ok (below n (at ∷ []) (Do (Check at state)))
+
+-- the numbers of fields, from left to right
+unfoldable pub numbers : Record → Result (List ℕ) Fault
+numbers [] = Ok []
+numbers (first ∷ others) = do
+  n ← plain first
+  ns ← numbers others
+  Ok (n ∷ ns)
+
+-- recover or recover,P,..
+unfoldable pub recover_of : ℕ → Record → Result Command Fault
+recover_of n r = do
+  failed ← numbers (drop 1 r)
+  Ok (below n failed (Do (Recover (fold with_member nobody failed))))
+
+-- the first field names the kind
+abbrev pub kind_named : List ℕ → Result Kind Fault
+kind_named first =
+    if bytes_eq first (codes "send") then Ok kinds.Send
+    else if bytes_eq first (codes "deliver") then Ok kinds.Deliver
+    else if bytes_eq first (codes "check") then Ok kinds.Check
+    else if bytes_eq first (codes "recover") then Ok kinds.Recover
+    else Err faults.BadRecord
+
+-- how many fields a kind has
+abbrev pub has_width : Kind → ℕ → Bool
+has_width kinds.Send width = width == 4
+has_width kinds.Deliver width = width == 5
+has_width kinds.Check width = width == 3
+has_width kinds.Recover width = true
+
+-- the command of a record of that kind
+abbrev pub of_kind : Kind → ℕ → Record → Result Command Fault
+of_kind kinds.Send n r = send_of n r
+of_kind kinds.Deliver n r = deliver_of n r
+of_kind kinds.Check n r = check_of n r
+of_kind kinds.Recover n r = recover_of n r
+
+-- the command that a record spells, among n processes
+unfoldable pub command_of : ℕ → Record → Result Command Fault
+command_of n r = do
+  kind ← kind_named (field r 0)
+  long ← want (has_width kind (length r)) faults.BadRecord
+  of_kind kind n r
+
+-- a recover that names failed processes ends the script, for now
+abbrev pub is_last : Record → Bool
+is_last r = bytes_eq (field r 0) (codes "recover") && not (length r == 1)
+
+-- the command of a record that stands in its place
+unfoldable pub command_in : ℕ → Bool → Record → Result Command Fault
+command_in n ended r = do
+  going ← want (not ended) faults.BadRecord
+  command_of n r
+
+-- what a record reads, where a fault has the record's number
+abbrev pub numbered : {A : Type 0} → ℕ → Result A Fault → Result A TextFault
+numbered i (Ok x) = Ok x
+numbered i (Err fault) = Err (record { record_number = i; code = code_of fault })
+
+-- the commands of the records from the i-th on, where the script may have ended before them
+unfoldable pub commands_from : ℕ → Bool → ℕ → List Record → Result (List Command) TextFault
+commands_from n ended i [] = Ok []
+commands_from n ended i (r ∷ rest) = do
+  command ← numbered i (command_in n ended r)
+  others ← commands_from n (is_last r) (i + 1) rest
+  Ok (command ∷ others)
+
+-- the number of processes, how links deliver, and the commands in their order
+pub record Script : Type 0 where
+  pub n : ℕ
+  pub mode : Mode
+  pub commands : List Command
+
+-- the script that records spell
+unfoldable pub script_of : List Record → Result Script TextFault
+script_of [] = Err (record { record_number = 1; code = code_of faults.NoWorld })
+script_of (first ∷ rest) = do
+  world ← numbered 1 (world_of first)
+  commands ← commands_from world.n false 2 rest
+  Ok (record { n = world.n; mode = world.mode; commands = commands })
+
+-- the script that a text spells
+unfoldable pub script_of_text : List ℕ → Result Script TextFault
+script_of_text text =
+    if is_input_text text then script_of (records_of_text text)
+    else Err (record { record_number = 0; code = code_of faults.BadRecord })

@@ -1,0 +1,232 @@
+//! What one record of a script says.
+
+ghost use Rattle.std.specs.Prelude.{◌≡◌, ◌≤◌, ◌==◌, ◌&&◌, not, length, IfOk};
+ghost use Rattle.line_names.specs.declared.limits.TheConstants.{MOST_PROCESSES};
+ghost use Rattle.line_fields.specs.Fields.{Gives};
+ghost use Rattle.line_fields.specs.Fields as fields;
+ghost use Rattle.line_fields.specs.Records as records;
+ghost use Rattle.line_text.specs.Scripts as spec;
+
+use line_fields::{Fault, ReadError, Row, hex, number};
+use line_names::{Body, MOST_PROCESSES, ProcId, ProcSet};
+use line_tape::State;
+use line_world::{Mode, Step};
+use std::alloc::Global;
+
+/// What a record of a script asks for.
+#[derive(Debug, Drop)]
+pub enum Command {
+    /// A step of the machine.
+    Do(Step),
+    /// Nothing: a process isn't below the number of processes, or a body is too long. The number of
+    /// the refusal tells which.
+    Refused(u32),
+}
+
+/// What the first record says.
+#[derive(Clone, Copy, Debug, PartialEq, Eq)]
+pub(crate) struct World {
+    pub n: u32,
+    pub mode: Mode,
+}
+
+/// Which record it is, by its first field.
+#[derive(Clone, Copy)]
+pub(crate) enum Kind {
+    Send,
+    Deliver,
+    Check,
+    Recover,
+}
+
+const MOST_NUMBER: u64 = 4_294_967_295;
+
+// A fault unless a test holds.
+fn want(holds: bool, fault: Fault) -> Result<(), Fault>
+    ensures { result ≡ fields.want holds fault }
+{
+    if holds { Ok(()) } else { Err(fault) }
+}
+
+// The number in a field.
+fn plain(row: &Row, place: usize) -> Result<u32, Fault>
+    ensures { result ≡ spec.plain (records.field row.now place) }
+{
+    let value = number(row.field(place), 0, MOST_NUMBER)?;
+    Ok(value as u32)
+}
+
+// A command that is refused, before any step.
+fn refused(fault: Fault) -> Command
+    ensures { result ≡ spec.refused fault }
+{
+    Command::Refused(fault.code())
+}
+
+fn mode_named(text: &[u8]) -> Result<Mode, Fault>
+    ensures { result ≡ spec.mode_named text.now }
+{
+    if text == b"fifo".as_slice() {
+        Ok(Mode::Fifo)
+    } else {
+        Err(Fault::BadRecord)
+    }
+}
+
+/// What the first record says, or its first fault.
+#[tactic(auto, unfolding(crate::specs::Scripts::world_of))]
+pub(crate) fn world_of(row: &Row) -> Result<World, Fault>
+    ensures exact { result ≡ spec.world_of row.now }
+    ensures few { IfOk result (λ world. world.n ≤ MOST_PROCESSES) }
+{
+    want(row.field(0) == b"world".as_slice(), Fault::NoWorld)?;
+    want(row.len() == 4, Fault::BadRecord)?;
+    let version = plain(row, 1)?;
+    let n = plain(row, 2)?;
+    want(version == 1, Fault::BadVersion)?;
+    want(1 <= n && n <= 64, Fault::BadCount)?;
+    let mode = mode_named(row.field(3))?;
+    Ok(World { n, mode })
+}
+
+fn kind_named(first: &[u8]) -> Result<Kind, Fault>
+    ensures { result ≡ spec.kind_named first.now }
+{
+    if first == b"send".as_slice() {
+        Ok(Kind::Send)
+    } else if first == b"deliver".as_slice() {
+        Ok(Kind::Deliver)
+    } else if first == b"check".as_slice() {
+        Ok(Kind::Check)
+    } else if first == b"recover".as_slice() {
+        Ok(Kind::Recover)
+    } else {
+        Err(Fault::BadRecord)
+    }
+}
+
+fn has_width(kind: Kind, width: usize) -> bool
+    ensures { result ≡ spec.has_width kind width }
+{
+    match kind {
+        Kind::Send => width == 4,
+        Kind::Deliver => width == 5,
+        Kind::Check => width == 3,
+        Kind::Recover => true,
+    }
+}
+
+#[tactic(auto, unfolding(crate::specs::Scripts::send_of))]
+fn send_of(alloc: Global, n: u32, row: &Row) -> Result<Command, ReadError>
+    requires { n ≤ MOST_PROCESSES }
+    ensures { Gives (λ command. command) result (spec.send_of n row.now) }
+{
+    let from = plain(row, 1)?;
+    let to = plain(row, 2)?;
+    let bytes = hex(alloc, row.field(3))?;
+    let Ok(from) = ProcId::try_new(from, n) else {
+        return Ok(refused(Fault::NoSuchProcess));
+    };
+    let Ok(to) = ProcId::try_new(to, n) else {
+        return Ok(refused(Fault::NoSuchProcess));
+    };
+    let Ok(body) = Body::try_new(bytes.as_slice()) else {
+        return Ok(refused(Fault::BodyTooLong));
+    };
+    Ok(Command::Do(Step::Send { from, to, body }))
+}
+
+#[tactic(auto, unfolding(crate::specs::Scripts::deliver_of))]
+fn deliver_of(alloc: Global, n: u32, row: &Row) -> Result<Command, ReadError>
+    requires { n ≤ MOST_PROCESSES }
+    ensures { Gives (λ command. command) result (spec.deliver_of n row.now) }
+{
+    let from = plain(row, 1)?;
+    let to = plain(row, 2)?;
+    let pick = number(row.field(3), 0, u64::MAX)?;
+    let bytes = hex(alloc, row.field(4))?;
+    let Ok(from) = ProcId::try_new(from, n) else {
+        return Ok(refused(Fault::NoSuchProcess));
+    };
+    let Ok(to) = ProcId::try_new(to, n) else {
+        return Ok(refused(Fault::NoSuchProcess));
+    };
+    let state = State::of(bytes);
+    Ok(Command::Do(Step::Deliver {
+        from,
+        to,
+        pick,
+        state,
+    }))
+}
+
+#[tactic(auto, unfolding(crate::specs::Scripts::check_of))]
+fn check_of(alloc: Global, n: u32, row: &Row) -> Result<Command, ReadError>
+    requires { n ≤ MOST_PROCESSES }
+    ensures { Gives (λ command. command) result (spec.check_of n row.now) }
+{
+    let at = plain(row, 1)?;
+    let bytes = hex(alloc, row.field(2))?;
+    let Ok(at) = ProcId::try_new(at, n) else {
+        return Ok(refused(Fault::NoSuchProcess));
+    };
+    let state = State::of(bytes);
+    Ok(Command::Do(Step::Check { at, state }))
+}
+
+fn recover_of(n: u32, row: &Row) -> Result<Command, Fault>
+    requires { n ≤ MOST_PROCESSES }
+    ensures { result ≡ spec.recover_of n row.now }
+{
+    let mut failed = ProcSet::empty();
+    let mut below = true;
+    for place in 1..row.len() {
+        let p = plain(row, place)?;
+        match ProcId::try_new(p, n) {
+            Ok(p) => failed = failed.with(p),
+            Err(_) => below = false,
+        }
+    }
+    if !below {
+        return Ok(refused(Fault::NoSuchProcess));
+    }
+    Ok(Command::Do(Step::Recover { failed }))
+}
+
+/// The command that a record after the first spells, or its first fault.
+#[tactic(auto, unfolding(crate::specs::Scripts::command_of))]
+fn command_of(alloc: Global, n: u32, row: &Row) -> Result<Command, ReadError>
+    requires { n ≤ MOST_PROCESSES }
+    ensures { Gives (λ command. command) result (spec.command_of n row.now) }
+{
+    let kind = kind_named(row.field(0))?;
+    want(has_width(kind, row.len()), Fault::BadRecord)?;
+    match kind {
+        Kind::Send => send_of(alloc, n, row),
+        Kind::Deliver => deliver_of(alloc, n, row),
+        Kind::Check => check_of(alloc, n, row),
+        Kind::Recover => Ok(recover_of(n, row)?),
+    }
+}
+
+/// The same of a record that the script may have ended before.
+#[tactic(auto, unfolding(crate::specs::Scripts::command_in))]
+pub(crate) fn command_in(
+    alloc: Global,
+    n: u32,
+    ended: bool,
+    row: &Row,
+) -> Result<Command, ReadError>
+    requires { n ≤ MOST_PROCESSES }
+    ensures { Gives (λ command. command) result (spec.command_in n ended row.now) }
+{
+    want(!ended, Fault::BadRecord)?;
+    command_of(alloc, n, row)
+}
+
+/// Whether no record may follow this one.
+pub(crate) fn is_last(row: &Row) -> bool
+    ensures { result ≡ spec.is_last row.now }
+{
+    row.field(0) == b"recover".as_slice() && row.len() != 1
+}

@@ -1,0 +1,242 @@
+//! The records that are written for what the machine answers.
+
+ghost use Rattle.std.specs.Prelude.{◌≡◌, ◌<◌, ◌++◌, ◌∷◌, [], None, IfOk, IsTrue, OnOk, decimal, length, slice_index_or};
+ghost use Rattle.line_fields.specs.Texts.{is_plain_field, record_text, records_text};
+ghost use Rattle.line_text.specs.Replies as spec;
+
+use crate::faults::name_of;
+use line_fields::{Draft, RecordWriter};
+use line_names::{Choice, MsgName, ProcId};
+use line_tape::State;
+use line_world::{Answer, Reply, StepError};
+use std::alloc::{AllocError, Global};
+
+// Begins a record with its name and the name of a message.
+fn begin(draft: &mut Draft, word: &[u8], message: MsgName) -> Result<(), AllocError>
+    requires { IsTrue (is_plain_field word.now) }
+    ensures { OnOk result (draft.new ≡ word.now ∷ decimal message.from ∷ decimal message.inc ∷ decimal message.number ∷ []) }
+{
+    draft.clear();
+    draft.word(word)?;
+    draft.number(u64::from(message.from.get()))?;
+    draft.number(u64::from(message.inc))?;
+    draft.number(u64::from(message.number))
+}
+
+// Writes `sent,FROM,INC,NUMBER`.
+fn put_sent(
+    writer: &mut RecordWriter,
+    draft: &mut Draft,
+    message: MsgName,
+) -> Result<(), AllocError>
+    ensures { OnOk result (writer.new ≡ writer.old ++ record_text (spec.sent message)) }
+{
+    begin(draft, b"sent", message)?;
+    writer.put(draft)
+}
+
+// Adds the round of a forced check, or `-`.
+fn add_round(draft: &mut Draft, forced: Option<u32>) -> Result<(), AllocError>
+    ensures { OnOk result (draft.new ≡ draft.old ++ spec.round_text forced ∷ []) }
+{
+    match forced {
+        None => draft.word(b"-"),
+        Some(round) => draft.number(u64::from(round)),
+    }
+}
+
+// Writes `took,FROM,INC,NUMBER,ROUND`.
+fn put_took(
+    writer: &mut RecordWriter,
+    draft: &mut Draft,
+    message: MsgName,
+    forced: Option<u32>,
+) -> Result<(), AllocError>
+    ensures { OnOk result (writer.new ≡ writer.old ++ record_text (spec.took message forced)) }
+{
+    begin(draft, b"took", message)?;
+    add_round(draft, forced)?;
+    writer.put(draft)
+}
+
+// Writes `checked,P,C`.
+fn put_checked(
+    writer: &mut RecordWriter,
+    draft: &mut Draft,
+    at: ProcId,
+    check: u32,
+) -> Result<(), AllocError>
+    ensures { OnOk result (writer.new ≡ writer.old ++ record_text (spec.checked at check)) }
+{
+    draft.clear();
+    draft.word(b"checked")?;
+    draft.number(u64::from(at.get()))?;
+    draft.number(u64::from(check))?;
+    writer.put(draft)
+}
+
+// Writes `recovered,SWEEPS,0,0`.
+fn put_recovered(
+    writer: &mut RecordWriter,
+    draft: &mut Draft,
+    sweeps: u32,
+) -> Result<(), AllocError>
+    ensures { OnOk result (writer.new ≡ writer.old ++ record_text (spec.recovered sweeps)) }
+{
+    draft.clear();
+    draft.word(b"recovered")?;
+    draft.number(u64::from(sweeps))?;
+    draft.number(0)?;
+    draft.number(0)?;
+    writer.put(draft)
+}
+
+// Adds a choice.
+fn add_choice(draft: &mut Draft, choice: Choice) -> Result<(), AllocError>
+    ensures { OnOk result (draft.new ≡ draft.old ++ spec.choice_text choice ∷ []) }
+{
+    match choice {
+        Choice::Check(check) => draft.number(u64::from(check)),
+        Choice::Now => draft.word(b"now"),
+    }
+}
+
+// Adds the incarnation of a process.
+fn add_incarnation(draft: &mut Draft, incarnations: &[u16], p: usize) -> Result<(), AllocError>
+    ensures { OnOk result (draft.new ≡ draft.old ++ decimal (slice_index_or incarnations.now p 0) ∷ []) }
+{
+    match incarnations.get(p) {
+        Some(inc) => draft.number(u64::from(*inc)),
+        None => draft.number(0),
+    }
+}
+
+// Adds the state that a process goes on from, or `-`.
+fn add_state(draft: &mut Draft, states: &[Option<State>], p: usize) -> Result<(), AllocError>
+    ensures { OnOk result (draft.new ≡ draft.old ++ spec.state_text (slice_index_or states.now p None) ∷ []) }
+{
+    match states.get(p) {
+        Some(Some(state)) => draft.bytes(state.bytes()),
+        Some(None) => draft.word(b"-"),
+        None => draft.word(b"-"),
+    }
+}
+
+// Writes `line,P,CHOICE,INC,HEX`.
+fn put_line(
+    writer: &mut RecordWriter,
+    draft: &mut Draft,
+    choices: &[Choice],
+    incarnations: &[u16],
+    states: &[Option<State>],
+    p: usize,
+) -> Result<(), AllocError>
+    requires { p < length choices.now }
+    ensures { OnOk result (writer.new ≡ writer.old ++ record_text (spec.line_of choices.now incarnations.now states.now p)) }
+{
+    draft.clear();
+    draft.word(b"line")?;
+    draft.number(p as u64)?;
+    add_choice(draft, choices[p])?;
+    add_incarnation(draft, incarnations, p)?;
+    add_state(draft, states, p)?;
+    writer.put(draft)
+}
+
+// Writes the line records of all processes.
+fn put_lines(
+    writer: &mut RecordWriter,
+    draft: &mut Draft,
+    choices: &[Choice],
+    incarnations: &[u16],
+    states: &[Option<State>],
+) -> Result<(), AllocError>
+    ensures { OnOk result (writer.new ≡ writer.old ++ records_text (spec.lines choices.now incarnations.now states.now)) }
+{
+    for p in 0..choices.len() {
+        put_line(writer, draft, choices, incarnations, states, p)?;
+    }
+    Ok(())
+}
+
+/// Writes the records of a reply behind those that were written before.
+///
+/// Where a growth is refused, the records that were written before are lost too. The draft holds the
+/// last record afterwards, and may be used again.
+pub fn put_reply(
+    writer: &mut RecordWriter,
+    draft: &mut Draft,
+    reply: &Reply,
+) -> Result<(), AllocError>
+    ensures { OnOk result (writer.new ≡ writer.old ++ records_text (spec.reply_records reply.now)) }
+{
+    match reply {
+        Reply::Sent { message } => put_sent(writer, draft, *message),
+        Reply::Took { message, forced } => put_took(writer, draft, *message, *forced),
+        Reply::Checked { at, check } => put_checked(writer, draft, *at, *check),
+        Reply::Recovered {
+            plan,
+            states,
+            incarnations,
+        } => {
+            put_recovered(writer, draft, plan.sweeps)?;
+            put_lines(
+                writer,
+                draft,
+                plan.line.choices(),
+                incarnations.as_slice(),
+                states.as_slice(),
+            )
+        }
+    }
+}
+
+/// Writes `refused,CODE,NAME` behind the records that were written before.
+///
+/// Where a growth is refused, the records that were written before are lost too.
+pub fn put_refusal(
+    writer: &mut RecordWriter,
+    draft: &mut Draft,
+    code: u32,
+) -> Result<(), AllocError>
+    ensures { OnOk result (writer.new ≡ writer.old ++ record_text (spec.refused code)) }
+{
+    draft.clear();
+    draft.word(b"refused")?;
+    draft.number(u64::from(code))?;
+    draft.word(name_of(code).as_bytes())?;
+    writer.put(draft)
+}
+
+// The number of a refused step.
+fn refusal_code(error: StepError) -> u32
+    ensures { result ≡ spec.refusal_code error }
+{
+    error.code()
+}
+
+/// Writes the records of a reply, or of a refusal, behind the records that were written before.
+///
+/// Where a growth is refused, the records that were written before are lost too.
+pub fn put_answer(
+    writer: &mut RecordWriter,
+    draft: &mut Draft,
+    answer: &Answer,
+) -> Result<(), AllocError>
+    ensures { OnOk result (writer.new ≡ writer.old ++ records_text (spec.answer_records answer.now)) }
+{
+    match answer {
+        Answer::Done(reply) => put_reply(writer, draft, reply),
+        Answer::Refused(error) => put_refusal(writer, draft, refusal_code(*error)),
+    }
+}
+
+/// The text of a reply.
+pub fn write_reply(alloc: Global, reply: &Reply) -> Result<Vec<u8>, AllocError>
+    ensures { IfOk result (λ text. text.items ≡ records_text (spec.reply_records reply.now)) }
+{
+    let mut draft = Draft::new(alloc);
+    let mut writer = RecordWriter::new(alloc);
+    put_reply(&mut writer, &mut draft, reply)?;
+    writer.into_bytes()
+}

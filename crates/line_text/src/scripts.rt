@@ -1,0 +1,101 @@
+//! Scripts, read record by record.
+
+ghost use Rattle.std.specs.Prelude.{◌≡◌, ◌≤◌, ◌<◌, false, length, IfOk, IsSome};
+ghost use Rattle.line_names.specs.declared.limits.TheConstants.{MOST_PROCESSES};
+ghost use Rattle.line_text.specs.Scripts as spec;
+ghost use Rattle.line_text.specs.Reads.{Reads, Yields, YieldsScript};
+
+use crate::commands::{Command, World, command_in, is_last, world_of};
+use crate::faults::{TextError, TextFault, error_at, fault_at};
+use line_fields::{Fault, RecordReader, Row, is_plain};
+use line_world::Mode;
+use std::alloc::Global;
+
+/// What a text asks of a machine.
+#[derive(Debug, Drop)]
+pub struct Script {
+    /// How many processes the machine has.
+    pub n: u32,
+    /// How its links deliver.
+    pub mode: Mode,
+    /// What it is asked to do, in this order. The command at place `i` is that of record `i + 2`.
+    pub commands: Vec<Command>,
+}
+
+// What the first record says.
+fn world_at(row: &Row) -> Result<World, TextError>
+    ensures exact { Yields result (spec.numbered 1 (spec.world_of row.now)) }
+    ensures few { IfOk result (λ world. world.n ≤ MOST_PROCESSES) }
+{
+    match world_of(row) {
+        Ok(world) => Ok(world),
+        Err(fault) => Err(fault_at(1, fault)),
+    }
+}
+
+// What the record with that number asks for.
+fn command_at(
+    alloc: Global,
+    n: u32,
+    ended: bool,
+    record_number: u64,
+    row: &Row,
+) -> Result<Command, TextError>
+    requires { n ≤ MOST_PROCESSES }
+    ensures { Yields result (spec.numbered record_number (spec.command_in n ended row.now)) }
+{
+    match command_in(alloc, n, ended, row) {
+        Ok(command) => Ok(command),
+        Err(error) => Err(error_at(record_number, error)),
+    }
+}
+
+// The script that a text spells.
+fn read(alloc: Global, text: &[u8]) -> Result<Script, TextError>
+    ensures { YieldsScript result (spec.script_of_text text.now) }
+{
+    if !is_plain(text) {
+        return Err(fault_at(0, Fault::BadRecord));
+    }
+    let mut records = RecordReader::open(alloc, text);
+    let mut row = Row::new(alloc);
+    if !records.next_row(&mut row)? {
+        return Err(fault_at(1, Fault::NoWorld));
+    }
+    let world = world_at(&row)?;
+    let mut commands = Vec::new(alloc);
+    let mut ended = false;
+    let mut record_number = 2u64;
+    'records: loop {
+        if !records.next_row(&mut row)? {
+            return Ok(Script {
+                n: world.n,
+                mode: world.mode,
+                commands,
+            });
+        }
+        let command = command_at(alloc, world.n, ended, record_number, &row)?;
+        commands.push(command)?;
+        ended = is_last(&row);
+        record_number += 1;
+    }
+}
+
+/// The script that a text spells.
+///
+/// Refused with the first fault of the text, the records taken in their order, and the questions to a
+/// record in the order in which its definition asks them. A byte that no text has is of record 0 and
+/// comes before all else; a text without records wants its first one. Want of memory, at any time, is
+/// the fault 0 of record 0. It takes time and memory in proportion to the text.
+pub fn read_script(alloc: Global, text: &[u8]) -> Result<Script, TextFault>
+    ensures { Reads result (spec.script_of_text text.now) }
+{
+    match read(alloc, text) {
+        Ok(script) => Ok(script),
+        Err(TextError::OutOfMemory) => Err(TextFault {
+            record_number: 0,
+            code: 0,
+        }),
+        Err(TextError::Fault(fault)) => Err(fault),
+    }
+}

@@ -1,0 +1,332 @@
+use super::*;
+use line_fields::{Draft, RecordWriter};
+use line_names::{Certificate, Choice, Line, MsgName, ProcId, ProcSet};
+use line_plan::Plan;
+use line_tape::State;
+use line_world::{Answer, Mode, Reply, Step, StepError};
+use std::alloc::{AllocError, Global};
+use std::fmt::Write;
+use std::test::Fail;
+
+const THREE_CHECKS: &[u8] =
+    b"world,1,2,fifo\nsend,0,1,61\ndeliver,0,1,0,\ncheck,1,b1\nsend,1,0,62\ndeliver,1,0,0,\ncheck,0,a1\nsend,0,1,63\ndeliver,0,1,0,\ncheck,1,b2\nrecover,1\n";
+
+fn let_go(_script: Script) {}
+
+// The first fault of a text: the number of its record, and its own.
+fn fault_of(alloc: Global, text: &[u8]) -> Option<(u64, u32)> {
+    match read_script(alloc, text) {
+        Ok(script) => {
+            let_go(script);
+            None
+        }
+        Err(fault) => Some((fault.record_number, fault.code)),
+    }
+}
+
+#[test]
+fn finds_the_first_fault(rt: HostRuntime) {
+    for (text, want) in [
+        (b"".as_slice(), Some((1u64, 34u32))),
+        (b"\n\r\n\n", Some((1, 34))),
+        (b"world,1,2,fifo", None),
+        (b"\n\nworld,001,2,fifo\r\n", None),
+        // Bytes that no text has.
+        (b"world,1,2,fifo\nsend,0,1,\"61\"\n", Some((0, 32))),
+        (b"nothing\xff", Some((0, 32))),
+        (b"world,1,2,fifo\rcheck,0,", Some((0, 32))),
+        // The first record, in the order of its questions.
+        (b" world,1,2,fifo", Some((1, 34))),
+        (b"check,0,\nworld,1,2,fifo", Some((1, 34))),
+        (b"world,2,2", Some((1, 32))),
+        (b"world,1,2,fifo,", Some((1, 32))),
+        (b"world,9,x,fifo", Some((1, 33))),
+        (b"world,,2,fifo", Some((1, 33))),
+        (b"world,4294967296,2,fifo", Some((1, 33))),
+        (b"world,2,2,fifo", Some((1, 35))),
+        (b"world,2,65,lifo", Some((1, 35))),
+        (b"world,1,65,fifo", Some((1, 6))),
+        (b"world,1,0,fifo", Some((1, 6))),
+        (b"world,1,65,lifo", Some((1, 6))),
+        (b"world,1,2,lifo", Some((1, 32))),
+        (b"world,1,2,unordered", Some((1, 32))),
+    ] {
+        assert_eq!(rt; fault_of(rt.alloc(), text), want, "at {text:?}");
+    }
+}
+
+#[test]
+fn finds_the_first_fault_of_a_command(rt: HostRuntime) {
+    for (text, want) in [
+        (
+            b"world,1,2,fifo\nsend,0,1\n".as_slice(),
+            Some((2u64, 32u32)),
+        ),
+        (b"world,1,2,fifo\nsend,0,1,61,\n", Some((2, 32))),
+        (b"world,1,2,fifo\nsend,0,x,61\n", Some((2, 33))),
+        (b"world,1,2,fifo\nsend,0,1,6\n", Some((2, 33))),
+        (b"world,1,2,fifo\nsend,9,x,61\n", Some((2, 33))),
+        (b"world,1,2,fifo\ndeliver,0,1,0\n", Some((2, 32))),
+        (b"world,1,2,fifo\ndeliver,0,1,18446744073709551615,\n", None),
+        (
+            b"world,1,2,fifo\ndeliver,0,1,18446744073709551616,\n",
+            Some((2, 33)),
+        ),
+        (b"world,1,2,fifo\ncheck,0\n", Some((2, 32))),
+        (b"world,1,2,fifo\ncheck,-1,\n", Some((2, 33))),
+        (b"world,1,2,fifo\nrecover,\n", Some((2, 33))),
+        (b"world,1,2,fifo\nrecover,0,x\n", Some((2, 33))),
+        (b"world,1,2,fifo\nworld,1,2,fifo\n", Some((2, 32))),
+        (b"world,1,2,fifo\nSend,0,1,61\n", Some((2, 32))),
+        (b"world,1,2,fifo\nrounds\n", Some((2, 32))),
+        (b"world,1,2,fifo\nbegin,0,a1\n", Some((2, 32))),
+        // Empty lines aren't counted, and a line of blanks is.
+        (
+            b"\r\nworld,1,2,fifo\n\n\r\ncheck,0,a1\r\n\ncheck,0\n",
+            Some((3, 32)),
+        ),
+        (b"world,1,2,fifo\n \ncheck,0\n", Some((2, 32))),
+        // Nothing follows a recover with failed processes.
+        (b"world,1,2,fifo\nrecover\ncheck,0,a1\n", None),
+        (b"world,1,2,fifo\nrecover,0\n\n", None),
+        (b"world,1,2,fifo\nrecover,0\ncheck,0,a1\n", Some((3, 32))),
+        (b"world,1,2,fifo\nrecover,0\ncheck,0,x\n", Some((3, 32))),
+    ] {
+        assert_eq!(rt; fault_of(rt.alloc(), text), want, "at {text:?}");
+    }
+}
+
+// Shows a command.
+fn show(out: &mut String, command: &Command) -> Result<(), AllocError> {
+    match command {
+        Command::Refused(code) => write!(out, "refused {code};")?,
+        Command::Do(Step::Send { from, to, body }) => {
+            write!(out, "send {} {} {:?};", from.get(), to.get(), body.bytes())?
+        }
+        Command::Do(
+            Step::Deliver {
+                from,
+                to,
+                pick,
+                state,
+            },
+        ) => write!(
+            out,
+            "deliver {} {} {pick} {:?};",
+            from.get(),
+            to.get(),
+            state.bytes()
+        )?,
+        Command::Do(Step::Check { at, state }) => {
+            write!(out, "check {} {:?};", at.get(), state.bytes())?
+        }
+        Command::Do(Step::Recover { failed }) => show_set(out, failed)?,
+    }
+    Ok(())
+}
+
+// Shows a recover.
+fn show_set(out: &mut String, failed: &ProcSet) -> Result<(), AllocError> {
+    write!(out, "recover")?;
+    for value in 0..64u32 {
+        if let Ok(p) = ProcId::try_new(value, 64) {
+            if failed.has(p) {
+                write!(out, " {value}")?;
+            }
+        }
+    }
+    write!(out, ";")?;
+    Ok(())
+}
+
+// Shows all commands of a text, and nothing where it has a fault.
+fn shown(alloc: Global, text: &[u8]) -> Result<String, AllocError> {
+    let mut out = String::new(alloc);
+    if let Ok(script) = read_script(alloc, text) {
+        write!(out, "{}:", script.n)?;
+        for command in &script.commands {
+            show(&mut out, command)?;
+        }
+    }
+    Ok(out)
+}
+
+#[test]
+fn reads_commands(rt: HostRuntime) -> Result<(), Fail> {
+    for (text, want) in [
+        (b"world,1,64,fifo\n".as_slice(), "64:"),
+        (
+            b"world,1,2,fifo\nsend,00,1,6A6b\n",
+            "2:send 0 1 [106, 107];",
+        ),
+        (b"world,1,2,fifo\nsend,0,0,\n", "2:send 0 0 [];"),
+        (b"world,1,2,fifo\nsend,0,2,61\n", "2:refused 1;"),
+        (b"world,1,2,fifo\nsend,2,0,61\n", "2:refused 1;"),
+        (
+            b"world,1,2,fifo\nsend,0,1,6161616161616161616161616161616161616161616161616161616161616161616161616161616161616161616161616161616161616161616161616161616161\n",
+            "2:refused 2;",
+        ),
+        (
+            b"world,1,2,fifo\nsend,0,2,6161616161616161616161616161616161616161616161616161616161616161616161616161616161616161616161616161616161616161616161616161616161\n",
+            "2:refused 1;",
+        ),
+        (
+            b"world,1,2,fifo\ndeliver,1,0,7,a1\n",
+            "2:deliver 1 0 7 [161];",
+        ),
+        (b"world,1,2,fifo\ndeliver,1,2,0,\n", "2:refused 1;"),
+        (
+            b"world,1,2,fifo\ncheck,1,00ff\ncheck,2,\n",
+            "2:check 1 [0, 255];refused 1;",
+        ),
+        (
+            b"world,1,3,fifo\nrecover\nrecover,2,0,2\n",
+            "3:recover;recover 0 2;",
+        ),
+        (b"world,1,3,fifo\nrecover,0,3,1\n", "3:refused 1;"),
+    ] {
+        assert_eq!(rt; shown(rt.alloc(), text)?.as_str(), want, "at {text:?}");
+    }
+    Ok(())
+}
+
+#[test]
+fn reads_a_whole_script(rt: HostRuntime) -> Result<(), Fail> {
+    let script = read_script(rt.alloc(), THREE_CHECKS)?;
+    assert_eq!(rt; script.n, 2);
+    assert_eq!(rt; script.mode, Mode::Fifo);
+    assert_eq!(rt; script.commands.len(), 10);
+    Ok(())
+}
+
+// The name of a message of process 1, in incarnation 65,535.
+fn name(number: u32) -> Option<MsgName> {
+    match ProcId::try_new(1, 2) {
+        Ok(from) => Some(MsgName {
+            from,
+            inc: 65_535,
+            number,
+        }),
+        Err(_) => None,
+    }
+}
+
+// The text of the sent of that message.
+fn sent_text(alloc: Global) -> Result<Vec<u8>, AllocError> {
+    match name(7) {
+        Some(message) => write_reply(alloc, &Reply::Sent { message }),
+        None => Ok(Vec::new(alloc)),
+    }
+}
+
+// The text of the took of that message.
+fn took_text(alloc: Global, forced: Option<u32>) -> Result<Vec<u8>, AllocError> {
+    match name(7) {
+        Some(message) => write_reply(alloc, &Reply::Took { message, forced }),
+        None => Ok(Vec::new(alloc)),
+    }
+}
+
+// The text of a checked of its sender.
+fn checked_text(alloc: Global, check: u32) -> Result<Vec<u8>, AllocError> {
+    match name(7) {
+        Some(message) => write_reply(
+            alloc,
+            &Reply::Checked {
+                at: message.from,
+                check,
+            },
+        ),
+        None => Ok(Vec::new(alloc)),
+    }
+}
+
+#[test]
+fn writes_replies_of_one_record(rt: HostRuntime) -> Result<(), Fail> {
+    let sent = sent_text(rt.alloc())?;
+    assert_eq!(rt; sent.as_slice(), b"sent,1,65535,7\n".as_slice());
+    let took = took_text(rt.alloc(), None)?;
+    assert_eq!(rt; took.as_slice(), b"took,1,65535,7,-\n".as_slice());
+    let forced = took_text(rt.alloc(), Some(3))?;
+    assert_eq!(rt; forced.as_slice(), b"took,1,65535,7,3\n".as_slice());
+    let checked = checked_text(rt.alloc(), 4_294_967_295)?;
+    assert_eq!(rt; checked.as_slice(), b"checked,1,4294967295\n".as_slice());
+    Ok(())
+}
+
+// A recovered reply of a process that goes back to its check 1, and one that stays.
+fn recovered(alloc: Global) -> Result<Reply, AllocError> {
+    let mut line = Line::new();
+    line.push(Choice::Check(1));
+    line.push(Choice::Now);
+    let stored = State::of(Vec::from_slice(alloc, b"\xa1\x0f")?);
+    let states = vec![in alloc; Some(stored), None]?;
+    let incarnations = Vec::from_slice(alloc, &[1u16, 0])?;
+    let certificate: Certificate = Vec::new(alloc);
+    Ok(Reply::Recovered {
+        plan: Plan {
+            line,
+            certificate,
+            sweeps: 3,
+        },
+        states,
+        incarnations,
+    })
+}
+
+#[test]
+fn writes_a_line(rt: HostRuntime) -> Result<(), Fail> {
+    let reply = recovered(rt.alloc())?;
+    let text = write_reply(rt.alloc(), &reply)?;
+    assert_eq!(rt;
+        text.as_slice(),
+        b"recovered,3,0,0\nline,0,1,1,a10f\nline,1,now,0,-\n".as_slice()
+    );
+    Ok(())
+}
+
+#[test]
+fn writes_refusals(rt: HostRuntime) -> Result<(), Fail> {
+    let mut draft = Draft::new(rt.alloc());
+    let mut writer = RecordWriter::new(rt.alloc());
+    for code in [1u32, 2] {
+        put_refusal(&mut writer, &mut draft, code)?;
+    }
+    for error in [
+        StepError::TapeFull,
+        StepError::StateTooLong,
+        StepError::ToSelf,
+        StepError::LinkEmpty,
+        StepError::BadPick,
+        StepError::NoMoreIncarnations,
+    ] {
+        put_answer(&mut writer, &mut draft, &Answer::Refused(error))?;
+    }
+    let text = writer.into_bytes()?;
+    assert_eq!(rt;
+        text.as_slice(),
+        b"refused,1,NoSuchProcess\nrefused,2,BodyTooLong\nrefused,3,TapeFull\nrefused,5,StateTooLong\nrefused,17,ToSelf\nrefused,18,LinkEmpty\nrefused,19,BadPick\nrefused,24,NoMoreIncarnations\n".as_slice()
+    );
+    Ok(())
+}
+
+#[test]
+fn shows_faults(rt: HostRuntime) -> Result<(), Fail> {
+    for (record_number, code, want) in [
+        (0u64, 0u32, "record 0: 0 OutOfMemory"),
+        (1, 6, "record 1: 6 BadCount"),
+        (0, 32, "record 0: 32 BadRecord"),
+        (2, 33, "record 2: 33 BadNumber"),
+        (1, 34, "record 1: 34 NoWorld"),
+        (1, 35, "record 1: 35 BadVersion"),
+        (0, 36, "record 0: 36 ReadFault"),
+        (0, 37, "record 0: 37 WriteFault"),
+    ] {
+        let fault = TextFault {
+            record_number,
+            code,
+        };
+        assert_eq!(rt; format!(in rt.alloc(); "{fault}")?.as_str(), want);
+    }
+    Ok(())
+}

@@ -1,0 +1,53 @@
+-- What a world keeps true holds where nothing was done yet.
+use Rattle.std.proofs.Common.{◌≡◌, ℕ, List, [], length, drop, get_or, replicate, refl, sym, ap, ◌∙◌, subst, arith, inl, inr}
+use Rattle.std.specs.List.{All, filter_map}
+use Rattle.std.proofs.lemmas.Bool.{cases_lt}
+use Rattle.std.proofs.lemmas.List.{get_or-replicate, get_or_past, length-replicate}
+use Rattle.line_tape.specs.declared.events.Event.{Event}
+use Rattle.line_tape.specs.declared.items.Item.{Item}
+use Rattle.line_tape.specs.Fit.{items_sent, item_received, IsPrefix, AreDistinct, MarksFollow}
+use Rattle.line_tape.specs.History.{Process, fresh, tape_at}
+use Rattle.line_tape.specs.Rounds.{rounds_checked}
+use Rattle.line_world.specs.Queues.{queue_at, IsMessageOf, IsWorld}
+
+get_or-replicate_self : {X : Type 0} (n i : ℕ) (x : X) → get_or (replicate n x) i x ≡ x
+get_or-replicate_self n i x = elim (cases_lt i n) [
+  | inl below ↦ get_or-replicate n i x x below
+  | inr past ↦ get_or_past (replicate n x) i x (omega (arith, past, length-replicate n x))
+]
+
+module _ (n : ℕ) where
+  tape-start : (p : ℕ) → tape_at (replicate n fresh) p ≡ []
+  tape-start p = ap (λ (v : Process). v.tape) (get_or-replicate_self n p fresh)
+
+  queue-start : (p q : ℕ) → queue_at (replicate n (replicate n [])) p q ≡ []
+  queue-start p q = elim (cases_lt p n) [
+    | inl below ↦ ap (λ (xs : List (List Item)). get_or xs q []) (get_or-replicate n p (replicate n []) [] below) ∙ get_or-replicate_self n q []
+    | inr past ↦ ap (λ (xs : List (List Item)). get_or xs q []) (get_or_past (replicate n (replicate n [])) p [] (omega (arith, past, length-replicate n (let row : List (List Item) = replicate n [] in row))))
+  ]
+
+  order-start : (p q : ℕ) → (s t : List Event) → [] ≡ s → [] ≡ t → IsPrefix (filter_map (item_received p) t) (items_sent p q 0 s)
+  order-start p q s t e f =
+      let P : List Event → List Event → Type 0 = λ s t. IsPrefix (filter_map (item_received p) t) (items_sent p q 0 s) in
+      subst (λ (v : List Event). P v t) e (subst (λ (v : List Event). P [] v) f refl)
+
+  link-start : (p q : ℕ) → (s t : List Event) → [] ≡ s → [] ≡ t → drop (length (filter_map (item_received p) t)) (items_sent p q 0 s) ≡ []
+  link-start p q s t e f =
+      let P : List Event → List Event → Type 0 = λ s t. drop (length (filter_map (item_received p) t)) (items_sent p q 0 s) ≡ [] in
+      subst (λ (v : List Event). P v t) e (subst (λ (v : List Event). P [] v) f refl)
+
+  pub IsWorld-start : IsWorld (replicate n fresh) (replicate n (replicate n []))
+  IsWorld-start = record {
+    fit = record {
+      order = λ p q. order-start p q (tape_at (replicate n fresh) p) (tape_at (replicate n fresh) q) (sym (tape-start p)) (sym (tape-start q));
+      rounds = λ p. subst (λ (v : List Event). AreDistinct (rounds_checked v)) (sym (tape-start p)) (λ i j d near far. absurd (omega (arith, far)));
+      marks = λ p. subst MarksFollow (sym (tape-start p)) (λ i from round e. absurd (cc));
+    };
+    shape = record {
+      rows = length-replicate n (replicate n []) ∙ sym (length-replicate n fresh);
+      columns = λ p within. ap (λ (xs : List (List Item)). length xs) (get_or-replicate n p (replicate n []) [] (omega (arith, within, length-replicate n fresh)))
+          ∙ length-replicate n [] ∙ sym (length-replicate n fresh);
+    };
+    links = λ p q. queue-start p q ∙ sym (link-start p q (tape_at (replicate n fresh) p) (tape_at (replicate n fresh) q) (sym (tape-start p)) (sym (tape-start q)));
+    messages = λ p q. subst (λ (xs : List Item). All (IsMessageOf p) xs) (sym (queue-start p q)) (λ k d within. absurd (omega (arith, within)));
+  }

@@ -1,0 +1,5 @@
+pub mod Machine
+pub mod Refusals
+pub mod Steps
+pub mod Runs
+pub mod Queues

@@ -1,0 +1,97 @@
+-- What refuses a step: the first cause that holds.
+use Rattle.std.specs.Prelude.{◌≡◌, ℕ, ◌-◌, Bool, true, false, not, ◌&&◌, ◌||◌, ◌==◌, nat_lt, nat_le, if◌then◌else◌, List, [], ◌∷◌, length, Option, Some, None, IsTrue}
+use Rattle.std.specs.List.{list_any, range_with_len}
+use Rattle.line_names.specs.declared.choices.Choice.{Choice}
+use Rattle.line_names.specs.declared.choices.Choice.TheVariants.{Check as AtCheck, Now}
+use Rattle.line_names.specs.declared.limits.TheConstants.{MOST_PROCESSES}
+use Rattle.line_names.specs.Lines.{choice_at}
+use Rattle.line_names.specs.Sets.{is_member}
+use Rattle.line_tape.specs.declared.limits.TheConstants.{MOST_EVENTS, MOST_STATE}
+use Rattle.line_tape.specs.History.{Process, tape_at, incarnation_at}
+use Rattle.line_tape.specs.Survival.{IsLatest}
+use Rattle.line_world.specs.declared.limits.TheConstants.{LAST_INCARNATION}
+use Rattle.line_world.specs.declared.steps.Step.{Step}
+use Rattle.line_world.specs.declared.steps.Step.TheVariants.{Send, Deliver, Check, Recover}
+use Rattle.line_world.specs.declared.replies.StepError.{StepError}
+use Rattle.line_world.specs.declared.replies.StepError.TheVariants.{NoSuchProcess, TapeFull, StateTooLong, ToSelf, LinkEmpty, BadPick, NoMoreIncarnations}
+use Rattle.line_world.specs.Machine.{Machine, items_on}
+
+-- the first cause that holds
+abbrev pub first_cause : List (Bool × StepError) → Option StepError
+first_cause [] = None
+first_cause (cause ∷ causes) = if cause.0 then Some cause.1 else first_cause causes
+
+-- there is no process p
+abbrev pub is_stranger : Machine → ℕ → Bool
+is_stranger machine p = nat_le (length machine.history) p
+
+-- a member of the set is no process
+abbrev pub has_stranger : Machine → List Bool → Bool
+has_stranger machine set = list_any (is_member set) (range_with_len (length machine.history) (MOST_PROCESSES - length machine.history))
+
+-- the bytes are too many for a state
+abbrev pub is_long : List ℕ → Bool
+is_long state = nat_lt MOST_STATE (length state)
+
+-- the tape of process p has no room for an event
+abbrev pub is_full : Machine → ℕ → Bool
+is_full machine p = nat_le MOST_EVENTS (length (tape_at machine.history p))
+
+-- a process that goes back
+abbrev pub goes_back : Choice → Bool
+goes_back (AtCheck c) = true
+goes_back Now = false
+
+-- at process p the line goes back, and there is no incarnation after the present one
+abbrev pub is_spent : List Process → List Choice → ℕ → Bool
+is_spent history line p = goes_back (choice_at line p) && (incarnation_at history p == LAST_INCARNATION)
+
+-- a process that goes back has no further incarnation
+abbrev pub is_exhausted : List Process → List Choice → Bool
+is_exhausted history line = list_any (is_spent history line) (range_with_len 0 (length history))
+
+-- the first cause to refuse a step that can be told without a plan
+abbrev pub refusal_of : Machine → Step → Option StepError
+refusal_of machine (Send from to body) =
+    first_cause (
+    (is_stranger machine from || is_stranger machine to, NoSuchProcess)
+    ∷ (from == to, ToSelf)
+    ∷ (is_full machine from, TapeFull)
+    ∷ [])
+refusal_of machine (Deliver from to pick state) =
+    first_cause (
+    (is_stranger machine from || is_stranger machine to, NoSuchProcess)
+    ∷ (from == to, ToSelf)
+    ∷ (is_long state, StateTooLong)
+    ∷ (length (items_on machine from to) == 0, LinkEmpty)
+    ∷ (not (pick == 0), BadPick)
+    ∷ (is_full machine to, TapeFull)
+    ∷ [])
+refusal_of machine (Check at state) =
+    first_cause (
+    (is_stranger machine at, NoSuchProcess)
+    ∷ (is_long state, StateTooLong)
+    ∷ (is_full machine at, TapeFull)
+    ∷ [])
+refusal_of machine (Recover failed) = first_cause ((has_stranger machine failed, NoSuchProcess) ∷ [])
+
+-- the latest line takes a process back that has no further incarnation
+pub record IsSpent (machine : Machine) (failed : List Bool) : Type 0 where
+  pub line : List Choice
+  pub latest : IsLatest machine.history machine.marks failed line
+  pub exhausted : IsTrue (is_exhausted machine.history line)
+
+-- why a Recover is refused that names only processes
+abbrev pub IsRecoverCause : Machine → List Bool → StepError → Type 0
+IsRecoverCause machine failed NoMoreIncarnations = IsSpent machine failed
+IsRecoverCause machine failed e = ⊥
+
+-- a cause that takes a plan to tell
+abbrev pub IsLateCause : Machine → Step → StepError → Type 0
+IsLateCause machine (Recover failed) e = IsRecoverCause machine failed e
+IsLateCause machine step e = ⊥
+
+-- the step is refused by this cause, which comes first
+abbrev pub IsRefused : Machine → Step → StepError → Option StepError → Type 0
+IsRefused machine step e (Some cause) = e ≡ cause
+IsRefused machine step e None = IsLateCause machine step e

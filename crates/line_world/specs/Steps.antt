@@ -1,0 +1,88 @@
+-- What an accepted step replies and leaves.
+use Rattle.std.specs.Prelude.{◌≡◌, ℕ, ◌+◌, ◌≤◌, Bool, false, List, length, map, slice_get, Option, Some, None}
+use Rattle.std.specs.List.{range_with_len}
+use Rattle.line_names.specs.declared.choices.Choice.{Choice}
+use Rattle.line_names.specs.declared.choices.Choice.TheVariants.{Check as AtCheck, Now}
+use Rattle.line_names.specs.declared.messages.MsgName.{MsgName}
+use Rattle.line_names.specs.Lines.{choice_at}
+use Rattle.line_plan.specs.declared.plans.Plan.{Plan}
+use Rattle.line_tape.specs.declared.events.Event.{Event}
+use Rattle.line_tape.specs.declared.events.Event.TheVariants.{Send as SendEvent, Recv as RecvEvent, Check as CheckEvent}
+use Rattle.line_tape.specs.declared.items.Item.TheVariants.{Message}
+use Rattle.line_tape.specs.Chain.{IsChain}
+use Rattle.line_tape.specs.Event.{checks, sends, stored_state}
+use Rattle.line_tape.specs.History.{Process, tape_at, incarnation_at}
+use Rattle.line_tape.specs.Restart.{restarted_incarnation}
+use Rattle.line_tape.specs.Survival.{IsLatest}
+use Rattle.line_world.specs.declared.steps.Step.{Step}
+use Rattle.line_world.specs.declared.steps.Step.TheVariants.{Send, Deliver, Check, Recover}
+use Rattle.line_world.specs.declared.replies.Reply.{Reply}
+use Rattle.line_world.specs.declared.replies.Reply.TheVariants.{Sent, Took, Checked, Recovered}
+use Rattle.line_world.specs.Machine.{Machine, items_on, with_step}
+use Rattle.line_world.specs.Refusals.{is_exhausted}
+
+-- the name of the next message of process p
+abbrev pub next_name : List Process → ℕ → MsgName
+next_name history p = record { from = p; inc = incarnation_at history p; number = sends (tape_at history p) }
+
+-- the index of the next check of process p
+abbrev pub next_check : List Process → ℕ → ℕ
+next_check history p = checks (tape_at history p) + 1
+
+-- Send adds a send of the present incarnation
+pub record Sends (old : Machine) (from to : ℕ) (body : List ℕ) (reply : Reply) (new : Machine) : Type 0 where
+  pub reply_is : reply ≡ Sent (next_name old.history from)
+  pub new_is : new ≡ with_step old from (SendEvent to (incarnation_at old.history from) body)
+
+-- Deliver takes the message that is picked
+pub record Delivers (old : Machine) (from to pick : ℕ) (reply : Reply) (new : Machine) : Type 0 where
+  pub message : MsgName
+  pub picked : slice_get (items_on old from to) pick ≡ Some (Message message)
+  pub reply_is : reply ≡ Took message None
+  pub new_is : new ≡ with_step old to (RecvEvent message)
+
+-- Check adds a check without a round
+pub record Checks (old : Machine) (at : ℕ) (state : List ℕ) (reply : Reply) (new : Machine) : Type 0 where
+  pub reply_is : reply ≡ Checked at (next_check old.history at)
+  pub new_is : new ≡ with_step old at (CheckEvent state None)
+
+-- the bytes stored at a choice: none where the process stands now
+abbrev pub restored : List Event → Choice → Option (List ℕ)
+restored tape (AtCheck c) = Some (stored_state tape c)
+restored tape Now = None
+
+-- what each process goes on from, on a line
+abbrev pub restored_states : List Process → List Choice → List (Option (List ℕ))
+restored_states history line = map (λ p. restored (tape_at history p) (choice_at line p)) (range_with_len 0 (length history))
+
+-- the incarnation of each process after a restart at a line
+abbrev pub restarted_incarnations : List Process → List Choice → List ℕ
+restarted_incarnations history line =
+    map (λ p. restarted_incarnation (choice_at line p) (incarnation_at history p)) (range_with_len 0 (length history))
+
+-- the plan is of the latest line, by any valid chain
+pub record IsPlan (machine : Machine) (failed : List Bool) (plan : Plan) : Type 0 where
+  pub latest : IsLatest machine.history machine.marks failed plan.line
+  pub chain : IsChain machine.history machine.marks failed plan.certificate.items plan.line
+  pub some_sweep : 1 ≤ plan.sweeps
+  pub few_sweeps : plan.sweeps ≤ length plan.certificate.items + 1
+
+-- Recover plans, tells what a restart at the plan's line would leave, and changes nothing
+pub record Recovers (old : Machine) (failed : List Bool) (plan : Plan) (states : List (Option (List ℕ))) (incarnations : List ℕ) (new : Machine) : Type 0 where
+  pub plan_is : IsPlan old failed plan
+  pub unspent : is_exhausted old.history plan.line ≡ false
+  pub states_are : states ≡ restored_states old.history plan.line
+  pub incarnations_are : incarnations ≡ restarted_incarnations old.history plan.line
+  pub new_is : new ≡ old
+
+-- a Recover replies Recovered
+abbrev pub RecoversWith : Machine → List Bool → Reply → Machine → Type 0
+RecoversWith old failed (Recovered plan states incarnations) new = Recovers old failed plan states.items incarnations.items new
+RecoversWith old failed reply new = ⊥
+
+-- the step may be done with this reply, and leaves that state
+abbrev pub Does : Machine → Step → Reply → Machine → Type 0
+Does old (Send from to body) reply new = Sends old from to body reply new
+Does old (Deliver from to pick state) reply new = Delivers old from to pick reply new
+Does old (Check at state) reply new = Checks old at state reply new
+Does old (Recover failed) reply new = RecoversWith old failed reply new

@@ -1,0 +1,20 @@
+//! The core machine: processes that send, deliver, take checks and recover, one step at a time.
+//!
+//! A `World` holds what each process did and answers steps; what it answers is what the machine of `specs/` may answer, which knows no queues: there a link holds what remains of what was sent after what was received.
+#![tactic(auto)]
+
+mod limits;
+mod links;
+mod moves;
+mod replies;
+mod restores;
+mod steps;
+mod worlds;
+
+pub use limits::LAST_INCARNATION;
+pub use replies::{Answer, Reply, RunStopped, StepError};
+pub use steps::{Mode, Step};
+pub use worlds::World;
+
+#[cfg(test)]
+mod tests;

@@ -1,0 +1,158 @@
+//! What the machine answers.
+ghost use Rattle.std.specs.Prelude.{◌≡◌, ◌↔◌, IsTrue};
+
+use crate::limits::LAST_INCARNATION;
+use line_names::{MsgName, ProcId};
+use line_plan::{Plan, PlanError};
+use line_tape::{MOST_EVENTS, MOST_STATE, State};
+use std::alloc::AllocError;
+use std::error::Error;
+use std::fmt;
+
+/// What a step tells that was done.
+#[derive(Debug, Drop)]
+pub enum Reply {
+    /// The name of the message sent.
+    Sent {
+        message: MsgName,
+    },
+    /// The message taken, and the round of the check that was taken before it, if one was.
+    Took {
+        message: MsgName,
+        forced: Option<u32>,
+    },
+    /// The index of the check taken.
+    Checked {
+        at: ProcId,
+        check: u32,
+    },
+    /// The plan; of each process the bytes that it goes on from, none where it stays where it stands; and its incarnation after the restart.
+    Recovered {
+        plan: Plan,
+        states: Vec<Option<State>>,
+        incarnations: Vec<u16>,
+    },
+}
+
+/// The reply of a step, or its refusal.
+#[derive(Debug, Drop)]
+pub enum Answer {
+    Done(Reply),
+    Refused(StepError),
+}
+
+/// A run that memory did not suffice for: the answers of the steps that were done.
+#[derive(Debug, Drop)]
+pub struct RunStopped {
+    pub done: Vec<Answer>,
+}
+
+impl fmt::Display for RunStopped {
+    fn fmt<W: fmt::Write>(&self, f: &mut fmt::Formatter<W>) -> fmt::Result {
+        write!(f, "out of memory after {} steps", self.done.len())
+    }
+}
+
+impl Error for RunStopped {}
+
+/// Why a step was not done.
+#[derive(Clone, Copy, Debug, PartialEq, Eq, Hash)]
+pub enum StepError {
+    OutOfMemory,
+    NoSuchProcess,
+    TapeFull,
+    StateTooLong,
+    ToSelf,
+    LinkEmpty,
+    BadPick,
+    NoMoreIncarnations,
+}
+
+impl StepError {
+    /// Whether memory was wanted, so that the step may be done once there is some.
+    pub fn is_out_of_memory(self) -> bool
+        ensures { IsTrue result ↔ (self ≡ StepError.OutOfMemory) }
+    {
+        match self {
+            StepError::OutOfMemory => true,
+            StepError::NoSuchProcess
+            | StepError::TapeFull
+            | StepError::StateTooLong
+            | StepError::ToSelf
+            | StepError::LinkEmpty
+            | StepError::BadPick
+            | StepError::NoMoreIncarnations => false,
+        }
+    }
+
+    /// The number of the refusal, as replies show it.
+    pub fn code(self) -> u32
+        ensures memory { self ≡ StepError.OutOfMemory → result ≡ 0 }
+        ensures process { self ≡ StepError.NoSuchProcess → result ≡ 1 }
+        ensures full { self ≡ StepError.TapeFull → result ≡ 3 }
+        ensures long { self ≡ StepError.StateTooLong → result ≡ 5 }
+        ensures itself { self ≡ StepError.ToSelf → result ≡ 17 }
+        ensures empty { self ≡ StepError.LinkEmpty → result ≡ 18 }
+        ensures pick { self ≡ StepError.BadPick → result ≡ 19 }
+        ensures incarnations { self ≡ StepError.NoMoreIncarnations → result ≡ 24 }
+    {
+        match self {
+            StepError::OutOfMemory => 0,
+            StepError::NoSuchProcess => 1,
+            StepError::TapeFull => 3,
+            StepError::StateTooLong => 5,
+            StepError::ToSelf => 17,
+            StepError::LinkEmpty => 18,
+            StepError::BadPick => 19,
+            StepError::NoMoreIncarnations => 24,
+        }
+    }
+}
+
+impl fmt::Display for StepError {
+    fn fmt<W: fmt::Write>(&self, f: &mut fmt::Formatter<W>) -> fmt::Result {
+        match self {
+            StepError::OutOfMemory => f.write_str("out of memory"),
+            StepError::NoSuchProcess => {
+                f.write_str("a process number is not below the number of processes")
+            }
+            StepError::TapeFull => write!(f, "the tape has no room under {MOST_EVENTS} events"),
+            StepError::StateTooLong => write!(f, "the state is longer than {MOST_STATE} bytes"),
+            StepError::ToSelf => f.write_str("a process has no link to itself"),
+            StepError::LinkEmpty => f.write_str("the link holds nothing"),
+            StepError::BadPick => f.write_str("the link has nothing to take at that place"),
+            StepError::NoMoreIncarnations => {
+                write!(
+                    f,
+                    "a process that goes back has incarnation {LAST_INCARNATION}"
+                )
+            }
+        }
+    }
+}
+
+impl Error for StepError {}
+
+impl From<AllocError> for StepError {
+    ghost use Rattle.std.specs.Prelude.{◌≡◌};
+    ghost use Rattle.line_world.specs.declared.replies.StepError.TheVariants.{OutOfMemory};
+
+    ghost from_gives = { λ _ e. e ≡ OutOfMemory };
+
+    fn from(_refused: AllocError) -> StepError {
+        StepError::OutOfMemory
+    }
+}
+
+impl From<PlanError> for StepError {
+    ghost use Rattle.std.specs.Prelude.{◌≡◌};
+    ghost use Rattle.line_world.specs.declared.replies.StepError.TheVariants.{OutOfMemory};
+
+    ghost from_gives = { λ _ e. e ≡ OutOfMemory };
+
+    fn from(error: PlanError) -> StepError {
+        match error {
+            PlanError::OutOfMemory => StepError::OutOfMemory,
+        }
+    }
+}

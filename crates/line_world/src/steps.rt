@@ -1,0 +1,37 @@
+//! What the machine is asked to do.
+use line_names::{Body, ProcId, ProcSet};
+use line_tape::State;
+
+/// How links deliver.
+#[derive(Clone, Copy, Debug, PartialEq, Eq)]
+pub enum Mode {
+    /// Each link delivers in the order of sending.
+    Fifo,
+}
+
+/// One step.
+#[derive(Debug, Drop)]
+pub enum Step {
+    /// A process sends a message to another.
+    Send {
+        from: ProcId,
+        to: ProcId,
+        body: Body,
+    },
+    /// A process takes the item that stands at place `pick` of the link from another. The state is tested in any case, and stored where the item has the process take a check.
+    Deliver {
+        from: ProcId,
+        to: ProcId,
+        pick: u64,
+        state: State,
+    },
+    /// A process takes a check.
+    Check {
+        at: ProcId,
+        state: State,
+    },
+    /// The processes of the set failed, and all go on from the latest line.
+    Recover {
+        failed: ProcSet,
+    },
+}

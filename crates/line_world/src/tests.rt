@@ -1,0 +1,130 @@
+//! What worlds answer, with memory enough.
+use crate::tests::build::{Did, after, failed, message, process, step_of};
+use crate::{Answer, Mode, Reply, Step, World};
+use line_names::{Choice, ProcSet};
+use line_tape::{CountError, Item};
+use std::test::Fail;
+
+mod build;
+
+/// a and c go from 0 to 1, b from 1 to 0, with a check after each delivery.
+const DOMINO: [Did; 9] = [
+    Did::Sends(0, 1),
+    Did::Delivers(0, 1),
+    Did::Checks(1),
+    Did::Sends(1, 0),
+    Did::Delivers(1, 0),
+    Did::Checks(0),
+    Did::Sends(0, 1),
+    Did::Delivers(0, 1),
+    Did::Checks(1),
+];
+
+#[test]
+fn domino(rt: HostRuntime) -> Result<(), Fail> {
+    let mut world = World::new(rt.alloc(), 2, Mode::Fifo)?;
+    let told = [
+        "Sent 0.0.0",
+        "Took 0.0.0",
+        "Checked 1.1",
+        "Sent 1.0.0",
+        "Took 1.0.0",
+        "Checked 0.1",
+        "Sent 0.0.1",
+        "Took 0.0.1",
+        "Checked 1.2",
+    ];
+    for (did, words) in DOMINO.iter().zip(told) {
+        let step = step_of(rt.alloc(), *did)?;
+        let reply = world.step(rt.alloc(), &step)?;
+        assert_eq!(rt; build::told(rt.alloc(), &reply)?.as_str(), words);
+    }
+    Ok(())
+}
+
+#[test]
+fn recovery_of_the_domino(rt: HostRuntime) -> Result<(), Fail> {
+    let mut world = after(rt.alloc(), &DOMINO)?;
+    let reply = world.step(
+        rt.alloc(),
+        &Step::Recover {
+            failed: failed(&[1])?,
+        },
+    )?;
+    match reply {
+        Reply::Recovered {
+            plan,
+            states,
+            incarnations,
+        } => {
+            assert_eq!(rt;
+                plan.line.choices(),
+                [Choice::Now, Choice::Check(2)].as_slice()
+            );
+            assert_eq!(rt; plan.sweeps, 1);
+            assert_eq!(rt; plan.certificate.len(), 0);
+            assert_eq!(rt; states.len(), 2);
+            assert!(rt; states[0].is_none());
+            assert_eq!(rt;
+                states[1].as_ref().map(|state| state.bytes().len()),
+                Some(1)
+            );
+            assert_eq!(rt; incarnations.as_slice(), [0, 1].as_slice());
+        }
+        Reply::Sent { .. } => assert!(rt; false),
+        Reply::Took { .. } => assert!(rt; false),
+        Reply::Checked { .. } => assert!(rt; false),
+    }
+    Ok(())
+}
+
+#[test]
+fn links_in_order(rt: HostRuntime) -> Result<(), Fail> {
+    let world = after(rt.alloc(), &[Did::Sends(0, 1), Did::Sends(0, 1)])?;
+    let (from, to) = (process(0)?, process(1)?);
+    assert_eq!(rt; world.history().n(), 2);
+    assert_eq!(rt; world.link_len(from, to), 2);
+    assert_eq!(rt; world.link_len(to, from), 0);
+    assert_eq!(rt;
+        world.link_item(from, to, 1),
+        Some(Item::Message(message(0, 1)?))
+    );
+    assert_eq!(rt; world.link_item(from, to, 2), None);
+    assert_eq!(rt; world.incarnation(from), 0);
+    Ok(())
+}
+
+#[test]
+fn refusals_in_a_run(rt: HostRuntime) -> Result<(), Fail> {
+    let mut world = World::new(rt.alloc(), 2, Mode::Fifo)?;
+    let steps = build::refused_steps(rt.alloc())?;
+    let codes = [1, 17, 18, 19, 5, 1];
+    let answers = world.run(rt.alloc(), steps.as_slice())?;
+    assert_eq!(rt; answers.len(), 7);
+    let mut at = 0;
+    for answer in &answers {
+        match answer {
+            Answer::Done(_) => {}
+            Answer::Refused(e) => {
+                assert_eq!(rt; Some(&e.code()), codes.get(at));
+                at += 1;
+            }
+        }
+    }
+    assert_eq!(rt; at, 6);
+    Ok(())
+}
+
+#[test]
+fn numbers_of_processes(rt: HostRuntime) -> Result<(), Fail> {
+    for n in [0, 65] {
+        assert_eq!(rt;
+            World::new(rt.alloc(), n, Mode::Fifo).err(),
+            Some(CountError::BadCount)
+        );
+    }
+    let world = World::new(rt.alloc(), 64, Mode::Fifo)?;
+    let plan = world.plan_for(rt.alloc(), &ProcSet::empty())?;
+    assert_eq!(rt; plan.line.len(), 64);
+    Ok(())
+}

@@ -1,0 +1,309 @@
+//! The world: the machine that answers steps.
+ghost use Rattle.std.specs.Prelude.{◌≡◌, ◌≢◌, ◌<◌, ◌≤◌, ◌↔◌, ◌⊎◌, ℕ, List, length, take, slice_get, IfOk, IfErr, OnOk, IsErrOf, IsTrue};
+ghost use Rattle.line_tape.specs.History.{incarnation_at};
+ghost use Rattle.line_world.specs.declared.replies.Answer.TheVariants.{Done, Refused};
+ghost use Rattle.line_world.specs.declared.steps.Step.TheVariants.{Send, Deliver, Check, Recover};
+ghost use Rattle.line_world.specs.Machine.{start, items_on, IsFit};
+ghost use Rattle.line_world.specs.Refusals.{refusal_of, has_stranger};
+ghost use Rattle.line_world.specs.Runs.{Takes, Run};
+ghost use Rattle.line_world.specs.Steps.{IsPlan};
+
+use crate::links::Links;
+use crate::moves::{add_check, put_message, take_message};
+use crate::replies::{Answer, Reply, RunStopped, StepError};
+use crate::restores::{is_exhausted, restarted_incarnations, restored_states};
+use crate::steps::{Mode, Step};
+use line_names::{Body, MOST_PROCESSES, ProcId, ProcSet};
+use line_plan::{Plan, plan_history};
+use line_tape::{CountError, History, Item, MOST_EVENTS, MOST_STATE, Marks, State};
+use std::alloc::Global;
+use std::marker::Model;
+
+/// Processes with a link from each to each.
+///
+/// It keeps a queue for each link beside the tapes, so that sending, delivering and taking a check cost the same however much was done before. A step that is refused changes nothing.
+#[derive(Drop)]
+pub struct World {
+    mode: Mode,
+    history: History,
+    marks: Marks,
+    links: Links,
+}
+
+impl Model for World {
+    ghost use Rattle.line_world.specs.Machine.{Machine};
+
+    ghost Value = { Machine };
+
+    ghost use Rattle.line_world.specs.Queues.{IsWorld};
+
+    ghost view = { λ w. record { mode = w.mode; history = w.history.processes; marks = w.marks } };
+
+    ghost invariant = { λ w. IsWorld w.history.processes w.links };
+}
+
+impl World {
+    /// The world of `n` processes that have done nothing yet.
+    ///
+    /// It makes a queue for each pair of processes.
+    pub fn new(alloc: Global, n: u32, mode: Mode) -> Result<World, CountError>
+        ensures ok { IfOk result (λ world. world ≡ start n mode) }
+        ensures count { IsErrOf result CountError.BadCount ↔ ((n ≡ 0) ⊎ (MOST_PROCESSES < n)) }
+    {
+        let history = History::new(alloc, n)?;
+        let marks = Marks::new(alloc, n)?;
+        let links = Links::new(alloc, n)?;
+        Ok(World {
+            mode,
+            history,
+            marks,
+            links,
+        })
+    }
+
+    /// What each process did, and the incarnation under which it goes on.
+    pub fn history(&self) -> &History
+        ensures value { result.now.processes ≡ self.now.history }
+        ensures fit { IsFit self.now }
+    {
+        &self.history
+    }
+
+    /// The incarnation of a process.
+    pub fn incarnation(&self, p: ProcId) -> u16
+        requires { p < length self.now.history }
+        ensures { result ≡ incarnation_at self.now.history p }
+    {
+        self.history.incarnation(p)
+    }
+
+    /// How many items the link between two processes holds.
+    pub fn link_len(&self, from: ProcId, to: ProcId) -> usize
+        requires from { from < length self.now.history }
+        requires to { to < length self.now.history }
+        ensures { result ≡ length (items_on self.now from to) }
+    {
+        self.links.len(from, to)
+    }
+
+    /// The item behind `i` others on the link between two processes, the oldest being first.
+    pub fn link_item(&self, from: ProcId, to: ProcId, i: usize) -> Option<Item>
+        requires from { from < length self.now.history }
+        requires to { to < length self.now.history }
+        ensures { result ≡ slice_get (items_on self.now from to) i }
+    {
+        self.links.item(from, to, i)
+    }
+
+    /// Why a process may not send to another now.
+    fn send_refusal(&self, from: ProcId, to: ProcId) -> Option<StepError>
+        ensures { (body : List ℕ) → result ≡ refusal_of self.now (Send from to body) }
+    {
+        let n = self.history.n();
+        if from.get() >= n || to.get() >= n {
+            return Some(StepError::NoSuchProcess);
+        }
+        if from == to {
+            return Some(StepError::ToSelf);
+        }
+        if self.history.tape(from).len() as usize >= MOST_EVENTS {
+            return Some(StepError::TapeFull);
+        }
+        None
+    }
+
+    /// Why a process may not take that item of a link now.
+    fn deliver_refusal(
+        &self,
+        from: ProcId,
+        to: ProcId,
+        pick: u64,
+        state: &State,
+    ) -> Option<StepError>
+        ensures { result ≡ refusal_of self.now (Deliver from to pick state.now) }
+    {
+        let n = self.history.n();
+        if from.get() >= n || to.get() >= n {
+            return Some(StepError::NoSuchProcess);
+        }
+        if from == to {
+            return Some(StepError::ToSelf);
+        }
+        if state.bytes().len() > MOST_STATE {
+            return Some(StepError::StateTooLong);
+        }
+        if self.links.len(from, to) == 0 {
+            return Some(StepError::LinkEmpty);
+        }
+        if pick != 0 {
+            return Some(StepError::BadPick);
+        }
+        if self.history.tape(to).len() as usize >= MOST_EVENTS {
+            return Some(StepError::TapeFull);
+        }
+        None
+    }
+
+    /// Why a process may not take a check now.
+    fn check_refusal(&self, at: ProcId, state: &State) -> Option<StepError>
+        ensures { result ≡ refusal_of self.now (Check at state.now) }
+    {
+        if at.get() >= self.history.n() {
+            return Some(StepError::NoSuchProcess);
+        }
+        if state.bytes().len() > MOST_STATE {
+            return Some(StepError::StateTooLong);
+        }
+        if self.history.tape(at).len() as usize >= MOST_EVENTS {
+            return Some(StepError::TapeFull);
+        }
+        None
+    }
+
+    /// Whether a member of the set is no process.
+    fn has_stranger(&self, failed: &ProcSet) -> bool
+        ensures { result ≡ has_stranger self.now failed.now }
+    {
+        let n = self.history.n();
+        let mut found = false;
+        for q in n..MOST_PROCESSES as u32 {
+            let p = ProcId::try_new(q, MOST_PROCESSES as u32).unwrap();
+            found |= failed.has(p);
+        }
+        found
+    }
+
+    /// Sends a message.
+    fn send(&mut self, from: ProcId, to: ProcId, body: &Body) -> Result<Reply, StepError>
+        ensures done { IfOk result (λ reply. Takes self.old (Send from to body.now) (Done reply) self.new) }
+        ensures refused { IfErr result (λ e. e ≢ StepError.OutOfMemory → Takes self.old (Send from to body.now) (Refused e) self.new) }
+        ensures memory { IsErrOf result StepError.OutOfMemory → self.new ≡ self.old }
+    {
+        if let Some(e) = self.send_refusal(from, to) {
+            return Err(e);
+        }
+        let message = put_message(&mut self.history, &mut self.links, from, to, body)?;
+        Ok(Reply::Sent { message })
+    }
+
+    /// Delivers the message that is picked.
+    fn deliver(
+        &mut self,
+        from: ProcId,
+        to: ProcId,
+        pick: u64,
+        state: &State,
+    ) -> Result<Reply, StepError>
+        ensures done { IfOk result (λ reply. Takes self.old (Deliver from to pick state.now) (Done reply) self.new) }
+        ensures refused { IfErr result (λ e. e ≢ StepError.OutOfMemory
+            → Takes self.old (Deliver from to pick state.now) (Refused e) self.new) }
+        ensures memory { IsErrOf result StepError.OutOfMemory → self.new ≡ self.old }
+    {
+        if let Some(e) = self.deliver_refusal(from, to, pick, state) {
+            return Err(e);
+        }
+        let message = take_message(&mut self.history, &mut self.links, from, to)?;
+        Ok(Reply::Took {
+            message,
+            forced: None,
+        })
+    }
+
+    /// Takes a check.
+    fn check(&mut self, alloc: Global, at: ProcId, state: &State) -> Result<Reply, StepError>
+        ensures done { IfOk result (λ reply. Takes self.old (Check at state.now) (Done reply) self.new) }
+        ensures refused { IfErr result (λ e. e ≢ StepError.OutOfMemory → Takes self.old (Check at state.now) (Refused e) self.new) }
+        ensures memory { IsErrOf result StepError.OutOfMemory → self.new ≡ self.old }
+    {
+        if let Some(e) = self.check_refusal(at, state) {
+            return Err(e);
+        }
+        let state = state.copy(alloc)?;
+        let check = add_check(&mut self.history, at, state)?;
+        Ok(Reply::Checked { at, check })
+    }
+
+    /// The latest line that the processes could go on from, if those of the set failed.
+    ///
+    /// It looks at each event before the latest surviving choices, once for each time that a process is visited.
+    pub fn plan_for(&self, alloc: Global, failed: &ProcSet) -> Result<Plan, StepError>
+        ensures plan { IfOk result (λ plan. IsPlan self.now failed.now plan) }
+        ensures stranger { IsErrOf result StepError.NoSuchProcess ↔ IsTrue (has_stranger self.now failed.now) }
+        ensures others { IfErr result (λ e. (e ≡ StepError.NoSuchProcess) ⊎ (e ≡ StepError.OutOfMemory)) }
+    {
+        if self.has_stranger(failed) {
+            return Err(StepError::NoSuchProcess);
+        }
+        let plan = plan_history(alloc, &self.history, &self.marks, failed)?;
+        Ok(plan)
+    }
+
+    /// Plans, and tells what a restart at the plan's line would leave.
+    fn recover(&self, alloc: Global, failed: &ProcSet) -> Result<Reply, StepError>
+        ensures done { IfOk result (λ reply. Takes self.now (Recover failed.now) (Done reply) self.now) }
+        ensures refused { IfErr result (λ e. e ≢ StepError.OutOfMemory → Takes self.now (Recover failed.now) (Refused e) self.now) }
+    {
+        let plan = self.plan_for(alloc, failed)?;
+        if is_exhausted(&self.history, &plan.line) {
+            return Err(StepError::NoMoreIncarnations);
+        }
+        let states = restored_states(alloc, &self.history, &plan.line)?;
+        let incarnations = restarted_incarnations(alloc, &self.history, &plan.line)?;
+        Ok(Reply::Recovered {
+            plan,
+            states,
+            incarnations,
+        })
+    }
+
+    /// Takes one step.
+    ///
+    /// Sending, delivering and taking a check cost the same however much was done before; recovering costs what a plan does, and tells what a restart would leave without taking one.
+    pub fn step(&mut self, alloc: Global, step: &Step) -> Result<Reply, StepError>
+        ensures done { IfOk result (λ reply. Takes self.old step.now (Done reply) self.new) }
+        ensures refused { IfErr result (λ e. e ≢ StepError.OutOfMemory → Takes self.old step.now (Refused e) self.new) }
+        ensures memory { IsErrOf result StepError.OutOfMemory → self.new ≡ self.old }
+    {
+        match step {
+            Step::Send { from, to, body } => self.send(*from, *to, body),
+            Step::Deliver {
+                from,
+                to,
+                pick,
+                state,
+            } => self.deliver(*from, *to, *pick, state),
+            Step::Check { at, state } => self.check(alloc, *at, state),
+            Step::Recover { failed } => self.recover(alloc, failed),
+        }
+    }
+
+    /// Takes steps, one after another, and answers each.
+    ///
+    /// A refused step is answered and passed. The run stops at the first step that memory does not suffice for, and the world is then as the steps before it leave it.
+    pub fn run(&mut self, alloc: Global, steps: &[Step]) -> Result<Vec<Answer>, RunStopped>
+        ensures done { IfOk result (λ answers. Run self.old steps.now answers.items self.new) }
+        ensures stopped { IfErr result (λ stopped. Run self.old (take (length stopped.done.items) steps.now) stopped.done.items self.new) }
+        ensures short { IfErr result (λ stopped. length stopped.done.items < length steps.now) }
+    {
+        let mut done = match Vec::with_capacity(alloc, steps.len()) {
+            Ok(done) => done,
+            Err(_) => {
+                return Err(RunStopped {
+                    done: Vec::new(alloc),
+                });
+            }
+        };
+        for step in steps {
+            match self.step(alloc, step) {
+                Ok(reply) => done.push(Answer::Done(reply)).unwrap(),
+                Err(e) => {
+                    if e.is_out_of_memory() {
+                        return Err(RunStopped { done });
+                    }
+                    done.push(Answer::Refused(e)).unwrap();
+                }
+            }
+        }
+        Ok(done)
+    }
+}
