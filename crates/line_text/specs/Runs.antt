@@ -4,7 +4,6 @@ use Rattle.std.specs.List.{count_by, flat_map}
 use Rattle.line_devices.specs.Devices.{Puts, PutsFront}
 use Rattle.line_fields.specs.Records.{Record}
 use Rattle.line_fields.specs.Texts.{records_text}
-use Rattle.line_world.specs.declared.replies.Answer.{Answer}
 use Rattle.line_world.specs.declared.replies.Answer.TheVariants as answers
 use Rattle.line_world.specs.Machine.{Machine, start}
 use Rattle.line_world.specs.Runs.{Takes}
