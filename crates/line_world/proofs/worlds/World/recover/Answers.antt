@@ -1,5 +1,5 @@
 -- The latest line is told, or refused where it takes back a process that has no further incarnation.
-use Rattle.std.proofs.Common.{◌≡◌, List, length, None, refl, sym, ap, ◌∙◌, subst}
+use Rattle.std.proofs.Common.{◌≡◌, length, None, refl, sym, ap, ◌∙◌, subst}
 use Rattle.std.proofs.lemmas.Bool.{false_from_ne_true}
 use Rattle.line_tape.specs.Line.{IsLine}
 use Rattle.line_world.specs.declared.replies.StepError.TheVariants.{NoMoreIncarnations}
