@@ -20,6 +20,16 @@ domino_history =
     living (Send 1 0 (0x61 ∷ []) ∷ Recv (first_life 1 0) ∷ Check (0xa1 ∷ []) None ∷ Send 1 0 (0x63 ∷ []) ∷ []) ∷
     living (Recv (first_life 0 0) ∷ Check (0xb1 ∷ []) None ∷ Send 0 0 (0x62 ∷ []) ∷ Recv (first_life 0 1) ∷ Check (0xb2 ∷ []) None ∷ []) ∷ []
 
+-- each sent to the other, both received, both took a check
+abbrev pub crossed_history : List Process
+crossed_history =
+    living (Send 1 0 (0x61 ∷ []) ∷ Recv (first_life 1 0) ∷ Check (0xa1 ∷ []) None ∷ []) ∷
+    living (Send 0 0 (0x62 ∷ []) ∷ Recv (first_life 0 0) ∷ Check (0xb1 ∷ []) None ∷ []) ∷ []
+
+-- both processes failed
+abbrev pub both_failed : List Bool
+both_failed = true ∷ true ∷ []
+
 -- 0 sent a message to 1 and took a check; 1 has not received it
 abbrev pub replay_history : List Process
 replay_history = living (Send 1 0 (0x61 ∷ []) ∷ Check (0xa1 ∷ []) None ∷ []) ∷ living [] ∷ []

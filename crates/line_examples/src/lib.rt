@@ -5,7 +5,10 @@
 
 mod worked;
 
-pub use worked::{damaged_round, domino, received_after_the_line, replay, restart_after_a_replay};
+pub use worked::{
+    consistent_checks, damaged_round, domino, received_after_the_line, replay,
+    restart_after_a_replay,
+};
 
 #[cfg(test)]
 mod tests;

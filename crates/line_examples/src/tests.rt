@@ -1,6 +1,6 @@
 //! Limits and refusals, and the histories again, through the calls.
 use crate::tests::build::{Did, failed, history_of, process};
-use crate::tests::search::latest_of_two;
+use crate::tests::search::{is_consistent_line, latest_of_two};
 use line_names::{Body, BodyError, Choice, MsgName, Passed, ProcId, ProcIdError};
 use line_plan::{Plan, plan_history};
 use line_tape::{
@@ -185,6 +185,29 @@ fn latest_line(
 }
 
 #[test]
+fn consistent_lines(rt: HostRuntime) -> Result<(), Fail> {
+    let history = history_of(rt.alloc(), &DOMINO)?;
+    for (first, second, want) in [
+        (Choice::Check(0), Choice::Check(0), true),
+        (Choice::Now, Choice::Check(2), true),
+        (Choice::Now, Choice::Now, true),
+        (Choice::Check(0), Choice::Check(1), false),
+        (Choice::Check(1), Choice::Check(1), false),
+        (Choice::Check(1), Choice::Check(2), false),
+        (Choice::Check(1), Choice::Now, false),
+        (Choice::Now, Choice::Check(1), false),
+        (Choice::Now, Choice::Check(3), false),
+    ] {
+        assert_eq!(rt;
+            is_consistent_line(&history, first, second),
+            want,
+            "at {first:?}, {second:?}"
+        );
+    }
+    Ok(())
+}
+
+#[test]
 fn domino(rt: HostRuntime) -> Result<(), Fail> {
     let both_back = Some((Choice::Check(0), Choice::Check(0)));
     assert_eq!(rt;
@@ -294,5 +317,29 @@ fn round_is_certified(rt: HostRuntime) -> Result<(), Fail> {
         passed(1, Choice::Check(2), 0, 0)?,
     ];
     assert_eq!(rt; plan.certificate.as_slice(), want.as_slice());
+    Ok(())
+}
+
+#[test]
+fn errors_read_well(rt: HostRuntime) -> Result<(), Fail> {
+    let names = format!(in rt.alloc();
+        "{}; {}",
+        ProcIdError::NoSuchProcess,
+        BodyError::BodyTooLong
+    )?;
+    assert_eq!(rt;
+        names.as_str(),
+        "the number is not below the number of processes; the body is longer than 64 bytes"
+    );
+    let tapes = format!(in rt.alloc(); "{}; {}", TapeError::StateTooLong, HistoryError::TapeFull)?;
+    assert_eq!(rt;
+        tapes.as_str(),
+        "the state is longer than 4096 bytes; the tape has no room under 1000000 events"
+    );
+    let others = format!(in rt.alloc(); "{}; {}", CountError::BadCount, MarkError::InitialDamage)?;
+    assert_eq!(rt;
+        others.as_str(),
+        "the number of processes is not from 1 to 64; the initial state of a process cannot be damaged"
+    );
     Ok(())
 }

@@ -6,7 +6,7 @@ ghost use Rattle.line_tape.specs.Chain.{latest_choice, next_lower, first_ceiling
 ghost use Rattle.line_tape.specs.Restart.{restarted, restarted_marks};
 ghost use Rattle.line_tape.specs.Survival.{survives};
 ghost use Rattle.line_tape.specs.Transit.{in_transit};
-ghost use Rattle.line_examples.specs.Worked.{first_life, living, domino_history, replay_history, received_history, round_history, unmarked, second_marked, first_failed};
+ghost use Rattle.line_examples.specs.Worked.{first_life, living, domino_history, crossed_history, both_failed, replay_history, received_history, round_history, unmarked, second_marked, first_failed};
 
 /// With process 0 failed its check 1 is the latest to survive; each message was received, so nothing is in transit.
 pub fn domino()
@@ -17,6 +17,13 @@ pub fn domino()
     ensures transit { in_transit domino_history (AtCheck 0 ∷ AtCheck 0 ∷ []) ≡ [] }
     ensures transit_now { in_transit domino_history (Now ∷ Now ∷ []) ≡ [] }
     ensures transit_between { in_transit domino_history (Now ∷ AtCheck 1 ∷ []) ≡ first_life 0 1 ∷ [] }
+{}
+
+/// With both failed their checks are the latest to survive, and nothing is in transit there.
+pub fn consistent_checks()
+    ensures ceilings { first_ceilings crossed_history unmarked both_failed ≡ AtCheck 1 ∷ AtCheck 1 ∷ [] }
+    ensures transit { in_transit crossed_history (AtCheck 1 ∷ AtCheck 1 ∷ []) ≡ [] }
+    ensures transit_first { in_transit crossed_history (AtCheck 1 ∷ AtCheck 0 ∷ []) ≡ first_life 0 0 ∷ [] }
 {}
 
 /// A message that is sent before the line and not received at all is in transit.

@@ -6,8 +6,8 @@ ghost use Rattle.csv.specs.Records.{fields_of, partial_of};
 ghost use Rattle.line_fields.specs.Texts.{hex_digit, hex_text, is_plain_field};
 
 use csv::ByteRecord;
-use itoa::Buffer;
 use std::alloc::{AllocError, Global};
+use std::fmt::Write;
 use std::marker::Model;
 
 /// A record that is put together to be written. Its fields need no quotes.
@@ -18,6 +18,7 @@ use std::marker::Model;
 pub struct Draft {
     pub(crate) record: ByteRecord,
     digits: Vec<u8>,
+    decimal: String,
 }
 
 impl Model for Draft {
@@ -84,6 +85,7 @@ impl Draft {
         Draft {
             record: ByteRecord::new(alloc),
             digits: Vec::new(alloc),
+            decimal: String::new(alloc),
         }
     }
 
@@ -108,8 +110,14 @@ impl Draft {
         ensures ok { OnOk result (self.new ≡ self.old ++ decimal value ∷ []) }
         ensures err { OnErr result (self.new ≡ []) }
     {
-        let mut buffer = Buffer::new();
-        push(&mut self.record, buffer.format(value).as_bytes())
+        self.decimal.clear();
+        match write!(self.decimal, "{value}") {
+            Ok(()) => push(&mut self.record, self.decimal.as_bytes()),
+            Err(refused) => {
+                self.clear();
+                Err(refused)
+            }
+        }
     }
 
     /// Adds bytes, as two hexadecimal digits of lower case each.

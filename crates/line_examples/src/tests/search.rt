@@ -20,6 +20,14 @@ fn choices(alloc: Global, history: &History, p: ProcId) -> Result<Vec<Choice>, F
     Ok(choices)
 }
 
+/// Whether the line of these choices is one of the history, and consistent.
+pub fn is_consistent_line(history: &History, first: Choice, second: Choice) -> bool {
+    let mut line = Line::new();
+    line.push(first);
+    line.push(second);
+    is_line(history, &line) && is_consistent(history, &line)
+}
+
 /// Whether these choices survive and the line of them is consistent.
 fn is_recoverable(
     history: &History,
