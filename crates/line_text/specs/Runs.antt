@@ -1,5 +1,5 @@
 -- What commands are told, and the text of a run.
-use Rattle.std.specs.Prelude.{◌≡◌, ℕ, ◌+◌, ◌++◌, Bool, true, false, List, [], ◌∷◌, Option, take}
+use Rattle.std.specs.Prelude.{◌≡◌, ◌≤◌, ℕ, ◌+◌, ◌++◌, Bool, true, false, List, [], ◌∷◌, Option, take, Ok}
 use Rattle.std.specs.List.{count_by, flat_map}
 use Rattle.line_devices.specs.Devices.{Puts, PutsFront}
 use Rattle.line_fields.specs.Records.{Record}
@@ -12,7 +12,7 @@ use Rattle.line_text.specs.declared.commands.Command.TheVariants as commands
 use Rattle.line_text.specs.declared.engines.Told.{Told}
 use Rattle.line_text.specs.declared.engines.Told.TheVariants as told
 use Rattle.line_text.specs.Replies.{answer_records, refused}
-use Rattle.line_text.specs.Scripts.{Script}
+use Rattle.line_text.specs.Scripts.{Script, script_of_text}
 
 -- the records of what a command is told
 abbrev pub told_records : Told → List Record
@@ -63,9 +63,29 @@ pub record RunsFront (script : Script) (old new : Option (List ℕ)) : Type 0 wh
   pub run : TellsAll (start script.n script.mode) (take done script.commands) told end
   pub text : PutsFront old new (text_of told)
 
+-- the text spells a script that the machine ran whole, and the text of the run was put
+pub record RunsText (text : List ℕ) (refused : ℕ) (old new : Option (List ℕ)) : Type 0 where
+  pub script : Script
+  pub spelt : script_of_text text ≡ Ok script
+  pub runs : Runs script refused old new
+
 -- a command was told something, which was written
 pub record Writes (old : Machine) (command : Command) (new : Machine) (text : List ℕ) (refused : ℕ) (later : List ℕ) (count : ℕ) : Type 0 where
   pub told : Told
   pub tells : Tells old command told new
   pub written : later ≡ text ++ records_text (told_records told)
   pub counted : count ≡ refused + refusals (told ∷ [])
+
+-- the first commands were done, so many of them refused, and this is the text of what they were told
+pub record IsRunTo (old : Machine) (commands : List Command) (done : ℕ) (now : Machine) (refused : ℕ) (text : List ℕ) : Type 0 where
+  pub told : List Told
+  pub run : TellsAll old (take done commands) told now
+  pub count : refused ≡ refusals told
+  pub few : refused ≤ done
+  pub text_is : text ≡ text_of told
+
+-- the run stopped after the first commands, and this is the text of what they were told
+pub record StopsAt (old : Machine) (commands : List Command) (done : ℕ) (text : List ℕ) : Type 0 where
+  pub now : Machine
+  pub refused : ℕ
+  pub run : IsRunTo old commands done now refused text
