@@ -1,3 +1,4 @@
 pub mod RecoverLemmas
 pub mod ReadLemmas
 pub mod ReplyLemmas
+pub mod RunLemmas

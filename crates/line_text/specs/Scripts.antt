@@ -12,7 +12,6 @@ use Rattle.line_fields.specs.Fields.{◌>>=◌, want, num, hex}
 use Rattle.line_fields.specs.Records.{Record, field, records_of_text}
 use Rattle.line_world.specs.declared.steps.Mode.{Mode}
 use Rattle.line_world.specs.declared.steps.Mode.TheVariants.{Fifo}
-use Rattle.line_world.specs.declared.steps.Step.{Step}
 use Rattle.line_world.specs.declared.steps.Step.TheVariants.{Send, Deliver, Check, Recover}
 use Rattle.line_text.specs.declared.commands.Command.{Command}
 use Rattle.line_text.specs.declared.commands.Command.TheVariants.{Do, Refused}

@@ -12,7 +12,7 @@ use Rattle.line_tape.specs.declared.items.Item.TheVariants.{Message}
 use Rattle.line_tape.specs.Chain.{IsChain}
 use Rattle.line_tape.specs.Event.{checks, sends, stored_state}
 use Rattle.line_tape.specs.History.{Process, tape_at, incarnation_at}
-use Rattle.line_tape.specs.Restart.{restarted_incarnation}
+use Rattle.line_tape.specs.Restart.{restarted}
 use Rattle.line_tape.specs.Survival.{IsLatest}
 use Rattle.line_world.specs.declared.steps.Step.{Step}
 use Rattle.line_world.specs.declared.steps.Step.TheVariants.{Send, Deliver, Check, Recover}
@@ -57,8 +57,7 @@ restored_states history line = map (λ p. restored (tape_at history p) (choice_a
 
 -- the incarnation of each process after a restart at a line
 abbrev pub restarted_incarnations : List Process → List Choice → List ℕ
-restarted_incarnations history line =
-    map (λ p. restarted_incarnation (choice_at line p) (incarnation_at history p)) (range_with_len 0 (length history))
+restarted_incarnations history line = map (λ (process : Process). process.incarnation) (restarted history line)
 
 -- the plan is of the latest line, by any valid chain
 pub record IsPlan (machine : Machine) (failed : List Bool) (plan : Plan) : Type 0 where

@@ -96,7 +96,8 @@ pub fn restarted_incarnations(
     history: &History,
     line: &Line,
 ) -> Result<Vec<u16>, AllocError>
-    requires { is_exhausted history.now.processes line.now ≡ false }
+    requires line { length line.now ≡ length history.now.processes }
+    requires unspent { is_exhausted history.now.processes line.now ≡ false }
     ensures { IfOk result (λ incarnations. incarnations.items ≡ restarted_incarnations history.now.processes line.now) }
 {
     let n = history.n();

@@ -1,5 +1,4 @@
-use Rattle.std.proofs.Common.{◌≡◌, ◌∙◌, sym, ◌<◌, ◌≤◌, true, false, length, arith}
-use Rattle.std.specs.Prelude.{nat_lt}
+use Rattle.std.proofs.Common.{◌∙◌, sym, ◌<◌, ◌≤◌, length, arith}
 use Rattle.std.proofs.lemmas.Result.{err_from_is_err_and}
 use Rattle.line_text.proofs.RecoverLemmas.{recover_start, recover_more, recover_refused, recover_fault, recover_end, is_below, is_not_below}
 use Rattle.line_text.proofs.commands.recover_of.Goals.{in-Ok, in-Err}

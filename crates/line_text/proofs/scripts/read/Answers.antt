@@ -1,4 +1,4 @@
-use Rattle.std.proofs.Common.{◌≡◌, ◌+◌, ◌≤◌, ◌<◌, ◌^◌, ◌∙◌, [], sym, ap, length, arith}
+use Rattle.std.proofs.Common.{◌∙◌, sym, ap, length, arith}
 use Rattle.std.proofs.lemmas.Result.{err_from_is_err_and}
 use Rattle.line_text.proofs.ReadLemmas.{not_plain, no_records, started, not_started, ended_at, read_more, stopped}
 use Rattle.line_text.proofs.scripts.read.Goals as goal

@@ -6,14 +6,14 @@ use Rattle.line_names.specs.Lines.{choice_at}
 use Rattle.line_tape.specs.History.{incarnation_at}
 use Rattle.line_tape.specs.Restart.{restarted_incarnation}
 use Rattle.line_world.specs.Refusals.{is_spent}
-use Rattle.line_world.proofs.LineFacts.{none_at}
+use Rattle.line_world.proofs.LineFacts.{none_at, incarnations-restarted}
 use Rattle.line_world.proofs.restores.restarted_incarnations.Goals as goal
 
 pub restarted_incarnation-requires-clause-unspent : goal.restarted_incarnation-requires-clause-unspent
 restarted_incarnation-requires-clause-unspent c =
     let f : ℕ → Bool = is_spent c.args.history.now.processes c.args.line.now in
     let at : c.unwrap-p.result ≡ c.loop-q.q = (rw c.unwrap-p.ensures at c.try_new.ensures).1 in
-    ap f at ∙ none_at f (length c.args.history.now.processes) c.loop-q.q c.requires (omega (arith, c.loop-q-test.true, c.n-n.ensures.value))
+    ap f at ∙ none_at f (length c.args.history.now.processes) c.loop-q.q c.requires.unspent (omega (arith, c.loop-q-test.true, c.n-n.ensures.value))
 
 pub loop-q-preserved : goal.loop-q-preserved
 loop-q-preserved c =
@@ -24,3 +24,11 @@ loop-q-preserved c =
     ∙ ap (λ (xs : List ℕ). xs ++ c.restarted_incarnation.result ∷ []) c.loop-q.invariant
     ∙ ap (λ (x : ℕ). map f (range_with_len 0 c.loop-q.q) ++ x ∷ []) here
     ∙ sym (map-range_with_len_more f 0 c.loop-q.q c.loop-q.q (omega arith))
+
+pub returns : goal.returns
+returns c =
+    let f : ℕ → ℕ = λ p. restarted_incarnation (choice_at c.args.line.now p) (incarnation_at c.args.history.now.processes p) in
+    let end : c.loop-q.q ≡ length c.args.history.now.processes = omega (arith, c.loop-q-test.false, c.loop-q.auto.q-end, c.n-n.ensures.value) in
+    c.loop-q.invariant
+    ∙ ap (λ (k : ℕ). map f (range_with_len 0 k)) end
+    ∙ sym (incarnations-restarted c.args.history.now.processes c.args.line.now c.requires.line)

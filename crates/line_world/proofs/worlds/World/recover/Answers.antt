@@ -1,5 +1,5 @@
 -- The latest line is told, or refused where it takes back a process that has no further incarnation.
-use Rattle.std.proofs.Common.{◌≡◌, None, refl, sym, ap, ◌∙◌, subst}
+use Rattle.std.proofs.Common.{◌≡◌, length, None, refl, sym, ap, ◌∙◌, subst}
 use Rattle.std.proofs.lemmas.Bool.{false_from_ne_true}
 use Rattle.line_tape.specs.Line.{IsLine}
 use Rattle.line_world.specs.declared.replies.StepError.TheVariants.{NoMoreIncarnations}
@@ -41,3 +41,7 @@ returns-clause-done c =
         new_is = refl;
       },
     )
+
+pub restarted_incarnations-requires-clause-line : goal.restarted_incarnations-requires-clause-line
+restarted_incarnations-requires-clause-line c =
+    c.in_ok-plan.ensures.plan.latest.recoverable.length_is ∙ ap (λ (m : Machine). length m.history) (sym c.self.view_is)
