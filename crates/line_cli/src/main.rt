@@ -4,11 +4,11 @@
 #![tactic(auto)]
 
 mod standard;
-mod status;
+mod statuses;
 mod words;
 
 use crate::standard::{ReadSource, WriteSink};
-use crate::status::status_of_fault;
+use crate::statuses::status_of_fault;
 use crate::words::{Job, LineFault, command_of};
 use line_text::run_text;
 use std::alloc::Global;

@@ -30,8 +30,9 @@ fn matches_of_words<'a>(alloc: Global, words: &'a [&'a str]) -> Result<ArgMatche
     ensures err { IfErr result (λ e. takes recline (map (λ w. w.now) words.entry.now) ≡ true
         → kind_of e ≡ ErrorKind.OutOfMemory) }
 {
-    let run = Command::new(alloc, "run")
-        .about("Reads a script on standard input and writes the replies on standard output");
+    let run = Command::new(alloc, "run").about(
+        "Reads a script on standard input and writes the replies on standard output",
+    );
     let recline = Command::new(alloc, "recline")
         .about("Plans where the processes of a failed computation go back to, and proves it")
         .subcommand(run)?;
