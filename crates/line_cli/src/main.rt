@@ -53,7 +53,8 @@ fn status(rt: &HostRuntime, alloc: Global) -> io::Result<u8> {
         given.push(word)?;
     }
     let mut words = Vec::new(alloc);
-    for word in &given {
+    words.push("recline")?;
+    for word in given.iter().skip(1) {
         words.push(word.as_str())?;
     }
     done(rt, alloc, &words)
