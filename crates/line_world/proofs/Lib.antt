@@ -1,6 +1,10 @@
 pub mod QueueLemmas
 pub mod LinkLemmas
+pub mod CopyLemmas
+pub mod FateLemmas
+pub mod WorldLemmas
 pub mod StartLemmas
 pub mod LineFacts
 pub mod StepLemmas
+pub mod DeliverLemmas
 pub mod RunLemmas

@@ -1,4 +1,4 @@
--- Each kind of step keeps what a world keeps true.
+-- Each kind of step keeps what a world keeps true of links in order.
 use Rattle.std.proofs.Common.{◌≡◌, ℕ, suc, ◌<◌, Bool, true, false, cond, List, [], ◌∷◌, ◌++◌, length, get_or, drop, Some, None, refl, sym, ap, ◌∙◌, subst, arith, inl, inr}
 use Rattle.std.specs.List.{All, slice_get, cons_option}
 use Rattle.std.proofs.lemmas.Bool.{cases_eq, eq-eqb, ne_eqb}
@@ -14,7 +14,8 @@ use Rattle.line_tape.specs.Event.{sends}
 use Rattle.line_tape.specs.Fit.{link, IsNextFifo, items_put, items_got}
 use Rattle.line_tape.specs.History.{Process, process_at, tape_at, with_event}
 use Rattle.line_tape.proofs.NextLemmas.{stays_fit, link_after}
-use Rattle.line_world.specs.Queues.{queue_at, with_queue, IsSquare, IsMessageOf, IsWorld}
+use Rattle.line_world.specs.Queues.{queue_at, with_queue, IsSquare}
+use Rattle.line_world.specs.Worlds.{IsMessageOf, AreLinks}
 use Rattle.line_world.proofs.QueueLemmas.{queue-same, queue-other, IsSquare-written}
 
 -- nothing either way
@@ -36,7 +37,7 @@ All-drop_first : (P : Item → Type 0) (xs : List Item) → All P xs → All P (
 All-drop_first P [] all = all
 All-drop_first P (x ∷ xs) all = λ k d within. all (suc k) d (omega (arith, within))
 
-module _ (history : List Process) (queues : List (List (List Item))) (world : IsWorld history queues) where
+module _ (history : List Process) (queues : List (List (List Item))) (world : AreLinks history queues) where
   -- a row and a column of queues
   pub row_within : (p : ℕ) → p < length history → p < length queues
   row_within p within = omega (arith, world.shape.rows)
@@ -54,8 +55,8 @@ module _ (history : List Process) (queues : List (List (List Item))) (world : Is
       ∙ sym (link_after history at event world.fit within p q (link history p q) (ap (λ (xs : List Item). xs ++ link history p q) (sym got)))
 
   -- a check without a round
-  pub IsWorld-check : (at : ℕ) (state : List ℕ) → at < length history → IsWorld (with_event history at (Check state None)) queues
-  IsWorld-check at state within =
+  pub AreLinks-check : (at : ℕ) (state : List ℕ) → at < length history → AreLinks (with_event history at (Check state None)) queues
+  AreLinks-check at state within =
       let event : Event = Check state None in
       record {
         fit = stays_fit history at event world.fit within tt;
@@ -79,9 +80,9 @@ module _ (history : List Process) (queues : List (List (List Item))) (world : Is
         | inr other ↦ ap (λ b. cond b (cond (to == q) (Message (record { from = p; inc = inc; number = sends (tape_at history p) }) ∷ []) []) []) (ne_eqb p from other)
       ]
 
-      pub IsWorld-send : IsWorld (with_event history from (Send to inc body))
+      pub AreLinks-send : AreLinks (with_event history from (Send to inc body))
           (with_queue queues from to (queue_at queues from to ++ Message (record { from = from; inc = inc; number = sends (tape_at history from) }) ∷ []))
-      IsWorld-send =
+      AreLinks-send =
           let event : Event = Send to inc body in
           let item : Item = Message (record { from = from; inc = inc; number = sends (tape_at history from) }) in
           let items : List Item = queue_at queues from to ++ item ∷ [] in
@@ -131,8 +132,8 @@ module _ (history : List Process) (queues : List (List (List Item))) (world : Is
       held : link history from to ≡ Message message ∷ drop 1 (queue_at queues from to)
       held = sym (world.links from to) ∙ first_rest (queue_at queues from to) (Message message) first
 
-      pub IsWorld-deliver : IsWorld (with_event history to (Recv message)) (with_queue queues from to (drop 1 (queue_at queues from to)))
-      IsWorld-deliver =
+      pub AreLinks-take : AreLinks (with_event history to (Recv message)) (with_queue queues from to (drop 1 (queue_at queues from to)))
+      AreLinks-take =
           let event : Event = Recv message in
           let items : List Item = drop 1 (queue_at queues from to) in
           let row = row_within from from_within in

@@ -1,14 +1,20 @@
 -- What a world keeps true holds where nothing was done yet.
-use Rattle.std.proofs.Common.{◌≡◌, ℕ, List, [], length, drop, get_or, replicate, refl, sym, ap, ◌∙◌, subst, arith, inl, inr}
-use Rattle.std.specs.List.{All, filter_map}
+use Rattle.std.proofs.Common.{◌≡◌, ℕ, ◌≤◌, List, [], length, drop, get_or, replicate, refl, sym, ap, ◌∙◌, subst, arith, inl, inr}
+use Rattle.std.specs.List.{All, Contains, filter_map}
 use Rattle.std.proofs.lemmas.Bool.{cases_lt}
 use Rattle.std.proofs.lemmas.List.{get_or-replicate, get_or_past, length-replicate}
 use Rattle.line_tape.specs.declared.events.Event.{Event}
 use Rattle.line_tape.specs.declared.items.Item.{Item}
 use Rattle.line_tape.specs.Fit.{items_sent, item_received, IsPrefix, AreDistinct, MarksFollow}
-use Rattle.line_tape.specs.History.{Process, fresh, tape_at}
+use Rattle.line_tape.specs.declared.events.Event.TheVariants.{Recv}
+use Rattle.line_tape.specs.Event.{incarnations_sent}
+use Rattle.line_tape.specs.History.{Process, fresh, tape_at, incarnation_at}
+use Rattle.line_tape.specs.Transit.{received_name}
 use Rattle.line_tape.specs.Rounds.{rounds_checked}
-use Rattle.line_world.specs.Queues.{queue_at, IsMessageOf, IsWorld}
+use Rattle.line_world.specs.declared.steps.Mode.{Mode}
+use Rattle.line_world.specs.declared.steps.Mode.TheVariants.{Fifo, Unordered}
+use Rattle.line_world.specs.Queues.{queue_at, IsSquare}
+use Rattle.line_world.specs.Worlds.{IsMessageOf, IsCopyOf, AreLinks, AreCopies, IsWorld}
 
 get_or-replicate_self : {X : Type 0} (n i : ℕ) (x : X) → get_or (replicate n x) i x ≡ x
 get_or-replicate_self n i x = elim (cases_lt i n) [
@@ -36,18 +42,36 @@ module _ (n : ℕ) where
       let P : List Event → List Event → Type 0 = λ s t. drop (length (filter_map (item_received p) t)) (items_sent p q 0 s) ≡ [] in
       subst (λ (v : List Event). P v t) e (subst (λ (v : List Event). P [] v) f refl)
 
-  pub IsWorld-start : IsWorld (replicate n fresh) (replicate n (replicate n []))
-  IsWorld-start = record {
+  shape-start : IsSquare (length (replicate n fresh)) (replicate n (replicate n []))
+  shape-start = record {
+    rows = length-replicate n (replicate n []) ∙ sym (length-replicate n fresh);
+    columns = λ p within. ap (λ (xs : List (List Item)). length xs) (get_or-replicate n p (replicate n []) [] (omega (arith, within, length-replicate n fresh)))
+        ∙ length-replicate n [] ∙ sym (length-replicate n fresh);
+  }
+
+  AreLinks-start : AreLinks (replicate n fresh) (replicate n (replicate n []))
+  AreLinks-start = record {
     fit = record {
       order = λ p q. order-start p q (tape_at (replicate n fresh) p) (tape_at (replicate n fresh) q) (sym (tape-start p)) (sym (tape-start q));
       rounds = λ p. subst (λ (v : List Event). AreDistinct (rounds_checked v)) (sym (tape-start p)) (λ i j d near far. absurd (omega (arith, far)));
       marks = λ p. subst MarksFollow (sym (tape-start p)) (λ i from round e. absurd (cc));
     };
-    shape = record {
-      rows = length-replicate n (replicate n []) ∙ sym (length-replicate n fresh);
-      columns = λ p within. ap (λ (xs : List (List Item)). length xs) (get_or-replicate n p (replicate n []) [] (omega (arith, within, length-replicate n fresh)))
-          ∙ length-replicate n [] ∙ sym (length-replicate n fresh);
-    };
+    shape = shape-start;
     links = λ p q. queue-start p q ∙ sym (link-start p q (tape_at (replicate n fresh) p) (tape_at (replicate n fresh) q) (sym (tape-start p)) (sym (tape-start q)));
     messages = λ p q. subst (λ (xs : List Item). All (IsMessageOf p) xs) (sym (queue-start p q)) (λ k d within. absurd (omega (arith, within)));
   }
+
+  AreCopies-start : AreCopies (replicate n fresh) (replicate n (replicate n []))
+  AreCopies-start = record {
+    fit = record {
+      held = λ q message h. let none : Contains [] (Recv message) = subst (λ (v : List Event). Contains v (Recv message)) (tape-start q) h in absurd (omega (arith, none.1));
+      once = λ q. subst (λ (v : List Event). AreDistinct (filter_map received_name v)) (sym (tape-start q)) (λ i j d near far. absurd (omega (arith, far)));
+    };
+    sent = λ p. subst (λ (v : List Event). All (λ inc. inc ≤ incarnation_at (replicate n fresh) p) (incarnations_sent v)) (sym (tape-start p)) (λ k d within. absurd (omega (arith, within)));
+    shape = shape-start;
+    copies = λ p q. subst (λ (xs : List Item). All (IsCopyOf (replicate n fresh) p q) xs) (sym (queue-start p q)) (λ k d within. absurd (omega (arith, within)));
+  }
+
+  pub IsWorld-start : (mode : Mode) → IsWorld mode (replicate n fresh) (replicate n (replicate n []))
+  IsWorld-start Fifo = AreLinks-start
+  IsWorld-start Unordered = AreCopies-start

@@ -3,6 +3,7 @@
 //! A `World` holds what each process did and answers steps; what it answers is what the machine of `specs/` may answer, which knows no queues: there a link holds what remains of what was sent after what was received.
 #![tactic(auto)]
 
+mod fates;
 mod limits;
 mod links;
 mod moves;

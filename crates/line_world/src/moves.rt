@@ -1,16 +1,16 @@
 //! What each kind of step does to the tapes and the queues.
-ghost use Rattle.std.specs.Prelude.{◌≡◌, ◌<◌, ◌≤◌, ℕ, List, length, slice_get, IfOk, OnOk, OnErr, Some, None};
+ghost use Rattle.std.specs.Prelude.{◌≡◌, ◌<◌, ◌≤◌, ◌++◌, ◌∷◌, [], length, slice_get, slice_index_or, All, IfOk, OnOk, OnErr, Some, None};
 ghost use Rattle.line_tape.specs.declared.events.Event.TheVariants.{Send as SendEvent, Recv as RecvEvent, Check as CheckEvent};
-ghost use Rattle.line_tape.specs.declared.items.Item.{Item};
 ghost use Rattle.line_tape.specs.declared.items.Item.TheVariants.{Message};
 ghost use Rattle.line_tape.specs.Event.{NamesBelow, HasLongState};
-ghost use Rattle.line_tape.specs.Fit.{link};
 ghost use Rattle.line_tape.specs.History.{tape_at, incarnation_at, with_event};
 ghost use Rattle.line_tape.specs.Views.{room_at};
-ghost use Rattle.line_world.specs.Queues.{queue_at, IsWorld};
+ghost use Rattle.line_world.specs.Queues.{queue_at, with_queue, taken_off, IsSquare};
 ghost use Rattle.line_world.specs.Steps.{next_name, next_check};
+ghost use Rattle.line_world.specs.Worlds.{IsMessageOf};
 
 use crate::links::Links;
+use crate::steps::Mode;
 use line_names::{Body, MsgName, ProcId};
 use line_tape::{Event, History, Item, MOST_EVENTS, MOST_STATE, State};
 use std::alloc::AllocError;
@@ -35,15 +35,17 @@ pub fn put_message(
     to: ProcId,
     body: &Body,
 ) -> Result<MsgName, AllocError>
-    requires world { IsWorld history.old.processes links.old }
+    requires shape { IsSquare (length history.old.processes) links.old }
     requires from { from < length history.old.processes }
     requires to { to < length history.old.processes }
     requires few { length (tape_at history.old.processes from) < MOST_EVENTS }
     ensures name { IfOk result (λ message. message ≡ next_name history.old.processes from) }
     ensures sent { OnOk result (history.new.processes
         ≡ with_event history.old.processes from (SendEvent to (incarnation_at history.old.processes from) body.now)) }
+    ensures put { OnOk result (links.new
+        ≡ with_queue links.old from to (queue_at links.old from to ++ Message (next_name history.old.processes from) ∷ [])) }
     ensures err { OnErr result (history.new.processes ≡ history.old.processes) }
-    ensures world { IsWorld history.new.processes links.new }
+    ensures kept { OnErr result (links.new ≡ links.old) }
 {
     history.reserve(from, 1)?;
     let inc = history.incarnation(from);
@@ -54,17 +56,16 @@ pub fn put_message(
     Ok(MsgName { from, inc, number })
 }
 
-/// The first message of a link that holds one.
-fn first_message(history: &History, links: &Links, from: ProcId, to: ProcId) -> MsgName
-    requires world { IsWorld history.now.processes links.now }
-    requires from { from < length history.now.processes }
-    requires to { to < length history.now.processes }
-    requires some { 0 < length (queue_at links.now from to) }
-    ensures first { slice_get (link history.now.processes from to) 0 ≡ Some (Message result) }
+/// The message at a place of a link that holds messages of its sender alone.
+pub fn message_at(links: &Links, from: ProcId, to: ProcId, pick: u64) -> MsgName
+    requires from { from < length links.now }
+    requires to { to < length (slice_index_or links.now from []) }
+    requires pick { pick < length (queue_at links.now from to) }
+    requires messages { All (IsMessageOf from) (queue_at links.now from to) }
+    ensures at { slice_get (queue_at links.now from to) pick ≡ Some (Message result) }
     ensures from { result.from ≡ from }
 {
-    let _n = history.n();
-    match links.item(from, to, 0) {
+    match links.item(from, to, pick as usize) {
         Some(Item::Message(message)) => message,
         Some(Item::Marker(_)) => unreachable!(),
         None => unreachable!(),
@@ -78,28 +79,41 @@ fn receipt(message: &MsgName) -> Event
     Event::Recv { message: *message }
 }
 
-/// Delivers the first message of a link: the event on the receiver's tape, and the item off the link.
+/// Takes the first item off a link that keeps its order. A copy stays.
+fn take_off(mode: Mode, links: &mut Links, from: ProcId, to: ProcId)
+    requires from { from < length links.old }
+    requires to { to < length (slice_index_or links.old from []) }
+    ensures { links.new ≡ taken_off mode links.old from to }
+{
+    match mode {
+        Mode::Fifo => links.drop_first(from, to),
+        Mode::Unordered => {}
+    }
+}
+
+/// Takes a message: the event on the receiver's tape, and the item off the link where it keeps its order.
 pub fn take_message(
+    mode: Mode,
     history: &mut History,
     links: &mut Links,
     from: ProcId,
     to: ProcId,
-) -> Result<MsgName, AllocError>
-    requires world { IsWorld history.old.processes links.old }
+    message: &MsgName,
+) -> Result<(), AllocError>
+    requires shape { IsSquare (length history.old.processes) links.old }
     requires from { from < length history.old.processes }
     requires to { to < length history.old.processes }
-    requires some { 0 < length (queue_at links.old from to) }
+    requires named { message.now.from ≡ from }
     requires few { length (tape_at history.old.processes to) < MOST_EVENTS }
-    ensures first { IfOk result (λ message. slice_get (link history.old.processes from to) 0 ≡ Some (Message message)) }
-    ensures taken { IfOk result (λ message. history.new.processes ≡ with_event history.old.processes to (RecvEvent message)) }
+    ensures taken { OnOk result (history.new.processes ≡ with_event history.old.processes to (RecvEvent message.now)) }
+    ensures off { OnOk result (links.new ≡ taken_off mode links.old from to) }
     ensures err { OnErr result (history.new.processes ≡ history.old.processes) }
-    ensures world { IsWorld history.new.processes links.new }
+    ensures kept { OnErr result (links.new ≡ links.old) }
 {
     history.reserve(to, 1)?;
-    let message = first_message(history, links, from, to);
-    links.drop_first(from, to);
-    add_event(history, to, receipt(&message));
-    Ok(message)
+    take_off(mode, links, from, to);
+    add_event(history, to, receipt(message));
+    Ok(())
 }
 
 /// Adds a check without a round, and tells its index. No link changes.
@@ -110,7 +124,6 @@ pub fn add_check(history: &mut History, at: ProcId, state: State) -> Result<u32,
     ensures check { IfOk result (λ check. check ≡ next_check history.old.processes at) }
     ensures checked { OnOk result (history.new.processes ≡ with_event history.old.processes at (CheckEvent state None)) }
     ensures err { OnErr result (history.new.processes ≡ history.old.processes) }
-    ensures world { (queues : List (List (List Item))) → IsWorld history.old.processes queues → IsWorld history.new.processes queues }
 {
     history.reserve(at, 1)?;
     let check = history.tape(at).checks() + 1;

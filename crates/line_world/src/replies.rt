@@ -21,6 +21,14 @@ pub enum Reply {
         message: MsgName,
         forced: Option<u32>,
     },
+    /// The message of a copy whose send is on the sender's tape no more.
+    Stale {
+        message: MsgName,
+    },
+    /// The message of a copy that the process has received before.
+    Repeated {
+        message: MsgName,
+    },
     /// The index of the check taken.
     Checked {
         at: ProcId,

@@ -8,14 +8,17 @@ ghost use Rattle.line_world.specs.Refusals.{refusal_of, has_stranger};
 ghost use Rattle.line_world.specs.Runs.{Takes, Run};
 ghost use Rattle.line_world.specs.Steps.{IsPlan};
 
+mod refusals;
+
+use crate::fates::{Fate, fate_of};
 use crate::links::Links;
-use crate::moves::{add_check, put_message, take_message};
+use crate::moves::{add_check, message_at, put_message, take_message};
 use crate::replies::{Answer, Reply, RunStopped, StepError};
 use crate::restores::{is_exhausted, restarted_incarnations, restored_states};
 use crate::steps::{Mode, Step};
 use line_names::{Body, MOST_PROCESSES, ProcId, ProcSet};
 use line_plan::{Plan, plan_history};
-use line_tape::{CountError, History, Item, MOST_EVENTS, MOST_STATE, Marks, State};
+use line_tape::{CountError, History, Item, Marks, State};
 use std::alloc::Global;
 use std::marker::Model;
 
@@ -35,11 +38,12 @@ impl Model for World {
 
     ghost Value = { Machine };
 
-    ghost use Rattle.line_world.specs.Queues.{IsWorld};
+    ghost use Rattle.line_world.specs.Machine.{copies_in};
+    ghost use Rattle.line_world.specs.Worlds.{IsWorld};
 
-    ghost view = { λ w. record { mode = w.mode; history = w.history.processes; marks = w.marks } };
+    ghost view = { λ w. record { mode = w.mode; history = w.history.processes; marks = w.marks; copies = copies_in w.mode w.links } };
 
-    ghost invariant = { λ w. IsWorld w.history.processes w.links };
+    ghost invariant = { λ w. IsWorld w.mode w.history.processes w.links };
 }
 
 impl World {
@@ -95,84 +99,6 @@ impl World {
         self.links.item(from, to, i)
     }
 
-    /// Why a process may not send to another now.
-    fn send_refusal(&self, from: ProcId, to: ProcId) -> Option<StepError>
-        ensures { (body : List ℕ) → result ≡ refusal_of self.now (Send from to body) }
-    {
-        let n = self.history.n();
-        if from.get() >= n || to.get() >= n {
-            return Some(StepError::NoSuchProcess);
-        }
-        if from == to {
-            return Some(StepError::ToSelf);
-        }
-        if self.history.tape(from).len() as usize >= MOST_EVENTS {
-            return Some(StepError::TapeFull);
-        }
-        None
-    }
-
-    /// Why a process may not take that item of a link now.
-    fn deliver_refusal(
-        &self,
-        from: ProcId,
-        to: ProcId,
-        pick: u64,
-        state: &State,
-    ) -> Option<StepError>
-        ensures { result ≡ refusal_of self.now (Deliver from to pick state.now) }
-    {
-        let n = self.history.n();
-        if from.get() >= n || to.get() >= n {
-            return Some(StepError::NoSuchProcess);
-        }
-        if from == to {
-            return Some(StepError::ToSelf);
-        }
-        if state.bytes().len() > MOST_STATE {
-            return Some(StepError::StateTooLong);
-        }
-        if self.links.len(from, to) == 0 {
-            return Some(StepError::LinkEmpty);
-        }
-        if pick != 0 {
-            return Some(StepError::BadPick);
-        }
-        if self.history.tape(to).len() as usize >= MOST_EVENTS {
-            return Some(StepError::TapeFull);
-        }
-        None
-    }
-
-    /// Why a process may not take a check now.
-    fn check_refusal(&self, at: ProcId, state: &State) -> Option<StepError>
-        ensures { result ≡ refusal_of self.now (Check at state.now) }
-    {
-        if at.get() >= self.history.n() {
-            return Some(StepError::NoSuchProcess);
-        }
-        if state.bytes().len() > MOST_STATE {
-            return Some(StepError::StateTooLong);
-        }
-        if self.history.tape(at).len() as usize >= MOST_EVENTS {
-            return Some(StepError::TapeFull);
-        }
-        None
-    }
-
-    /// Whether a member of the set is no process.
-    fn has_stranger(&self, failed: &ProcSet) -> bool
-        ensures { result ≡ has_stranger self.now failed.now }
-    {
-        let n = self.history.n();
-        let mut found = false;
-        for q in n..MOST_PROCESSES as u32 {
-            let p = ProcId::try_new(q, MOST_PROCESSES as u32).unwrap();
-            found |= failed.has(p);
-        }
-        found
-    }
-
     /// Sends a message.
     fn send(&mut self, from: ProcId, to: ProcId, body: &Body) -> Result<Reply, StepError>
         ensures done { IfOk result (λ reply. Takes self.old (Send from to body.now) (Done reply) self.new) }
@@ -186,7 +112,7 @@ impl World {
         Ok(Reply::Sent { message })
     }
 
-    /// Delivers the message that is picked.
+    /// Delivers the message that is picked, or finds its copy stale or repeated.
     fn deliver(
         &mut self,
         from: ProcId,
@@ -199,14 +125,32 @@ impl World {
             → Takes self.old (Deliver from to pick state.now) (Refused e) self.new) }
         ensures memory { IsErrOf result StepError.OutOfMemory → self.new ≡ self.old }
     {
-        if let Some(e) = self.deliver_refusal(from, to, pick, state) {
+        if let Some(e) = self.link_refusal(from, to, pick, state) {
             return Err(e);
         }
-        let message = take_message(&mut self.history, &mut self.links, from, to)?;
-        Ok(Reply::Took {
-            message,
-            forced: None,
-        })
+        let _n = self.history.n();
+        let message = message_at(&self.links, from, to, pick);
+        match fate_of(self.mode, &self.history, to, &message) {
+            Fate::Taken => {
+                if self.is_full(to) {
+                    return Err(StepError::TapeFull);
+                }
+                take_message(
+                    self.mode,
+                    &mut self.history,
+                    &mut self.links,
+                    from,
+                    to,
+                    &message,
+                )?;
+                Ok(Reply::Took {
+                    message,
+                    forced: None,
+                })
+            }
+            Fate::Stale => Ok(Reply::Stale { message }),
+            Fate::Repeated => Ok(Reply::Repeated { message }),
+        }
     }
 
     /// Takes a check.
