@@ -1,5 +1,5 @@
 //! Marks of damage.
-ghost use Rattle.std.specs.Prelude.{◌≡◌, ◌≢◌, ◌<◌, ◌≤◌, ◌↔◌, [], IsTrue, length, replicate, IfOk, OnOk, OnErr, IsErrOf};
+ghost use Rattle.std.specs.Prelude.{◌≡◌, ◌≢◌, ◌<◌, ◌≤◌, ◌↔◌, [], IsTrue, length, replicate, slice_index_or, IfOk, OnOk, OnErr, IsErrOf};
 ghost use Rattle.line_tape.specs.Survival.{is_damaged};
 ghost use Rattle.line_tape.specs.Views.{with_mark};
 
@@ -83,6 +83,29 @@ impl Marks {
             Some(damaged) => damaged.checks.contains(&check),
             None => false,
         }
+    }
+
+    /// The damaged checks of a process, in the order in which they were marked.
+    pub fn checks(&self, p: ProcId) -> &[u32]
+        ensures { result.now ≡ slice_index_or self.now.damaged p [] }
+    {
+        match self.damaged.get(p.get() as usize) {
+            Some(damaged) => damaged.checks.as_slice(),
+            None => &[],
+        }
+    }
+
+    /// The same marks in memory of their own.
+    pub fn copy(&self, alloc: Global) -> Result<Marks, AllocError>
+        ensures { IfOk result (λ marks. marks ≡ self.now) }
+    {
+        let mut damaged = Vec::with_capacity(alloc, self.damaged.len())?;
+        for process in &self.damaged {
+            damaged.push(Damaged {
+                checks: Vec::from_slice(alloc, process.checks.as_slice())?,
+            })?;
+        }
+        Ok(Marks { damaged })
     }
 }
 
