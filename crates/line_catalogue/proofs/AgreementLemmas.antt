@@ -3,7 +3,7 @@ use Rattle.std.proofs.Common.{◌≡◌, ◌≢◌, ℕ, ◌<◌, ◌≤◌, Lis
 use Rattle.std.specs.List.{All, cons_option, slice_get}
 use Rattle.std.specs.Prelude.{replicate}
 use Rattle.std.proofs.lemmas.Bool.{cases_eq, cases_lt}
-use Rattle.std.proofs.lemmas.List.{length_push, get_or_push, get_or_past, get_or-set_same, get_or-set_other, get_or-replicate, append-nil, length-replicate}
+use Rattle.std.proofs.lemmas.List.{length_push, get_or_push, get_or-set_same, get_or-set_other, get_or-replicate, append-nil, length-replicate}
 use Rattle.std.proofs.lemmas.List.Elements.{All-push, filter_map-append}
 use Rattle.std.proofs.lemmas.Option.{slice_get-get_or, same_Some, none-some}
 use Rattle.line_names.specs.declared.messages.MsgName.{MsgName}
@@ -13,7 +13,7 @@ use Rattle.line_tape.specs.Event.{incarnation_of, incarnations_sent, sends, Hold
 use Rattle.line_tape.specs.History.{Process, fresh, process_at, tape_at, incarnation_at, with_event}
 use Rattle.line_tape.proofs.FrontLemmas.{slice_get-append_left}
 use Rattle.line_tape.proofs.LineLemmas.{tape_at-past}
-use Rattle.line_catalogue.specs.Agreement.{NameAgrees, EventAgrees, Agrees, IsSentAsNow, AgreesNext}
+use Rattle.line_catalogue.specs.Agreement.{NameAgrees, EventAgrees, Agrees, IsSentAsNow}
 
 -- what holds of each element does so of what it implies
 pub All-weaker : {X : Type 0} (P Q : X → Type 0) (xs : List X) → ((x : X) → P x → Q x) → All P xs → All Q xs

@@ -1,13 +1,13 @@
 -- What a catalogue keeps, as its history grows and as its checks are marked.
-use Rattle.std.proofs.Common.{◌≡◌, ◌≢◌, ℕ, ◌+◌, ◌<◌, ◌≤◌, Bool, true, false, cond, List, [], ◌∷◌, ◌++◌, length, get_or, set, min, inl, inr, Option, refl, sym, ap, ◌∙◌, subst, arith}
+use Rattle.std.proofs.Common.{◌≡◌, ℕ, zero, suc, ◌<◌, ◌≤◌, List, [], ◌∷◌, ◌++◌, length, get_or, set, min, inl, inr, Option, refl, sym, ap, ◌∙◌, subst, arith}
 use Rattle.std.specs.List.{All}
 use Rattle.std.specs.Prelude.{replicate}
 use Rattle.std.proofs.lemmas.Bool.{cases_eq, cases_lt}
 use Rattle.std.proofs.lemmas.List.{length-set, length-replicate, get_or-set_same, get_or-set_other, get_or-replicate, get_or_past}
 use Rattle.std.proofs.lemmas.List.Elements.{All-push}
 use Rattle.line_tape.specs.declared.events.Event.{Event}
-use Rattle.line_tape.specs.Event.{is_check, checks}
-use Rattle.line_tape.specs.History.{Process, fresh, tape_at, with_event}
+use Rattle.line_tape.specs.Event.{checks}
+use Rattle.line_tape.specs.History.{Process, tape_at, with_event}
 use Rattle.line_tape.specs.Views.{MarksView, with_mark}
 use Rattle.line_tape.proofs.RowLemmas.{checks-push}
 use Rattle.line_catalogue.specs.declared.rows.Row.{Row}
@@ -56,7 +56,7 @@ AreOnChecks-none history marks n none = record {
   each = λ q.
     let empty : damaged_at marks q ≡ [] = ap (λ (xs : List (List ℕ)). get_or xs q []) none ∙ elim (cases_lt q n) [
       | inl within ↦ get_or-replicate n q [] [] within
-      | inr past ↦ get_or_past (replicate n []) q [] (omega (arith, length-replicate n ([] {A = ℕ})))
+      | inr past ↦ get_or_past (replicate n []) q [] (omega (arith, length-replicate {A = List ℕ} n []))
     ] in
     subst (All (λ check. check ≤ checks (tape_at history q))) (sym empty) (All-none (λ check. check ≤ checks (tape_at history q)));
 }

@@ -177,6 +177,7 @@ impl Catalogue {
     }
 
     /// Makes room for so many further events of a process: its next `k` additions take no memory.
+    #[tactic(auto, using(crate::proofs::CatalogueLemmas::lesser_at))]
     pub fn reserve(&mut self, p: ProcId, k: u32) -> Result<(), AllocError>
         requires { p < length self.old.processes }
         ensures processes { self.new.processes ≡ self.old.processes }
@@ -191,6 +192,7 @@ impl Catalogue {
     }
 
     /// Adds an event that may come next, in room that was made for it.
+    #[tactic(auto, using(crate::proofs::CatalogueLemmas::lesser_at))]
     fn append(&mut self, p: ProcId, event: Event)
         requires process { p < length self.old.processes }
         requires named { NamesBelow (length self.old.processes) event }

@@ -74,7 +74,7 @@ fn plain_rows(alloc: Global, tape: &Tape) -> Result<Vec<Row>, AllocError>
 fn set_damaged(rows: &mut Vec<Row>, check: u32)
     requires { check < vec_len rows.old }
     ensures rows { rows.new.items ≡ with_damage rows.old.items check }
-    ensures capacity { vec_capacity rows.new ≡ vec_capacity rows.old }
+    ensures room { (vec_capacity rows.new ≡ vec_capacity rows.old) × (vec_len rows.new ≡ vec_len rows.old) }
 {
     rows[check as usize].damaged = true;
 }
