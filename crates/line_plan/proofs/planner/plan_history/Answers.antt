@@ -1,9 +1,7 @@
-use Rattle.std.proofs.Common.{◌≤◌, ◌+◌, ◌*◌, length, arith}
-use Rattle.line_tape.specs.declared.limits.TheConstants.{MOST_EVENTS}
-use Rattle.line_tape.specs.Chain.{IsChain, first_ceilings}
+use Rattle.std.proofs.Common.{arith}
+use Rattle.line_tape.specs.Chain.{IsChain}
 use Rattle.line_tape.proofs.ChainLemmas.{latest_from_chain}
 use Rattle.line_tape.proofs.LineLemmas.{IsConsistent-below}
-use Rattle.line_tape.specs.Height.{height}
 use Rattle.line_tape.proofs.LedLemmas.{height-first}
 use Rattle.line_plan.proofs.planner.plan_history.Goals as goal
 
