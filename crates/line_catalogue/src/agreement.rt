@@ -82,7 +82,7 @@ pub fn are_on_checks(history: &History, marks: &Marks) -> bool
     let n = history.n();
     for q in 0..n {
         let p = ProcId::try_new(q, n).unwrap();
-        if !none_above(marks.checks(p), history.tape(p).checks()) {
+        if !none_above(marks.checks(q as usize), history.tape(p).checks()) {
             return false;
         }
     }

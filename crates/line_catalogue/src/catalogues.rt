@@ -107,7 +107,6 @@ impl Catalogue {
         ensures processes { result.now.processes ≡ self.now.processes }
         ensures agrees { Agrees self.now.processes }
     {
-        let _rows = &self.rows;
         &self.history
     }
 
@@ -117,7 +116,6 @@ impl Catalogue {
         ensures count { length self.now.marks.damaged ≡ length self.now.processes }
         ensures exist { AreOnChecks self.now.processes self.now.marks }
     {
-        let _rows = &self.rows;
         &self.marks
     }
 
@@ -215,6 +213,7 @@ impl Catalogue {
         ensures ok { OnOk result (self.new.processes ≡ with_event self.old.processes p event) }
         ensures err { OnErr result (self.new.processes ≡ self.old.processes) }
         ensures marks { self.new.marks ≡ self.old.marks }
+        ensures kept { OnErr result (room_at self.old p ≤ room_at self.new p) }
 
         // The refusals, in their order: p and the processes that the event names are asked first.
         ensures process { IsErrOf result AddError.NoSuchProcess

@@ -105,7 +105,8 @@ fn push_row(rows: &mut Vec<Row>, row: Option<Row>)
 impl RowTable {
     /// The rows of a history and its marks. It looks once at each check and at each mark.
     pub fn of(alloc: Global, history: &History, marks: &Marks) -> Result<RowTable, AllocError>
-        requires { AreOnChecks history.now.processes marks.now }
+        requires marked { AreOnChecks history.now.processes marks.now }
+        requires count { length marks.now.damaged ≡ length history.now.processes }
         ensures count { IfOk result (λ table. length table.rows ≡ length history.now.processes) }
         ensures shown { IfOk result (λ table. (p : ℕ) → p < length history.now.processes
             → AreRows (tape_at history.now.processes p) (damaged_at marks.now p) (rows_at table.rows p)) }
@@ -114,7 +115,7 @@ impl RowTable {
         let mut table = Vec::with_capacity(alloc, n as usize)?;
         for q in 0..n {
             let p = ProcId::try_new(q, n).unwrap();
-            let rows = rows_of(alloc, history.tape(p), marks.checks(p))?;
+            let rows = rows_of(alloc, history.tape(p), marks.checks(q as usize))?;
             table.push(ProcessRows { rows })?;
         }
         Ok(RowTable { table })

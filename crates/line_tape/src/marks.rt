@@ -85,14 +85,19 @@ impl Marks {
         }
     }
 
-    /// The damaged checks of a process, in the order in which they were marked.
-    pub fn checks(&self, p: ProcId) -> &[u32]
+    /// How many processes it was made for.
+    pub fn processes(&self) -> usize
+        ensures { result ≡ length self.now.damaged }
+    {
+        self.damaged.len()
+    }
+
+    /// The damaged checks of the process of that number, in the order in which they were marked.
+    pub fn checks(&self, p: usize) -> &[u32]
+        requires { p < length self.now.damaged }
         ensures { result.now ≡ slice_index_or self.now.damaged p [] }
     {
-        match self.damaged.get(p.get() as usize) {
-            Some(damaged) => damaged.checks.as_slice(),
-            None => &[],
-        }
+        self.damaged[p].checks.as_slice()
     }
 
     /// The same marks in memory of their own.

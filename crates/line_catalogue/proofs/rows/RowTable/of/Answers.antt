@@ -24,7 +24,7 @@ loop-q-preserved c =
     let pushed : c.push.new.self.items ≡ items ++ record { rows = c.in_ok-rows.rows } ∷ [] = c.in_ok-push.ensures.items in
     let seen : map plain c.push.new.self.items ≡ map plain items ++ rows ∷ [] = ap (map plain) pushed ∙ map-append plain items (record { rows = c.in_ok-rows.rows } ∷ []) in
     let tape : c.tape.result.now.events ≡ tape_at history q = c.tape.ensures.events ∙ ap (tape_at history) at in
-    let damaged : c.checks.result.now ≡ damaged_at marks q = c.checks.ensures ∙ ap (damaged_at marks) at in
+    let damaged : c.checks.result.now ≡ damaged_at marks q = c.checks.ensures in
     let new : AreRows (tape_at history q) (damaged_at marks q) rows = subst (λ (t : List Event). AreRows t (damaged_at marks q) rows) tape (subst (λ (xs : List ℕ). AreRows c.tape.result.now.events xs rows) damaged c.in_ok-rows.ensures) in
     let count : length (map plain items) ≡ q = length-map items plain ∙ c.loop-q.invariant.count in
     record {
