@@ -112,11 +112,11 @@ module _ (history : List Process) (p : ℕ) (event : Event) (within : p < length
   pub Agrees-more : IsSentAsNow history p event → EventAgrees history event → Agrees history → Agrees (with_event history p event)
   Agrees-more now new agrees = record {
     each = λ q.
-      let before : All (EventAgrees (with_event history p event)) (tape_at history q) = All-weaker (EventAgrees history) (EventAgrees (with_event history p event)) (tape_at history q) (EventAgrees-more now) (agrees.each q) in
-      elim (cases_eq q p) [
-        | inl here ↦ subst (All (EventAgrees (with_event history p event))) (sym (tape-here q here)) (All-push (EventAgrees (with_event history p event)) (tape_at history q) event before (EventAgrees-more now event new))
-        | inr apart ↦ subst (All (EventAgrees (with_event history p event))) (sym (tape-other q apart)) before
-      ];
+        let before : All (EventAgrees (with_event history p event)) (tape_at history q) = All-weaker (EventAgrees history) (EventAgrees (with_event history p event)) (tape_at history q) (EventAgrees-more now) (agrees.each q) in
+        elim (cases_eq q p) [
+          | inl here ↦ subst (All (EventAgrees (with_event history p event))) (sym (tape-here q here)) (All-push (EventAgrees (with_event history p event)) (tape_at history q) event before (EventAgrees-more now event new))
+          | inr apart ↦ subst (All (EventAgrees (with_event history p event))) (sym (tape-other q apart)) before
+        ];
   }
 
   -- the event agrees with a history that agrees with it

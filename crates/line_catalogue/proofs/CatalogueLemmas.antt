@@ -54,11 +54,11 @@ AreOnChecks-mark history marks p c within there on = record {
 pub AreOnChecks-none : (history : List Process) (marks : MarksView) (n : ℕ) → marks.damaged ≡ replicate n [] → AreOnChecks history marks
 AreOnChecks-none history marks n none = record {
   each = λ q.
-    let empty : damaged_at marks q ≡ [] = ap (λ (xs : List (List ℕ)). get_or xs q []) none ∙ elim (cases_lt q n) [
-      | inl within ↦ get_or-replicate n q [] [] within
-      | inr past ↦ get_or_past (replicate n []) q [] (omega (arith, length-replicate {A = List ℕ} n []))
-    ] in
-    subst (All (λ check. check ≤ checks (tape_at history q))) (sym empty) (All-none (λ check. check ≤ checks (tape_at history q)));
+      let empty : damaged_at marks q ≡ [] = ap (λ (xs : List (List ℕ)). get_or xs q []) none ∙ elim (cases_lt q n) [
+        | inl within ↦ get_or-replicate n q [] [] within
+        | inr past ↦ get_or_past (replicate n []) q [] (omega (arith, length-replicate {A = List ℕ} n []))
+      ] in
+      subst (All (λ check. check ≤ checks (tape_at history q))) (sym empty) (All-none (λ check. check ≤ checks (tape_at history q)));
 }
 
 -- it is enough to look at the processes that there are
@@ -85,11 +85,11 @@ module _ (history : List Process) (marks : MarksView) (rows : List (List Row)) (
               let read : rows_at (set rows p (with_row (rows_at rows p) row)) p ≡ with_row (rows_at rows p) row = get_or-set_same rows p (with_row (rows_at rows p) row) [] (omega (arith, is.rows_count)) in
               let new : AreRows (tape_at history p ++ event ∷ []) (damaged_at marks p) (with_row (rows_at rows p) row) = AreRows-added (tape_at history p) event (damaged_at marks p) (rows_at rows p) row (is.marked.each p) added (is.shown p within) in
               subst (λ (v : ℕ). AreRows (tape_at (with_event history p event) v) (damaged_at marks v) (rows_at (set rows p (with_row (rows_at rows p) row)) v)) (sym here)
-                (subst (λ (tape : List Event). AreRows tape (damaged_at marks p) (rows_at (set rows p (with_row (rows_at rows p) row)) p)) (sym (tape-here history p event within p refl))
-                (subst (AreRows (tape_at history p ++ event ∷ []) (damaged_at marks p)) (sym read) new))
+              (subst (λ (tape : List Event). AreRows tape (damaged_at marks p) (rows_at (set rows p (with_row (rows_at rows p) row)) p)) (sym (tape-here history p event within p refl))
+              (subst (AreRows (tape_at history p ++ event ∷ []) (damaged_at marks p)) (sym read) new))
           | inr apart ↦
               subst (λ (tape : List Event). AreRows tape (damaged_at marks q) (rows_at (set rows p (with_row (rows_at rows p) row)) q)) (sym (tape-other history p event within q apart))
-                (subst (AreRows (tape_at history q) (damaged_at marks q)) (sym (get_or-set_other rows p q (with_row (rows_at rows p) row) [] apart)) (is.shown q (omega arith)))
+              (subst (AreRows (tape_at history q) (damaged_at marks q)) (sym (get_or-set_other rows p q (with_row (rows_at rows p) row) [] apart)) (is.shown q (omega arith)))
         ];
       }
 
@@ -106,10 +106,10 @@ module _ (history : List Process) (marks : MarksView) (rows : List (List Row)) (
           let marked : damaged_at (with_mark marks p c) p ≡ damaged_at marks p ++ c ∷ [] = get_or-set_same marks.damaged p (damaged_at marks p ++ c ∷ []) [] (omega (arith, is.marks_count)) in
           let new : AreRows (tape_at history p) (damaged_at marks p ++ c ∷ []) (with_damage (rows_at rows p) c) = AreRows-damage (tape_at history p) (damaged_at marks p) (rows_at rows p) c there (is.shown p within) in
           subst (λ (v : ℕ). AreRows (tape_at history v) (damaged_at (with_mark marks p c) v) (rows_at (set rows p (with_damage (rows_at rows p) c)) v)) (sym here)
-            (subst (λ (xs : List ℕ). AreRows (tape_at history p) xs (rows_at (set rows p (with_damage (rows_at rows p) c)) p)) (sym marked)
-            (subst (AreRows (tape_at history p) (damaged_at marks p ++ c ∷ [])) (sym read) new))
+          (subst (λ (xs : List ℕ). AreRows (tape_at history p) xs (rows_at (set rows p (with_damage (rows_at rows p) c)) p)) (sym marked)
+          (subst (AreRows (tape_at history p) (damaged_at marks p ++ c ∷ [])) (sym read) new))
       | inr apart ↦
           subst (λ (xs : List ℕ). AreRows (tape_at history q) xs (rows_at (set rows p (with_damage (rows_at rows p) c)) q)) (sym (get_or-set_other marks.damaged p q (damaged_at marks p ++ c ∷ []) [] apart))
-            (subst (AreRows (tape_at history q) (damaged_at marks q)) (sym (get_or-set_other rows p q (with_damage (rows_at rows p) c) [] apart)) (is.shown q h))
+          (subst (AreRows (tape_at history q) (damaged_at marks q)) (sym (get_or-set_other rows p q (with_damage (rows_at rows p) c) [] apart)) (is.shown q h))
     ];
   }
