@@ -1,9 +1,10 @@
 //! Sweeps over the processes, each of which is lowered until it has no orphan.
 ghost use Rattle.std.specs.Prelude.{◌≡◌, ◌<◌, ◌≤◌, ◌+◌, false, length, vec_len, OnOk, IfOk};
 ghost use Rattle.line_tape.specs.Chain.{IsChain};
+ghost use Rattle.line_tape.specs.Height.{IsLed, height};
 ghost use Rattle.line_tape.specs.Line.{events_before, IsOrphan, AreSentBefore};
 ghost use Rattle.line_tape.specs.Survival.{IsLatest};
-ghost use Rattle.line_plan.specs.Search.{IsLed, IsMoved, AreSentBelow, height};
+ghost use Rattle.line_plan.specs.Search.{IsMoved, AreSentBelow};
 
 use crate::plans::{Plan, PlanError};
 use line_names::{Line, MsgName, Passed, ProcId, ProcSet};

@@ -6,3 +6,4 @@ pub mod ChoiceLemmas
 pub mod ChainLemmas
 pub mod LineLemmas
 pub mod NextLemmas
+pub mod LedLemmas

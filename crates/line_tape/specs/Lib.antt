@@ -4,6 +4,7 @@ pub mod History
 pub mod Line
 pub mod Survival
 pub mod Chain
+pub mod Height
 pub mod Transit
 pub mod Rounds
 pub mod Fit

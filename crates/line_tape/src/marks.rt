@@ -1,5 +1,5 @@
 //! Marks of damage.
-ghost use Rattle.std.specs.Prelude.{◌≡◌, ◌≢◌, ◌<◌, ◌≤◌, ◌↔◌, [], IsTrue, length, replicate, IfOk, OnOk, OnErr, IsErrOf};
+ghost use Rattle.std.specs.Prelude.{◌≡◌, ◌≢◌, ◌<◌, ◌≤◌, ◌↔◌, [], IsTrue, length, replicate, slice_index_or, IfOk, OnOk, OnErr, IsErrOf};
 ghost use Rattle.line_tape.specs.Survival.{is_damaged};
 ghost use Rattle.line_tape.specs.Views.{with_mark};
 
@@ -83,6 +83,34 @@ impl Marks {
             Some(damaged) => damaged.checks.contains(&check),
             None => false,
         }
+    }
+
+    /// How many processes it was made for.
+    pub fn processes(&self) -> usize
+        ensures { result ≡ length self.now.damaged }
+    {
+        self.damaged.len()
+    }
+
+    /// The damaged checks of the process of that number, in the order in which they were marked.
+    pub fn checks(&self, p: usize) -> &[u32]
+        requires { p < length self.now.damaged }
+        ensures { result.now ≡ slice_index_or self.now.damaged p [] }
+    {
+        self.damaged[p].checks.as_slice()
+    }
+
+    /// The same marks in memory of their own.
+    pub fn copy(&self, alloc: Global) -> Result<Marks, AllocError>
+        ensures { IfOk result (λ marks. marks ≡ self.now) }
+    {
+        let mut damaged = Vec::with_capacity(alloc, self.damaged.len())?;
+        for process in &self.damaged {
+            damaged.push(Damaged {
+                checks: Vec::from_slice(alloc, process.checks.as_slice())?,
+            })?;
+        }
+        Ok(Marks { damaged })
     }
 }
 

@@ -7,8 +7,8 @@ use Rattle.line_tape.specs.Chain.{first_ceilings, lowered}
 use Rattle.line_tape.specs.History.{Process}
 use Rattle.line_tape.specs.Line.{IsLine}
 use Rattle.line_tape.specs.Views.{MarksView}
-use Rattle.line_plan.specs.Search.{IsLed, height}
-use Rattle.line_plan.proofs.LedLemmas.{LeadsTo-push, height-lowered, IsLine-led}
+use Rattle.line_tape.specs.Height.{IsLed, height}
+use Rattle.line_tape.proofs.LedLemmas.{LeadsTo-push, height-lowered, IsLine-led}
 use Rattle.line_plan.proofs.planner.pass_over.Goals as goal
 
 after : (c : goal.After-set) → c.set.new.self ≡ lowered c.args.history.now.processes c.args.marks.now c.args.failed.now c.args.line.now c.args.at

@@ -1,10 +1,8 @@
-use Rattle.std.proofs.Common.{◌≤◌, ◌+◌, ◌*◌, length, arith}
-use Rattle.line_tape.specs.declared.limits.TheConstants.{MOST_EVENTS}
-use Rattle.line_tape.specs.Chain.{IsChain, first_ceilings}
+use Rattle.std.proofs.Common.{arith}
+use Rattle.line_tape.specs.Chain.{IsChain}
 use Rattle.line_tape.proofs.ChainLemmas.{latest_from_chain}
 use Rattle.line_tape.proofs.LineLemmas.{IsConsistent-below}
-use Rattle.line_plan.specs.Search.{height}
-use Rattle.line_plan.proofs.LedLemmas.{height-first}
+use Rattle.line_tape.proofs.LedLemmas.{height-first}
 use Rattle.line_plan.proofs.planner.plan_history.Goals as goal
 
 chain : (c : goal.Then-not-lowered) → IsChain c.args.history.now.processes c.args.marks.now c.args.failed.now c.sweep.new.certificate.items c.sweep.new.line

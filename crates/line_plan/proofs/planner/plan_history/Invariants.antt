@@ -1,6 +1,6 @@
 use Rattle.std.proofs.Common.{◌≤◌, ◌+◌, vec_len}
 use Rattle.line_tape.specs.Chain.{first_ceilings}
-use Rattle.line_plan.specs.Search.{IsLed, height}
+use Rattle.line_tape.specs.Height.{IsLed, height}
 use Rattle.line_plan.proofs.planner.plan_history.Given as goal
 
 abbrev pub invariant-sweeps : goal.invariant-sweeps

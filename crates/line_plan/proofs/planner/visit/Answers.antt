@@ -1,4 +1,4 @@
-use Rattle.line_plan.proofs.LedLemmas.{IsLine-led}
+use Rattle.line_tape.proofs.LedLemmas.{IsLine-led}
 use Rattle.line_plan.proofs.planner.visit.Goals as goal
 
 pub orphan_at-requires-clause-line : goal.orphan_at-requires-clause-line

@@ -21,7 +21,7 @@ use Rattle.line_tape.proofs.ChainLemmas.{first_are_ceilings, led_are_ceilings, f
 use Rattle.line_tape.proofs.ChoiceLemmas.{survives_within}
 use Rattle.line_tape.proofs.HistoryLemmas.{IsHistory-at}
 use Rattle.line_tape.proofs.RowLemmas.{checks_le}
-use Rattle.line_plan.specs.Search.{IsLed, rank, height}
+use Rattle.line_tape.specs.Height.{IsLed, rank, height}
 
 -- no latest check stands above where the search for it began
 rank-latest_check : (tape : List Event) (passes : Choice → Bool) (c : ℕ) → rank tape (latest_check passes c) ≤ c

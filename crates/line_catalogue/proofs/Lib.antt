@@ -1,0 +1,4 @@
+pub mod AgreementLemmas
+pub mod CheckLemmas
+pub mod CatalogueLemmas
+pub mod TableLemmas
