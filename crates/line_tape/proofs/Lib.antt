@@ -6,3 +6,6 @@ pub mod ChoiceLemmas
 pub mod ChainLemmas
 pub mod LineLemmas
 pub mod NextLemmas
+pub mod SentLemmas
+pub mod LinkLemmas
+pub mod StayLemmas

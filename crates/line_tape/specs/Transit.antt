@@ -51,3 +51,7 @@ in_transit history line =
 abbrev pub in_transit_between : List Process → List Choice → ℕ → ℕ → List MsgName
 in_transit_between history line p q =
     map (λ (letter : Letter). letter.message) (filter (λ (letter : Letter). letter.to == q) (open_letters history line p))
+
+-- the messages received among these events, in order
+abbrev pub names_received : List Event → List MsgName
+names_received events = filter_map received_name events
