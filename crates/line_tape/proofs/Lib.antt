@@ -9,3 +9,4 @@ pub mod NextLemmas
 pub mod SentLemmas
 pub mod LinkLemmas
 pub mod StayLemmas
+pub mod LetterLemmas

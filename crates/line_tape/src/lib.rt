@@ -23,7 +23,7 @@ pub use items::Item;
 pub use laws::chain_makes_latest;
 pub use limits::{MOST_EVENTS, MOST_STATE};
 pub use lines::{is_consistent, is_line, is_sent_before, orphan_at};
-pub use links::{kept_checks, restart_fits};
+pub use links::{kept_checks, restart_fits, transit_parts};
 pub use marks::{MarkError, Marks};
 pub use survival::{first_ceilings, latest_choice, next_lower, survives};
 pub use tapes::{Tape, TapeError};
