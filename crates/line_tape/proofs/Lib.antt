@@ -10,3 +10,4 @@ pub mod SentLemmas
 pub mod LinkLemmas
 pub mod StayLemmas
 pub mod LetterLemmas
+pub mod SpentLemmas

@@ -7,9 +7,9 @@ use Rattle.line_tape.specs.declared.items.Item.{Item}
 use Rattle.line_tape.specs.declared.items.Item.TheVariants.{Message, Marker}
 use Rattle.line_names.specs.declared.messages.MsgName.{MsgName}
 use Rattle.line_tape.specs.Event.{sends, Holds}
-use Rattle.line_tape.specs.History.{Process, tape_at}
+use Rattle.line_tape.specs.History.{Process, tape_at, incarnation_at}
 use Rattle.line_tape.specs.Rounds.{rounds_checked, has_check_of}
-use Rattle.line_tape.specs.Transit.{addressee, names_received}
+use Rattle.line_tape.specs.Transit.{addressee, has_received, names_received}
 
 -- what process p puts on its link to q by these events, its first send having this number: its messages to q, and a marker for each check of a round
 abbrev pub items_sent : ℕ → ℕ → ℕ → List Event → List Item
@@ -84,3 +84,10 @@ pub record IsSentTo (history : List Process) (q : ℕ) (message : MsgName) : Typ
 pub record IsFitUnordered (history : List Process) : Type 0 where
   pub held : (q : ℕ) (message : MsgName) → Contains (tape_at history q) (Recv message) → IsSentTo history q message
   pub once : (q : ℕ) → AreDistinct (names_received (tape_at history q))
+
+-- the event may come next at process p: a send is of the present incarnation, and what is received was sent to p and is new to its tape
+abbrev pub IsNextUnordered : List Process → ℕ → Event → Type 0
+IsNextUnordered history p (Send to inc body) = inc ≡ incarnation_at history p
+IsNextUnordered history p (Recv message) = IsSentTo history p message × (has_received (tape_at history p) message ≡ false)
+IsNextUnordered history p (Check state round) = Unit {0}
+IsNextUnordered history p (Mark from round) = Unit {0}

@@ -6,6 +6,7 @@
 mod events;
 mod fits;
 mod histories;
+mod incarnations;
 mod items;
 mod laws;
 mod limits;
@@ -19,6 +20,7 @@ mod tapes;
 pub use events::{Event, State};
 pub use fits::event_fits;
 pub use histories::{CountError, History, HistoryError};
+pub use incarnations::names_apart;
 pub use items::Item;
 pub use laws::chain_makes_latest;
 pub use limits::{MOST_EVENTS, MOST_STATE};
