@@ -173,6 +173,13 @@ pub All-flat_map : {X Y : Type 0} (P : Y → Type 0) (f : X → List Y) (xs : Li
 All-flat_map P f [] h = All-nil P
 All-flat_map P f (x ∷ xs) h = All-append P (f x) (flat_map f xs) (h x) (All-flat_map P f xs h)
 
+-- a letter of process r was sent to the process that it is for
+pub letter_sent : (held : List Process) (r : ℕ) (letter : Letter) → IsLetterOf r (incarnations_sent (tape_at held r)) (addressees (tape_at held r)) letter → IsSentTo held letter.to letter.message
+letter_sent held r letter is = record {
+  held = ap (λ (v : ℕ). slice_get (incarnations_sent (tape_at held v)) letter.message.number) is.from_is ∙ is.inc_is;
+  to_is = ap (λ (v : ℕ). slice_get (addressees (tape_at held v)) letter.message.number) is.from_is ∙ is.to_is;
+}
+
 -- what is in transit was sent to someone, in such a history
 pub transit_sent : (history : List Process) (line : List Choice) (held : List Process)
     → ((r : ℕ) → All (IsLetterOf r (incarnations_sent (tape_at held r)) (addressees (tape_at held r))) (open_letters history line r))
@@ -182,9 +189,3 @@ transit_sent history line held are m =
     (All-flat_map (λ (m : MsgName). (q : ℕ) × IsSentTo held q m) (λ r. names (open_letters history line r)) (range_with_len 0 (length history)) (λ r.
     All-map (λ (m : MsgName). (q : ℕ) × IsSentTo held q m) (λ (letter : Letter). letter.message) (open_letters history line r)
     (All-weaker (IsLetterOf r (incarnations_sent (tape_at held r)) (addressees (tape_at held r))) (λ (letter : Letter). (q : ℕ) × IsSentTo held q letter.message) (λ letter is. (letter.to, letter_sent held r letter is)) (open_letters history line r) (are r))))
-  where
-    letter_sent : (held : List Process) (r : ℕ) (letter : Letter) → IsLetterOf r (incarnations_sent (tape_at held r)) (addressees (tape_at held r)) letter → IsSentTo held letter.to letter.message
-    letter_sent held r letter is = record {
-      held = ap (λ (v : ℕ). slice_get (incarnations_sent (tape_at held v)) letter.message.number) is.from_is ∙ is.inc_is;
-      to_is = ap (λ (v : ℕ). slice_get (addressees (tape_at held v)) letter.message.number) is.from_is ∙ is.to_is;
-    }

@@ -11,3 +11,5 @@ pub mod LinkLemmas
 pub mod StayLemmas
 pub mod LetterLemmas
 pub mod SpentLemmas
+pub mod CopyLemmas
+pub mod OrderLemmas

@@ -1,7 +1,6 @@
 -- What was sent stays so, by events and by restarts, and the next name is new.
-use Rattle.std.proofs.Common.{◌≡◌, ℕ, zero, suc, ◌+◌, ◌<◌, ◌≤◌, true, false, cond, List, [], ◌∷◌, ◌++◌, length, take, drop, map, replicate, get_or, Option, Some, None, refl, sym, ap, ◌∙◌, subst, arith, inl, inr, ◌⊎◌}
-use Rattle.std.specs.Prelude.{◌==◌}
-use Rattle.std.specs.List.{filter_map, cons_option, slice_get, All}
+use Rattle.std.proofs.Common.{◌≡◌, ℕ, zero, suc, ◌+◌, ◌<◌, ◌≤◌, List, [], ◌∷◌, ◌++◌, length, take, drop, replicate, Option, Some, None, refl, sym, ap, ◌∙◌, subst, arith, inl, inr}
+use Rattle.std.specs.List.{cons_option, slice_get, All}
 use Rattle.std.proofs.lemmas.List.{append-nil, take-append-drop, take_all, get_or_past, get_or-set_same, get_or-set_other}
 use Rattle.std.proofs.lemmas.List.Elements.{filter_map-append, All-nil, All-cons, All-append, All-take, All-weaker}
 use Rattle.std.proofs.lemmas.Bool.{cases_eq, cases_lt}
@@ -11,10 +10,10 @@ use Rattle.line_names.specs.declared.choices.Choice.{Choice}
 use Rattle.line_names.specs.declared.choices.Choice.TheVariants.{Check as AtCheck, Now}
 use Rattle.line_names.specs.Lines.{choice_at}
 use Rattle.line_tape.specs.declared.events.Event.{Event}
-use Rattle.line_tape.specs.declared.events.Event.TheVariants.{Send, Recv, Check, Mark}
+use Rattle.line_tape.specs.declared.events.Event.TheVariants.{Send}
 use Rattle.line_tape.specs.Event.{incarnation_of, incarnations_sent, Holds}
 use Rattle.line_tape.specs.Front.{place, front}
-use Rattle.line_tape.specs.History.{Process, fresh, process_at, tape_at, incarnation_at, with_event}
+use Rattle.line_tape.specs.History.{Process, fresh, tape_at, incarnation_at, with_event}
 use Rattle.line_tape.specs.Line.{events_before}
 use Rattle.line_tape.specs.Restart.{restarted, restarted_incarnation}
 use Rattle.line_tape.specs.Spent.{next_name, IsSpentName, HasNoLaterSend}
@@ -69,6 +68,11 @@ incarnation_restarted [] line p e h = absurd (omega arith)
 incarnation_restarted (process ∷ rest) [] p e h = absurd (omega arith)
 incarnation_restarted (process ∷ rest) (choice ∷ line) zero e h = refl
 incarnation_restarted (process ∷ rest) (choice ∷ line) (suc p) e h = incarnation_restarted rest line p (omega arith) (omega arith)
+
+pub length_restarted : (history : List Process) (line : List Choice) → length line ≡ length history → length (restarted history line) ≡ length history
+length_restarted [] line e = refl
+length_restarted (process ∷ rest) [] e = absurd (omega arith)
+length_restarted (process ∷ rest) (choice ∷ line) e = ap suc (length_restarted rest line (omega arith))
 
 -- an incarnation stays or rises
 pub incarnation_rises : (choice : Choice) (inc : ℕ) → inc ≤ restarted_incarnation choice inc

@@ -1,4 +1,4 @@
-//! Laws of links that keep their order, where a history is restarted at a line.
+//! Laws of links that keep their order, and of what is in transit on them.
 ghost use Rattle.std.specs.Prelude.{IsTrue, slice_index_or, ◌≡◌, ℕ, List, map, filter, length, Contains};
 ghost use Rattle.line_names.specs.declared.choices.Choice.{Choice};
 ghost use Rattle.line_names.specs.declared.choices.Choice.TheVariants.{Check};
@@ -7,11 +7,18 @@ ghost use Rattle.line_names.specs.Lines.{choice_at};
 ghost use Rattle.line_tape.specs.declared.events.Event.TheVariants.{Recv};
 ghost use Rattle.line_tape.specs.declared.items.Item.TheVariants.{Message};
 ghost use Rattle.line_tape.specs.Event.{Holds};
-ghost use Rattle.line_tape.specs.Fit.{IsFitFifo, IsSentTo, link};
+ghost use Rattle.line_tape.specs.Fit.{IsFitFifo, IsFitUnordered, IsSentTo, link};
 ghost use Rattle.line_tape.specs.History.{Process, tape_at};
 ghost use Rattle.line_tape.specs.Line.{IsConsistent};
 ghost use Rattle.line_tape.specs.Restart.{is_kept, restarted};
 ghost use Rattle.line_tape.specs.Transit.{goes_between, in_transit, in_transit_between};
+
+/// What links that keep their order can lead to, links without an order can lead to as well: what a process received was sent to it, and it received nothing twice.
+///
+/// The call does nothing: its contract is the law.
+pub fn ordered_fits()
+    ensures { (history : List Process) → IsFitFifo history → IsFitUnordered history }
+{}
 
 /// A restart at a consistent line keeps links in order, and what they then hold is just what was in transit; and what a tape has received, its sender's tape holds.
 ///
