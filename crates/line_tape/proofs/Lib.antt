@@ -6,3 +6,10 @@ pub mod ChoiceLemmas
 pub mod ChainLemmas
 pub mod LineLemmas
 pub mod NextLemmas
+pub mod SentLemmas
+pub mod LinkLemmas
+pub mod StayLemmas
+pub mod LetterLemmas
+pub mod SpentLemmas
+pub mod CopyLemmas
+pub mod OrderLemmas
