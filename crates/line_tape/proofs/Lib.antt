@@ -7,3 +7,10 @@ pub mod ChainLemmas
 pub mod LineLemmas
 pub mod NextLemmas
 pub mod LedLemmas
+pub mod SentLemmas
+pub mod LinkLemmas
+pub mod StayLemmas
+pub mod LetterLemmas
+pub mod SpentLemmas
+pub mod CopyLemmas
+pub mod OrderLemmas

@@ -13,3 +13,5 @@ pub mod Views
 pub mod Kept
 pub mod Plain
 pub mod Refusals
+pub mod Spent
+pub mod Copies
