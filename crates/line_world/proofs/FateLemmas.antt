@@ -2,7 +2,7 @@
 use Rattle.std.proofs.Common.{◌≡◌, ◌↔◌, ℕ, zero, suc, Bool, true, false, cond, List, [], ◌∷◌, length, refl, sym, ap, ◌∙◌, subst, arith, inl, inr}
 use Rattle.std.specs.Prelude.{IsTrue, not}
 use Rattle.std.specs.List.{Contains}
-use Rattle.std.proofs.lemmas.Bool.{both_ways, false_from_ne_true, or_left, or_right, or_cases}
+use Rattle.std.proofs.lemmas.Bool.{both_ways, eq-eqb, eqb-true, false_from_ne_true, or_left, or_right, or_cases}
 use Rattle.std.proofs.lemmas.List.{take_all}
 use Rattle.std.proofs.lemmas.List.Elements.{Contains-append_cases, Contains-append_right}
 use Rattle.line_names.specs.declared.choices.Choice.TheVariants.{Now}
@@ -18,14 +18,22 @@ use Rattle.line_tape.specs.Transit.{has_received}
 use Rattle.line_world.specs.declared.fates.Fate.TheVariants.{Taken, Stale, Repeated}
 use Rattle.line_world.specs.declared.steps.Mode.{Mode}
 use Rattle.line_world.specs.declared.steps.Mode.TheVariants.{Unordered}
-use Rattle.line_world.specs.Copies.{is_held}
-use Rattle.line_world.specs.Fates.{fate_of}
-use Rattle.line_world.proofs.CopyLemmas.{held-true, true-held}
+use Rattle.line_world.specs.Fates.{is_number, is_held, fate_of}
 
 -- two tests that mean the same
 same_test : (a b : Bool) → (a ≡ true → b ≡ true) → (b ≡ true → a ≡ true) → a ≡ b
 same_test true b to from = sym (to refl)
 same_test false b to from = sym (false_from_ne_true b (λ t. both_ways false refl (from t)))
+
+-- a held message, as a fact and as a test
+pub held-true : (history : List Process) (message : MsgName) → is_held history message ≡ true → Holds (tape_at history message.from) message.inc message.number
+held-true history message h = held_of (slice_get (incarnations_sent (tape_at history message.from)) message.number) h where
+  held_of : (o : Option ℕ) → is_number o message.inc ≡ true → o ≡ Some message.inc
+  held_of None h = absurd (cc)
+  held_of (Some j) h = ap (λ (n : ℕ). Some n) (eqb-true j message.inc h)
+
+pub true-held : (history : List Process) (message : MsgName) → Holds (tape_at history message.from) message.inc message.number → is_held history message ≡ true
+true-held history message h = ap (λ (o : Option ℕ). is_number o message.inc) h ∙ eq-eqb message.inc message.inc refl
 
 -- a receipt on a tape, as a test
 received-true : (tape : List Event) (message : MsgName) → Contains tape (Recv message) → has_received tape message ≡ true

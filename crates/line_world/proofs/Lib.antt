@@ -1,9 +1,9 @@
 pub mod QueueLemmas
 pub mod LinkLemmas
-pub mod CopyLemmas
 pub mod FateLemmas
 pub mod WorldLemmas
 pub mod StartLemmas
+pub mod AgreeLemmas
 pub mod LineFacts
 pub mod StepLemmas
 pub mod DeliverLemmas

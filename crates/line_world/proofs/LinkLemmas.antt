@@ -15,7 +15,7 @@ use Rattle.line_tape.specs.Fit.{link, IsNextFifo, items_put, items_got}
 use Rattle.line_tape.specs.History.{Process, process_at, tape_at, with_event}
 use Rattle.line_tape.proofs.NextLemmas.{stays_fit, link_after}
 use Rattle.line_world.specs.Queues.{queue_at, with_queue, IsSquare}
-use Rattle.line_world.specs.Worlds.{IsMessageOf, AreLinks}
+use Rattle.line_world.specs.Worlds.{AreQueues, IsOrderedWorld}
 use Rattle.line_world.proofs.QueueLemmas.{queue-same, queue-other, IsSquare-written}
 
 -- nothing either way
@@ -28,22 +28,17 @@ pub length-with_event : (history : List Process) (at : ℕ) (event : Event) → 
 length-with_event history at event = length-set history at (record (process_at history at) { tape = tape_at history at ++ event ∷ [] })
 
 -- the first of a list, and the rest
-first_rest : (xs : List Item) (x : Item) → slice_get xs 0 ≡ Some x → xs ≡ x ∷ drop 1 xs
+pub first_rest : (xs : List Item) (x : Item) → slice_get xs 0 ≡ Some x → xs ≡ x ∷ drop 1 xs
 first_rest [] x e = absurd (cc)
 first_rest (y ∷ xs) x e = let same : y ≡ x = cc in ap (λ (v : Item). v ∷ xs) same
 
--- all but the first
-All-drop_first : (P : Item → Type 0) (xs : List Item) → All P xs → All P (drop 1 xs)
-All-drop_first P [] all = all
-All-drop_first P (x ∷ xs) all = λ k d within. all (suc k) d (omega (arith, within))
-
-module _ (history : List Process) (queues : List (List (List Item))) (world : AreLinks history queues) where
+module _ (history : List Process) (queues : List (List (List Item))) (are : AreQueues history queues) (world : IsOrderedWorld history queues) where
   -- a row and a column of queues
   pub row_within : (p : ℕ) → p < length history → p < length queues
-  row_within p within = omega (arith, world.shape.rows)
+  row_within p within = omega (arith, are.shape.rows)
 
   pub column_within : (p q : ℕ) → p < length history → q < length history → q < length (get_or queues p [])
-  column_within p q p_within q_within = omega (arith, world.shape.columns p p_within)
+  column_within p q p_within q_within = omega (arith, are.shape.columns p p_within)
 
   -- a link that an event neither takes from nor puts on
   link_same : (at : ℕ) (event : Event) → at < length history → (p q : ℕ) → items_got at event p q ≡ [] → items_put history at event p q ≡ []
@@ -55,14 +50,12 @@ module _ (history : List Process) (queues : List (List (List Item))) (world : Ar
       ∙ sym (link_after history at event world.fit within p q (link history p q) (ap (λ (xs : List Item). xs ++ link history p q) (sym got)))
 
   -- a check without a round
-  pub AreLinks-check : (at : ℕ) (state : List ℕ) → at < length history → AreLinks (with_event history at (Check state None)) queues
-  AreLinks-check at state within =
+  pub IsOrdered-check : (at : ℕ) (state : List ℕ) → at < length history → IsOrderedWorld (with_event history at (Check state None)) queues
+  IsOrdered-check at state within =
       let event : Event = Check state None in
       record {
         fit = stays_fit history at event world.fit within tt;
-        shape = subst (λ (n : ℕ). IsSquare n queues) (sym (length-with_event history at event)) world.shape;
         links = λ p q. link_same at event within p q (same_nil (q == at)) (same_nil (p == at));
-        messages = world.messages;
       }
 
   module _ (from to : ℕ) (from_within : from < length history) (to_within : to < length history) where
@@ -80,9 +73,9 @@ module _ (history : List Process) (queues : List (List (List Item))) (world : Ar
         | inr other ↦ ap (λ b. cond b (cond (to == q) (Message (record { from = p; inc = inc; number = sends (tape_at history p) }) ∷ []) []) []) (ne_eqb p from other)
       ]
 
-      pub AreLinks-send : AreLinks (with_event history from (Send to inc body))
+      pub IsOrdered-send : IsOrderedWorld (with_event history from (Send to inc body))
           (with_queue queues from to (queue_at queues from to ++ Message (record { from = from; inc = inc; number = sends (tape_at history from) }) ∷ []))
-      AreLinks-send =
+      IsOrdered-send =
           let event : Event = Send to inc body in
           let item : Item = Message (record { from = from; inc = inc; number = sends (tape_at history from) }) in
           let items : List Item = queue_at queues from to ++ item ∷ [] in
@@ -92,7 +85,6 @@ module _ (history : List Process) (queues : List (List (List Item))) (world : Ar
           link_after history from event world.fit from_within from to (link history from to) (ap (λ (xs : List Item). xs ++ link history from to) (sym (same_nil (to == from)))) in
           record {
             fit = stays_fit history from event world.fit from_within tt;
-            shape = subst (λ (n : ℕ). IsSquare n (with_queue queues from to items)) (sym (length-with_event history from event)) (IsSquare-written queues from to items row (length history) world.shape);
             links = λ p q. elim (cases_eq p from) [
               | inl p_same ↦ elim (cases_eq q to) [
                 | inl q_same ↦ subst (λ (v : ℕ). queue_at (with_queue queues from to items) v q ≡ link (with_event history from event) v q) (sym p_same)
@@ -103,15 +95,6 @@ module _ (history : List Process) (queues : List (List (List Item))) (world : Ar
               ]
               | inr p_other ↦ queue-other queues from to items row p q (λ e. p_other e.0)
                   ∙ link_same from event from_within p q (same_nil (q == from)) (sent_elsewhere p q (λ e. p_other e.0))
-            ];
-            messages = λ p q. elim (cases_eq p from) [
-              | inl p_same ↦ elim (cases_eq q to) [
-                | inl q_same ↦ subst (λ (v : ℕ). All (IsMessageOf v) (queue_at (with_queue queues from to items) v q)) (sym p_same)
-                    (subst (λ (v : ℕ). All (IsMessageOf from) (queue_at (with_queue queues from to items) from v)) (sym q_same)
-                    (subst (λ (xs : List Item). All (IsMessageOf from) xs) (sym there) (All-push (IsMessageOf from) (queue_at queues from to) item (world.messages from to) refl)))
-                | inr q_other ↦ subst (λ (xs : List Item). All (IsMessageOf p) xs) (sym (queue-other queues from to items row p q (λ e. q_other e.1))) (world.messages p q)
-              ]
-              | inr p_other ↦ subst (λ (xs : List Item). All (IsMessageOf p) xs) (sym (queue-other queues from to items row p q (λ e. p_other e.0))) (world.messages p q)
             ];
           }
 
@@ -132,8 +115,8 @@ module _ (history : List Process) (queues : List (List (List Item))) (world : Ar
       held : link history from to ≡ Message message ∷ drop 1 (queue_at queues from to)
       held = sym (world.links from to) ∙ first_rest (queue_at queues from to) (Message message) first
 
-      pub AreLinks-take : AreLinks (with_event history to (Recv message)) (with_queue queues from to (drop 1 (queue_at queues from to)))
-      AreLinks-take =
+      pub IsOrdered-take : IsOrderedWorld (with_event history to (Recv message)) (with_queue queues from to (drop 1 (queue_at queues from to)))
+      IsOrdered-take =
           let event : Event = Recv message in
           let items : List Item = drop 1 (queue_at queues from to) in
           let row = row_within from from_within in
@@ -143,7 +126,6 @@ module _ (history : List Process) (queues : List (List (List Item))) (world : Ar
           let next : IsNextFifo history to event = (items, ap (λ (v : ℕ). link history v to) named ∙ held) in
           record {
             fit = stays_fit history to event world.fit to_within next;
-            shape = subst (λ (n : ℕ). IsSquare n (with_queue queues from to items)) (sym (length-with_event history to event)) (IsSquare-written queues from to items row (length history) world.shape);
             links = λ p q. elim (cases_eq p from) [
               | inl p_same ↦ elim (cases_eq q to) [
                 | inl q_same ↦ subst (λ (v : ℕ). queue_at (with_queue queues from to items) v q ≡ link (with_event history to event) v q) (sym p_same)
@@ -154,14 +136,5 @@ module _ (history : List Process) (queues : List (List (List Item))) (world : Ar
               ]
               | inr p_other ↦ queue-other queues from to items row p q (λ e. p_other e.0)
                   ∙ link_same to event to_within p q (taken_elsewhere p q (λ e. p_other e.0)) (same_nil (p == to))
-            ];
-            messages = λ p q. elim (cases_eq p from) [
-              | inl p_same ↦ elim (cases_eq q to) [
-                | inl q_same ↦ subst (λ (v : ℕ). All (IsMessageOf v) (queue_at (with_queue queues from to items) v q)) (sym p_same)
-                    (subst (λ (v : ℕ). All (IsMessageOf from) (queue_at (with_queue queues from to items) from v)) (sym q_same)
-                    (subst (λ (xs : List Item). All (IsMessageOf from) xs) (sym there) (All-drop_first (IsMessageOf from) (queue_at queues from to) (world.messages from to))))
-                | inr q_other ↦ subst (λ (xs : List Item). All (IsMessageOf p) xs) (sym (queue-other queues from to items row p q (λ e. q_other e.1))) (world.messages p q)
-              ]
-              | inr p_other ↦ subst (λ (xs : List Item). All (IsMessageOf p) xs) (sym (queue-other queues from to items row p q (λ e. p_other e.0))) (world.messages p q)
             ];
           }

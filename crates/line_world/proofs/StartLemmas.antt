@@ -1,20 +1,18 @@
 -- What a world keeps true holds where nothing was done yet.
-use Rattle.std.proofs.Common.{◌≡◌, ℕ, ◌≤◌, List, [], length, drop, get_or, replicate, refl, sym, ap, ◌∙◌, subst, arith, inl, inr}
-use Rattle.std.specs.List.{All, Contains, filter_map}
+use Rattle.std.proofs.Common.{◌≡◌, ℕ, List, [], length, drop, get_or, replicate, refl, sym, ap, ◌∙◌, subst, arith, inl, inr}
+use Rattle.std.specs.List.{All, filter_map}
 use Rattle.std.proofs.lemmas.Bool.{cases_lt}
 use Rattle.std.proofs.lemmas.List.{get_or-replicate, get_or_past, length-replicate}
 use Rattle.line_tape.specs.declared.events.Event.{Event}
 use Rattle.line_tape.specs.declared.items.Item.{Item}
 use Rattle.line_tape.specs.Fit.{items_sent, item_received, IsPrefix, AreDistinct, MarksFollow}
-use Rattle.line_tape.specs.declared.events.Event.TheVariants.{Recv}
-use Rattle.line_tape.specs.Event.{incarnations_sent}
-use Rattle.line_tape.specs.History.{Process, fresh, tape_at, incarnation_at}
-use Rattle.line_tape.specs.Transit.{received_name}
+use Rattle.line_tape.specs.History.{Process, fresh, tape_at}
+use Rattle.line_tape.proofs.CopyLemmas.{unordered_start}
 use Rattle.line_tape.specs.Rounds.{rounds_checked}
 use Rattle.line_world.specs.declared.steps.Mode.{Mode}
 use Rattle.line_world.specs.declared.steps.Mode.TheVariants.{Fifo, Unordered}
 use Rattle.line_world.specs.Queues.{queue_at, IsSquare}
-use Rattle.line_world.specs.Worlds.{IsMessageOf, IsCopyOf, AreLinks, AreCopies, IsWorld}
+use Rattle.line_world.specs.Worlds.{IsMessageOf, message_of, messages_at, AreQueues, IsOrderedWorld, IsLinked, IsWorld}
 
 get_or-replicate_self : {X : Type 0} (n i : ℕ) (x : X) → get_or (replicate n x) i x ≡ x
 get_or-replicate_self n i x = elim (cases_lt i n) [
@@ -49,29 +47,25 @@ module _ (n : ℕ) where
         ∙ length-replicate n [] ∙ sym (length-replicate n fresh);
   }
 
-  AreLinks-start : AreLinks (replicate n fresh) (replicate n (replicate n []))
-  AreLinks-start = record {
+  AreQueues-start : AreQueues (replicate n fresh) (replicate n (replicate n []))
+  AreQueues-start = record {
+    shape = shape-start;
+    messages = λ p q. subst (λ (xs : List Item). All (IsMessageOf p) xs) (sym (queue-start p q)) (λ k d within. absurd (omega (arith, within)));
+  }
+
+  IsOrdered-start : IsOrderedWorld (replicate n fresh) (replicate n (replicate n []))
+  IsOrdered-start = record {
     fit = record {
       order = λ p q. order-start p q (tape_at (replicate n fresh) p) (tape_at (replicate n fresh) q) (sym (tape-start p)) (sym (tape-start q));
       rounds = λ p. subst (λ (v : List Event). AreDistinct (rounds_checked v)) (sym (tape-start p)) (λ i j d near far. absurd (omega (arith, far)));
       marks = λ p. subst MarksFollow (sym (tape-start p)) (λ i from round e. absurd (cc));
     };
-    shape = shape-start;
     links = λ p q. queue-start p q ∙ sym (link-start p q (tape_at (replicate n fresh) p) (tape_at (replicate n fresh) q) (sym (tape-start p)) (sym (tape-start q)));
-    messages = λ p q. subst (λ (xs : List Item). All (IsMessageOf p) xs) (sym (queue-start p q)) (λ k d within. absurd (omega (arith, within)));
-  }
-
-  AreCopies-start : AreCopies (replicate n fresh) (replicate n (replicate n []))
-  AreCopies-start = record {
-    fit = record {
-      held = λ q message h. let none : Contains [] (Recv message) = subst (λ (v : List Event). Contains v (Recv message)) (tape-start q) h in absurd (omega (arith, none.1));
-      once = λ q. subst (λ (v : List Event). AreDistinct (filter_map received_name v)) (sym (tape-start q)) (λ i j d near far. absurd (omega (arith, far)));
-    };
-    sent = λ p. subst (λ (v : List Event). All (λ inc. inc ≤ incarnation_at (replicate n fresh) p) (incarnations_sent v)) (sym (tape-start p)) (λ k d within. absurd (omega (arith, within)));
-    shape = shape-start;
-    copies = λ p q. subst (λ (xs : List Item). All (IsCopyOf (replicate n fresh) p q) xs) (sym (queue-start p q)) (λ k d within. absurd (omega (arith, within)));
   }
 
   pub IsWorld-start : (mode : Mode) → IsWorld mode (replicate n fresh) (replicate n (replicate n []))
-  IsWorld-start Fifo = AreLinks-start
-  IsWorld-start Unordered = AreCopies-start
+  IsWorld-start mode = record { queued = AreQueues-start; linked = linked mode }
+    where
+      linked : (m : Mode) → IsLinked m (replicate n fresh) (replicate n (replicate n []))
+      linked Fifo = IsOrdered-start
+      linked Unordered = unordered_start n (messages_at (replicate n (replicate n []))) (λ p q. ap (filter_map message_of) (queue-start p q))

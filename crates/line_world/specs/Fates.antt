@@ -1,8 +1,9 @@
 -- What becomes of the message that a delivery picks.
-use Rattle.std.specs.Prelude.{ℕ, not, if◌then◌else◌, List, [], ◌∷◌, None}
+use Rattle.std.specs.Prelude.{ℕ, ◌==◌, Bool, false, not, if◌then◌else◌, List, [], ◌∷◌, slice_get, Option, Some, None}
 use Rattle.line_names.specs.declared.messages.MsgName.{MsgName}
 use Rattle.line_tape.specs.declared.events.Event.{Event}
 use Rattle.line_tape.specs.declared.events.Event.TheVariants.{Recv}
+use Rattle.line_tape.specs.Event.{incarnations_sent}
 use Rattle.line_tape.specs.History.{Process, tape_at}
 use Rattle.line_tape.specs.Transit.{has_received}
 use Rattle.line_world.specs.declared.fates.Fate.{Fate}
@@ -11,7 +12,15 @@ use Rattle.line_world.specs.declared.replies.Reply.{Reply}
 use Rattle.line_world.specs.declared.replies.Reply.TheVariants.{Took, Stale, Repeated}
 use Rattle.line_world.specs.declared.steps.Mode.{Mode}
 use Rattle.line_world.specs.declared.steps.Mode.TheVariants.{Fifo, Unordered}
-use Rattle.line_world.specs.Copies.{is_held}
+
+-- the number is there, and it is this one
+abbrev pub is_number : Option ℕ → ℕ → Bool
+is_number None i = false
+is_number (Some j) i = j == i
+
+-- the sender's tape holds the message: its send of that number has that incarnation
+abbrev pub is_held : List Process → MsgName → Bool
+is_held history message = is_number (slice_get (incarnations_sent (tape_at history message.from)) message.number) message.inc
 
 -- a copy is stale where no tape holds its message, and repeated where process p has received it; all else is taken
 abbrev pub fate_of : Mode → List Process → ℕ → MsgName → Fate

@@ -1,8 +1,8 @@
 pub mod Queues
-pub mod Copies
 pub mod Fates
 pub mod Machine
 pub mod Refusals
 pub mod Steps
 pub mod Runs
+pub mod Marked
 pub mod Worlds

@@ -2,12 +2,11 @@
 use Rattle.std.specs.Prelude.{ℕ, List, [], ◌∷◌, ◌++◌, replicate}
 use Rattle.line_tape.specs.declared.events.Event.{Event}
 use Rattle.line_tape.specs.declared.items.Item.{Item}
-use Rattle.line_tape.specs.Fit.{link, IsFitFifo}
+use Rattle.line_tape.specs.Fit.{link, IsFitFifo, IsFitUnordered}
 use Rattle.line_tape.specs.History.{Process, fresh, with_event}
 use Rattle.line_tape.specs.Views.{MarksView}
 use Rattle.line_world.specs.declared.steps.Mode.{Mode}
 use Rattle.line_world.specs.declared.steps.Mode.TheVariants.{Fifo, Unordered}
-use Rattle.line_world.specs.Copies.{IsFitUnordered}
 use Rattle.line_world.specs.Queues.{queue_at, with_queue}
 
 pub record Machine : Type 0 where

@@ -9,15 +9,16 @@ use Rattle.line_names.specs.Sets.{is_member}
 use Rattle.line_tape.specs.declared.items.Item.{Item}
 use Rattle.line_tape.specs.declared.items.Item.TheVariants.{Message, Marker}
 use Rattle.line_tape.specs.declared.limits.TheConstants.{MOST_EVENTS, MOST_STATE}
+use Rattle.line_tape.specs.Event.{checks}
 use Rattle.line_tape.specs.History.{Process, tape_at, incarnation_at}
-use Rattle.line_tape.specs.Survival.{IsLatest}
+use Rattle.line_tape.specs.Survival.{is_damaged, IsLatest}
 use Rattle.line_world.specs.declared.limits.TheConstants.{LAST_INCARNATION}
 use Rattle.line_world.specs.declared.steps.Mode.{Mode}
 use Rattle.line_world.specs.declared.steps.Mode.TheVariants.{Fifo, Unordered}
 use Rattle.line_world.specs.declared.steps.Step.{Step}
-use Rattle.line_world.specs.declared.steps.Step.TheVariants.{Send, Deliver, Check, Recover}
+use Rattle.line_world.specs.declared.steps.Step.TheVariants.{Send, Deliver, Check, Damage, Recover}
 use Rattle.line_world.specs.declared.replies.StepError.{StepError}
-use Rattle.line_world.specs.declared.replies.StepError.TheVariants.{NoSuchProcess, TapeFull, StateTooLong, ToSelf, LinkEmpty, BadPick, NoMoreIncarnations}
+use Rattle.line_world.specs.declared.replies.StepError.TheVariants.{NoSuchProcess, TapeFull, NoSuchCheck, StateTooLong, InitialDamage, AlreadyDamaged, ToSelf, LinkEmpty, BadPick, NoMoreIncarnations}
 use Rattle.line_world.specs.Fates.{fate_of, events_of}
 use Rattle.line_world.specs.Machine.{Machine, items_on}
 
@@ -91,6 +92,13 @@ refusal_of machine (Check at state) =
     (is_stranger machine at, NoSuchProcess)
     ∷ (is_long state, StateTooLong)
     ∷ (is_full machine at 1, TapeFull)
+    ∷ [])
+refusal_of machine (Damage at check) =
+    first_cause (
+    (is_stranger machine at, NoSuchProcess)
+    ∷ (check == 0, InitialDamage)
+    ∷ (nat_lt (checks (tape_at machine.history at)) check, NoSuchCheck)
+    ∷ (is_damaged machine.marks at check, AlreadyDamaged)
     ∷ [])
 refusal_of machine (Recover failed) = first_cause ((has_stranger machine failed, NoSuchProcess) ∷ [])
 

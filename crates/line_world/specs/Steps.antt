@@ -10,21 +10,19 @@ use Rattle.line_tape.specs.declared.events.Event.{Event}
 use Rattle.line_tape.specs.declared.events.Event.TheVariants.{Send as SendEvent, Check as CheckEvent}
 use Rattle.line_tape.specs.declared.items.Item.TheVariants.{Message}
 use Rattle.line_tape.specs.Chain.{IsChain}
-use Rattle.line_tape.specs.Event.{checks, sends, stored_state}
+use Rattle.line_tape.specs.Event.{checks, stored_state}
 use Rattle.line_tape.specs.History.{Process, tape_at, incarnation_at}
 use Rattle.line_tape.specs.Restart.{restarted}
+use Rattle.line_tape.specs.Spent.{next_name}
 use Rattle.line_tape.specs.Survival.{IsLatest}
+use Rattle.line_tape.specs.Views.{with_mark}
 use Rattle.line_world.specs.declared.steps.Step.{Step}
-use Rattle.line_world.specs.declared.steps.Step.TheVariants.{Send, Deliver, Check, Recover}
+use Rattle.line_world.specs.declared.steps.Step.TheVariants.{Send, Deliver, Check, Damage, Recover}
 use Rattle.line_world.specs.declared.replies.Reply.{Reply}
-use Rattle.line_world.specs.declared.replies.Reply.TheVariants.{Sent, Checked, Recovered}
+use Rattle.line_world.specs.declared.replies.Reply.TheVariants.{Sent, Checked, Damaged, Recovered}
 use Rattle.line_world.specs.Fates.{fate_of, events_of, reply_of}
 use Rattle.line_world.specs.Machine.{Machine, items_on, with_copy, with_step}
 use Rattle.line_world.specs.Refusals.{is_exhausted}
-
--- the name of the next message of process p
-abbrev pub next_name : List Process → ℕ → MsgName
-next_name history p = record { from = p; inc = incarnation_at history p; number = sends (tape_at history p) }
 
 -- the index of the next check of process p
 abbrev pub next_check : List Process → ℕ → ℕ
@@ -46,6 +44,11 @@ pub record Delivers (old : Machine) (from to pick : ℕ) (reply : Reply) (new : 
 pub record Checks (old : Machine) (at : ℕ) (state : List ℕ) (reply : Reply) (new : Machine) : Type 0 where
   pub reply_is : reply ≡ Checked at (next_check old.history at)
   pub new_is : new ≡ with_step old at (CheckEvent state None ∷ [])
+
+-- Damage adds a mark
+pub record Damages (old : Machine) (at check : ℕ) (reply : Reply) (new : Machine) : Type 0 where
+  pub reply_is : reply ≡ Damaged at check
+  pub new_is : new ≡ record old { marks = with_mark old.marks at check }
 
 -- the bytes stored at a choice: none where the process stands now
 abbrev pub restored : List Event → Choice → Option (List ℕ)
@@ -85,4 +88,5 @@ abbrev pub Does : Machine → Step → Reply → Machine → Type 0
 Does old (Send from to body) reply new = Sends old from to body reply new
 Does old (Deliver from to pick state) reply new = Delivers old from to pick reply new
 Does old (Check at state) reply new = Checks old at state reply new
+Does old (Damage at check) reply new = Damages old at check reply new
 Does old (Recover failed) reply new = RecoversWith old failed reply new

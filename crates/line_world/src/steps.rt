@@ -32,6 +32,11 @@ pub enum Step {
         at: ProcId,
         state: State,
     },
+    /// A check of a process is found to be damaged, and no line goes back to it from then on.
+    Damage {
+        at: ProcId,
+        check: u32,
+    },
     /// The processes of the set failed, and all go on from the latest line.
     Recover {
         failed: ProcSet,

@@ -2,7 +2,7 @@
 ghost use Rattle.std.specs.Prelude.{◌≡◌, ◌≢◌, ◌<◌, ◌≤◌, ◌↔◌, ◌⊎◌, ℕ, List, length, take, slice_get, IfOk, IfErr, OnOk, IsErrOf, IsTrue};
 ghost use Rattle.line_tape.specs.History.{incarnation_at};
 ghost use Rattle.line_world.specs.declared.replies.Answer.TheVariants.{Done, Refused};
-ghost use Rattle.line_world.specs.declared.steps.Step.TheVariants.{Send, Deliver, Check, Recover};
+ghost use Rattle.line_world.specs.declared.steps.Step.TheVariants.{Send, Deliver, Check, Damage, Recover};
 ghost use Rattle.line_world.specs.Machine.{start, items_on, IsFit};
 ghost use Rattle.line_world.specs.Refusals.{refusal_of, has_stranger};
 ghost use Rattle.line_world.specs.Runs.{Takes, Run};
@@ -16,6 +16,7 @@ use crate::moves::{add_check, message_at, put_message, take_message};
 use crate::replies::{Answer, Reply, RunStopped, StepError};
 use crate::restores::{is_exhausted, restarted_incarnations, restored_states};
 use crate::steps::{Mode, Step};
+use line_catalogue::Catalogue;
 use line_names::{Body, MOST_PROCESSES, ProcId, ProcSet};
 use line_plan::{Plan, plan_history};
 use line_tape::{CountError, History, Item, Marks, State};
@@ -28,8 +29,7 @@ use std::marker::Model;
 #[derive(Drop)]
 pub struct World {
     mode: Mode,
-    history: History,
-    marks: Marks,
+    catalogue: Catalogue,
     links: Links,
 }
 
@@ -41,9 +41,9 @@ impl Model for World {
     ghost use Rattle.line_world.specs.Machine.{copies_in};
     ghost use Rattle.line_world.specs.Worlds.{IsWorld};
 
-    ghost view = { λ w. record { mode = w.mode; history = w.history.processes; marks = w.marks; copies = copies_in w.mode w.links } };
+    ghost view = { λ w. record { mode = w.mode; history = w.catalogue.processes; marks = w.catalogue.marks; copies = copies_in w.mode w.links } };
 
-    ghost invariant = { λ w. IsWorld w.mode w.history.processes w.links };
+    ghost invariant = { λ w. IsWorld w.mode w.catalogue.processes w.links };
 }
 
 impl World {
@@ -54,13 +54,11 @@ impl World {
         ensures ok { IfOk result (λ world. world ≡ start n mode) }
         ensures count { IsErrOf result CountError.BadCount ↔ ((n ≡ 0) ⊎ (MOST_PROCESSES < n)) }
     {
-        let history = History::new(alloc, n)?;
-        let marks = Marks::new(alloc, n)?;
+        let catalogue = Catalogue::new(alloc, n)?;
         let links = Links::new(alloc, n)?;
         Ok(World {
             mode,
-            history,
-            marks,
+            catalogue,
             links,
         })
     }
@@ -70,7 +68,14 @@ impl World {
         ensures value { result.now.processes ≡ self.now.history }
         ensures fit { IsFit self.now }
     {
-        &self.history
+        self.catalogue.history()
+    }
+
+    /// Which checks are damaged.
+    pub fn marks(&self) -> &Marks
+        ensures { result.now ≡ self.now.marks }
+    {
+        self.catalogue.marks()
     }
 
     /// The incarnation of a process.
@@ -78,7 +83,7 @@ impl World {
         requires { p < length self.now.history }
         ensures { result ≡ incarnation_at self.now.history p }
     {
-        self.history.incarnation(p)
+        self.catalogue.history().incarnation(p)
     }
 
     /// How many items the link between two processes holds.
@@ -108,7 +113,7 @@ impl World {
         if let Some(e) = self.send_refusal(from, to) {
             return Err(e);
         }
-        let message = put_message(&mut self.history, &mut self.links, from, to, body)?;
+        let message = put_message(&mut self.catalogue, &mut self.links, from, to, body)?;
         Ok(Reply::Sent { message })
     }
 
@@ -128,16 +133,16 @@ impl World {
         if let Some(e) = self.link_refusal(from, to, pick, state) {
             return Err(e);
         }
-        let _n = self.history.n();
+        let _n = self.catalogue.n();
         let message = message_at(&self.links, from, to, pick);
-        match fate_of(self.mode, &self.history, to, &message) {
+        match fate_of(self.mode, self.catalogue.history(), to, &message) {
             Fate::Taken => {
                 if self.is_full(to) {
                     return Err(StepError::TapeFull);
                 }
                 take_message(
                     self.mode,
-                    &mut self.history,
+                    &mut self.catalogue,
                     &mut self.links,
                     from,
                     to,
@@ -163,8 +168,24 @@ impl World {
             return Err(e);
         }
         let state = state.copy(alloc)?;
-        let check = add_check(&mut self.history, at, state)?;
+        let check = add_check(&mut self.catalogue, at, state)?;
         Ok(Reply::Checked { at, check })
+    }
+
+    /// Marks a check as damaged.
+    fn damage(&mut self, at: ProcId, check: u32) -> Result<Reply, StepError>
+        ensures done { IfOk result (λ reply. Takes self.old (Damage at check) (Done reply) self.new) }
+        ensures refused { IfErr result (λ e. e ≢ StepError.OutOfMemory → Takes self.old (Damage at check) (Refused e) self.new) }
+        ensures memory { IsErrOf result StepError.OutOfMemory → self.new ≡ self.old }
+    {
+        if at.get() >= self.catalogue.n() {
+            return Err(StepError::NoSuchProcess);
+        }
+        if check == 0 {
+            return Err(StepError::InitialDamage);
+        }
+        self.catalogue.damage(at, check)?;
+        Ok(Reply::Damaged { at, check })
     }
 
     /// The latest line that the processes could go on from, if those of the set failed.
@@ -178,7 +199,7 @@ impl World {
         if self.has_stranger(failed) {
             return Err(StepError::NoSuchProcess);
         }
-        let plan = plan_history(alloc, &self.history, &self.marks, failed)?;
+        let plan = plan_history(alloc, self.catalogue.history(), self.catalogue.marks(), failed)?;
         Ok(plan)
     }
 
@@ -188,11 +209,11 @@ impl World {
         ensures refused { IfErr result (λ e. e ≢ StepError.OutOfMemory → Takes self.now (Recover failed.now) (Refused e) self.now) }
     {
         let plan = self.plan_for(alloc, failed)?;
-        if is_exhausted(&self.history, &plan.line) {
+        if is_exhausted(self.catalogue.history(), &plan.line) {
             return Err(StepError::NoMoreIncarnations);
         }
-        let states = restored_states(alloc, &self.history, &plan.line)?;
-        let incarnations = restarted_incarnations(alloc, &self.history, &plan.line)?;
+        let states = restored_states(alloc, self.catalogue.history(), &plan.line)?;
+        let incarnations = restarted_incarnations(alloc, self.catalogue.history(), &plan.line)?;
         Ok(Reply::Recovered {
             plan,
             states,
@@ -217,6 +238,7 @@ impl World {
                 state,
             } => self.deliver(*from, *to, *pick, state),
             Step::Check { at, state } => self.check(alloc, *at, state),
+            Step::Damage { at, check } => self.damage(*at, *check),
             Step::Recover { failed } => self.recover(alloc, failed),
         }
     }

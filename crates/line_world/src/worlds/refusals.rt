@@ -16,14 +16,14 @@ impl World {
         requires { p < length self.now.history }
         ensures { result ≡ is_full self.now p 1 }
     {
-        self.history.tape(p).len() as usize >= MOST_EVENTS
+        self.catalogue.history().tape(p).len() as usize >= MOST_EVENTS
     }
 
     /// Why a process may not send to another now.
     pub(super) fn send_refusal(&self, from: ProcId, to: ProcId) -> Option<StepError>
         ensures { (body : List ℕ) → result ≡ refusal_of self.now (Send from to body) }
     {
-        let n = self.history.n();
+        let n = self.catalogue.n();
         if from.get() >= n || to.get() >= n {
             return Some(StepError::NoSuchProcess);
         }
@@ -58,7 +58,7 @@ impl World {
     ) -> Option<StepError>
         ensures { result ≡ first_cause (link_causes self.now from to pick state.now) }
     {
-        let n = self.history.n();
+        let n = self.catalogue.n();
         if from.get() >= n || to.get() >= n {
             return Some(StepError::NoSuchProcess);
         }
@@ -81,7 +81,7 @@ impl World {
     pub(super) fn check_refusal(&self, at: ProcId, state: &State) -> Option<StepError>
         ensures { result ≡ refusal_of self.now (Check at state.now) }
     {
-        if at.get() >= self.history.n() {
+        if at.get() >= self.catalogue.n() {
             return Some(StepError::NoSuchProcess);
         }
         if state.bytes().len() > MOST_STATE {
@@ -97,7 +97,7 @@ impl World {
     pub(super) fn has_stranger(&self, failed: &ProcSet) -> bool
         ensures { result ≡ has_stranger self.now failed.now }
     {
-        let n = self.history.n();
+        let n = self.catalogue.n();
         let mut found = false;
         for q in n..MOST_PROCESSES as u32 {
             let p = ProcId::try_new(q, MOST_PROCESSES as u32).unwrap();

@@ -18,18 +18,18 @@ use Rattle.line_world.proofs.worlds.World.deliver.Goals as goal
 pub invariant_of-self-in-Taken : goal.invariant_of-self-in-Taken
 invariant_of-self-in-Taken c =
     let may = may_deliver c.args.self.now c.args.from c.args.to c.args.pick c.args.state.now (sym c.link_refusal.ensures ∙ c.in_default.is) in
-    let history : List Process = c.self.inside.history.processes in
+    let history : List Process = c.self.inside.catalogue.processes in
     let size = ap (λ (m : Machine). length m.history) c.self.view_is in
     subst (λ (h : List Process). IsWorld c.self.inside.mode h c.take_message.new.links) (sym c.in_ok-take_message-in-Taken.ensures.taken)
     (subst (λ (q : List (List (List Item))). IsWorld c.self.inside.mode (with_event history c.args.to (Recv c.message_at-message.result)) q) (sym c.in_ok-take_message-in-Taken.ensures.off)
-    (IsWorld-take history c.self.inside.links c.self.inside.mode c.self.invariant c.args.from c.args.to (omega (arith, may.named.from_within, size)) (omega (arith, may.named.to_within, size)) c.message_at-message.result
-    c.message_at-message.ensures.from c.args.pick c.message_at-message.ensures.at (λ e. may.first (ap (λ (m : Machine). m.mode) (sym c.self.view_is) ∙ e)) (sym c.fate_of.ensures ∙ c.in-Taken.is)))
+    (IsWorld-take history c.self.inside.links c.args.from c.args.to (omega (arith, may.named.from_within, size)) (omega (arith, may.named.to_within, size)) c.message_at-message.result
+    c.message_at-message.ensures.from c.args.pick c.message_at-message.ensures.at c.self.inside.mode c.self.invariant (λ e. may.first (ap (λ (m : Machine). m.mode) (sym c.self.view_is) ∙ e)) (sym c.fate_of.ensures ∙ c.in-Taken.is)))
 
 pub returns-in-Stale-clause-done : goal.returns-in-Stale-clause-done
 returns-in-Stale-clause-done c =
     let passed = sym c.link_refusal.ensures ∙ c.in_default.is in
     let may = may_deliver c.args.self.now c.args.from c.args.to c.args.pick c.args.state.now passed in
-    let history : List Process = c.self.inside.history.processes in
+    let history : List Process = c.self.inside.catalogue.processes in
     let within : c.args.to < length history = omega (arith, may.named.to_within, ap (λ (m : Machine). length m.history) c.self.view_is) in
     let few : length (tape_at history c.args.to) ≤ MOST_EVENTS = (IsHistory-at history c.args.to within c.n-n.ensures.limits).tape.few in
     Takes-idle c.args.self.now c.args.from c.args.to c.args.pick c.args.state.now c.message_at-message.result Stale passed
@@ -42,7 +42,7 @@ pub returns-in-Repeated-clause-done : goal.returns-in-Repeated-clause-done
 returns-in-Repeated-clause-done c =
     let passed = sym c.link_refusal.ensures ∙ c.in_default.is in
     let may = may_deliver c.args.self.now c.args.from c.args.to c.args.pick c.args.state.now passed in
-    let history : List Process = c.self.inside.history.processes in
+    let history : List Process = c.self.inside.catalogue.processes in
     let within : c.args.to < length history = omega (arith, may.named.to_within, ap (λ (m : Machine). length m.history) c.self.view_is) in
     let few : length (tape_at history c.args.to) ≤ MOST_EVENTS = (IsHistory-at history c.args.to within c.n-n.ensures.limits).tape.few in
     Takes-idle c.args.self.now c.args.from c.args.to c.args.pick c.args.state.now c.message_at-message.result Repeated passed

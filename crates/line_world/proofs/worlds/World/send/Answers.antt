@@ -36,17 +36,17 @@ pub invariant_of-self-2 : goal.invariant_of-self-2
 invariant_of-self-2 c =
     let may = may_send c.args.self.now c.args.from c.args.to [] (sym (c.send_refusal.ensures []) ∙ c.in_default.is) in
     subst (λ (h : List Process). IsWorld c.self.inside.mode h c.put_message.new.links) (sym c.in_ok-message.ensures.sent)
-    (subst (λ (q : List (List (List Item))). IsWorld c.self.inside.mode (with_event c.self.inside.history.processes c.args.from (SendEvent c.args.to (incarnation_at c.self.inside.history.processes c.args.from) c.args.body.now)) q) (sym c.in_ok-message.ensures.put)
-    (IsWorld-send c.self.inside.history.processes c.self.inside.links c.self.inside.mode c.self.invariant c.args.from c.args.to
+    (subst (λ (q : List (List (List Item))). IsWorld c.self.inside.mode (with_event c.self.inside.catalogue.processes c.args.from (SendEvent c.args.to (incarnation_at c.self.inside.catalogue.processes c.args.from) c.args.body.now)) q) (sym c.in_ok-message.ensures.put)
+    (IsWorld-send c.self.inside.catalogue.processes c.self.inside.links c.args.from c.args.to
     (omega (arith, may.named.from_within, ap (λ (m : Machine). length m.history) c.self.view_is))
-    (omega (arith, may.named.to_within, ap (λ (m : Machine). length m.history) c.self.view_is)) c.args.body.now))
+    (omega (arith, may.named.to_within, ap (λ (m : Machine). length m.history) c.self.view_is)) c.self.inside.mode c.self.invariant c.args.body.now))
 
 pub returns-clause-done : goal.returns-clause-done
 returns-clause-done c =
     let none : refusal_of c.args.self.now (Send c.args.from c.args.to c.args.body.now) ≡ None = sym (c.send_refusal.ensures c.args.body.now) ∙ c.in_default.is in
-    let after : Machine = seen c.self.inside.mode c.put_message.new.history.processes c.self.inside.marks c.put_message.new.links in (
+    let after : Machine = seen c.self.inside.mode c.put_message.new.catalogue.processes c.put_message.new.catalogue.marks c.put_message.new.links in (
       none,
       subst (λ (m : Machine). Sends m c.args.from c.args.to c.args.body.now (Sent c.in_ok-message.message) after) c.self.view_is
-          (Sends-seen c.self.inside.mode c.self.inside.history.processes c.self.inside.marks c.self.inside.links c.args.from c.args.to c.args.body.now c.in_ok-message.message c.put_message.new.history.processes
-          c.put_message.new.links c.in_ok-message.ensures.name c.in_ok-message.ensures.sent c.in_ok-message.ensures.put),
+          (Sends-seen c.self.inside.mode c.self.inside.catalogue.processes c.self.inside.catalogue.marks c.self.inside.links c.args.from c.args.to c.args.body.now c.in_ok-message.message c.put_message.new.catalogue.processes
+          c.put_message.new.catalogue.marks c.put_message.new.links c.in_ok-message.ensures.name c.in_ok-message.ensures.sent c.in_ok-message.ensures.marks c.in_ok-message.ensures.put),
     )
