@@ -14,6 +14,7 @@ mod marks;
 mod receipts;
 mod survival;
 mod tapes;
+mod transits;
 
 pub use events::{Event, State};
 pub use fits::event_fits;
