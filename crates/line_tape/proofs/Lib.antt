@@ -6,3 +6,6 @@ pub mod ChoiceLemmas
 pub mod ChainLemmas
 pub mod LineLemmas
 pub mod NextLemmas
+pub mod CutLemmas
+pub mod RoomLemmas
+pub mod EachLemmas
