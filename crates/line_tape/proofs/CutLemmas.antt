@@ -1,9 +1,9 @@
 -- What a restart leaves of the events of one tape, and that it is no more than there was.
-use Rattle.std.proofs.Common.{◌≡◌, ℕ, zero, suc, ◌+◌, ◌<◌, ◌≤◌, Bool, true, false, cond, List, [], ◌∷◌, ◌++◌, length, take, get_or, Option, Some, None, refl, sym, ap, ◌∙◌, subst, arith, ◌⊎◌, inl, inr}
+use Rattle.std.proofs.Common.{◌≡◌, ℕ, zero, suc, ◌+◌, ◌<◌, ◌≤◌, Bool, true, false, cond, List, [], ◌∷◌, ◌++◌, length, take, drop, get_or, Option, Some, None, refl, sym, ap, ◌∙◌, subst, arith, ◌⊎◌, inl, inr}
 use Rattle.std.specs.List.{All, Contains, filter_map, cons_option}
 use Rattle.std.specs.List.Retain.{RetainsInTurn}
-use Rattle.std.proofs.lemmas.List.{length-take, length_push, take_more}
-use Rattle.std.proofs.lemmas.List.Elements.{All-contains, All-contains_itself, All-weaker, Contains-append_cases, Contains-append_left, Contains-append_right, Contains-push, Contains-push_cases, filter_map-append}
+use Rattle.std.proofs.lemmas.List.{length-take, length_push, take_more, take-append-drop}
+use Rattle.std.proofs.lemmas.List.Elements.{All-take, All-contains, All-contains_itself, All-weaker, Contains-append_cases, Contains-append_left, Contains-append_right, Contains-push, Contains-push_cases, filter_map-append}
 use Rattle.line_names.specs.declared.messages.MsgName.{MsgName}
 use Rattle.line_tape.specs.declared.events.Event.{Event}
 use Rattle.line_tape.specs.declared.events.Event.TheVariants.{Send, Recv, Check, Mark}
@@ -138,3 +138,11 @@ take_length-take (suc n) (x ∷ xs) = ap (λ ys. x ∷ ys) (take_length-take n x
 -- a tape keeps within the limits where it is cut and restarted
 pub IsTape-restarted : (events : List Event) → IsTape events → IsTape (filter_map restarted_event events)
 IsTape-restarted events t = record { few = omega (arith, t.few, length_left events); short = All-restarted IsShort short_left events t.short }
+
+-- so does its front
+pub IsTape-take : (events : List Event) (n : ℕ) → IsTape events → IsTape (take n events)
+IsTape-take events n t = record { few = omega (arith, t.few, length-take n events); short = All-take IsShort n events t.short }
+
+-- what is received in a front is received
+pub received_take : (events : List Event) (n : ℕ) (m : MsgName) → Contains (take n events) (Recv m) → Contains events (Recv m)
+received_take events n m c = subst (λ (xs : List Event). Contains xs (Recv m)) (take-append-drop n events) (Contains-append_left (take n events) (drop n events) (Recv m) c)

@@ -55,3 +55,11 @@ module _ (events : List Event) (old new : Receipts) (i : ℕ) (known : (m : MsgN
     where
       named : (q m : MsgName) → list_any (is_name q) (m ∷ []) ≡ true → q ≡ m
       named q m e = elim (or_cases (is_name q m) false e) [ inl h ↦ is_name-true q m h | inr h ↦ absurd (false≢true h) ]
+
+-- a message that is received has a place
+pub place_kept : (events : List Event) (receipts : Receipts) (m : MsgName) → AreFirst events (first_place receipts) → Contains events (Recv m) → IsSome (first_place receipts m)
+place_kept events receipts m are received = place_at (first_place receipts m) (are.each m)
+  where
+    place_at : (o : Option ℕ) → IsFirst events m o → is_some o ≡ true
+    place_at None h = absurd (h received)
+    place_at (Some i) h = refl
