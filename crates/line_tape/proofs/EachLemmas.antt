@@ -39,6 +39,21 @@ module _ {X : Type 0} (step : X → Choice → X) where
   all-done (x ∷ xs) (choice ∷ line) zero l h = absurd (omega arith)
   all-done (x ∷ xs) (choice ∷ line) (suc p) l h = ap (λ ys. step x choice ∷ ys) (all-done xs line p (omega arith) (omega arith))
 
+  -- each from its own choice
+  pub each_at : (xs : List X) (line : List Choice) (p : ℕ) (d d' : X) (e : Choice) → p < length xs → length xs ≤ length line → get_or (each step xs line) p d ≡ step (get_or xs p d') (get_or line p e)
+  each_at [] line p d d' e l h = absurd (omega arith)
+  each_at (x ∷ xs) [] p d d' e l h = absurd (omega arith)
+  each_at (x ∷ xs) (choice ∷ line) zero d d' e l h = refl
+  each_at (x ∷ xs) (choice ∷ line) (suc p) d d' e l h = each_at xs line p d d' e (omega arith) (omega arith)
+
+  -- as many as there were, at each moment
+  pub length-so_far : (xs : List X) (line : List Choice) (p : ℕ) → length xs ≤ length line → length (so_far step xs line p) ≡ length xs
+  length-so_far [] line zero h = refl
+  length-so_far [] line (suc p) h = refl
+  length-so_far (x ∷ xs) [] p h = absurd (omega arith)
+  length-so_far (x ∷ xs) (choice ∷ line) zero h = refl
+  length-so_far (x ∷ xs) (choice ∷ line) (suc p) h = ap suc (length-so_far xs line p (omega arith))
+
   -- as many as there were
   pub length-each : (xs : List X) (line : List Choice) → length xs ≤ length line → length (each step xs line) ≡ length xs
   length-each [] line h = refl

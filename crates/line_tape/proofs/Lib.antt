@@ -9,3 +9,4 @@ pub mod NextLemmas
 pub mod CutLemmas
 pub mod RoomLemmas
 pub mod EachLemmas
+pub mod HistoryCuts
