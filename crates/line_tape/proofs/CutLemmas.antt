@@ -24,10 +24,10 @@ filter_map_from_retain R h says s (x ∷ xs) ys r =
     let rest = filter_map_from_retain R h says r.1 xs r.4 r.5 in
     r.6 ∙ cons_kept r.0 r.2 r.4 ∙ ap (λ o. cons_option o r.4) (sym said) ∙ ap (cons_option (h x)) rest
 
-contains_nothing : {X : Type 0} (x : X) → Contains [] x → ⊥
+pub contains_nothing : {X : Type 0} (x : X) → Contains [] x → ⊥
 contains_nothing x (k, within, at) = absurd (omega arith)
 
-cons_cases : {X : Type 0} (x : X) (xs : List X) (y : X) → Contains (x ∷ xs) y → (x ≡ y) ⊎ Contains xs y
+pub cons_cases : {X : Type 0} (x : X) (xs : List X) (y : X) → Contains (x ∷ xs) y → (x ≡ y) ⊎ Contains xs y
 cons_cases x xs y c = elim (Contains-append_cases (x ∷ []) xs y c) [
   | inl first ↦ elim (Contains-push_cases [] x y first) [ inl none ↦ absurd (contains_nothing y none) | inr e ↦ inl e ]
   | inr later ↦ inr later

@@ -10,3 +10,4 @@ pub mod CutLemmas
 pub mod RoomLemmas
 pub mod EachLemmas
 pub mod HistoryCuts
+pub mod TransitLemmas

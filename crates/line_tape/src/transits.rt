@@ -1,7 +1,7 @@
 //! What is in transit at a line.
 ghost use Rattle.std.specs.Prelude.{◌≡◌, ◌<◌, ◌++◌, map, length, IfOk, OnOk};
 ghost use Rattle.line_tape.specs.Line.{IsLine};
-ghost use Rattle.line_tape.specs.Transit.{Letter, open_letters, in_transit};
+ghost use Rattle.line_tape.specs.Transit.{Letter, is_open, open_letters, in_transit};
 
 use crate::events::Event;
 use crate::histories::History;
@@ -26,6 +26,16 @@ impl History {
     }
 }
 
+/// Whether the process that the send names has not received the message before its choice of the line.
+fn is_open(history: &History, line: &Line, to: ProcId, message: &MsgName) -> bool
+    requires line { IsLine history.now.processes line.now }
+    requires process { to < length history.now.processes }
+    ensures { (letter : Letter) → letter.message ≡ message.now → letter.to ≡ to
+        → result ≡ is_open history.now.processes line.now letter }
+{
+    !history.tape(to).received_before(line.at(to), message)
+}
+
 /// Adds the messages of one sender that are in transit, by number.
 fn add_open(
     history: &History,
@@ -41,16 +51,21 @@ fn add_open(
     let events = history.tape(p).front(line.at(p));
     let mut number = 0;
     for event in events {
-        if let Event::Send { to, inc, .. } = event {
-            let message = MsgName {
-                from: p,
-                inc: *inc,
-                number,
-            };
-            if !history.tape(*to).received_before(line.at(*to), &message) {
-                messages.push(message).map_err(AllocError::from)?;
+        match event {
+            Event::Send { to, inc, .. } => {
+                let message = MsgName {
+                    from: p,
+                    inc: *inc,
+                    number,
+                };
+                if is_open(history, line, *to, &message) {
+                    messages.push(message)?;
+                }
+                number += 1;
             }
-            number += 1;
+            Event::Recv { .. } => {}
+            Event::Check { .. } => {}
+            Event::Mark { .. } => {}
         }
     }
     Ok(())

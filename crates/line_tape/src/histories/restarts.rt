@@ -1,14 +1,15 @@
 //! A restart of a whole history at a line.
-ghost use Rattle.std.specs.Prelude.{◌≡◌, ◌<◌, ◌≤◌, ◌^◌, ℕ, length};
-ghost use Rattle.line_names.specs.Lines.{choice_at};
+ghost use Rattle.std.specs.Prelude.{◌≡◌, ◌≤◌, ◌↔◌, ℕ, IsTrue};
 ghost use Rattle.line_tape.specs.Front.{HasChoice};
+ghost use Rattle.line_tape.specs.History.{Process};
 ghost use Rattle.line_tape.specs.Line.{IsLine};
 ghost use Rattle.line_tape.specs.Plain.{plain, room_of};
-ghost use Rattle.line_tape.specs.Restart.{restarted, restarted_process, restarted_incarnation, HasFurther, HaveFurther};
+ghost use Rattle.line_tape.specs.Restart.{restarted, restarted_process, HasFurther, HaveFurther};
 ghost use Rattle.line_tape.specs.Views.{room_at};
 
 use super::{History, ProcessTape};
-use line_names::{Choice, Line};
+use crate::limits::LAST_INCARNATION;
+use line_names::{Choice, Line, ProcId};
 
 /// Has a process go on from a choice.
 fn restart_process(process: &mut ProcessTape, choice: Choice)
@@ -24,7 +25,31 @@ fn restart_process(process: &mut ProcessTape, choice: Choice)
     process.tape.restart(choice);
 }
 
+/// Whether a process with this incarnation can go on from a choice.
+fn has_further(incarnation: u16, choice: Choice) -> bool
+    ensures { (process : Process) → process.incarnation ≡ incarnation → IsTrue result ↔ HasFurther process choice }
+{
+    match choice {
+        Choice::Check(_) => incarnation != LAST_INCARNATION,
+        Choice::Now => true,
+    }
+}
+
 impl History {
+    /// Whether each process that goes back at the line has a further incarnation, so that a restart there can be.
+    pub fn has_further(&self, line: &Line) -> bool
+        ensures { IsTrue result ↔ HaveFurther self.now.processes line.now }
+    {
+        let n = self.n();
+        for q in 0..n {
+            let p = ProcId::try_new(q, n).unwrap();
+            if !has_further(self.incarnation(p), line.at(p)) {
+                return false;
+            }
+        }
+        true
+    }
+
     /// Has each process go on from its choice of the line: what came after the line goes from the tapes, all marks and round numbers go, and a process that goes back does so under its next incarnation. It takes no memory and cannot fail.
     ///
     /// What is in transit at the line (`transit`) is to be asked before. It looks at each event of the tapes twice at most.
