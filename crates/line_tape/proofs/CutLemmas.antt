@@ -58,8 +58,8 @@ pub All-restarted : (P : Event → Type 0) → ((x y : Event) → restarted_even
 All-restarted P keeps events all =
     let left : List Event = filter_map restarted_event events in
     All-weaker (Contains left) P (λ y c.
-      let from = comes_from restarted_event events y c in
-      keeps from.source y from.gives (All-contains P events from.source all from.among)) left (All-contains_itself left)
+    let from = comes_from restarted_event events y c in
+    keeps from.source y from.gives (All-contains P events from.source all from.among)) left (All-contains_itself left)
 
 pub short_left : (x y : Event) → restarted_event x ≡ Some y → IsShort x → IsShort y
 short_left (Send to inc body) y e h = let same : Send to inc body ≡ y = cc e in subst IsShort same h

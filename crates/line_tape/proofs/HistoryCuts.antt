@@ -1,6 +1,6 @@
 -- A history whose processes went on from their choices keeps within the limits, and has the rooms that it had.
-use Rattle.std.proofs.Common.{◌≡◌, ℕ, zero, suc, ◌<◌, ◌≤◌, List, [], ◌∷◌, length, map, take, get_or, set, refl, sym, ap, ◌∙◌, subst, arith, ◌⊎◌, inl, inr}
-use Rattle.std.specs.List.{All, filter_map}
+use Rattle.std.proofs.Common.{◌≡◌, ℕ, ◌<◌, ◌≤◌, List, length, map, take, get_or, set, sym, subst, arith, inl, inr}
+use Rattle.std.specs.List.{All}
 use Rattle.std.proofs.lemmas.Bool.{cases_eq}
 use Rattle.std.proofs.lemmas.List.Elements.{All-take, All-get_or, All-from_get_or}
 use Rattle.line_names.specs.declared.choices.Choice.{Choice}
@@ -9,8 +9,8 @@ use Rattle.line_tape.specs.declared.histories.ProcessTape.{ProcessTape}
 use Rattle.line_tape.specs.Event.{NamesBelow}
 use Rattle.line_tape.specs.Front.{place}
 use Rattle.line_tape.specs.History.{Process, fresh, IsProcess, IsHistory}
-use Rattle.line_tape.specs.Plain.{plain, room_of}
-use Rattle.line_tape.specs.Restart.{restarted_process, restarted_event}
+use Rattle.line_tape.specs.Plain.{room_of}
+use Rattle.line_tape.specs.Restart.{restarted_process}
 use Rattle.line_tape.proofs.CutLemmas.{IsTape-take, IsTape-restarted, All-restarted, named_left}
 use Rattle.line_tape.proofs.EachLemmas.{each, each_at, length-each}
 use Rattle.line_tape.proofs.HistoryLemmas.{room-old, room-new, room-other}
@@ -29,7 +29,7 @@ IsHistory-restarted history line enough is =
     let n : ℕ = length history in
     let many : length new ≡ n = length-each restarted_process history line enough in
     let all : All (IsProcess n) new = All-from_get_or (IsProcess n) new fresh (λ p within.
-      subst (IsProcess n) (sym (each_at restarted_process history line p fresh fresh (AtCheck 0) (omega (arith, many)) enough)) (IsProcess-restarted n (get_or history p fresh) (get_or line p (AtCheck 0)) (All-get_or (IsProcess n) history p fresh (omega (arith, many)) is.processes))) in
+    subst (IsProcess n) (sym (each_at restarted_process history line p fresh fresh (AtCheck 0) (omega (arith, many)) enough)) (IsProcess-restarted n (get_or history p fresh) (get_or line p (AtCheck 0)) (All-get_or (IsProcess n) history p fresh (omega (arith, many)) is.processes))) in
     record { some = omega (arith, is.some, many); few = omega (arith, is.few, many); processes = subst (λ (k : ℕ). All (IsProcess k) new) (sym many) all }
 
 -- no room falls where one process is written that has no less room

@@ -1,13 +1,13 @@
 -- The messages that a tape still has received are no more than those that it kept a place for.
-use Rattle.std.proofs.Common.{◌≡◌, ℕ, suc, ◌+◌, ◌≤◌, Bool, true, false, List, [], ◌∷◌, ◌++◌, length, take, drop, Option, Some, None, refl, sym, ap, ◌∙◌, subst, arith, inl, inr}
+use Rattle.std.proofs.Common.{◌≡◌, ℕ, suc, ◌+◌, ◌≤◌, true, false, List, [], ◌∷◌, ◌++◌, take, drop, Option, Some, None, refl, sym, ap, ◌∙◌, subst, arith, inl, inr}
 use Rattle.std.specs.Prelude.{is_some, IsSome}
 use Rattle.std.specs.Cmp.{IsEquivalence}
-use Rattle.std.specs.List.{Contains, list_any, IsDistinct}
-use Rattle.std.specs.Map.{lookup, keys_of}
+use Rattle.std.specs.List.{Contains, list_any}
+use Rattle.std.specs.Map.{keys_of}
 use Rattle.std.specs.HashMap.{hash_map_len}
 use Rattle.std.proofs.lemmas.Bool.{or_cases, false≢true}
 use Rattle.std.proofs.lemmas.Cmp.{nat_eq_equiv, on_equiv, and_equiv}
-use Rattle.std.proofs.lemmas.List.{length_push, length-map, take-append-drop}
+use Rattle.std.proofs.lemmas.List.{length_push, take-append-drop}
 use Rattle.std.proofs.lemmas.List.Elements.{Contains-append_left}
 use Rattle.std.proofs.lemmas.List.Folds.{list_any-append}
 use Rattle.std.proofs.lemmas.Map.Keys.{IsDistinct-push}
@@ -21,7 +21,6 @@ use Rattle.line_tape.specs.declared.events.Event.{Event}
 use Rattle.line_tape.specs.declared.events.Event.TheVariants.{Recv}
 use Rattle.line_tape.specs.declared.receipts.Receipts.{Receipts}
 use Rattle.line_tape.specs.Kept.{IsFirst, AreFirst, AreApart, first_place}
-use Rattle.line_tape.proofs.FrontLemmas.{Contains-take_more}
 
 -- the test of names is an equivalence
 pub is_name-laws : IsEquivalence is_name

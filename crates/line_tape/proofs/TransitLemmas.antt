@@ -1,13 +1,11 @@
 -- What is in transit, as the events of a sender are gone through.
-use Rattle.std.proofs.Common.{◌≡◌, ℕ, zero, suc, ◌+◌, ◌<◌, ◌↔◌, Bool, true, false, not, cond, List, [], ◌∷◌, ◌++◌, length, drop, get_or, map, filter, Option, Some, None, refl, sym, ap, ◌∙◌, subst, arith, ◌⊎◌, inl, inr}
-use Rattle.std.specs.List.{Contains, filter_map, cons_option, list_any, range_with_len}
-use Rattle.std.proofs.lemmas.Bool.{false≢true}
+use Rattle.std.proofs.Common.{◌≡◌, ℕ, zero, suc, ◌+◌, ◌<◌, ◌↔◌, Bool, true, false, cond, List, [], ◌∷◌, ◌++◌, length, drop, get_or, map, filter, Option, Some, None, refl, sym, ap, ◌∙◌, subst, arith, ◌⊎◌, inl, inr}
+use Rattle.std.specs.List.{Contains, filter_map, cons_option, range_with_len}
 use Rattle.std.proofs.lemmas.List.{append_assoc, drop_more}
 use Rattle.std.proofs.lemmas.List.Elements.{Contains-append_left, Contains-append_right, Contains-push}
 use Rattle.std.proofs.lemmas.Map.Views.{Contains-from_any, list_any-from_Contains}
 use Rattle.line_names.specs.declared.choices.Choice.{Choice}
 use Rattle.line_names.specs.declared.messages.MsgName.{MsgName}
-use Rattle.line_names.specs.Names.{is_name}
 use Rattle.line_names.proofs.NameLemmas.{is_name-true}
 use Rattle.line_tape.specs.declared.events.Event.{Event}
 use Rattle.line_tape.specs.declared.events.Event.TheVariants.{Send, Recv, Check, Mark}
@@ -38,10 +36,12 @@ receipt_of (Mark from round) m e = absurd (cc e)
 
 -- the test says whether a receipt of the message stands there
 pub has_received-iff : (events : List Event) (m : MsgName) → (has_received events m ≡ true) ↔ Contains events (Recv m)
-has_received-iff events m =
-    (λ h.
+has_received-iff events m = (
+  λ h.
       let from = comes_from received_name events m (Contains-from_any is_name-true m (filter_map received_name events) h) in
-      subst (Contains events) (receipt_of from.source m from.gives) from.among, λ c. list_any-from_Contains is_name-laws m (filter_map received_name events) (goes_to received_name events (Recv m) m refl c))
+      subst (Contains events) (receipt_of from.source m from.gives) from.among,
+  λ c. list_any-from_Contains is_name-laws m (filter_map received_name events) (goes_to received_name events (Recv m) m refl c),
+)
 
 -- a test that says so is that one
 pub has_received-is : (events : List Event) (m : MsgName) (r : Bool) → (r ≡ true) ↔ Contains events (Recv m) → r ≡ has_received events m

@@ -1,5 +1,5 @@
 -- What was found and what is yet to come are the same together at each event.
-use Rattle.std.proofs.Common.{◌≡◌, ◌+◌, ◌<◌, ◌≤◌, ◌++◌, ◌∷◌, [], List, ℕ, None, length, drop, refl, sym, ap, ◌∙◌, append-nil, drop_of_length-le, arith}
+use Rattle.std.proofs.Common.{◌≡◌, ◌<◌, ◌++◌, [], List, ℕ, length, drop, refl, sym, ap, ◌∙◌, append-nil, drop_of_length-le, arith}
 use Rattle.line_names.specs.declared.choices.Choice.{Choice}
 use Rattle.line_names.specs.declared.messages.MsgName.{MsgName}
 use Rattle.line_tape.specs.declared.events.Event.{Event}

@@ -1,13 +1,12 @@
 -- The index of receipts answers for the events before the line.
 use Rattle.std.proofs.Common.{◌≡◌, ◌↔◌, List, not, true, sym, ap, ◌∙◌, subst}
 use Rattle.std.specs.List.{Contains}
-use Rattle.line_names.specs.declared.messages.MsgName.{MsgName}
 use Rattle.line_tape.specs.declared.events.Event.{Event}
 use Rattle.line_tape.specs.declared.events.Event.TheVariants.{Recv}
 use Rattle.line_tape.specs.Front.{front}
 use Rattle.line_tape.specs.History.{tape_at}
 use Rattle.line_tape.specs.Line.{events_before}
-use Rattle.line_tape.specs.Transit.{Letter, has_received}
+use Rattle.line_tape.specs.Transit.{has_received}
 use Rattle.line_tape.proofs.TransitLemmas.{has_received-is}
 use Rattle.line_tape.proofs.transits.is_open.Goals as goal
 

@@ -1,11 +1,10 @@
 -- What is left of the events is what a restart leaves of the front, and there is no more of it than there was.
-use Rattle.std.proofs.Common.{◌≡◌, ◌≤◌, List, ℕ, Some, length, take, rules, sym, ap, ◌∙◌, subst, arith}
+use Rattle.std.proofs.Common.{◌≡◌, ◌≤◌, List, ℕ, length, take, rules, sym, ap, ◌∙◌, subst, arith}
 use Rattle.std.specs.Prelude.{◌-◌, min, vec_len, vec_capacity}
 use Rattle.std.specs.List.{Contains, filter_map}
-use Rattle.line_names.specs.declared.messages.MsgName.{MsgName}
 use Rattle.line_tape.specs.declared.events.Event.{Event}
 use Rattle.line_tape.specs.declared.events.Event.TheVariants.{Recv}
-use Rattle.line_tape.specs.Event.{checks, incarnations_sent, sends}
+use Rattle.line_tape.specs.Event.{checks, sends}
 use Rattle.line_tape.specs.Front.{front, place}
 use Rattle.line_tape.specs.History.{IsTape}
 use Rattle.line_tape.specs.Kept.{AreRows, AreFirst, first_place, receipts_room}
