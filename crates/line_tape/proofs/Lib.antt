@@ -14,3 +14,8 @@ pub mod LetterLemmas
 pub mod SpentLemmas
 pub mod CopyLemmas
 pub mod OrderLemmas
+pub mod CutLemmas
+pub mod RoomLemmas
+pub mod EachLemmas
+pub mod HistoryCuts
+pub mod TransitLemmas

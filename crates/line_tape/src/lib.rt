@@ -17,6 +17,7 @@ mod marks;
 mod receipts;
 mod survival;
 mod tapes;
+mod transits;
 
 pub use copies::copies_hold;
 pub use events::{Event, State};
@@ -25,7 +26,7 @@ pub use histories::{CountError, History, HistoryError};
 pub use incarnations::names_apart;
 pub use items::Item;
 pub use laws::chain_makes_latest;
-pub use limits::{MOST_EVENTS, MOST_STATE};
+pub use limits::{LAST_INCARNATION, MOST_EVENTS, MOST_STATE};
 pub use lines::{is_consistent, is_line, is_sent_before, orphan_at};
 pub use links::{kept_checks, ordered_fits, restart_fits, transit_parts};
 pub use marks::{MarkError, Marks};
