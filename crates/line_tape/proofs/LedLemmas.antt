@@ -43,7 +43,7 @@ height-le (process ∷ rest) [] each = omega arith
 height-le (process ∷ rest) (choice ∷ line) each = omega (arith, each 0, height-le rest line (λ p. each (suc p)))
 
 -- nothing is received before the initial state
-orphan_above : (history : List Process) (line : List Choice) (q : ℕ) (message : MsgName) → IsOrphan history line q message → choice_at line q ≢ AtCheck 0
+pub orphan_above : (history : List Process) (line : List Choice) (q : ℕ) (message : MsgName) → IsOrphan history line q message → choice_at line q ≢ AtCheck 0
 orphan_above history line q message orphan e =
     let received : Contains (front (tape_at history q) (AtCheck 0)) (Recv message) = subst (λ (c : Choice). Contains (front (tape_at history q) c) (Recv message)) e orphan.received in
     absurd (omega (arith, received.1))
