@@ -1,19 +1,17 @@
 -- What the tapes tell of a message, as tests.
-use Rattle.std.proofs.Common.{◌≡◌, ◌↔◌, ℕ, zero, suc, Bool, true, false, cond, List, [], ◌∷◌, length, refl, sym, ap, ◌∙◌, subst, arith, inl, inr}
+use Rattle.std.proofs.Common.{◌≡◌, Option, Some, None, ◌↔◌, ℕ, Bool, true, false, cond, List, length, refl, sym, ap, ◌∙◌, subst, arith}
 use Rattle.std.specs.Prelude.{IsTrue, not}
-use Rattle.std.specs.List.{Contains}
-use Rattle.std.proofs.lemmas.Bool.{both_ways, eq-eqb, eqb-true, false_from_ne_true, or_left, or_right, or_cases}
+use Rattle.std.specs.List.{Contains, slice_get}
+use Rattle.std.proofs.lemmas.Bool.{both_ways, eq-eqb, eqb-true, false_from_ne_true}
 use Rattle.std.proofs.lemmas.List.{take_all}
-use Rattle.std.proofs.lemmas.List.Elements.{Contains-append_cases, Contains-append_right}
 use Rattle.line_names.specs.declared.choices.Choice.TheVariants.{Now}
 use Rattle.line_names.specs.declared.messages.MsgName.{MsgName}
-use Rattle.line_names.specs.Names.{is_name}
-use Rattle.line_names.proofs.NameLemmas.{is_name-true, is_name-same}
 use Rattle.line_tape.specs.declared.events.Event.{Event}
-use Rattle.line_tape.specs.declared.events.Event.TheVariants.{Send, Recv, Check, Mark}
-use Rattle.line_tape.specs.Event.{Holds}
+use Rattle.line_tape.specs.declared.events.Event.TheVariants.{Recv}
+use Rattle.line_tape.specs.Event.{incarnations_sent, Holds}
 use Rattle.line_tape.specs.Front.{front}
 use Rattle.line_tape.specs.History.{Process, tape_at}
+use Rattle.line_tape.proofs.TransitLemmas.{has_received-is}
 use Rattle.line_tape.specs.Transit.{has_received}
 use Rattle.line_world.specs.declared.fates.Fate.TheVariants.{Taken, Stale, Repeated}
 use Rattle.line_world.specs.declared.steps.Mode.{Mode}
@@ -35,41 +33,6 @@ held-true history message h = held_of (slice_get (incarnations_sent (tape_at his
 pub true-held : (history : List Process) (message : MsgName) → Holds (tape_at history message.from) message.inc message.number → is_held history message ≡ true
 true-held history message h = ap (λ (o : Option ℕ). is_number o message.inc) h ∙ eq-eqb message.inc message.inc refl
 
--- a receipt on a tape, as a test
-received-true : (tape : List Event) (message : MsgName) → Contains tape (Recv message) → has_received tape message ≡ true
-received-true [] message (k, l, e) = absurd (omega arith)
-received-true (event ∷ es) message h = elim (Contains-append_cases (event ∷ []) es (Recv message) h) [
-  | inl (zero, l, e) ↦ first event e
-  | inl (suc k, l, e) ↦ absurd (omega arith)
-  | inr later ↦ further event (received-true es message later)
-]
-  where
-    first : (v : Event) → v ≡ Recv message → has_received (v ∷ es) message ≡ true
-    first (Send to inc body) e = absurd (cc)
-    first (Recv m) e = let same : m ≡ message = cc in or_left _ _ (is_name-same message m (sym same))
-    first (Check state round) e = absurd (cc)
-    first (Mark from round) e = absurd (cc)
-
-    further : (v : Event) → has_received es message ≡ true → has_received (v ∷ es) message ≡ true
-    further (Send to inc body) t = t
-    further (Recv m) t = or_right _ _ t
-    further (Check state round) t = t
-    further (Mark from round) t = t
-
--- a receipt stands on a longer tape too
-later : (event : Event) (es : List Event) (message : MsgName) → Contains es (Recv message) → Contains (event ∷ es) (Recv message)
-later event es message h = Contains-append_right (event ∷ []) es (Recv message) h
-
-true-received : (tape : List Event) (message : MsgName) → has_received tape message ≡ true → Contains tape (Recv message)
-true-received [] message t = absurd (cc)
-true-received (Send to inc body ∷ es) message t = later (Send to inc body) es message (true-received es message t)
-true-received (Recv m ∷ es) message t = elim (or_cases (is_name message m) (has_received es message) t) [
-  | inl same ↦ (zero, omega arith, ap (λ (v : MsgName). Recv v) (sym (is_name-true message m same)))
-  | inr further ↦ later (Recv m) es message (true-received es message further)
-]
-true-received (Check state round ∷ es) message t = later (Check state round) es message (true-received es message t)
-true-received (Mark from round ∷ es) message t = later (Mark from round) es message (true-received es message t)
-
 -- the events before `Now` are all of them
 front-now : (tape : List Event) → front tape Now ≡ tape
 front-now tape = take_all (length tape) tape (omega arith)
@@ -85,9 +48,7 @@ held_now history message b h =
 -- whether the message is received now
 pub received_now : (tape : List Event) (message : MsgName) (b : Bool) → IsTrue b ↔ Contains (front tape Now) (Recv message) → b ≡ has_received tape message
 received_now tape message b h =
-    same_test b (has_received tape message)
-    (λ t. received-true tape message (subst (λ (es : List Event). Contains es (Recv message)) (front-now tape) (h.0 t)))
-    (λ t. h.1 (subst (λ (es : List Event). Contains es (Recv message)) (sym (front-now tape)) (true-received tape message t)))
+    has_received-is tape message b (subst (λ (es : List Event). IsTrue b ↔ Contains es (Recv message)) (front-now tape) h)
 
 -- the fate of a copy, from what its sender and its receiver answer
 pub fate-unordered : (mode : Mode) (history : List Process) (p : ℕ) (message : MsgName) (sender receiver : List Event) (held received h r : Bool) → mode ≡ Unordered

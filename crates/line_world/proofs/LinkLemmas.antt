@@ -1,9 +1,8 @@
 -- Each kind of step keeps what a world keeps true of links in order.
-use Rattle.std.proofs.Common.{◌≡◌, ℕ, suc, ◌<◌, Bool, true, false, cond, List, [], ◌∷◌, ◌++◌, length, get_or, drop, Some, None, refl, sym, ap, ◌∙◌, subst, arith, inl, inr}
-use Rattle.std.specs.List.{All, slice_get, cons_option}
+use Rattle.std.proofs.Common.{◌≡◌, ℕ, ◌<◌, Bool, true, false, cond, List, [], ◌∷◌, ◌++◌, length, get_or, drop, Some, None, refl, sym, ap, ◌∙◌, subst, arith, inl, inr}
+use Rattle.std.specs.List.{slice_get, cons_option}
 use Rattle.std.proofs.lemmas.Bool.{cases_eq, eq-eqb, ne_eqb}
 use Rattle.std.proofs.lemmas.List.{append-nil, length-set}
-use Rattle.std.proofs.lemmas.List.Elements.{All-push}
 use Rattle.std.specs.Prelude.{◌==◌}
 use Rattle.line_names.specs.declared.messages.MsgName.{MsgName}
 use Rattle.line_tape.specs.declared.events.Event.{Event}
@@ -14,9 +13,9 @@ use Rattle.line_tape.specs.Event.{sends}
 use Rattle.line_tape.specs.Fit.{link, IsNextFifo, items_put, items_got}
 use Rattle.line_tape.specs.History.{Process, process_at, tape_at, with_event}
 use Rattle.line_tape.proofs.NextLemmas.{stays_fit, link_after}
-use Rattle.line_world.specs.Queues.{queue_at, with_queue, IsSquare}
+use Rattle.line_world.specs.Queues.{queue_at, with_queue}
 use Rattle.line_world.specs.Worlds.{AreQueues, IsOrderedWorld}
-use Rattle.line_world.proofs.QueueLemmas.{queue-same, queue-other, IsSquare-written}
+use Rattle.line_world.proofs.QueueLemmas.{queue-same, queue-other}
 
 -- nothing either way
 same_nil : (b : Bool) → cond b [] [] ≡ (let none : List Item = [] in none)

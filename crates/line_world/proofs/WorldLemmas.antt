@@ -1,19 +1,19 @@
 -- Each kind of step keeps what a world keeps true, in each mode.
-use Rattle.std.proofs.Common.{◌≡◌, ℕ, zero, suc, ◌<◌, Bool, true, false, cond, List, [], ◌∷◌, ◌++◌, length, get_or, Some, None, refl, sym, ap, ◌∙◌, subst, arith, inl, inr}
+use Rattle.std.proofs.Common.{◌≡◌, ℕ, zero, suc, ◌<◌, Bool, true, false, cond, List, [], ◌∷◌, ◌++◌, length, drop, get_or, Some, None, refl, sym, ap, ◌∙◌, subst, arith, inl, inr}
 use Rattle.std.specs.Prelude.{◌==◌, ◌&&◌, not, if◌then◌else◌}
 use Rattle.std.specs.List.{All, Contains, filter_map, slice_get}
+use Rattle.std.specs.Cmp.Derive.{both_true}
 use Rattle.std.proofs.lemmas.Bool.{cases_eq, eq-eqb, ne_eqb}
-use Rattle.std.proofs.lemmas.List.{append-nil, length-set}
+use Rattle.std.proofs.lemmas.List.{append-nil}
 use Rattle.std.proofs.lemmas.List.Elements.{All-push, filter_map-append, Contains-append_right}
 use Rattle.line_names.specs.declared.messages.MsgName.{MsgName}
 use Rattle.line_tape.specs.declared.events.Event.{Event}
 use Rattle.line_tape.specs.declared.events.Event.TheVariants.{Send, Recv, Check}
 use Rattle.line_tape.specs.declared.items.Item.{Item}
 use Rattle.line_tape.specs.declared.items.Item.TheVariants.{Message, Marker}
-use Rattle.line_tape.specs.Copies.{IsUnordered, copies_put}
 use Rattle.line_tape.specs.Event.{incarnations_sent, Holds}
-use Rattle.line_tape.specs.Fit.{link, received, IsFitFifo, IsNextUnordered, IsSentTo}
-use Rattle.line_tape.specs.History.{Process, process_at, tape_at, incarnation_at, with_event}
+use Rattle.line_tape.specs.Fit.{link, received, IsFitFifo, IsSentTo}
+use Rattle.line_tape.specs.History.{Process, tape_at, incarnation_at, with_event}
 use Rattle.line_tape.specs.Spent.{next_name}
 use Rattle.line_tape.specs.Transit.{addressees, has_received}
 use Rattle.line_tape.specs.Views.{MarksView}
@@ -21,7 +21,6 @@ use Rattle.line_tape.proofs.CopyLemmas.{unordered_event, copy_addressed}
 use Rattle.line_tape.proofs.LinkLemmas.{In-append_right}
 use Rattle.line_tape.proofs.OrderLemmas.{messages_sent, sent_is}
 use Rattle.line_tape.proofs.SentLemmas.{messages, In}
-use Rattle.line_world.specs.declared.fates.Fate.{Fate}
 use Rattle.line_world.specs.declared.fates.Fate.TheVariants.{Taken, Stale, Repeated}
 use Rattle.line_world.specs.declared.replies.Reply.TheVariants.{Sent}
 use Rattle.line_world.specs.declared.steps.Mode.{Mode}
@@ -30,7 +29,7 @@ use Rattle.line_world.specs.Fates.{fate_of, is_held}
 use Rattle.line_world.specs.Machine.{Machine, IsFitIn, copies_in, items_in}
 use Rattle.line_world.specs.Queues.{queue_at, with_queue, taken_off, IsSquare}
 use Rattle.line_world.specs.Steps.{Sends}
-use Rattle.line_world.specs.Worlds.{IsMessageOf, message_of, messages_at, AreQueues, IsOrderedWorld, IsLinked, IsWorld}
+use Rattle.line_world.specs.Worlds.{IsMessageOf, message_of, messages_at, AreQueues, IsLinked, IsWorld}
 use Rattle.line_world.proofs.FateLemmas.{held-true}
 use Rattle.line_world.proofs.LinkLemmas.{length-with_event, first_rest, IsOrdered-check, IsOrdered-send, IsOrdered-take}
 use Rattle.line_world.proofs.QueueLemmas.{queue-same, queue-other, IsSquare-written}
@@ -119,8 +118,7 @@ module _ (history : List Process) (queues : List (List (List Item))) (are : AreQ
               (subst (λ (v : ℕ). messages_at (with_queue queues p q items) p v ≡ messages_at queues p v ++ (if (p == p) && (v == q) then message ∷ [] else [])) (sym b_same)
               (ap (filter_map message_of) (queue-same queues p q items row column)
               ∙ filter_map-append message_of (queue_at queues p q) (Message message ∷ [])
-              ∙ ap (λ t. messages_at queues p q ++ cond (t && (q == q)) (message ∷ []) none) (sym (eq-eqb p p refl))
-              ∙ ap (λ t. messages_at queues p q ++ cond ((p == p) && t) (message ∷ []) none) (eq-eqb q q refl ∙ sym (eq-eqb q q refl))))
+              ∙ ap (λ t. messages_at queues p q ++ cond t (message ∷ []) none) (sym (both_true (eq-eqb p p refl) (eq-eqb q q refl)))))
           | inr b_other ↦ ap (filter_map message_of) (queue-other queues p q items row a b (λ e. b_other e.1)) ∙ sym (append-nil (messages_at queues a b))
               ∙ ap (λ t. messages_at queues a b ++ cond t (message ∷ []) none) (sym (and-false (a == p) (b == q) (ne_eqb b q b_other)))
         ]
@@ -137,7 +135,7 @@ module _ (history : List Process) (queues : List (List (List Item))) where
   IsWorld-check mode world at state within = record { queued = AreQueues-kept history queues at (Check state None) world.queued; linked = linked mode world.linked }
     where
       linked : (m : Mode) → IsLinked m history queues → IsLinked m (with_event history at (Check state None)) queues
-      linked Fifo is = IsOrdered-check history queues is at state within
+      linked Fifo is = IsOrdered-check history queues world.queued is at state within
       linked Unordered is = unordered_event history at (Check state None) (messages_at queues) (messages_at queues) is within tt (λ p q p_within q_within. sym (append-nil (messages_at queues p q)))
 
   module _ (from to : ℕ) (from_within : from < length history) (to_within : to < length history) where
@@ -202,5 +200,5 @@ Sends-seen mode history marks queues from to body message after marks_after queu
       ∙ ap (λ (v : MarksView). seen mode (with_event history from (Send to (incarnation_at history from) body)) v queues_after) marked
       ∙ ap (λ (q : List (List (List Item))). seen mode (with_event history from (Send to (incarnation_at history from) body)) marks q) put
       ∙ ap (λ (copies : List (List (List Item))). let m : Machine = record { mode = mode; history = with_event history from (Send to (incarnation_at history from) body); marks = marks; copies = copies } in m)
-          (copy_kept mode queues from to (Message (next_name history from)));
+      (copy_kept mode queues from to (Message (next_name history from)));
 }

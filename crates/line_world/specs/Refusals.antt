@@ -1,18 +1,16 @@
 -- What refuses a step: the first cause that holds.
-use Rattle.std.specs.Prelude.{◌≡◌, ℕ, ◌+◌, ◌-◌, Bool, true, false, not, ◌&&◌, ◌||◌, ◌==◌, nat_lt, nat_le, if◌then◌else◌, List, [], ◌∷◌, ◌++◌, length, slice_get, Option, Some, None, IsTrue}
+use Rattle.std.specs.Prelude.{◌≡◌, ℕ, ◌+◌, ◌-◌, Bool, false, not, ◌||◌, ◌==◌, nat_lt, nat_le, if◌then◌else◌, List, [], ◌∷◌, ◌++◌, length, slice_get, Option, Some, None}
 use Rattle.std.specs.List.{list_any, range_with_len}
 use Rattle.line_names.specs.declared.choices.Choice.{Choice}
-use Rattle.line_names.specs.declared.choices.Choice.TheVariants.{Check as AtCheck, Now}
 use Rattle.line_names.specs.declared.limits.TheConstants.{MOST_PROCESSES}
-use Rattle.line_names.specs.Lines.{choice_at}
 use Rattle.line_names.specs.Sets.{is_member}
 use Rattle.line_tape.specs.declared.items.Item.{Item}
 use Rattle.line_tape.specs.declared.items.Item.TheVariants.{Message, Marker}
 use Rattle.line_tape.specs.declared.limits.TheConstants.{MOST_EVENTS, MOST_STATE}
 use Rattle.line_tape.specs.Event.{checks}
-use Rattle.line_tape.specs.History.{Process, tape_at, incarnation_at}
+use Rattle.line_tape.specs.History.{tape_at}
+use Rattle.line_tape.specs.Restart.{HaveFurther}
 use Rattle.line_tape.specs.Survival.{is_damaged, IsLatest}
-use Rattle.line_world.specs.declared.limits.TheConstants.{LAST_INCARNATION}
 use Rattle.line_world.specs.declared.steps.Mode.{Mode}
 use Rattle.line_world.specs.declared.steps.Mode.TheVariants.{Fifo, Unordered}
 use Rattle.line_world.specs.declared.steps.Step.{Step}
@@ -54,19 +52,6 @@ is_full_for machine p None = false
 is_full_for machine p (Some (Message message)) = is_full machine p (length (events_of (fate_of machine.mode machine.history p message) message))
 is_full_for machine p (Some (Marker round)) = false
 
--- a process that goes back
-abbrev pub goes_back : Choice → Bool
-goes_back (AtCheck c) = true
-goes_back Now = false
-
--- at process p the line goes back, and there is no incarnation after the present one
-abbrev pub is_spent : List Process → List Choice → ℕ → Bool
-is_spent history line p = goes_back (choice_at line p) && (incarnation_at history p == LAST_INCARNATION)
-
--- a process that goes back has no further incarnation
-abbrev pub is_exhausted : List Process → List Choice → Bool
-is_exhausted history line = list_any (is_spent history line) (range_with_len 0 (length history))
-
 -- what refuses a delivery, whatever the item would have the process do
 abbrev pub link_causes : Machine → ℕ → ℕ → ℕ → List ℕ → List (Bool × StepError)
 link_causes machine from to pick state =
@@ -106,7 +91,7 @@ refusal_of machine (Recover failed) = first_cause ((has_stranger machine failed,
 pub record IsSpent (machine : Machine) (failed : List Bool) : Type 0 where
   pub line : List Choice
   pub latest : IsLatest machine.history machine.marks failed line
-  pub exhausted : IsTrue (is_exhausted machine.history line)
+  pub spent : HaveFurther machine.history line → ⊥
 
 -- why a Recover is refused that names only processes
 abbrev pub IsRecoverCause : Machine → List Bool → StepError → Type 0

@@ -1,5 +1,5 @@
 -- What an accepted step replies and leaves.
-use Rattle.std.specs.Prelude.{◌≡◌, ℕ, ◌+◌, ◌≤◌, Bool, false, List, [], ◌∷◌, length, map, slice_get, Option, Some, None}
+use Rattle.std.specs.Prelude.{◌≡◌, ℕ, ◌+◌, ◌≤◌, Bool, List, [], ◌∷◌, length, map, slice_get, Option, Some, None}
 use Rattle.std.specs.List.{range_with_len}
 use Rattle.line_names.specs.declared.choices.Choice.{Choice}
 use Rattle.line_names.specs.declared.choices.Choice.TheVariants.{Check as AtCheck, Now}
@@ -12,7 +12,7 @@ use Rattle.line_tape.specs.declared.items.Item.TheVariants.{Message}
 use Rattle.line_tape.specs.Chain.{IsChain}
 use Rattle.line_tape.specs.Event.{checks, stored_state}
 use Rattle.line_tape.specs.History.{Process, tape_at, incarnation_at}
-use Rattle.line_tape.specs.Restart.{restarted}
+use Rattle.line_tape.specs.Restart.{restarted, HaveFurther}
 use Rattle.line_tape.specs.Spent.{next_name}
 use Rattle.line_tape.specs.Survival.{IsLatest}
 use Rattle.line_tape.specs.Views.{with_mark}
@@ -22,7 +22,6 @@ use Rattle.line_world.specs.declared.replies.Reply.{Reply}
 use Rattle.line_world.specs.declared.replies.Reply.TheVariants.{Sent, Checked, Damaged, Recovered}
 use Rattle.line_world.specs.Fates.{fate_of, events_of, reply_of}
 use Rattle.line_world.specs.Machine.{Machine, items_on, with_copy, with_step}
-use Rattle.line_world.specs.Refusals.{is_exhausted}
 
 -- the index of the next check of process p
 abbrev pub next_check : List Process → ℕ → ℕ
@@ -73,7 +72,7 @@ pub record IsPlan (machine : Machine) (failed : List Bool) (plan : Plan) : Type 
 -- Recover plans, tells what a restart at the plan's line would leave, and changes nothing
 pub record Recovers (old : Machine) (failed : List Bool) (plan : Plan) (states : List (Option (List ℕ))) (incarnations : List ℕ) (new : Machine) : Type 0 where
   pub plan_is : IsPlan old failed plan
-  pub unspent : is_exhausted old.history plan.line ≡ false
+  pub further : HaveFurther old.history plan.line
   pub states_are : states ≡ restored_states old.history plan.line
   pub incarnations_are : incarnations ≡ restarted_incarnations old.history plan.line
   pub new_is : new ≡ old

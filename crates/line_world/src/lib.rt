@@ -4,7 +4,6 @@
 #![tactic(auto)]
 
 mod fates;
-mod limits;
 mod links;
 mod moves;
 mod replies;
@@ -12,7 +11,6 @@ mod restores;
 mod steps;
 mod worlds;
 
-pub use limits::LAST_INCARNATION;
 pub use replies::{Answer, Reply, RunStopped, StepError};
 pub use steps::{Mode, Step};
 pub use worlds::World;

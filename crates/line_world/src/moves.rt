@@ -5,7 +5,7 @@ ghost use Rattle.line_tape.specs.declared.items.Item.TheVariants.{Message};
 ghost use Rattle.line_tape.specs.Event.{NamesBelow, HasLongState, Holds};
 ghost use Rattle.line_tape.specs.History.{tape_at, incarnation_at, with_event};
 ghost use Rattle.line_tape.specs.Spent.{next_name};
-ghost use Rattle.line_catalogue.specs.Agreement.{AgreesNext};
+ghost use Rattle.line_catalogue.specs.Agreement.{Agrees, AgreesNext};
 ghost use Rattle.line_catalogue.specs.Views.{room_at};
 ghost use Rattle.line_world.specs.Queues.{queue_at, with_queue, taken_off, IsSquare};
 ghost use Rattle.line_world.specs.Steps.{next_check};
@@ -110,6 +110,7 @@ pub fn take_message(
     requires from { from < length catalogue.old.processes }
     requires to { to < length catalogue.old.processes }
     requires named { message.now.from ≡ from }
+    requires agrees { Agrees catalogue.old.processes }
     requires held { Holds (tape_at catalogue.old.processes message.now.from) message.now.inc message.now.number }
     requires few { length (tape_at catalogue.old.processes to) < MOST_EVENTS }
     ensures taken { OnOk result (catalogue.new.processes ≡ with_event catalogue.old.processes to (RecvEvent message.now)) }

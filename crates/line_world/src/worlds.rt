@@ -14,11 +14,11 @@ use crate::fates::{Fate, fate_of};
 use crate::links::Links;
 use crate::moves::{add_check, message_at, put_message, take_message};
 use crate::replies::{Answer, Reply, RunStopped, StepError};
-use crate::restores::{is_exhausted, restarted_incarnations, restored_states};
+use crate::restores::{restarted_incarnations, restored_states};
 use crate::steps::{Mode, Step};
 use line_catalogue::Catalogue;
 use line_names::{Body, MOST_PROCESSES, ProcId, ProcSet};
-use line_plan::{Plan, plan_history};
+use line_plan::Plan;
 use line_tape::{CountError, History, Item, Marks, State};
 use std::alloc::Global;
 use std::marker::Model;
@@ -199,7 +199,7 @@ impl World {
         if self.has_stranger(failed) {
             return Err(StepError::NoSuchProcess);
         }
-        let plan = plan_history(alloc, self.catalogue.history(), self.catalogue.marks(), failed)?;
+        let plan = line_plan::plan(alloc, &self.catalogue, failed)?;
         Ok(plan)
     }
 
@@ -209,11 +209,12 @@ impl World {
         ensures refused { IfErr result (λ e. e ≢ StepError.OutOfMemory → Takes self.now (Recover failed.now) (Refused e) self.now) }
     {
         let plan = self.plan_for(alloc, failed)?;
-        if is_exhausted(self.catalogue.history(), &plan.line) {
+        let history = self.catalogue.history();
+        if !history.has_further(&plan.line) {
             return Err(StepError::NoMoreIncarnations);
         }
-        let states = restored_states(alloc, self.catalogue.history(), &plan.line)?;
-        let incarnations = restarted_incarnations(alloc, self.catalogue.history(), &plan.line)?;
+        let states = restored_states(alloc, history, &plan.line)?;
+        let incarnations = restarted_incarnations(alloc, history, &plan.line)?;
         Ok(Reply::Recovered {
             plan,
             states,

@@ -8,5 +8,5 @@ use Rattle.line_world.proofs.worlds.World.new.Goals as goal
 
 pub invariant_of-result : goal.invariant_of-result
 invariant_of-result c =
-    subst (λ (h : List Process). IsWorld c.args.mode h c.in_ok-links.links) (sym c.in_ok-history.ensures.ok)
+    subst (λ (h : List Process). IsWorld c.args.mode h c.in_ok-links.links) (sym c.in_ok-catalogue.ensures.processes)
     (subst (λ (q : List (List (List Item))). IsWorld c.args.mode (replicate c.args.n fresh) q) (sym c.in_ok-links.ensures) (IsWorld-start c.args.n c.args.mode))
