@@ -12,6 +12,7 @@ use std::process::Abort;
 use std::test::Fail;
 
 mod build;
+mod claims;
 mod search;
 
 /// a, b and c as in the picture of the README.
