@@ -1,6 +1,5 @@
 -- Entries that are followed one after another.
-use Rattle.std.proofs.Common.{◌≡◌, ◌≢◌, ℕ, suc, ◌+◌, ◌*◌, ◌<◌, ◌≤◌, Bool, List, [], ◌∷◌, ◌++◌, length, take, drop, get_or, inl, inr, Option, Some, None, sym, ap, ◌∙◌, subst, refl, arith}
-use Rattle.std.specs.List.{slice_get}
+use Rattle.std.proofs.Common.{◌≡◌, ℕ, ◌+◌, ◌*◌, ◌<◌, ◌≤◌, Bool, List, [], ◌∷◌, ◌++◌, length, take, drop, get_or, inl, inr, Option, Some, None, sym, ap, ◌∙◌, subst, arith}
 use Rattle.std.proofs.lemmas.Bool.{cases_lt}
 use Rattle.std.proofs.lemmas.List.{take-append-drop, drop_more, take_more, length-set, length-take-le}
 use Rattle.std.proofs.lemmas.Option.{slice_get_within, get_or_from_slice_get}
@@ -19,7 +18,7 @@ use Rattle.line_tape.proofs.LineLemmas.{Contains-past}
 use Rattle.line_check.specs.declared.faults.FaultCode.{FaultCode}
 use Rattle.line_check.specs.declared.faults.FaultCode.TheVariants.{NotTop, NotReceived, NotOrphan, LineDiffers, NotConsistent, BadShape}
 use Rattle.line_check.specs.Shape.{HasShape}
-use Rattle.line_check.specs.Verdict.{IsEntryFault, IsWrongEntry, IsFirstWrong, IsFirstFault}
+use Rattle.line_check.specs.Verdict.{IsEntryFault, IsEndFault, IsWrongEntry, IsFirstWrong, IsFirstFault}
 
 -- an entry that has a fault is not right
 fault-wrong : (history : List Process) (ceilings : List Choice) (entry : Passed) (code : FaultCode) → IsEntryFault history ceilings entry code → IsRight history ceilings entry → ⊥
@@ -74,10 +73,30 @@ module _ (history : List Process) (marks : MarksView) (failed : List Bool) where
   first-wrong-led entries line (Some k) code wrong led = wrong-led entries line k code wrong led
 
   -- two lines that the entries lead to are one
-  pub led-one : (entries : List Passed) (ceilings line : List Choice) → IsLed history marks failed entries ceilings → IsLed history marks failed entries line → ceilings ≡ line
+  led-one : (entries : List Passed) (ceilings line : List Choice) → IsLed history marks failed entries ceilings → IsLed history marks failed entries line → ceilings ≡ line
   led-one entries ceilings line = led-same (first_ceilings history marks failed) ceilings line entries
 
   -- a wrong entry of a claim with the shape is its first fault
   pub first-fault : (entries : List Passed) (line : List Choice) (at : Option ℕ) (code : FaultCode) → HasShape history marks failed entries line → IsFirstWrong history marks failed entries at code → IsFirstFault history marks failed entries line at code
   first-fault entries line None code shape wrong = absurd wrong
   first-fault entries line (Some k) code shape wrong = (shape, wrong)
+
+  -- no chain for the line ends with a fault
+  pub wrong-end-chain : (entries : List Passed) (ceilings line : List Choice) (code : FaultCode) → IsLed history marks failed entries ceilings → IsEndFault history ceilings line code → IsChain history marks failed entries line → ⊥
+  wrong-end-chain entries ceilings line LineDiffers led wrong chain = wrong (led-one entries ceilings line led chain.leads)
+  wrong-end-chain entries ceilings line NotConsistent led wrong chain = wrong.1 chain.consistent
+  wrong-end-chain entries ceilings line NotTop led wrong chain = wrong
+  wrong-end-chain entries ceilings line NotReceived led wrong chain = wrong
+  wrong-end-chain entries ceilings line NotOrphan led wrong chain = wrong
+  wrong-end-chain entries ceilings line BadShape led wrong chain = wrong
+
+  -- a fault at the end of a claim with the shape is its first one
+  pub last-fault : (entries : List Passed) (ceilings line : List Choice) (code : FaultCode) → HasShape history marks failed entries line → IsLed history marks failed entries ceilings → IsEndFault history ceilings line code → IsFirstFault history marks failed entries line None code
+  last-fault entries ceilings line LineDiffers shape led wrong =
+      (shape, record { ceilings = ceilings; before = led; wrong = wrong })
+  last-fault entries ceilings line NotConsistent shape led wrong =
+      (shape, record { ceilings = ceilings; before = led; wrong = wrong })
+  last-fault entries ceilings line NotTop shape led wrong = absurd wrong
+  last-fault entries ceilings line NotReceived shape led wrong = absurd wrong
+  last-fault entries ceilings line NotOrphan shape led wrong = absurd wrong
+  last-fault entries ceilings line BadShape shape led wrong = absurd wrong

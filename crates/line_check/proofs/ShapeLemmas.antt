@@ -1,5 +1,5 @@
 -- Marks of damage, mark by mark and process by process.
-use Rattle.std.proofs.Common.{◌≡◌, ℕ, ◌<◌, ◌==◌, Bool, true, List, [], length, get_or, slice_index_or, IsTrue, All, refl, sym, ◌∙◌, subst, inl, inr}
+use Rattle.std.proofs.Common.{◌≡◌, ℕ, ◌<◌, ◌==◌, true, List, [], length, get_or, slice_index_or, IsTrue, All, refl, ◌∙◌, subst, inl, inr}
 use Rattle.std.specs.List.{list_any}
 use Rattle.std.proofs.lemmas.Bool.{cases_lt, eqb-true, eq-eqb, false≢true}
 use Rattle.std.proofs.lemmas.List.{get_or_past}

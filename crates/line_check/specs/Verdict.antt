@@ -30,16 +30,31 @@ pub record IsWrongEntry (history : List Process) (marks : MarksView) (failed : L
   pub here : slice_get entries k ≡ Some entry
   pub wrong : IsEntryFault history ceilings entry code
 
--- what is wrong with a claim where no entry is: it names what the history does not have; or its entries lead elsewhere; or they lead to its line, which is not consistent
+-- what is wrong with the line at the ceilings that all entries lead to: it is another one; or it is that one, and not consistent
+abbrev pub IsEndFault : List Process → List Choice → List Choice → FaultCode → Type 0
+IsEndFault history ceilings line NotTop = ⊥
+IsEndFault history ceilings line NotReceived = ⊥
+IsEndFault history ceilings line NotOrphan = ⊥
+IsEndFault history ceilings line LineDiffers = ceilings ≢ line
+IsEndFault history ceilings line NotConsistent = (ceilings ≡ line) × (IsConsistent history line → ⊥)
+IsEndFault history ceilings line BadShape = ⊥
+
+-- no entry is wrong, and the line is at the ceilings that they lead to
+pub record IsWrongEnd (history : List Process) (marks : MarksView) (failed : List Bool) (entries : List Passed) (line : List Choice) (code : FaultCode) : Type 0 where
+  pub ceilings : List Choice
+  pub before : IsLed history marks failed entries ceilings
+  pub wrong : IsEndFault history ceilings line code
+
+-- what is wrong with a claim where no entry is: it names what the history does not have; or it names only that, and its line is wrong at the end
 abbrev pub IsClaimFault : List Process → MarksView → List Bool → List Passed → List Choice → FaultCode → Type 0
-IsClaimFault history marks failed entries line BadShape = HasShape history marks failed entries line → ⊥
-IsClaimFault history marks failed entries line LineDiffers =
-    HasShape history marks failed entries line × ((ceilings : List Choice) × IsLed history marks failed entries ceilings × (ceilings ≢ line))
-IsClaimFault history marks failed entries line NotConsistent =
-    HasShape history marks failed entries line × IsLed history marks failed entries line × (IsConsistent history line → ⊥)
 IsClaimFault history marks failed entries line NotTop = ⊥
 IsClaimFault history marks failed entries line NotReceived = ⊥
 IsClaimFault history marks failed entries line NotOrphan = ⊥
+IsClaimFault history marks failed entries line LineDiffers =
+    HasShape history marks failed entries line × IsWrongEnd history marks failed entries line LineDiffers
+IsClaimFault history marks failed entries line NotConsistent =
+    HasShape history marks failed entries line × IsWrongEnd history marks failed entries line NotConsistent
+IsClaimFault history marks failed entries line BadShape = HasShape history marks failed entries line → ⊥
 
 -- the first fault of a claim: of one of its entries, counted from 0, or of none
 abbrev pub IsFirstFault : List Process → MarksView → List Bool → List Passed → List Choice → Option ℕ → FaultCode → Type 0

@@ -5,7 +5,7 @@ ghost use Rattle.line_tape.specs.Height.{IsLed};
 ghost use Rattle.line_tape.specs.Line.{IsLine, IsConsistent};
 ghost use Rattle.line_tape.specs.Survival.{IsLatest};
 ghost use Rattle.line_check.specs.Shape.{IsEntryOf, HasShape};
-ghost use Rattle.line_check.specs.Verdict.{IsEntryFault, IsFirstWrong, IsFirstFault};
+ghost use Rattle.line_check.specs.Verdict.{IsEntryFault, IsEndFault, IsFirstWrong, IsFirstFault};
 
 use crate::faults::{CertFault, FaultCode, LineFault};
 use crate::shapes::has_shape;
@@ -84,6 +84,35 @@ fn follow(
     Ok(ceilings)
 }
 
+/// Whether two lines are one.
+fn is_same(a: &Line, b: &Line) -> bool
+    ensures { IsTrue result ↔ (a.now ≡ b.now) }
+{
+    a == b
+}
+
+/// Tests the line against the ceilings that all entries lead to.
+fn check_end(history: &History, ceilings: &Line, line: &Line) -> Result<(), FaultCode>
+    requires { IsLine history.now.processes line.now }
+    ensures right { IsOk result ↔ ((ceilings.now ≡ line.now) × IsConsistent history.now.processes line.now) }
+    ensures fault { IfErr result (IsEndFault history.now.processes ceilings.now line.now) }
+{
+    if !is_same(ceilings, line) {
+        return Err(FaultCode::LineDiffers);
+    }
+    if !is_consistent(history, line) {
+        return Err(FaultCode::NotConsistent);
+    }
+    Ok(())
+}
+
+/// A fault of the claim, and of none of its entries.
+fn of_no_entry(code: FaultCode) -> CertFault
+    ensures { result ≡ record { entry = None; code = code } }
+{
+    CertFault { entry: None, code }
+}
+
 /// Tests a claim: that the line is the latest for these marks and this failed set, as the entries of the certificate show.
 ///
 /// The ceilings start at the latest surviving choice of each process. An entry is right where its choice is the present ceiling of its process, and its message is received before that choice and not sent before the present ceiling of its sender; then that process is lowered to its next lower surviving choice. The entries are tested in their order, whatever order that is, and never against the final line. At the end the ceilings are the line, and it is consistent.
@@ -107,25 +136,8 @@ pub fn check_certificate(
         return Err(of_no_entry(FaultCode::BadShape));
     }
     let ceilings = follow(history, marks, failed, certificate)?;
-    if !is_same(&ceilings, line) {
-        return Err(of_no_entry(FaultCode::LineDiffers));
-    }
-    if !is_consistent(history, line) {
-        return Err(of_no_entry(FaultCode::NotConsistent));
+    if let Err(code) = check_end(history, &ceilings, line) {
+        return Err(of_no_entry(code));
     }
     Ok(())
-}
-
-/// Whether two lines are one.
-fn is_same(a: &Line, b: &Line) -> bool
-    ensures { IsTrue result ↔ (a.now ≡ b.now) }
-{
-    a == b
-}
-
-/// A fault of the claim, and of none of its entries.
-fn of_no_entry(code: FaultCode) -> CertFault
-    ensures { result ≡ record { entry = None; code = code } }
-{
-    CertFault { entry: None, code }
 }
