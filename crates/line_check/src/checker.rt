@@ -69,6 +69,7 @@ fn follow(
     ensures fault { IfErr result (λ fault.
         IsFirstWrong history.now.processes marks.now failed.now entries.now fault.entry fault.code) }
 {
+    // Its limits bound the number of entries that are right.
     let _n = history.n();
     let mut ceilings = first_ceilings(history, marks, failed);
     for (k, entry) in entries.iter().enumerate() {

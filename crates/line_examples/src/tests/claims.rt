@@ -155,7 +155,7 @@ fn fault_of_a_later_entry(rt: HostRuntime) -> Result<(), Fail> {
 #[test]
 fn misshapen_lines(rt: HostRuntime) -> Result<(), Fail> {
     let missing = [Choice::Check(7), Choice::Check(0)];
-    for line in [missing.as_slice(), BACK[..1].as_slice(), &[]] {
+    for line in [&missing[..], &BACK[..1], &BACK[..0]] {
         assert_eq!(rt;
             verdict_on_domino(rt.alloc(), line, &domino_entries()?)?,
             Some((None, 16))
