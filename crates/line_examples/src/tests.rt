@@ -14,6 +14,7 @@ use std::test::Fail;
 mod build;
 mod restarts;
 mod catalogues;
+mod claims;
 mod search;
 
 /// a, b and c as in the picture of the README.

@@ -1,0 +1,112 @@
+//! What is wrong with a line or with a claim.
+ghost use Rattle.std.specs.Prelude.{◌≡◌};
+
+use std::error::Error;
+use std::fmt;
+
+/// Why a line is refused.
+#[derive(Clone, Copy, Debug, PartialEq, Eq, Hash)]
+pub enum LineFault {
+    /// It has not one choice for each process, or a choice of a check that is not there.
+    BadShape,
+    /// A message is received before it that is not sent before it.
+    NotConsistent,
+}
+
+impl LineFault {
+    /// The number of the refusal, as verdicts show it.
+    pub fn code(self) -> u32
+        ensures shape { self ≡ LineFault.BadShape → result ≡ 16 }
+        ensures consistent { self ≡ LineFault.NotConsistent → result ≡ 15 }
+    {
+        match self {
+            LineFault::BadShape => 16,
+            LineFault::NotConsistent => 15,
+        }
+    }
+}
+
+impl fmt::Display for LineFault {
+    fn fmt<W: fmt::Write>(&self, f: &mut fmt::Formatter<W>) -> fmt::Result {
+        f.write_str(match self {
+            LineFault::BadShape => "the line names what the history does not have",
+            LineFault::NotConsistent => {
+                "a message is received before the line and not sent before it"
+            }
+        })
+    }
+}
+
+impl Error for LineFault {}
+
+/// What is wrong with a claim, or with one of its entries.
+#[derive(Clone, Copy, Debug, PartialEq, Eq, Hash)]
+pub enum FaultCode {
+    /// The entry's choice is not the present ceiling of its process.
+    NotTop,
+    /// The entry's message is not received before its choice.
+    NotReceived,
+    /// The entry's message is sent before the present ceiling of its sender.
+    NotOrphan,
+    /// The entries lead to another line.
+    LineDiffers,
+    /// A message is received before the line that is not sent before it.
+    NotConsistent,
+    /// The claim names what the history does not have.
+    BadShape,
+}
+
+impl FaultCode {
+    /// The number of the refusal, as verdicts show it.
+    pub fn code(self) -> u32
+        ensures top { self ≡ FaultCode.NotTop → result ≡ 11 }
+        ensures received { self ≡ FaultCode.NotReceived → result ≡ 12 }
+        ensures orphan { self ≡ FaultCode.NotOrphan → result ≡ 13 }
+        ensures differs { self ≡ FaultCode.LineDiffers → result ≡ 14 }
+        ensures consistent { self ≡ FaultCode.NotConsistent → result ≡ 15 }
+        ensures shape { self ≡ FaultCode.BadShape → result ≡ 16 }
+    {
+        match self {
+            FaultCode::NotTop => 11,
+            FaultCode::NotReceived => 12,
+            FaultCode::NotOrphan => 13,
+            FaultCode::LineDiffers => 14,
+            FaultCode::NotConsistent => 15,
+            FaultCode::BadShape => 16,
+        }
+    }
+}
+
+impl fmt::Display for FaultCode {
+    fn fmt<W: fmt::Write>(&self, f: &mut fmt::Formatter<W>) -> fmt::Result {
+        f.write_str(match self {
+            FaultCode::NotTop => "the choice is not the present ceiling of its process",
+            FaultCode::NotReceived => "the message is not received before the choice",
+            FaultCode::NotOrphan => "the message is sent before the present ceiling of its sender",
+            FaultCode::LineDiffers => "the entries lead to another line",
+            FaultCode::NotConsistent => {
+                "a message is received before the line and not sent before it"
+            }
+            FaultCode::BadShape => "the claim names what the history does not have",
+        })
+    }
+}
+
+/// Why a claim is refused: the first thing that is wrong with it.
+#[derive(Clone, Copy, Debug, PartialEq, Eq, Hash)]
+pub struct CertFault {
+    /// The entry that is wrong, counted from 0; none where the fault is no entry's.
+    pub entry: Option<u32>,
+    pub code: FaultCode,
+}
+
+impl fmt::Display for CertFault {
+    fn fmt<W: fmt::Write>(&self, f: &mut fmt::Formatter<W>) -> fmt::Result {
+        match self.entry {
+            Some(entry) => write!(f, "entry {entry}: {}", self.code),
+            None => write!(f, "{}", self.code),
+        }
+    }
+}
+
+impl Error for CertFault {}

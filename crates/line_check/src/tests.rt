@@ -1,0 +1,1 @@
+//! Claims worked by hand.
