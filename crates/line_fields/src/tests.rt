@@ -186,12 +186,28 @@ fn writes_records(rt: HostRuntime) -> Result<(), Fail> {
         b"\x00\xa1\xff",
     )?;
     put_send(&mut writer, &mut draft, 0, 0, b"")?;
-    let mut out = Vec::from_slice(rt.alloc(), b"tape,0,0\n")?;
-    writer.append_to(&mut out)?;
     assert_eq!(rt;
-        out.as_slice(),
-        b"tape,0,0\nsend,1,0,61\nsend,4294967295,65535,00a1ff\nsend,0,0,\n".as_slice()
+        writer.text(),
+        b"send,1,0,61\nsend,4294967295,65535,00a1ff\nsend,0,0,\n".as_slice()
     );
+    writer.clear();
+    assert_eq!(rt; writer.text().len(), 0);
+    put_send(&mut writer, &mut draft, 1, 0, b"a")?;
+    assert_eq!(rt; writer.text(), b"send,1,0,61\n".as_slice());
+    Ok(())
+}
+
+// More text than one writer of `csv` writes.
+#[test]
+fn writes_many_records(rt: HostRuntime) -> Result<(), Fail> {
+    let mut draft = Draft::new(rt.alloc());
+    draft.word(b"recover")?;
+    let mut writer = RecordWriter::new(rt.alloc());
+    for _ in 0..10_000 {
+        writer.put(&draft)?;
+    }
+    assert_eq!(rt; writer.text().len(), 80_000);
+    assert!(rt; writer.text().ends_with(b"recover\nrecover\n"));
     Ok(())
 }
 

@@ -1,6 +1,6 @@
 //! Records that are written, by `csv`.
 
-ghost use Rattle.std.specs.Prelude.{◌≡◌, ◌++◌, [], IfOk, IsTrue, OnErr, OnOk};
+ghost use Rattle.std.specs.Prelude.{◌≡◌, ◌++◌, [], IsTrue, OnErr, OnOk};
 ghost use Rattle.std.specs.List.{list_all};
 ghost use Rattle.csv.specs.Records.{fields_of};
 ghost use Rattle.line_fields.specs.Texts.{has_name, is_plain_field, record_text};
@@ -11,37 +11,44 @@ use csv::{ByteRecord, Error, Writer, WriterBuilder};
 use std::alloc::{AllocError, Global};
 use std::marker::Model;
 
+// Where the writer of `csv` has written so many bytes, another takes its place.
+const MOST_WRITTEN: usize = 32768;
+
 /// The text of the records that were put, each in a line of its own.
 ///
-/// It holds a buffer of some 8 KiB beside the text, so that one writer is best kept for many records.
+/// It holds a writer of `csv` with a buffer of some 8 KiB, and up to some 64 KiB more that this writer
+/// has written, beside the text. So one is best kept for many records, and its text taken away from
+/// time to time.
 #[derive(Drop)]
 pub struct RecordWriter {
     alloc: Global,
+    // It writes a record at a time, which is then added to the text: of what it leaves where a growth
+    // is refused nothing is known.
     writer: Writer<Vec<u8>>,
+    text: Vec<u8>,
 }
 
 impl Model for RecordWriter {
     ghost use Rattle.std.specs.Prelude.{ℕ, List};
-    ghost use Rattle.line_fields.specs.Writers.{IsWriting, text_of};
+    ghost use Rattle.line_fields.specs.Writers.{IsWriting};
 
     ghost Value = { List ℕ };
 
-    ghost view = { λ s. text_of s.writer };
+    ghost view = { λ s. s.text.items };
 
     ghost invariant = { λ s. IsWriting s.writer };
 }
 
 // A writer of `csv` over memory, for records of any lengths.
 fn writer_over(alloc: Global) -> Writer<Vec<u8>>
-    ensures writing { IsWriting result }
-    ensures text { text_of result ≡ [] }
+    ensures { IsWriting result }
 {
     WriterBuilder::new()
         .flexible(true)
         .from_writer(Vec::new(alloc))
 }
 
-// Writes a record whose fields need no quotes.
+// Writes a record whose fields need no quotes, and lets it out.
 fn write(writer: &mut Writer<Vec<u8>>, row: &ByteRecord) -> Result<(), Error>
     requires writing { IsWriting writer.old }
     requires plain { IsTrue (list_all is_plain_field (fields_of row.now)) }
@@ -49,7 +56,8 @@ fn write(writer: &mut Writer<Vec<u8>>, row: &ByteRecord) -> Result<(), Error>
     ensures writing { OnOk result (IsWriting writer.new) }
     ensures text { OnOk result (text_of writer.new ≡ text_of writer.old ++ record_text (fields_of row.now)) }
 {
-    writer.write_byte_record(row)
+    writer.write_byte_record(row)?;
+    writer.flush()
 }
 
 // An error of `csv` over memory is answered as want of memory.
@@ -57,21 +65,23 @@ fn let_go(_error: Error) -> AllocError {
     AllocError
 }
 
-// Writes such a record, or leaves a writer that has written nothing.
-fn write_or_empty(
+// Writes such a record behind some bytes, which stay as they are where a growth is refused.
+fn write_behind(
     alloc: Global,
     writer: &mut Writer<Vec<u8>>,
+    out: &mut Vec<u8>,
     row: &ByteRecord,
 ) -> Result<(), AllocError>
     requires writing { IsWriting writer.old }
     requires plain { IsTrue (list_all is_plain_field (fields_of row.now)) }
     requires named { IsTrue (has_name (fields_of row.now)) }
     ensures writing { IsWriting writer.new }
-    ensures ok { OnOk result (text_of writer.new ≡ text_of writer.old ++ record_text (fields_of row.now)) }
-    ensures err { OnErr result (text_of writer.new ≡ []) }
+    ensures ok { OnOk result (out.new.items ≡ out.old.items ++ record_text (fields_of row.now)) }
+    ensures err { OnErr result (out.new.items ≡ out.old.items) }
 {
+    let start = writer.get_ref().len();
     match write(writer, row) {
-        Ok(()) => Ok(()),
+        Ok(()) => out.extend_from_slice(&writer.get_ref()[start..]),
         Err(error) => {
             *writer = writer_over(alloc);
             Err(let_go(error))
@@ -87,38 +97,36 @@ impl RecordWriter {
         RecordWriter {
             alloc,
             writer: writer_over(alloc),
+            text: Vec::new(alloc),
         }
     }
 
     /// Writes a record behind those that were put before: its fields joined by commas, and a line feed.
     ///
-    /// Where a growth is refused, the records that were put before are lost too.
+    /// Where a growth is refused, the text stays as it was.
     pub fn put(&mut self, draft: &Draft) -> Result<(), AllocError>
         requires { IsTrue (has_name draft.now) }
         ensures ok { OnOk result (self.new ≡ self.old ++ record_text draft.now) }
-        ensures err { OnErr result (self.new ≡ []) }
+        ensures err { OnErr result (self.new ≡ self.old) }
     {
-        write_or_empty(self.alloc, &mut self.writer, &draft.record)
-    }
-
-    /// The text of all records that were put.
-    pub fn into_bytes(self) -> Result<Vec<u8>, AllocError>
-        ensures { IfOk result (λ v. v.items ≡ self) }
-    {
-        match self.writer.into_inner() {
-            Ok(bytes) => Ok(bytes),
-            Err(error) => Err(let_go(error.into_error())),
+        if self.writer.get_ref().len() > MOST_WRITTEN {
+            self.writer = writer_over(self.alloc);
         }
+        write_behind(self.alloc, &mut self.writer, &mut self.text, &draft.record)
     }
 
-    /// Adds the text of all records that were put to some bytes, which stay as they are where a growth
-    /// is refused.
-    pub fn append_to(self, out: &mut Vec<u8>) -> Result<(), AllocError>
-        ensures ok { OnOk result (out.new.items ≡ out.old.items ++ self) }
-        ensures err { OnErr result (out.new.items ≡ out.old.items) }
+    /// The text of the records that were put.
+    pub fn text(&self) -> &[u8]
+        ensures { result.now ≡ self.now }
     {
-        let text = self.into_bytes()?;
-        out.extend_from_slice(text.as_slice())
+        self.text.as_slice()
+    }
+
+    /// Takes the text away, and keeps its room for the records to come.
+    pub fn clear(&mut self)
+        ensures { self.new ≡ [] }
+    {
+        self.text.clear();
     }
 }
 
@@ -130,7 +138,6 @@ pub fn put_record(alloc: Global, out: &mut Vec<u8>, draft: &Draft) -> Result<(),
     ensures ok { OnOk result (out.new.items ≡ out.old.items ++ record_text draft.now) }
     ensures err { OnErr result (out.new.items ≡ out.old.items) }
 {
-    let mut writer = RecordWriter::new(alloc);
-    writer.put(draft)?;
-    writer.append_to(out)
+    let mut writer = writer_over(alloc);
+    write_behind(alloc, &mut writer, out, &draft.record)
 }

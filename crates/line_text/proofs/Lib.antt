@@ -1,3 +1,4 @@
+pub mod FaultLemmas
 pub mod RecoverLemmas
 pub mod ReadLemmas
 pub mod ReplyLemmas

@@ -1,5 +1,5 @@
 -- What a call that reads answers.
-use Rattle.std.specs.Prelude.{◌≡◌, ◌⊎◌, ℕ, Result, Ok, Err}
+use Rattle.std.specs.Prelude.{◌≡◌, ◌<◌, ◌⊎◌, ℕ, Result, Ok, Err}
 use Rattle.line_fields.specs.declared.faults.ReadError.{ReadError}
 use Rattle.line_fields.specs.declared.faults.ReadError.TheVariants as memory
 use Rattle.line_fields.specs.Faults.{code_of}
@@ -35,6 +35,10 @@ YieldsScript (Err e) read = FailsText e read
 -- want of memory, which is of no record
 abbrev pub no_memory : TextFault
 no_memory = record { record_number = 0; code = 0 }
+
+-- the fault is one of the text, by its number
+abbrev pub IsOfText : TextFault → Type 0
+IsOfText fault = (0 < fault.code) × (fault.code < 36)
 
 -- the script that was read or its first fault, unless memory ran out
 abbrev pub Reads : Result made.Script TextFault → Result Script TextFault → Type 0

@@ -62,6 +62,10 @@ line_of choices incarnations states p = line p (choice_at choices p) (slice_inde
 abbrev pub lines : List Choice → List ℕ → List (Option (List ℕ)) → List Record
 lines choices incarnations states = map (line_of choices incarnations states) (range_with_len 0 (length choices))
 
+-- the records of a recovery
+abbrev pub recovery : ℕ → List Choice → List ℕ → List (Option (List ℕ)) → List Record
+recovery sweeps choices incarnations states = recovered sweeps ∷ lines choices incarnations states
+
 -- refused,CODE,NAME
 abbrev pub refused : ℕ → Record
 refused code = codes "refused" ∷ decimal code ∷ name_of code ∷ []
@@ -71,7 +75,7 @@ abbrev pub reply_records : Reply → List Record
 reply_records (Sent message) = sent message ∷ []
 reply_records (Took message forced) = took message forced ∷ []
 reply_records (Checked at check) = checked at check ∷ []
-reply_records (Recovered plan states incarnations) = recovered plan.sweeps ∷ lines plan.line incarnations.items states.items
+reply_records (Recovered plan states incarnations) = recovery plan.sweeps plan.line incarnations.items states.items
 
 -- the number of a refused step
 abbrev pub refusal_code : StepError → ℕ

@@ -1,7 +1,8 @@
 -- What commands are told, and the text of a run.
-use Rattle.std.specs.Prelude.{◌≡◌, ◌≤◌, ℕ, ◌+◌, ◌++◌, Bool, true, false, List, [], ◌∷◌, Option, take, Ok}
+use Rattle.std.specs.Prelude.{◌≡◌, ◌<◌, ◌≤◌, ℕ, ◌+◌, ◌++◌, Bool, true, false, List, [], ◌∷◌, Option, Some, drop, length, take, Ok}
 use Rattle.std.specs.List.{count_by, flat_map}
-use Rattle.line_devices.specs.Devices.{Puts, PutsFront}
+use Rattle.line_devices.specs.Devices.{Puts, PutsFront, one_more}
+use Rattle.line_devices.specs.declared.sources.TheConstants.{MOST_INPUT}
 use Rattle.line_fields.specs.Records.{Record}
 use Rattle.line_fields.specs.Texts.{records_text}
 use Rattle.line_world.specs.declared.replies.Answer.TheVariants as answers
@@ -9,6 +10,8 @@ use Rattle.line_world.specs.Machine.{Machine, start}
 use Rattle.line_world.specs.Runs.{Takes}
 use Rattle.line_text.specs.declared.commands.Command.{Command}
 use Rattle.line_text.specs.declared.commands.Command.TheVariants as commands
+use Rattle.line_text.specs.declared.engines.Stop.{Stop}
+use Rattle.line_text.specs.declared.engines.Stop.TheVariants as stops
 use Rattle.line_text.specs.declared.engines.Told.{Told}
 use Rattle.line_text.specs.declared.engines.Told.TheVariants as told
 use Rattle.line_text.specs.Replies.{answer_records, refused}
@@ -47,27 +50,67 @@ text_of all = records_text (flat_map told_records all)
 abbrev pub refusals : List Told → ℕ
 refusals all = count_by is_refused all
 
--- the machine ran the whole script, and the text of the run was put
-pub record Runs (script : Script) (refused : ℕ) (old new : Option (List ℕ)) : Type 0 where
+-- the machine as a script begins
+abbrev pub first_of : Script → Machine
+first_of script = start script.n script.mode
+
+-- the machine ran these commands, so many of them refused, and the text of what they were told was put
+pub record Runs (first : Machine) (commands : List Command) (refused : ℕ) (old new : Option (List ℕ)) : Type 0 where
   pub told : List Told
   pub end : Machine
-  pub run : TellsAll (start script.n script.mode) script.commands told end
+  pub run : TellsAll first commands told end
   pub count : refused ≡ refusals told
   pub text : Puts old new (text_of told)
 
--- the machine ran the first commands of the script, and a front of the text of that run was put
-pub record RunsFront (script : Script) (old new : Option (List ℕ)) : Type 0 where
+-- the machine ran the first commands, and a front of the text of that run was put
+pub record RunsFront (first : Machine) (commands : List Command) (old new : Option (List ℕ)) : Type 0 where
   pub done : ℕ
   pub told : List Told
   pub end : Machine
-  pub run : TellsAll (start script.n script.mode) (take done script.commands) told end
+  pub run : TellsAll first (take done commands) told end
   pub text : PutsFront old new (text_of told)
+
+-- the first of these commands was told something or, for want of memory, nothing, and these bytes are a front of the text of that
+pub record BeginsReply (first : Machine) (commands : List Command) (bytes : List ℕ) : Type 0 where
+  pub told : List Told
+  pub end : Machine
+  pub rest : List ℕ
+  pub one : length told ≤ 1
+  pub run : TellsAll first (take (length told) commands) told end
+  pub text : text_of told ≡ bytes ++ rest
+
+-- the machine ran the commands before that record's; of what they were told, and a front of what that one was told, this holds
+pub record StopsAt (first : Machine) (commands : List Command) (record_number : ℕ) (Holds : List ℕ → Type 0) : Type 0 where
+  pub done : ℕ
+  pub told : List Told
+  pub end : Machine
+  pub own : List ℕ
+  pub at : record_number ≡ done + 2
+  pub run : TellsAll first (take done commands) told end
+  pub next : BeginsReply end (drop done commands) own
+  pub text : Holds (text_of told ++ own)
 
 -- the text spells a script that the machine ran whole, and the text of the run was put
 pub record RunsText (text : List ℕ) (refused : ℕ) (old new : Option (List ℕ)) : Type 0 where
   pub script : Script
   pub spelt : script_of_text text ≡ Ok script
-  pub runs : Runs script refused old new
+  pub runs : Runs (first_of script) script.commands refused old new
+
+-- the text spells a script, of whose run on its first commands a front was put
+pub record RunsTextFront (text : List ℕ) (old new : Option (List ℕ)) : Type 0 where
+  pub script : Script
+  pub spelt : script_of_text text ≡ Ok script
+  pub runs : RunsFront (first_of script) script.commands old new
+
+-- the text spells a script that the machine ran up to the command of that record; what was put is what the commands before it were told, and perhaps a front of what it was told
+pub record StopsText (text : List ℕ) (record_number : ℕ) (old new : Option (List ℕ)) : Type 0 where
+  pub script : Script
+  pub spelt : script_of_text text ≡ Ok script
+  pub runs : StopsAt (first_of script) script.commands record_number (Puts old new)
+
+-- the input is longer than it may be, where the source tells
+abbrev pub IsTooLong : Option (List ℕ) → Type 0
+IsTooLong left = (text : List ℕ) → left ≡ Some text → MOST_INPUT < length text
 
 -- a command was told something, which was written
 pub record Writes (old : Machine) (command : Command) (new : Machine) (text : List ℕ) (refused : ℕ) (later : List ℕ) (count : ℕ) : Type 0 where
@@ -76,16 +119,32 @@ pub record Writes (old : Machine) (command : Command) (new : Machine) (text : Li
   pub written : later ≡ text ++ records_text (told_records told)
   pub counted : count ≡ refused + refusals (told ∷ [])
 
--- the first commands were done, so many of them refused, and this is the text of what they were told
-pub record IsRunTo (old : Machine) (commands : List Command) (done : ℕ) (now : Machine) (refused : ℕ) (text : List ℕ) : Type 0 where
+-- a front of what a command was told was written, or nothing
+pub record WritesFront (old : Machine) (command : Command) (text later : List ℕ) : Type 0 where
+  pub own : List ℕ
+  pub next : BeginsReply old (command ∷ []) own
+  pub written : later ≡ text ++ own
+
+-- a text was put but for its end, which is held
+pub record PutsButEnd (old new : Option (List ℕ)) (held text : List ℕ) : Type 0 where
+  pub front : List ℕ
+  pub put : Puts old new front
+  pub parts : text ≡ front ++ held
+
+-- the first commands were done, so many of them refused, and the text of what they were told is put but for what is held
+pub record IsRunTo (first : Machine) (commands : List Command) (done : ℕ) (now : Machine) (refused : ℕ) (old new : Option (List ℕ)) (held : List ℕ) : Type 0 where
   pub told : List Told
-  pub run : TellsAll old (take done commands) told now
+  pub run : TellsAll first (take done commands) told now
   pub count : refused ≡ refusals told
   pub few : refused ≤ done
-  pub text_is : text ≡ text_of told
+  pub text : PutsButEnd old new held (text_of told)
 
--- the run stopped after the first commands, and this is the text of what they were told
-pub record StopsAt (old : Machine) (commands : List Command) (done : ℕ) (text : List ℕ) : Type 0 where
-  pub now : Machine
-  pub refused : ℕ
-  pub run : IsRunTo old commands done now refused text
+-- why commands were not done to their end, where this holds of the text of what they were told
+abbrev pub Stops : Stop → Machine → List Command → Option (List ℕ) → Option (List ℕ) → (List ℕ → Type 0) → Type 0
+Stops (stops.Memory record_number) first commands old new Holds = StopsAt first commands record_number Holds
+Stops stops.Write first commands old new Holds = RunsFront first commands old new
+
+-- a sink has one fault more where it failed, and none else
+abbrev pub Blames : Stop → ℕ → ℕ → Type 0
+Blames (stops.Memory record_number) old new = new ≡ old
+Blames stops.Write old new = new ≡ one_more old

@@ -77,14 +77,14 @@ fn mode_named(text: &[u8]) -> Result<Mode, Fault>
 #[tactic(auto, unfolding(crate::specs::Scripts::world_of))]
 pub(crate) fn world_of(row: &Row) -> Result<World, Fault>
     ensures exact { result ≡ spec.world_of row.now }
-    ensures few { IfOk result (λ world. world.n ≤ MOST_PROCESSES) }
+    ensures within { IfOk result (λ world. (1 ≤ world.n) × (world.n ≤ MOST_PROCESSES)) }
 {
     want(row.field(0) == b"world".as_slice(), Fault::NoWorld)?;
     want(row.len() == 4, Fault::BadRecord)?;
     let version = plain(row, 1)?;
     let n = plain(row, 2)?;
     want(version == 1, Fault::BadVersion)?;
-    want(1 <= n && n <= 64, Fault::BadCount)?;
+    want(1 <= n && n as usize <= MOST_PROCESSES, Fault::BadCount)?;
     let mode = mode_named(row.field(3))?;
     Ok(World { n, mode })
 }

@@ -1,11 +1,12 @@
 //! Scripts that are run: a text in, the text of the replies out.
 
-ghost use Rattle.std.specs.Prelude.{◌≡◌, ◌<◌, ◌++◌, ◌⊎◌, ℕ, List, [], Some, length, IfOk, IfErr, OnErr, OnOk};
+ghost use Rattle.std.specs.Prelude.{◌≡◌, ◌≢◌, ◌<◌, ◌≤◌, ◌++◌, ◌+◌, ◌^◌, ◌⊎◌, ℕ, List, [], Err, Some, length, IfOk, IfErr, OnErr, OnOk};
 ghost use Rattle.line_devices.specs.Devices.{Puts, PutsFront, one_more};
-ghost use Rattle.line_devices.specs.declared.sources.TheConstants.{MOST_INPUT};
 ghost use Rattle.line_fields.specs.Texts.{records_text};
-ghost use Rattle.line_text.specs.Reads.{seen};
+ghost use Rattle.line_names.specs.declared.limits.TheConstants.{MOST_PROCESSES};
+ghost use Rattle.line_text.specs.Reads.{IsOfText, no_memory, seen};
 ghost use Rattle.line_text.specs.Runs as spec;
+ghost use Rattle.line_text.specs.Scripts.{script_of_text};
 
 use crate::commands::Command;
 use crate::faults::TextFault;
@@ -13,16 +14,26 @@ use crate::replies::{put_answer, put_refusal};
 use crate::scripts::{Script, read_script};
 use line_devices::{DeviceFault, ReadRefused, Sink, Source, put_all, read_all};
 use line_fields::{Draft, RecordWriter};
+use line_tape::CountError;
 use line_world::{Answer, World};
 use std::alloc::{AllocError, Global};
 
-/// What a command is told.
-#[derive(Debug, Drop)]
-pub enum Told {
-    /// What the machine answered.
+// What a command is told.
+#[derive(Drop)]
+enum Told {
+    // What the machine answered.
     Answered(Answer),
-    /// The number of its refusal, before any step.
+    // The number of its refusal, before any step.
     Refused(u32),
+}
+
+// Why commands were not done to their end.
+#[derive(Clone, Copy)]
+enum Stop {
+    // Memory did not suffice for the command of that record.
+    Memory(u64),
+    // The sink failed.
+    Write,
 }
 
 /// A script that was run to its end.
@@ -35,6 +46,19 @@ pub struct Done {
 const READ_FAULT: u32 = 36;
 
 const WRITE_FAULT: u32 = 37;
+
+// Where so many bytes of replies are gathered, they are put.
+const BATCH: usize = 65536;
+
+// A fault of no record.
+fn fault_of(code: u32) -> TextFault
+    ensures { result ≡ record { record_number = 0; code = code } }
+{
+    TextFault {
+        record_number: 0,
+        code,
+    }
+}
 
 // Whether a command was refused.
 fn is_refused(told: &Told) -> bool
@@ -65,61 +89,77 @@ fn tell(alloc: Global, world: &mut World, command: &Command) -> Result<Told, All
     }
 }
 
-// Writes what a command is told behind these bytes, which stay as they are where a growth is refused.
-fn write_told(
-    alloc: Global,
-    draft: &mut Draft,
-    out: &mut Vec<u8>,
-    told: &Told,
-) -> Result<(), AllocError>
-    ensures ok { OnOk result (out.new.items ≡ out.old.items ++ records_text (spec.told_records told.now)) }
-    ensures err { OnErr result (out.new.items ≡ out.old.items) }
+// Writes what a command is told, or a front of it where a growth is refused.
+fn write_told(writer: &mut RecordWriter, draft: &mut Draft, told: &Told) -> Result<(), AllocError>
+    ensures ok { OnOk result (writer.new ≡ writer.old ++ records_text (spec.told_records told.now)) }
+    ensures err { OnErr result (PutsFront (Some writer.old) (Some writer.new) (records_text (spec.told_records told.now))) }
 {
-    let mut writer = RecordWriter::new(alloc);
     match told {
-        Told::Answered(answer) => put_answer(&mut writer, draft, answer)?,
-        Told::Refused(code) => put_refusal(&mut writer, draft, *code)?,
+        Told::Answered(answer) => put_answer(writer, draft, answer),
+        Told::Refused(code) => put_refusal(writer, draft, *code),
     }
-    writer.append_to(out)
 }
 
-// Does a command, and writes what it is told. Without memory the bytes stay as they are.
+// Does a command, and writes what it is told, or a front of it where memory does not suffice.
 fn do_command(
     alloc: Global,
     world: &mut World,
+    writer: &mut RecordWriter,
     draft: &mut Draft,
-    out: &mut Vec<u8>,
     refused: &mut u64,
     command: &Command,
 ) -> Result<(), AllocError>
     requires { refused.old < 18446744073709551615 }
-    ensures ok { OnOk result (spec.Writes world.old command.now world.new out.old.items refused.old out.new.items refused.new) }
-    ensures err { OnErr result (out.new.items ≡ out.old.items) }
+    ensures ok { OnOk result (spec.Writes world.old command.now world.new writer.old refused.old writer.new refused.new) }
+    ensures err { OnErr result (spec.WritesFront world.old command.now writer.old writer.new) }
 {
     let told = tell(alloc, world, command)?;
-    write_told(alloc, draft, out, &told)?;
+    write_told(writer, draft, &told)?;
     *refused += u64::from(is_refused(&told));
     Ok(())
 }
 
-// Does the commands one after another, and gathers the text of what they are told. It answers how many
-// were refused, or after how many commands memory did not suffice.
-fn do_commands(
+// Puts the replies that were gathered, where they are many.
+fn put_long<K: Sink>(sink: &mut K, writer: &mut RecordWriter) -> Result<(), DeviceFault>
+    ensures ok { OnOk result (spec.PutsButEnd (K.taken sink.old) (K.taken sink.new) writer.new writer.old) }
+    ensures err { OnErr result (PutsFront (K.taken sink.old) (K.taken sink.new) writer.old) }
+    ensures sound { OnOk result (K.faults sink.new ≡ K.faults sink.old) }
+    ensures failed { OnErr result (K.faults sink.new ≡ one_more (K.faults sink.old)) }
+{
+    if writer.text().len() < BATCH {
+        return Ok(());
+    }
+    put_all(sink, writer.text())?;
+    writer.clear();
+    Ok(())
+}
+
+// Does the commands one after another, and puts the text of what they are told but for an end, which it
+// leaves with the writer. It answers how many were refused.
+fn do_commands<K: Sink>(
     alloc: Global,
     world: &mut World,
     commands: &[Command],
-    out: &mut Vec<u8>,
-) -> Result<u64, u64>
-    requires { out.old.items ≡ [] }
-    ensures ok { IfOk result (λ refused. spec.IsRunTo world.old commands.now (length commands.now) world.new refused out.new.items) }
-    ensures err { IfErr result (λ done. spec.StopsAt world.old commands.now done out.new.items) }
+    sink: &mut K,
+    writer: &mut RecordWriter,
+) -> Result<u64, Stop>
+    requires empty { writer.old ≡ [] }
+    requires few { length commands.now + 2 < 2 ^ 64 }
+    ensures ok { IfOk result (λ refused. spec.IsRunTo world.old commands.now (length commands.now) world.new refused (K.taken sink.old) (K.taken sink.new) writer.new) }
+    ensures err { IfErr result (λ stop. spec.Stops stop world.old commands.now (K.taken sink.old) (K.taken sink.new) (spec.PutsButEnd (K.taken sink.old) (K.taken sink.new) writer.new)) }
+    ensures sound { OnOk result (K.faults sink.new ≡ K.faults sink.old) }
+    ensures blamed { IfErr result (λ stop. spec.Blames stop (K.faults sink.old) (K.faults sink.new)) }
 {
     let mut draft = Draft::new(alloc);
     let mut refused = 0u64;
     for (i, command) in commands.iter().enumerate() {
-        match do_command(alloc, world, &mut draft, out, &mut refused, command) {
+        match do_command(alloc, world, writer, &mut draft, &mut refused, command) {
             Ok(()) => {}
-            Err(_) => return Err(i as u64),
+            Err(_) => return Err(Stop::Memory(i as u64 + 2)),
+        }
+        match put_long(sink, writer) {
+            Ok(()) => {}
+            Err(_) => return Err(Stop::Write),
         }
     }
     Ok(refused)
@@ -129,79 +169,82 @@ fn do_commands(
 fn put<K: Sink>(sink: &mut K, bytes: &[u8]) -> Result<(), DeviceFault>
     ensures ok { OnOk result (Puts (K.taken sink.old) (K.taken sink.new) bytes.now) }
     ensures err { OnErr result (PutsFront (K.taken sink.old) (K.taken sink.new) bytes.now) }
+    ensures sound { OnOk result (K.faults sink.new ≡ K.faults sink.old) }
     ensures failed { OnErr result (K.faults sink.new ≡ one_more (K.faults sink.old)) }
 {
     put_all(sink, bytes)?;
     sink.finish()
 }
 
-// Runs a script from the machine's start, and puts the text of what its commands are told.
-fn run_script<K: Sink>(alloc: Global, script: &Script, sink: &mut K) -> Result<Done, TextFault>
-    ensures done { IfOk result (λ done. spec.Runs (seen script.now) done.refused (K.taken sink.old) (K.taken sink.new)) }
-    ensures front { OnErr result (spec.RunsFront (seen script.now) (K.taken sink.old) (K.taken sink.new)) }
-    ensures failed { IfErr result (λ fault. fault.code ≡ WRITE_FAULT → K.faults sink.new ≡ one_more (K.faults sink.old)) }
+// Does the commands one after another, and puts the text of what they are told. It answers how many were
+// refused.
+fn run_commands<K: Sink>(
+    alloc: Global,
+    world: &mut World,
+    commands: &[Command],
+    sink: &mut K,
+) -> Result<u64, TextFault>
+    requires { length commands.now + 2 < 2 ^ 64 }
+    ensures ok { IfOk result (λ refused. spec.Runs world.old commands.now refused (K.taken sink.old) (K.taken sink.new)) }
+    ensures write { IfErr result (λ fault. fault.code ≡ WRITE_FAULT
+        → (fault.record_number ≡ 0) × (K.faults sink.new ≡ one_more (K.faults sink.old))
+        × spec.RunsFront world.old commands.now (K.taken sink.old) (K.taken sink.new)) }
+    ensures memory { IfErr result (λ fault. fault.code ≡ 0 → spec.StopsAt world.old commands.now fault.record_number (Puts (K.taken sink.old) (K.taken sink.new))) }
+    ensures codes { IfErr result (λ fault. (fault.code ≡ 0) ⊎ (fault.code ≡ WRITE_FAULT)) }
+    ensures sound { OnOk result (K.faults sink.new ≡ K.faults sink.old) }
 {
-    let mut world = match World::new(alloc, script.n, script.mode) {
-        Ok(world) => world,
-        Err(error) => {
-            return Err(TextFault {
-                record_number: 0,
-                code: error.code(),
-            });
-        }
-    };
-    let mut out = Vec::new(alloc);
-    let ran = do_commands(alloc, &mut world, &script.commands, &mut out);
-    match put(sink, &out) {
-        Ok(()) => {}
-        Err(_) => {
-            return Err(TextFault {
-                record_number: 0,
-                code: WRITE_FAULT,
-            });
-        }
+    let mut writer = RecordWriter::new(alloc);
+    match do_commands(alloc, world, commands, sink, &mut writer) {
+        Ok(refused) => match put(sink, writer.text()) {
+            Ok(()) => Ok(refused),
+            Err(_) => Err(fault_of(WRITE_FAULT)),
+        },
+        Err(Stop::Memory(record_number)) => match put(sink, writer.text()) {
+            Ok(()) => Err(TextFault {
+                record_number,
+                code: 0,
+            }),
+            Err(_) => Err(fault_of(WRITE_FAULT)),
+        },
+        Err(Stop::Write) => Err(fault_of(WRITE_FAULT)),
     }
-    match ran {
-        Ok(refused) => Ok(Done { refused }),
-        Err(done) => Err(TextFault {
-            record_number: done.saturating_add(2),
-            code: 0,
-        }),
+}
+
+// The machine that a script begins with.
+fn world_of(alloc: Global, script: &Script) -> Result<World, TextFault>
+    requires { (1 ≤ script.now.n) × (script.now.n ≤ MOST_PROCESSES) }
+    ensures ok { IfOk result (λ world. world ≡ spec.first_of (seen script.now)) }
+    ensures err { IfErr result (λ fault. fault ≡ no_memory) }
+{
+    match World::new(alloc, script.n, script.mode) {
+        Ok(world) => Ok(world),
+        Err(CountError::OutOfMemory) => Err(fault_of(0)),
+        Err(CountError::BadCount) => unreachable!(),
     }
 }
 
 // Reads the whole input.
 fn read_input<S: Source>(alloc: Global, source: &mut S) -> Result<Vec<u8>, TextFault>
     ensures whole { IfOk result (λ text. (xs : List ℕ) → S.left source.old ≡ Some xs → text.items ≡ xs) }
+    ensures codes { IfErr result (λ fault. (fault ≡ no_memory) ⊎ (fault ≡ record { record_number = 0; code = READ_FAULT })) }
     ensures failed { IfErr result (λ fault. fault.code ≡ READ_FAULT
-        → (S.faults source.new ≡ one_more (S.faults source.old))
-        ⊎ ((xs : List ℕ) → S.left source.old ≡ Some xs → MOST_INPUT < length xs)) }
+        → (S.faults source.new ≡ one_more (S.faults source.old)) ⊎ spec.IsTooLong (S.left source.old)) }
 {
     match read_all(alloc, source) {
         Ok(text) => Ok(text),
-        Err(ReadRefused::OutOfMemory) => Err(TextFault {
-            record_number: 0,
-            code: 0,
-        }),
-        Err(ReadRefused::Failed) => Err(TextFault {
-            record_number: 0,
-            code: READ_FAULT,
-        }),
-        Err(ReadRefused::TooLong) => Err(TextFault {
-            record_number: 0,
-            code: READ_FAULT,
-        }),
+        Err(ReadRefused::OutOfMemory) => Err(fault_of(0)),
+        Err(ReadRefused::Failed) => Err(fault_of(READ_FAULT)),
+        Err(ReadRefused::TooLong) => Err(fault_of(READ_FAULT)),
     }
 }
 
 /// Reads a script, runs it, and writes the replies.
 ///
 /// The whole script is read, and every fault of it found, before the first command runs. A fault of the
-/// text is the first one, with the number of its record; `ReadFault` says that the source failed or
+/// text is the first one, with the number of its record. `ReadFault` says that the source failed or
 /// that the input is too long, and `WriteFault` that the sink failed, both of record 0. Where memory
-/// does not suffice for a command, the fault 0 has the number of its record, and the replies of the
-/// commands before it are written; elsewhere it is of record 0. It takes memory in proportion to the
-/// input and to the output, and puts the output in one piece.
+/// does not suffice for a command, the fault 0 has the number of its record; elsewhere it is of record
+/// 0. It takes memory in proportion to the input, and puts the replies in pieces of some 64 KiB.
 pub fn run_text<S: Source, K: Sink>(
     alloc: Global,
     source: &mut S,
@@ -209,8 +252,36 @@ pub fn run_text<S: Source, K: Sink>(
 ) -> Result<Done, TextFault>
     ensures done { IfOk result (λ done. (xs : List ℕ) → S.left source.old ≡ Some xs
         → spec.RunsText xs done.refused (K.taken sink.old) (K.taken sink.new)) }
+
+    // A fault of the text is its first, and then nothing is written.
+    ensures text { IfErr result (λ fault. IsOfText fault
+        → (sink.new ≡ sink.old) × ((xs : List ℕ) → S.left source.old ≡ Some xs → script_of_text xs ≡ Err fault)) }
+
+    // So it is where the source failed or the input is too long.
+    ensures read { IfErr result (λ fault. fault.code ≡ READ_FAULT
+        → (fault.record_number ≡ 0) × (sink.new ≡ sink.old)
+        × ((S.faults source.new ≡ one_more (S.faults source.old)) ⊎ spec.IsTooLong (S.left source.old))) }
+
+    // Where the sink failed, what it took is a front of the replies.
+    ensures write { IfErr result (λ fault. fault.code ≡ WRITE_FAULT
+        → (fault.record_number ≡ 0) × (K.faults sink.new ≡ one_more (K.faults sink.old))
+        × ((xs : List ℕ) → S.left source.old ≡ Some xs → spec.RunsTextFront xs (K.taken sink.old) (K.taken sink.new))) }
+
+    // Want of memory is of no record, and nothing is written, or it is of a command, and the replies to
+    // those before it are written, and perhaps a front of its own.
+    ensures memory { IfErr result (λ fault. fault.code ≡ 0
+        → ((fault.record_number ≡ 0) × (sink.new ≡ sink.old))
+        ⊎ ((xs : List ℕ) → S.left source.old ≡ Some xs → spec.StopsText xs fault.record_number (K.taken sink.old) (K.taken sink.new))) }
+
+    // There are no other faults, and a sound sink is not blamed.
+    ensures codes { IfErr result (λ fault. fault.code ≤ WRITE_FAULT) }
+    ensures sound { OnOk result (K.faults sink.new ≡ K.faults sink.old) }
 {
     let text = read_input(alloc, source)?;
     let script = read_script(alloc, &text)?;
-    run_script(alloc, &script, sink)
+    let mut world = world_of(alloc, &script)?;
+    match run_commands(alloc, &mut world, &script.commands, sink) {
+        Ok(refused) => Ok(Done { refused }),
+        Err(fault) => Err(fault),
+    }
 }

@@ -8,7 +8,7 @@ mod replies;
 mod scripts;
 
 pub use commands::Command;
-pub use engines::{Done, Told, run_text};
+pub use engines::{Done, run_text};
 pub use faults::{TextFault, name_of};
 pub use replies::{put_answer, put_refusal, put_reply, write_reply};
 pub use scripts::{Script, read_script};

@@ -1,6 +1,7 @@
 //! The records that are written for what the machine answers.
 
-ghost use Rattle.std.specs.Prelude.{◌≡◌, ◌<◌, ◌++◌, ◌∷◌, [], None, IfOk, IsTrue, OnOk, decimal, length, slice_index_or};
+ghost use Rattle.std.specs.Prelude.{◌≡◌, ◌<◌, ◌++◌, ◌∷◌, [], None, Some, IfOk, IsTrue, OnErr, OnOk, decimal, length, slice_index_or};
+ghost use Rattle.line_devices.specs.Devices.{PutsFront};
 ghost use Rattle.line_fields.specs.Texts.{is_plain_field, record_text, records_text};
 ghost use Rattle.line_text.specs.Replies as spec;
 
@@ -29,7 +30,8 @@ fn put_sent(
     draft: &mut Draft,
     message: MsgName,
 ) -> Result<(), AllocError>
-    ensures { OnOk result (writer.new ≡ writer.old ++ record_text (spec.sent message)) }
+    ensures ok { OnOk result (writer.new ≡ writer.old ++ record_text (spec.sent message)) }
+    ensures err { OnErr result (writer.new ≡ writer.old) }
 {
     begin(draft, b"sent", message)?;
     writer.put(draft)
@@ -52,7 +54,8 @@ fn put_took(
     message: MsgName,
     forced: Option<u32>,
 ) -> Result<(), AllocError>
-    ensures { OnOk result (writer.new ≡ writer.old ++ record_text (spec.took message forced)) }
+    ensures ok { OnOk result (writer.new ≡ writer.old ++ record_text (spec.took message forced)) }
+    ensures err { OnErr result (writer.new ≡ writer.old) }
 {
     begin(draft, b"took", message)?;
     add_round(draft, forced)?;
@@ -66,7 +69,8 @@ fn put_checked(
     at: ProcId,
     check: u32,
 ) -> Result<(), AllocError>
-    ensures { OnOk result (writer.new ≡ writer.old ++ record_text (spec.checked at check)) }
+    ensures ok { OnOk result (writer.new ≡ writer.old ++ record_text (spec.checked at check)) }
+    ensures err { OnErr result (writer.new ≡ writer.old) }
 {
     draft.clear();
     draft.word(b"checked")?;
@@ -81,7 +85,8 @@ fn put_recovered(
     draft: &mut Draft,
     sweeps: u32,
 ) -> Result<(), AllocError>
-    ensures { OnOk result (writer.new ≡ writer.old ++ record_text (spec.recovered sweeps)) }
+    ensures ok { OnOk result (writer.new ≡ writer.old ++ record_text (spec.recovered sweeps)) }
+    ensures err { OnErr result (writer.new ≡ writer.old) }
 {
     draft.clear();
     draft.word(b"recovered")?;
@@ -132,7 +137,8 @@ fn put_line(
     p: usize,
 ) -> Result<(), AllocError>
     requires { p < length choices.now }
-    ensures { OnOk result (writer.new ≡ writer.old ++ record_text (spec.line_of choices.now incarnations.now states.now p)) }
+    ensures ok { OnOk result (writer.new ≡ writer.old ++ record_text (spec.line_of choices.now incarnations.now states.now p)) }
+    ensures err { OnErr result (writer.new ≡ writer.old) }
 {
     draft.clear();
     draft.word(b"line")?;
@@ -151,7 +157,8 @@ fn put_lines(
     incarnations: &[u16],
     states: &[Option<State>],
 ) -> Result<(), AllocError>
-    ensures { OnOk result (writer.new ≡ writer.old ++ records_text (spec.lines choices.now incarnations.now states.now)) }
+    ensures ok { OnOk result (writer.new ≡ writer.old ++ records_text (spec.lines choices.now incarnations.now states.now)) }
+    ensures err { OnErr result (PutsFront (Some writer.old) (Some writer.new) (records_text (spec.lines choices.now incarnations.now states.now))) }
 {
     for p in 0..choices.len() {
         put_line(writer, draft, choices, incarnations, states, p)?;
@@ -159,16 +166,33 @@ fn put_lines(
     Ok(())
 }
 
+// Writes the records of a recovery, or a front of them where a growth is refused.
+fn put_recovery(
+    writer: &mut RecordWriter,
+    draft: &mut Draft,
+    sweeps: u32,
+    choices: &[Choice],
+    incarnations: &[u16],
+    states: &[Option<State>],
+) -> Result<(), AllocError>
+    ensures ok { OnOk result (writer.new ≡ writer.old ++ records_text (spec.recovery sweeps choices.now incarnations.now states.now)) }
+    ensures err { OnErr result (PutsFront (Some writer.old) (Some writer.new) (records_text (spec.recovery sweeps choices.now incarnations.now states.now))) }
+{
+    put_recovered(writer, draft, sweeps)?;
+    put_lines(writer, draft, choices, incarnations, states)
+}
+
 /// Writes the records of a reply behind those that were written before.
 ///
-/// Where a growth is refused, the records that were written before are lost too. The draft holds the
-/// last record afterwards, and may be used again.
+/// Where a growth is refused, a front of the reply may be written. The draft holds the last record
+/// afterwards, and may be used again.
 pub fn put_reply(
     writer: &mut RecordWriter,
     draft: &mut Draft,
     reply: &Reply,
 ) -> Result<(), AllocError>
-    ensures { OnOk result (writer.new ≡ writer.old ++ records_text (spec.reply_records reply.now)) }
+    ensures ok { OnOk result (writer.new ≡ writer.old ++ records_text (spec.reply_records reply.now)) }
+    ensures err { OnErr result (PutsFront (Some writer.old) (Some writer.new) (records_text (spec.reply_records reply.now))) }
 {
     match reply {
         Reply::Sent { message } => put_sent(writer, draft, *message),
@@ -178,28 +202,26 @@ pub fn put_reply(
             plan,
             states,
             incarnations,
-        } => {
-            put_recovered(writer, draft, plan.sweeps)?;
-            put_lines(
-                writer,
-                draft,
-                plan.line.choices(),
-                incarnations.as_slice(),
-                states.as_slice(),
-            )
-        }
+        } => put_recovery(
+            writer,
+            draft,
+            plan.sweeps,
+            plan.line.choices(),
+            incarnations.as_slice(),
+            states.as_slice(),
+        ),
     }
 }
 
-/// Writes `refused,CODE,NAME` behind the records that were written before.
-///
-/// Where a growth is refused, the records that were written before are lost too.
+/// Writes `refused,CODE,NAME` behind the records that were written before, which stay as they are where
+/// a growth is refused.
 pub fn put_refusal(
     writer: &mut RecordWriter,
     draft: &mut Draft,
     code: u32,
 ) -> Result<(), AllocError>
-    ensures { OnOk result (writer.new ≡ writer.old ++ record_text (spec.refused code)) }
+    ensures ok { OnOk result (writer.new ≡ writer.old ++ record_text (spec.refused code)) }
+    ensures err { OnErr result (writer.new ≡ writer.old) }
 {
     draft.clear();
     draft.word(b"refused")?;
@@ -217,13 +239,14 @@ fn refusal_code(error: StepError) -> u32
 
 /// Writes the records of a reply, or of a refusal, behind the records that were written before.
 ///
-/// Where a growth is refused, the records that were written before are lost too.
+/// Where a growth is refused, a front of them may be written.
 pub fn put_answer(
     writer: &mut RecordWriter,
     draft: &mut Draft,
     answer: &Answer,
 ) -> Result<(), AllocError>
-    ensures { OnOk result (writer.new ≡ writer.old ++ records_text (spec.answer_records answer.now)) }
+    ensures ok { OnOk result (writer.new ≡ writer.old ++ records_text (spec.answer_records answer.now)) }
+    ensures err { OnErr result (PutsFront (Some writer.old) (Some writer.new) (records_text (spec.answer_records answer.now))) }
 {
     match answer {
         Answer::Done(reply) => put_reply(writer, draft, reply),
@@ -238,5 +261,5 @@ pub fn write_reply(alloc: Global, reply: &Reply) -> Result<Vec<u8>, AllocError>
     let mut draft = Draft::new(alloc);
     let mut writer = RecordWriter::new(alloc);
     put_reply(&mut writer, &mut draft, reply)?;
-    writer.into_bytes()
+    Vec::from_slice(alloc, writer.text())
 }

@@ -1,9 +1,9 @@
 //! Scripts, read record by record.
 
-ghost use Rattle.std.specs.Prelude.{◌≡◌, ◌≤◌, ◌<◌, false, length, IfOk, IsSome};
+ghost use Rattle.std.specs.Prelude.{◌≡◌, ◌+◌, ◌^◌, ◌≤◌, ◌<◌, ◌⊎◌, false, length, IfErr, IfOk, IsSome};
 ghost use Rattle.line_names.specs.declared.limits.TheConstants.{MOST_PROCESSES};
 ghost use Rattle.line_text.specs.Scripts as spec;
-ghost use Rattle.line_text.specs.Reads.{Reads, Yields, YieldsScript};
+ghost use Rattle.line_text.specs.Reads.{IsOfText, Reads, Yields, YieldsScript, no_memory};
 
 use crate::commands::{Command, World, command_in, is_last, world_of};
 use crate::faults::{TextError, TextFault, error_at, fault_at};
@@ -25,7 +25,7 @@ pub struct Script {
 // What the first record says.
 fn world_at(row: &Row) -> Result<World, TextError>
     ensures exact { Yields result (spec.numbered 1 (spec.world_of row.now)) }
-    ensures few { IfOk result (λ world. world.n ≤ MOST_PROCESSES) }
+    ensures within { IfOk result (λ world. (1 ≤ world.n) × (world.n ≤ MOST_PROCESSES)) }
 {
     match world_of(row) {
         Ok(world) => Ok(world),
@@ -52,7 +52,9 @@ fn command_at(
 
 // The script that a text spells.
 fn read(alloc: Global, text: &[u8]) -> Result<Script, TextError>
-    ensures { YieldsScript result (spec.script_of_text text.now) }
+    ensures exact { YieldsScript result (spec.script_of_text text.now) }
+    ensures within { IfOk result (λ script. (1 ≤ script.n) × (script.n ≤ MOST_PROCESSES)) }
+    ensures few { IfOk result (λ script. length script.commands.items + 2 < 2 ^ 64) }
 {
     if !is_plain(text) {
         return Err(fault_at(0, Fault::BadRecord));
@@ -88,7 +90,10 @@ fn read(alloc: Global, text: &[u8]) -> Result<Script, TextError>
 /// comes before all else; a text without records wants its first one. Want of memory, at any time, is
 /// the fault 0 of record 0. It takes time and memory in proportion to the text.
 pub fn read_script(alloc: Global, text: &[u8]) -> Result<Script, TextFault>
-    ensures { Reads result (spec.script_of_text text.now) }
+    ensures exact { Reads result (spec.script_of_text text.now) }
+    ensures codes { IfErr result (λ fault. (fault ≡ no_memory) ⊎ IsOfText fault) }
+    ensures within { IfOk result (λ script. (1 ≤ script.n) × (script.n ≤ MOST_PROCESSES)) }
+    ensures few { IfOk result (λ script. length script.commands.items + 2 < 2 ^ 64) }
 {
     match read(alloc, text) {
         Ok(script) => Ok(script),

@@ -302,9 +302,8 @@ fn writes_refusals(rt: HostRuntime) -> Result<(), Fail> {
     ] {
         put_answer(&mut writer, &mut draft, &Answer::Refused(error))?;
     }
-    let text = writer.into_bytes()?;
     assert_eq!(rt;
-        text.as_slice(),
+        writer.text(),
         b"refused,1,NoSuchProcess\nrefused,2,BodyTooLong\nrefused,3,TapeFull\nrefused,5,StateTooLong\nrefused,17,ToSelf\nrefused,18,LinkEmpty\nrefused,19,BadPick\nrefused,24,NoMoreIncarnations\n".as_slice()
     );
     Ok(())

@@ -1,25 +1,18 @@
--- One command more was done, and what it was told is written behind what the others were.
-use Rattle.std.proofs.Common.{◌≡◌, ◌≤◌, ◌+◌, ◌++◌, ◌∷◌, [], List, ℕ, take, sym, ap, ◌∙◌, subst, arith}
-use Rattle.std.proofs.lemmas.List.{take_more}
-use Rattle.line_fields.specs.Texts.{records_text}
-use Rattle.line_text.specs.declared.commands.Command.{Command}
-use Rattle.line_text.specs.declared.engines.Told.{Told}
-use Rattle.line_text.specs.Runs.{told_records, text_of, refusals, TellsAll, Writes, IsRunTo}
-use Rattle.line_text.proofs.RunLemmas.{TellsAll-push, text_of-push, refusals-push, refusals_one}
+use Rattle.std.proofs.Common.{◌∙◌, refl, arith}
+use Rattle.line_text.proofs.RunLemmas.{front_at, goes_on, starts, stops_at}
 use Rattle.line_text.proofs.engines.do_commands.Goals as goal
 
+pub loop-i-init : goal.loop-i-init
+loop-i-init g c = record { run = starts _ _ _ _ c.requires.empty; sound = refl }
+
+pub returns-in-Err-clause-err : goal.returns-in-Err-clause-err
+returns-in-Err-clause-err g c = stops_at _ _ _ _ _ _ _ _ _ _ (omega arith) c.index-commands-i.is c.loop-i.invariant.run c.in-Err.ensures.err
+
+pub returns-in-Err-put_long-clause-err : goal.returns-in-Err-put_long-clause-err
+returns-in-Err-put_long-clause-err g c = front_at _ _ _ _ _ _ _ _ _ _ _ _ _ (omega arith) c.index-commands-i.is c.loop-i.invariant.run c.in-Ok.ensures.ok c.in-Err-put_long.ensures.err
+
 pub loop-i-preserved : goal.loop-i-preserved
-loop-i-preserved c =
-    let commands : List Command = c.args.commands.now in
-    let command : Command = c.index-commands-i.result in
-    let before : IsRunTo c.args.world.now commands c.loop-i.i c.loop-i.world c.loop-i.refused c.loop-i.out.items = c.loop-i.invariant in
-    let wrote : Writes c.loop-i.world command c.do_command.new.world c.loop-i.out.items c.loop-i.refused c.do_command.new.out.items c.do_command.new.refused = c.in-Ok.ensures.ok in
-    let more : take (c.loop-i.i + 1) commands ≡ take c.loop-i.i commands ++ command ∷ [] = take_more commands c.loop-i.i command (omega arith) ∙ ap (λ (x : Command). take c.loop-i.i commands ++ x ∷ []) (sym c.index-commands-i.is) in
-    let told : List Told = before.told ++ wrote.told ∷ [] in
-    record {
-      told = told;
-      run = subst (λ (cs : List Command). TellsAll c.args.world.now cs told c.do_command.new.world) (sym more) (TellsAll-push c.args.world.now c.loop-i.world c.do_command.new.world (take c.loop-i.i commands) before.told command wrote.told before.run wrote.tells);
-      count = wrote.counted ∙ ap (λ n. n + refusals (wrote.told ∷ [])) before.count ∙ sym (refusals-push before.told wrote.told);
-      few = omega (arith, wrote.counted, before.few, refusals_one wrote.told);
-      text_is = wrote.written ∙ ap (λ (xs : List ℕ). xs ++ records_text (told_records wrote.told)) before.text_is ∙ sym (text_of-push before.told wrote.told);
-    }
+loop-i-preserved g c = record {
+  run = goes_on _ _ _ _ _ _ _ _ _ _ _ _ _ _ (omega arith) c.index-commands-i.is c.loop-i.invariant.run c.in-Ok.ensures.ok c.in-Ok-put_long.ensures.ok;
+  sound = c.in-Ok-put_long.ensures.sound ∙ c.loop-i.invariant.sound;
+}

@@ -1,0 +1,15 @@
+-- Memory did not suffice for a command, and then the sink failed: a front of what was told is put.
+use Rattle.std.proofs.Common.{refl, ap, ◌∙◌}
+use Rattle.line_devices.specs.Devices.{one_more}
+use Rattle.line_text.proofs.RunLemmas.{puts_front_of_held, stops_front, stops_with}
+use Rattle.line_text.proofs.engines.run_commands.Goals as goal
+
+pub returns-in-Err-Memory-clause-write : goal.returns-in-Err-Memory-clause-write
+returns-in-Err-Memory-clause-write g c code =
+    let stopped = rw c.in-Err-Memory.field-0-is at c.in-Err-Memory.ensures.err in
+    let blamed = rw c.in-Err-Memory.field-0-is at c.in-Err-Memory.ensures.blamed in
+    let front = rw c.text-in-Err-Memory.ensures at c.in-Err-put.ensures.err in (
+      rw c.fault_of-in-Err-put.ensures refl,
+      c.in-Err-put.ensures.failed ∙ ap one_more blamed,
+      stops_front _ _ _ _ _ (stops_with _ _ _ _ _ (λ text held. puts_front_of_held _ _ _ _ text held front) stopped),
+    )
