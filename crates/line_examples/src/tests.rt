@@ -13,6 +13,7 @@ use std::test::Fail;
 
 mod build;
 mod catalogues;
+mod restarts;
 mod search;
 
 /// a, b and c as in the picture of the README.

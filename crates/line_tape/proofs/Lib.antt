@@ -7,3 +7,8 @@ pub mod ChainLemmas
 pub mod LineLemmas
 pub mod NextLemmas
 pub mod LedLemmas
+pub mod CutLemmas
+pub mod RoomLemmas
+pub mod EachLemmas
+pub mod HistoryCuts
+pub mod TransitLemmas

@@ -14,13 +14,14 @@ mod marks;
 mod receipts;
 mod survival;
 mod tapes;
+mod transits;
 
 pub use events::{Event, State};
 pub use fits::event_fits;
 pub use histories::{CountError, History, HistoryError};
 pub use items::Item;
 pub use laws::chain_makes_latest;
-pub use limits::{MOST_EVENTS, MOST_STATE};
+pub use limits::{LAST_INCARNATION, MOST_EVENTS, MOST_STATE};
 pub use lines::{is_consistent, is_line, is_sent_before, orphan_at};
 pub use marks::{MarkError, Marks};
 pub use survival::{first_ceilings, latest_choice, next_lower, survives};

@@ -1,9 +1,10 @@
 //! Marks of damage.
-ghost use Rattle.std.specs.Prelude.{◌≡◌, ◌≢◌, ◌<◌, ◌≤◌, ◌↔◌, [], IsTrue, length, replicate, slice_index_or, IfOk, OnOk, OnErr, IsErrOf};
+ghost use Rattle.std.specs.Prelude.{◌≡◌, ◌≢◌, ◌<◌, ◌≤◌, ◌↔◌, [], IsTrue, length, filter, replicate, slice_index_or, IfOk, OnOk, OnErr, IsErrOf};
+ghost use Rattle.line_tape.specs.Restart.{is_kept, restarted_marks};
 ghost use Rattle.line_tape.specs.Survival.{is_damaged};
 ghost use Rattle.line_tape.specs.Views.{with_mark};
 
-use line_names::ProcId;
+use line_names::{Choice, Line, ProcId};
 use std::alloc::{AllocError, Global};
 use std::error::Error;
 use std::fmt;
@@ -21,6 +22,18 @@ impl Model for Damaged {
     ghost Value = { List ℕ };
 
     ghost view = { λ d. d.checks.items };
+}
+
+impl Damaged {
+    /// Takes the marks off the checks that come after a choice.
+    fn restart(&mut self, choice: Choice)
+        ensures { self.new ≡ filter (is_kept choice) self.old }
+    {
+        match choice {
+            Choice::Check(last) => self.checks.retain(|check| *check <= last),
+            Choice::Now => {}
+        }
+    }
 }
 
 /// Which checks are damaged, process by process.
@@ -73,6 +86,17 @@ impl Marks {
         let damaged = &mut self.damaged[p.get() as usize];
         damaged.checks.push(check).map_err(AllocError::from)?;
         Ok(())
+    }
+
+    /// Takes the marks off the checks that a restart at a line cuts off. It takes no memory.
+    pub fn restart(&mut self, line: &Line)
+        requires { length self.old.damaged ≤ length line.now }
+        ensures { self.new ≡ restarted_marks self.old line.now }
+    {
+        let choices = line.choices();
+        for p in 0..self.damaged.len() {
+            self.damaged[p].restart(choices[p]);
+        }
     }
 
     /// Whether a check carries a mark. It looks at each mark of the process.
