@@ -11,7 +11,7 @@ use Rattle.line_names.specs.Lines.{choice_at}
 use Rattle.line_tape.specs.declared.events.Event.{Event}
 use Rattle.line_tape.specs.declared.events.Event.TheVariants.{Send, Recv, Check, Mark}
 use Rattle.line_tape.specs.Event.{is_check, checks, incarnations_sent, Holds}
-use Rattle.line_tape.specs.Front.{check_place, front, HasChoice}
+use Rattle.line_tape.specs.Front.{check_place, place, front, HasChoice}
 use Rattle.line_tape.specs.History.{Process, fresh, tape_at}
 use Rattle.line_tape.specs.Line.{events_before, IsLine, IsConsistent, IsSentBefore}
 use Rattle.line_tape.specs.Restart.{restarted, restarted_event, restarted_process, restarted_damage, restarted_marks, is_kept}
@@ -97,7 +97,7 @@ module _ (history : List Process) (line : List Choice) (is_line : IsLine history
 
   -- no more than there were
   pub checks-fewer : (p : ℕ) → p < length history → checks (tape_at (restarted history line) p) ≤ checks (tape_at history p)
-  checks-fewer p within = omega (arith, checks-restarted p within, checks_take (tape_at history p) _)
+  checks-fewer p within = omega (arith, checks-restarted p within, checks_take (tape_at history p) (place (tape_at history p) (choice_at line p)))
 
   module _ (marks : MarksView) (count : length marks.damaged ≡ length history) where
     -- as many processes as there were

@@ -1,5 +1,5 @@
 -- One mark more, and its row.
-use Rattle.std.proofs.Common.{◌≡◌, ◌+◌, ◌++◌, ◌∷◌, [], ◌≤◌, List, ℕ, take, get_or, sym, subst}
+use Rattle.std.proofs.Common.{◌≡◌, ◌+◌, ◌++◌, ◌∷◌, [], ◌≤◌, List, ℕ, take, get_or, sym, subst, arith}
 use Rattle.std.proofs.lemmas.List.{take_more}
 use Rattle.line_tape.specs.declared.events.Event.{Event}
 use Rattle.line_tape.specs.Event.{checks}
