@@ -1,26 +1,25 @@
 -- A catalogue whose processes went on from their choices of a consistent line.
-use Rattle.std.proofs.Common.{◌≡◌, ℕ, zero, suc, ◌+◌, ◌<◌, ◌≤◌, Bool, true, false, cond, List, [], ◌∷◌, length, take, get_or, filter, ◌⊎◌, inl, inr, Option, Some, refl, sym, ap, ◌∙◌, subst, arith}
+use Rattle.std.proofs.Common.{◌≡◌, ℕ, zero, suc, ◌<◌, ◌≤◌, Bool, true, false, cond, List, [], ◌∷◌, length, take, get_or, filter, inl, inr, Some, refl, sym, ap, ◌∙◌, subst, arith}
 use Rattle.std.specs.List.{All, AllByRecursion, Contains, filter_map, slice_get}
 use Rattle.std.proofs.lemmas.Bool.{cases_lt, leb-true}
-use Rattle.std.proofs.lemmas.List.{take_all, get_or_past}
-use Rattle.std.proofs.lemmas.List.Elements.{All-filter, All-weaker, All-nil, All-contains_itself, All-from_recursion}
+use Rattle.std.proofs.lemmas.List.{take_all}
+use Rattle.std.proofs.lemmas.List.Elements.{All-filter, All-weaker, All-contains_itself, All-from_recursion}
 use Rattle.line_names.specs.declared.choices.Choice.{Choice}
 use Rattle.line_names.specs.declared.choices.Choice.TheVariants.{Check as AtCheck, Now}
-use Rattle.line_names.specs.declared.messages.MsgName.{MsgName}
 use Rattle.line_names.specs.Lines.{choice_at}
 use Rattle.line_tape.specs.declared.events.Event.{Event}
 use Rattle.line_tape.specs.declared.events.Event.TheVariants.{Send, Recv, Check, Mark}
-use Rattle.line_tape.specs.Event.{is_check, checks, incarnations_sent, Holds}
+use Rattle.line_tape.specs.Event.{is_check, checks, incarnations_sent}
 use Rattle.line_tape.specs.Front.{check_place, place, front, HasChoice}
 use Rattle.line_tape.specs.History.{Process, fresh, tape_at}
 use Rattle.line_tape.specs.Line.{events_before, IsLine, IsConsistent, IsSentBefore}
-use Rattle.line_tape.specs.Restart.{restarted, restarted_event, restarted_process, restarted_damage, restarted_marks, is_kept}
+use Rattle.line_tape.specs.Restart.{restarted, restarted_event, restarted_process, restarted_marks, is_kept}
 use Rattle.line_tape.specs.Views.{MarksView}
 use Rattle.line_tape.proofs.CutLemmas.{checks_left, checks_take, received_left, sent_left}
 use Rattle.line_tape.proofs.EachLemmas.{each_at, length-each, restarted-each, damage-each, kept_damage}
 use Rattle.line_tape.proofs.LineLemmas.{front-empty, tape_at-past}
 use Rattle.line_catalogue.specs.declared.rows.Row.{Row}
-use Rattle.line_catalogue.specs.Agreement.{NameAgrees, EventAgrees, Agrees}
+use Rattle.line_catalogue.specs.Agreement.{EventAgrees, Agrees}
 use Rattle.line_catalogue.specs.Damage.{damaged_at, AreOnChecks}
 use Rattle.line_catalogue.specs.Kept.{rows_at, IsCatalogue}
 use Rattle.line_catalogue.specs.Rows.{AreRows}
@@ -87,9 +86,9 @@ module _ (history : List Process) (line : List Choice) (is_line : IsLine history
   -- the history goes on to agree
   pub Agrees-restarted : IsConsistent history line → Agrees (restarted history line)
   Agrees-restarted consistent = Agrees-below (restarted history line) (λ q h.
-    let left : List Event = filter_map restarted_event (events_before history line q) in
-    let within : q < length history = omega (arith, length-restarted) in
-    subst (All (EventAgrees (restarted history line))) (sym (tape-restarted q within)) (All-weaker (Contains left) (EventAgrees (restarted history line)) (EventAgrees-left consistent q) left (All-contains_itself left)))
+      let left : List Event = filter_map restarted_event (events_before history line q) in
+      let within : q < length history = omega (arith, length-restarted) in
+      subst (All (EventAgrees (restarted history line))) (sym (tape-restarted q within)) (All-weaker (Contains left) (EventAgrees (restarted history line)) (EventAgrees-left consistent q) left (All-contains_itself left)))
 
   -- the checks of what is left
   checks-restarted : (p : ℕ) → p < length history → checks (tape_at (restarted history line) p) ≡ checks (events_before history line p)
@@ -112,13 +111,13 @@ module _ (history : List Process) (line : List Choice) (is_line : IsLine history
     -- they are on checks that are left
     pub AreOnChecks-restarted : AreOnChecks history marks → AreOnChecks (restarted history line) (restarted_marks marks line)
     AreOnChecks-restarted on = AreOnChecks-below (restarted history line) (restarted_marks marks line) (length-marks ∙ sym length-restarted) (λ p h.
-      let within : p < length history = omega (arith, length-restarted) in
-      let choice : Choice = choice_at line p in
-      let kept : List ℕ = filter (is_kept choice) (damaged_at marks p) in
-      let there : All (λ check. check ≤ checks (tape_at history p)) kept = All-filter (is_kept choice) (λ check. check ≤ checks (tape_at history p)) (damaged_at marks p) (on.each p) in
-      let pass : All (λ check. is_kept choice check ≡ true) kept = All-from_recursion (λ check. is_kept choice check ≡ true) kept (passes (is_kept choice) (damaged_at marks p)) in
-      let left : All (λ check. check ≤ checks (tape_at (restarted history line) p)) kept = λ k d l. omega (arith, checks-restarted p within, kept_within (tape_at history p) choice (get_or kept k d) (is_line.exist p) (there k d l) (pass k d l)) in
-      subst (All (λ check. check ≤ checks (tape_at (restarted history line) p))) (sym (marks-restarted p within)) left)
+        let within : p < length history = omega (arith, length-restarted) in
+        let choice : Choice = choice_at line p in
+        let kept : List ℕ = filter (is_kept choice) (damaged_at marks p) in
+        let there : All (λ check. check ≤ checks (tape_at history p)) kept = All-filter (is_kept choice) (λ check. check ≤ checks (tape_at history p)) (damaged_at marks p) (on.each p) in
+        let pass : All (λ check. is_kept choice check ≡ true) kept = All-from_recursion (λ check. is_kept choice check ≡ true) kept (passes (is_kept choice) (damaged_at marks p)) in
+        let left : All (λ check. check ≤ checks (tape_at (restarted history line) p)) kept = λ k d l. omega (arith, checks-restarted p within, kept_within (tape_at history p) choice (get_or kept k d) (is_line.exist p) (there k d l) (pass k d l)) in
+        subst (All (λ check. check ≤ checks (tape_at (restarted history line) p))) (sym (marks-restarted p within)) left)
 
 module _ (history : List Process) (marks : MarksView) (rows : List (List Row)) (line : List Choice) (is : IsCatalogue history marks rows) (is_line : IsLine history line) where
   -- what the rows are made anew from

@@ -202,7 +202,11 @@ impl RowTable {
         let n = history.n();
         for q in 0..n {
             let p = ProcId::try_new(q, n).unwrap();
-            refill_process(&mut self.table[q as usize], history.tape(p), marks.checks(q as usize));
+            refill_process(
+                &mut self.table[q as usize],
+                history.tape(p),
+                marks.checks(q as usize),
+            );
         }
     }
 }

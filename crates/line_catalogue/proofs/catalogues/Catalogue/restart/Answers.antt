@@ -1,5 +1,5 @@
 -- What is left agrees, its marks are on its checks, and the rows are made anew for it.
-use Rattle.std.proofs.Common.{◌≡◌, ℕ, ◌<◌, ◌≤◌, List, length, get_or, sym, ap, ◌∙◌, subst, arith}
+use Rattle.std.proofs.Common.{◌≡◌, ℕ, ◌<◌, List, length, sym, ap, ◌∙◌, subst}
 use Rattle.line_names.specs.declared.choices.Choice.{Choice}
 use Rattle.line_tape.specs.Event.{checks}
 use Rattle.line_tape.specs.History.{Process, tape_at}
@@ -62,6 +62,6 @@ invariant_of-self c =
     let consistent : IsConsistent history line = subst (λ (xs : List Process). IsConsistent xs line) (sym seen) c.requires.consistent in
     let count : length new ≡ length (restarted history line) = c.restart-3.ensures.count ∙ ap (λ (h : List Process). length h) c.restart.ensures.processes in
     let shown : (p : ℕ) → p < length (restarted history line) → AreRows (tape_at (restarted history line) p) (damaged_at (restarted_marks marks line) p) (rows_at new p) =
-      subst (λ (h : List Process). (p : ℕ) → p < length h → AreRows (tape_at h p) (damaged_at (restarted_marks marks line) p) (rows_at new p)) c.restart.ensures.processes
-        (subst (λ (m : MarksView). (p : ℕ) → p < length c.restart.new.self.processes → AreRows (tape_at c.restart.new.self.processes p) (damaged_at m p) (rows_at new p)) c.restart-2.ensures c.restart-3.ensures.shown) in
+    subst (λ (h : List Process). (p : ℕ) → p < length h → AreRows (tape_at h p) (damaged_at (restarted_marks marks line) p) (rows_at new p)) c.restart.ensures.processes
+    (subst (λ (m : MarksView). (p : ℕ) → p < length c.restart.new.self.processes → AreRows (tape_at c.restart.new.self.processes p) (damaged_at m p) (rows_at new p)) c.restart-2.ensures c.restart-3.ensures.shown) in
     subst (λ (h : List Process). IsCatalogue h c.restart-2.new.self new) (sym c.restart.ensures.processes) (subst (λ (m : MarksView). IsCatalogue (restarted history line) m new) (sym c.restart-2.ensures) (IsCatalogue-restarted history marks rows line c.self.invariant is_line new consistent count shown))
