@@ -130,11 +130,7 @@ fn sweep(
 /// The ceilings start at each process's latest surviving choice. A sweep visits the processes in the order of their numbers; at a visit a process is lowered to its next lower surviving choice while it has received an orphan, and each choice passed over is written down with the orphan from the lowest sender, of its messages the one with the greatest number. Sweeps go on until one lowers nothing.
 ///
 /// A visit looks at each event before the process's ceiling.
-pub fn plan(
-    alloc: Global,
-    catalogue: &Catalogue,
-    failed: &ProcSet,
-) -> Result<Plan, PlanError>
+pub fn plan(alloc: Global, catalogue: &Catalogue, failed: &ProcSet) -> Result<Plan, PlanError>
     ensures latest { IfOk result (λ plan. IsLatest catalogue.now.processes catalogue.now.marks failed.now plan.line) }
     ensures chain { IfOk result (λ plan.
         IsChain catalogue.now.processes catalogue.now.marks failed.now plan.certificate.items plan.line) }
