@@ -33,7 +33,8 @@ fn is_open(history: &History, line: &Line, to: ProcId, message: &MsgName) -> boo
     ensures { (letter : Letter) → letter.message ≡ message.now → letter.to ≡ to
         → result ≡ is_open history.now.processes line.now letter }
 {
-    !history.tape(to).received_before(line.at(to), message)
+    let choice = line.at(to);
+    !history.tape(to).received_before(choice, message)
 }
 
 /// Adds the messages of one sender that are in transit, by number.
@@ -48,7 +49,8 @@ fn add_open(
     ensures { OnOk result (messages.new.items
         ≡ messages.old.items ++ map (λ (letter : Letter). letter.message) (open_letters history.now.processes line.now p)) }
 {
-    let events = history.tape(p).front(line.at(p));
+    let choice = line.at(p);
+    let events = history.tape(p).front(choice);
     let mut number = 0;
     for event in events {
         match event {

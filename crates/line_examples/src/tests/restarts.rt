@@ -1,4 +1,6 @@
 //! What is in transit at a line, and what a restart there leaves.
+ghost use Rattle.std.specs.Prelude.{◌≡◌, [], ◌∷◌};
+
 use crate::tests::build::{Did, history_of, process};
 use line_names::{Choice, Line, MsgName, ProcId};
 use line_tape::{Event, History, Marks, State, is_line};
@@ -6,7 +8,9 @@ use std::alloc::Global;
 use std::test::Fail;
 
 /// The line of these choices.
-fn line_of(first: Choice, second: Choice) -> Line {
+fn line_of(first: Choice, second: Choice) -> Line
+    ensures { result ≡ first ∷ second ∷ [] }
+{
     let mut line = Line::new();
     line.push(first);
     line.push(second);
@@ -23,11 +27,7 @@ fn went_on(history: &mut History, line: &Line) -> bool {
 }
 
 /// What is in transit at a line, as sender and number.
-fn transit_of(
-    alloc: Global,
-    history: &History,
-    line: &Line,
-) -> Result<Vec<(ProcId, u32)>, Fail> {
+fn transit_of(alloc: Global, history: &History, line: &Line) -> Result<Vec<(ProcId, u32)>, Fail> {
     let mut names = Vec::new(alloc);
     if is_line(history, line) {
         let messages: Vec<MsgName> = history.transit(alloc, line)?;
@@ -51,7 +51,11 @@ fn transit_by_sender_then_number(rt: HostRuntime) -> Result<(), Fail> {
     ];
     let history = history_of(rt.alloc(), &did)?;
     let (first, second) = (process(0)?, process(1)?);
-    let at_check = transit_of(rt.alloc(), &history, &line_of(Choice::Check(1), Choice::Now))?;
+    let at_check = transit_of(
+        rt.alloc(),
+        &history,
+        &line_of(Choice::Check(1), Choice::Now),
+    )?;
     assert_eq!(rt; at_check.as_slice(), [(first, 1), (second, 0)].as_slice());
     let at_now = transit_of(rt.alloc(), &history, &line_of(Choice::Now, Choice::Now))?;
     assert_eq!(rt; at_now.as_slice(), [(first, 1), (first, 2)].as_slice());

@@ -1,5 +1,5 @@
 //! What a restart leaves of the tape of one process.
-ghost use Rattle.std.specs.Prelude.{◌≡◌, ◌≤◌, if◌then◌else◌, length, vec_capacity, Some, None};
+ghost use Rattle.std.specs.Prelude.{◌≡◌, ◌≤◌, if◌then◌else◌, length, vec_len, vec_capacity, Some, None};
 ghost use Rattle.std.specs.List.{filter_map};
 ghost use Rattle.line_tape.specs.Event.{checks, sends};
 ghost use Rattle.line_tape.specs.Front.{front, HasChoice};
@@ -25,6 +25,15 @@ fn restart_event(event: &mut Event) -> bool
         }
         Event::Mark { .. } => false,
     }
+}
+
+/// Takes marks out and the rounds off checks.
+fn restart_events(events: &mut Vec<Event>)
+    ensures items { events.new.items ≡ filter_map restarted_event events.old.items }
+    ensures few { vec_len events.new ≤ vec_len events.old }
+    ensures capacity { vec_capacity events.new ≡ vec_capacity events.old }
+{
+    events.retain_mut(|event| restart_event(event));
 }
 
 /// Keeps the rows and the incarnations of these events in place of others, in the room that those leave.
@@ -55,7 +64,7 @@ impl Tape {
     {
         let end = self.front(choice).len();
         self.events.truncate(end);
-        self.events.retain_mut(|event| restart_event(event));
+        restart_events(&mut self.events);
         note_events(&self.events, &mut self.checks, &mut self.incarnations);
         self.receipts.restart(&self.events);
     }

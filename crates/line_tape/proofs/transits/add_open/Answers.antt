@@ -37,7 +37,7 @@ returns c =
     let p : ℕ = c.args.p in
     let events : List Event = c.front-events.result.now in
     let found : List MsgName = c.loop-event.messages.items in
-    let front : events ≡ events_before history line p = c.front-events.ensures ∙ ap (λ (t : List Event). front t c.at.result) c.tape.ensures.events ∙ ap (front (tape_at history p)) c.at.ensures in
+    let front : events ≡ events_before history line p = c.front-events.ensures ∙ ap (λ (t : List Event). front t c.at-choice.result) c.tape.ensures.events ∙ ap (front (tape_at history p)) c.at-choice.ensures in
     let none : drop c.loop-event.event-index events ≡ [] = drop_of_length-le events (omega arith) in
     let whole : found ++ [] ≡ found ++ names_open history line p c.loop-event.number (drop c.loop-event.event-index events) = ap (λ xs. found ++ names_open history line p c.loop-event.number xs) (sym none) in
     sym (append-nil found) ∙ whole ∙ c.loop-event.invariant.0 ∙ ap (λ xs. c.args.messages.now.items ++ names_open history line p 0 xs) front

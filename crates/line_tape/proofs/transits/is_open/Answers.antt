@@ -13,6 +13,6 @@ use Rattle.line_tape.proofs.transits.is_open.Goals as goal
 pub returns : goal.returns
 returns c = λ letter named addressed.
     let before : List Event = events_before c.args.history.now.processes c.args.line.now c.args.to in
-    let seen : front c.tape.result.now.events c.at.result ≡ before = ap (λ (t : List Event). front t c.at.result) c.tape.ensures.events ∙ ap (front (tape_at c.args.history.now.processes c.args.to)) c.at.ensures in
+    let seen : front c.tape.result.now.events c.at-choice.result ≡ before = ap (λ (t : List Event). front t c.at-choice.result) c.tape.ensures.events ∙ ap (front (tape_at c.args.history.now.processes c.args.to)) c.at-choice.ensures in
     let says : (c.received_before.result ≡ true) ↔ Contains before (Recv c.args.message.now) = subst (λ (xs : List Event). (c.received_before.result ≡ true) ↔ Contains xs (Recv c.args.message.now)) seen c.received_before.ensures in
     ap not (has_received-is before c.args.message.now c.received_before.result says ∙ ap (λ q. has_received (events_before c.args.history.now.processes c.args.line.now q) c.args.message.now) (sym addressed) ∙ ap (has_received (events_before c.args.history.now.processes c.args.line.now letter.to)) (sym named))
