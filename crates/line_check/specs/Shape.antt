@@ -10,13 +10,13 @@ use Rattle.line_tape.specs.Line.{IsLine}
 use Rattle.line_tape.specs.Survival.{is_damaged}
 use Rattle.line_tape.specs.Views.{MarksView}
 
--- the entry is about a process and a choice of it that there are, and so is the sender of its message
+-- the history has the entry's process, its choice of that process, and the sender of its message
 pub record IsEntryOf (history : List Process) (entry : Passed) : Type 0 where
   pub process : entry.at < length history
   pub choice : HasChoice (tape_at history entry.at) entry.choice
   pub sender : entry.message.from < length history
 
--- check c of process p is one that there is
+-- the history has process p, and check c of it
 pub record IsCheckOf (history : List Process) (p c : ℕ) : Type 0 where
   pub process : p < length history
   pub check : c ≤ checks (tape_at history p)
