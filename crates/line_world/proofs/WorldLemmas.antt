@@ -40,9 +40,9 @@ IsFit-world Fifo history queues world = world.linked.fit
 IsFit-world Unordered history queues world = world.linked.fit
 
 -- a queue is what its link holds
-pub items-world : (mode : Mode) (history : List Process) (queues : List (List (List Item))) → IsWorld mode history queues → (p q : ℕ) → queue_at queues p q ≡ items_in mode history (copies_in mode queues) p q
-items-world Fifo history queues world p q = world.linked.links p q
-items-world Unordered history queues world p q = refl
+pub items-world : (mode : Mode) (history : List Process) (queues : List (List (List Item))) → IsWorld mode history queues → (p q : ℕ) → p < length history → q < length history → queue_at queues p q ≡ items_in mode history (copies_in mode queues) p q
+items-world Fifo history queues world p q p_within q_within = world.linked.links p q p_within q_within
+items-world Unordered history queues world p q p_within q_within = refl
 
 -- what is taken of copies is held, and new
 taken-means : (held received : Bool) → (if not held then Stale else if received then Repeated else Taken) ≡ Taken → (held ≡ true) × (received ≡ false)
@@ -74,10 +74,10 @@ AreQueues-kept history queues at event are = record {
 
 module _ (history : List Process) (queues : List (List (List Item))) (are : AreQueues history queues) (p q : ℕ) (p_within : p < length history) (q_within : q < length history) where
   -- a row and a column of queues
-  row : p < length queues
+  pub row : p < length queues
   row = omega (arith, are.shape.rows)
 
-  column : q < length (get_or queues p [])
+  pub column : q < length (get_or queues p [])
   column = omega (arith, are.shape.columns p p_within)
 
   -- another queue of messages in place of one
@@ -159,7 +159,7 @@ module _ (history : List Process) (queues : List (List (List Item))) where
       IsWorld-held Fifo world first taken =
           let here : slice_get (queue_at queues from to) 0 ≡ Some (Message message) = ap (λ (k : ℕ). slice_get (queue_at queues from to) k) (sym (first refl)) ∙ at in
           subst (λ (v : ℕ). Holds (tape_at history v) message.inc message.number) (sym named)
-          (first-held history world.linked.fit from to message (drop 1 (queue_at queues from to)) (sym (world.linked.links from to) ∙ first_rest (queue_at queues from to) (Message message) here))
+          (first-held history world.linked.fit from to message (drop 1 (queue_at queues from to)) (sym (world.linked.links from to from_within to_within) ∙ first_rest (queue_at queues from to) (Message message) here))
       IsWorld-held Unordered world first taken = held-true history message (taken-means (is_held history message) (has_received (tape_at history to) message) taken).0
 
       pub IsWorld-take : (mode : Mode) → IsWorld mode history queues → (mode ≡ Fifo → pick ≡ 0) → fate_of mode history to message ≡ Taken
