@@ -4,7 +4,7 @@ use Rattle.std.specs.List.{All, cons_option, slice_get}
 use Rattle.std.specs.Prelude.{replicate}
 use Rattle.std.proofs.lemmas.Bool.{cases_eq, cases_lt}
 use Rattle.std.proofs.lemmas.List.{length_push, get_or_push, get_or-set_same, get_or-set_other, get_or-replicate, append-nil, length-replicate}
-use Rattle.std.proofs.lemmas.List.Elements.{All-push, filter_map-append}
+use Rattle.std.proofs.lemmas.List.Elements.{All-nil, All-push, All-weaker, filter_map-append}
 use Rattle.std.proofs.lemmas.Option.{slice_get-get_or, same_Some, none-some}
 use Rattle.line_names.specs.declared.messages.MsgName.{MsgName}
 use Rattle.line_tape.specs.declared.events.Event.{Event}
@@ -14,14 +14,6 @@ use Rattle.line_tape.specs.History.{Process, fresh, process_at, tape_at, incarna
 use Rattle.line_tape.proofs.FrontLemmas.{slice_get-append_left}
 use Rattle.line_tape.proofs.LineLemmas.{tape_at-past}
 use Rattle.line_catalogue.specs.Agreement.{NameAgrees, EventAgrees, Agrees, IsSentAsNow}
-
--- what holds of each element does so of what it implies
-pub All-weaker : {X : Type 0} (P Q : X → Type 0) (xs : List X) → ((x : X) → P x → Q x) → All P xs → All Q xs
-All-weaker P Q xs weaker all = λ k d h. weaker (get_or xs k d) (all k d h)
-
--- nothing is asked of no elements
-pub All-none : {X : Type 0} (P : X → Type 0) → All P []
-All-none P = λ k d h. absurd (omega arith)
 
 -- a name that agrees with a process
 abbrev pub ProcessAgrees : Process → ℕ → ℕ → Type 0
@@ -112,7 +104,7 @@ module _ (history : List Process) (p : ℕ) (event : Event) (within : p < length
   pub Agrees-more : IsSentAsNow history p event → EventAgrees history event → Agrees history → Agrees (with_event history p event)
   Agrees-more now new agrees = record {
     each = λ q.
-        let before : All (EventAgrees (with_event history p event)) (tape_at history q) = All-weaker (EventAgrees history) (EventAgrees (with_event history p event)) (tape_at history q) (EventAgrees-more now) (agrees.each q) in
+        let before : All (EventAgrees (with_event history p event)) (tape_at history q) = All-weaker (EventAgrees history) (EventAgrees (with_event history p event)) (EventAgrees-more now) (tape_at history q) (agrees.each q) in
         elim (cases_eq q p) [
           | inl here ↦ subst (All (EventAgrees (with_event history p event))) (sym (tape-here q here)) (All-push (EventAgrees (with_event history p event)) (tape_at history q) event before (EventAgrees-more now event new))
           | inr apart ↦ subst (All (EventAgrees (with_event history p event))) (sym (tape-other q apart)) before
@@ -131,7 +123,7 @@ pub Agrees-below : (history : List Process) → ((q : ℕ) → q < length histor
 Agrees-below history below = record {
   each = λ q. elim (cases_lt q (length history)) [
     | inl within ↦ below q within
-    | inr past ↦ subst (All (EventAgrees history)) (sym (tape_at-past history q past)) (All-none (EventAgrees history))
+    | inr past ↦ subst (All (EventAgrees history)) (sym (tape_at-past history q past)) (All-nil (EventAgrees history))
   ];
 }
 
@@ -145,5 +137,5 @@ tape_at-fresh n q = elim (cases_lt q n) [
 -- so their history agrees
 pub Agrees-fresh : (n : ℕ) → Agrees (replicate n fresh)
 Agrees-fresh n = record {
-  each = λ q. subst (All (EventAgrees (replicate n fresh))) (sym (tape_at-fresh n q)) (All-none (EventAgrees (replicate n fresh)));
+  each = λ q. subst (All (EventAgrees (replicate n fresh))) (sym (tape_at-fresh n q)) (All-nil (EventAgrees (replicate n fresh)));
 }

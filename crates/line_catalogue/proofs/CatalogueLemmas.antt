@@ -4,7 +4,7 @@ use Rattle.std.specs.List.{All}
 use Rattle.std.specs.Prelude.{replicate}
 use Rattle.std.proofs.lemmas.Bool.{cases_eq, cases_lt}
 use Rattle.std.proofs.lemmas.List.{length-set, length-replicate, get_or-set_same, get_or-set_other, get_or-replicate, get_or_past}
-use Rattle.std.proofs.lemmas.List.Elements.{All-push}
+use Rattle.std.proofs.lemmas.List.Elements.{All-nil, All-push, All-weaker}
 use Rattle.line_tape.specs.declared.events.Event.{Event}
 use Rattle.line_tape.specs.Event.{checks}
 use Rattle.line_tape.specs.History.{Process, tape_at, with_event}
@@ -16,7 +16,7 @@ use Rattle.line_catalogue.specs.Damage.{damaged_at, AreOnChecks}
 use Rattle.line_catalogue.specs.Kept.{rows_at, IsCatalogue}
 use Rattle.line_catalogue.specs.Rows.{AreRows, IsRowAdded, with_row, with_damage}
 use Rattle.line_catalogue.specs.Views.{lesser_rooms}
-use Rattle.line_catalogue.proofs.AgreementLemmas.{All-weaker, All-none, tape-here, tape-other}
+use Rattle.line_catalogue.proofs.AgreementLemmas.{tape-here, tape-other}
 use Rattle.line_catalogue.proofs.CheckLemmas.{AreRows-damage, AreRows-added}
 
 -- the lesser room at a process
@@ -34,8 +34,8 @@ checks-more tape event = omega (arith, checks-push tape event)
 pub AreOnChecks-event : (history : List Process) (marks : MarksView) (p : ℕ) (event : Event) → p < length history → AreOnChecks history marks → AreOnChecks (with_event history p event) marks
 AreOnChecks-event history marks p event within on = record {
   each = λ q. elim (cases_eq q p) [
-    | inl here ↦ All-weaker (λ check. check ≤ checks (tape_at history q)) (λ check. check ≤ checks (tape_at (with_event history p event) q)) (damaged_at marks q)
-        (λ check h. omega (arith, checks-more (tape_at history q) event, ap checks (tape-here history p event within q here))) (on.each q)
+    | inl here ↦ All-weaker (λ check. check ≤ checks (tape_at history q)) (λ check. check ≤ checks (tape_at (with_event history p event) q))
+        (λ check h. omega (arith, checks-more (tape_at history q) event, ap checks (tape-here history p event within q here))) (damaged_at marks q) (on.each q)
     | inr apart ↦ subst (λ (tape : List Event). All (λ check. check ≤ checks tape) (damaged_at marks q)) (sym (tape-other history p event within q apart)) (on.each q)
   ];
 }
@@ -58,7 +58,7 @@ AreOnChecks-none history marks n none = record {
         | inl within ↦ get_or-replicate n q [] [] within
         | inr past ↦ get_or_past (replicate n []) q [] (omega (arith, length-replicate {A = List ℕ} n []))
       ] in
-      subst (All (λ check. check ≤ checks (tape_at history q))) (sym empty) (All-none (λ check. check ≤ checks (tape_at history q)));
+      subst (All (λ check. check ≤ checks (tape_at history q))) (sym empty) (All-nil (λ check. check ≤ checks (tape_at history q)));
 }
 
 -- it is enough to look at the processes that there are
@@ -66,7 +66,7 @@ pub AreOnChecks-below : (history : List Process) (marks : MarksView) → length 
 AreOnChecks-below history marks count below = record {
   each = λ q. elim (cases_lt q (length history)) [
     | inl within ↦ below q within
-    | inr past ↦ subst (All (λ check. check ≤ checks (tape_at history q))) (sym (get_or_past marks.damaged q [] (omega arith))) (All-none (λ check. check ≤ checks (tape_at history q)))
+    | inr past ↦ subst (All (λ check. check ≤ checks (tape_at history q))) (sym (get_or_past marks.damaged q [] (omega arith))) (All-nil (λ check. check ≤ checks (tape_at history q)))
   ];
 }
 

@@ -15,6 +15,14 @@ module _ (items : List ProcessRows) (p : ℕ) (old new : ProcessRows) (within : 
   pub rows-written : map plain (set items p new) ≡ set (map plain items) p (plain new)
   rows-written = map-set plain items p new
 
+  -- the rows there
+  pub rows-new : rows_at (map plain (set items p new)) p ≡ plain new
+  rows-new = ap (λ xs. rows_at xs p) (map-set plain items p new) ∙ get_or-set_same (map plain items) p (plain new) [] (omega (arith, length-map items plain))
+
+  -- the rows elsewhere
+  pub rows-other : (q : ℕ) → q ≢ p → rows_at (map plain (set items p new)) q ≡ rows_at (map plain items) q
+  rows-other q apart = ap (λ xs. rows_at xs q) (map-set plain items p new) ∙ get_or-set_other (map plain items) p q (plain new) [] apart
+
   -- the same rows in their place
   pub rows-same : plain new ≡ plain old → map plain (set items p new) ≡ map plain items
   rows-same same = map-set_same plain items p new old (same ∙ ap plain is)

@@ -6,6 +6,8 @@ ghost use Rattle.line_names.specs.Order.{IsNoLater};
 ghost use Rattle.line_tape.specs.Chain.{latest_check, next_lower};
 ghost use Rattle.line_tape.specs.Event.{checks, HasLongState, NamesBelow};
 ghost use Rattle.line_tape.specs.History.{fresh, tape_at, with_event, IsHistory};
+ghost use Rattle.line_tape.specs.Line.{IsLine, IsConsistent};
+ghost use Rattle.line_tape.specs.Restart.{restarted, restarted_marks, HaveFurther};
 ghost use Rattle.line_tape.specs.Survival.{survives, is_damaged};
 ghost use Rattle.line_tape.specs.Views.{with_mark};
 ghost use Rattle.line_catalogue.specs.Agreement.{Agrees, AgreesNext};
@@ -17,7 +19,7 @@ use crate::additions::{row_added, test_event};
 use crate::agreement::{agrees, are_on_checks};
 use crate::refusals::{AddError, CatalogueError, DamageError};
 use crate::rows::{Row, RowTable};
-use line_names::{Choice, MOST_PROCESSES, ProcId, ProcSet};
+use line_names::{Choice, Line, MOST_PROCESSES, ProcId, ProcSet};
 use line_tape::{CountError, Event, History, MOST_EVENTS, Marks};
 use std::alloc::{AllocError, Global};
 use std::marker::Model;
@@ -259,5 +261,22 @@ impl Catalogue {
         self.marks.mark(p, check)?;
         self.rows.damage(p, check);
         Ok(())
+    }
+
+    /// Has each process go on from its choice of a consistent line, as `History::restart` does, and takes the marks off the checks that it cuts off. It takes no memory and cannot fail.
+    ///
+    /// Each message that is received before a consistent line is sent before it, so the history goes on to agree.
+    #[tactic(auto, using(crate::proofs::CatalogueLemmas::lesser_at))]
+    pub fn restart(&mut self, line: &Line)
+        requires line { IsLine self.old.processes line.now }
+        requires consistent { IsConsistent self.old.processes line.now }
+        requires further { HaveFurther self.old.processes line.now }
+        ensures processes { self.new.processes ≡ restarted self.old.processes line.now }
+        ensures marks { self.new.marks ≡ restarted_marks self.old.marks line.now }
+        ensures room { (p : ℕ) → room_at self.old p ≤ room_at self.new p }
+    {
+        self.history.restart(line);
+        self.marks.restart(line);
+        self.rows.restart(&self.history, &self.marks);
     }
 }

@@ -4,6 +4,7 @@ ghost use Rattle.line_tape.specs.Event.{checks};
 ghost use Rattle.line_tape.specs.History.{tape_at};
 ghost use Rattle.line_catalogue.specs.Damage.{damaged_at, AreOnChecks};
 ghost use Rattle.line_catalogue.specs.Kept.{rows_at};
+ghost use Rattle.line_catalogue.specs.Plain.{plain, room_of};
 ghost use Rattle.line_catalogue.specs.Rows.{IsRow, AreRows, with_damage, with_row};
 
 use line_names::{Choice, ProcId};
@@ -58,16 +59,16 @@ fn plain_row(tape: &Tape, check: u32) -> Row
     }
 }
 
-/// The rows of a tape, with no damage.
-fn plain_rows(alloc: Global, tape: &Tape) -> Result<Vec<Row>, AllocError>
-    ensures { IfOk result (λ rows. AreRows tape.now.events [] rows.items) }
+/// Puts the rows of a tape, with no damage, in place of others, in the room that those leave.
+fn fill(rows: &mut Vec<Row>, tape: &Tape)
+    requires { checks tape.now.events < vec_capacity rows.old }
+    ensures rows { AreRows tape.now.events [] rows.new.items }
+    ensures capacity { vec_capacity rows.old ≤ vec_capacity rows.new }
 {
-    let count = tape.checks() + 1;
-    let mut rows = Vec::with_capacity(alloc, count as usize)?;
-    for check in 0..count {
-        rows.push(plain_row(tape, check))?;
+    rows.clear();
+    for check in 0..tape.checks() + 1 {
+        rows.push(plain_row(tape, check)).unwrap();
     }
-    Ok(rows)
 }
 
 /// Notes that a check is damaged.
@@ -79,15 +80,26 @@ fn set_damaged(rows: &mut Vec<Row>, check: u32)
     rows[check as usize].damaged = true;
 }
 
+/// Puts the rows of a tape with these damaged checks in place of others, in the room that those leave.
+fn refill(rows: &mut Vec<Row>, tape: &Tape, damaged: &[u32])
+    requires room { checks tape.now.events < vec_capacity rows.old }
+    requires marked { All (λ check. check ≤ checks tape.now.events) damaged.now }
+    ensures rows { AreRows tape.now.events damaged.now rows.new.items }
+    ensures capacity { vec_capacity rows.old ≤ vec_capacity rows.new }
+{
+    fill(rows, tape);
+    for check in damaged {
+        set_damaged(rows, *check);
+    }
+}
+
 /// The rows of a tape with these damaged checks.
 fn rows_of(alloc: Global, tape: &Tape, damaged: &[u32]) -> Result<Vec<Row>, AllocError>
     requires { All (λ check. check ≤ checks tape.now.events) damaged.now }
     ensures { IfOk result (λ rows. AreRows tape.now.events damaged.now rows.items) }
 {
-    let mut rows = plain_rows(alloc, tape)?;
-    for check in damaged {
-        set_damaged(&mut rows, *check);
-    }
+    let mut rows = Vec::with_capacity(alloc, tape.checks() as usize + 1)?;
+    refill(&mut rows, tape, damaged);
     Ok(rows)
 }
 
@@ -100,6 +112,16 @@ fn push_row(rows: &mut Vec<Row>, row: Option<Row>)
     if let Some(row) = row {
         rows.push(row).unwrap();
     }
+}
+
+/// Puts the rows of a tape with these damaged checks in place of those of a tape that had no fewer checks.
+fn refill_process(process: &mut ProcessRows, tape: &Tape, damaged: &[u32])
+    requires enough { checks tape.now.events < length (plain process.old) }
+    requires marked { All (λ check. check ≤ checks tape.now.events) damaged.now }
+    ensures rows { AreRows tape.now.events damaged.now (plain process.new) }
+    ensures room { room_of process.old ≤ room_of process.new }
+{
+    refill(&mut process.rows, tape, damaged);
 }
 
 impl RowTable {
@@ -161,5 +183,26 @@ impl RowTable {
         ensures rooms { self.new.rooms ≡ self.old.rooms }
     {
         set_damaged(&mut self.table[p.get() as usize].rows, check);
+    }
+
+    /// Puts the rows of a history and its marks in place of those of a history that had no fewer checks. It takes no memory.
+    ///
+    /// It looks once at each check and at each mark.
+    pub fn restart(&mut self, history: &History, marks: &Marks)
+        requires marked { AreOnChecks history.now.processes marks.now }
+        requires marks_count { length marks.now.damaged ≡ length history.now.processes }
+        requires count { length self.old.rows ≡ length history.now.processes }
+        requires enough { (p : ℕ) → p < length history.now.processes
+            → checks (tape_at history.now.processes p) < length (rows_at self.old.rows p) }
+        ensures count { length self.new.rows ≡ length history.now.processes }
+        ensures shown { (p : ℕ) → p < length history.now.processes
+            → AreRows (tape_at history.now.processes p) (damaged_at marks.now p) (rows_at self.new.rows p) }
+        ensures rooms { (p : ℕ) → slice_index_or self.old.rooms p 0 ≤ slice_index_or self.new.rooms p 0 }
+    {
+        let n = history.n();
+        for q in 0..n {
+            let p = ProcId::try_new(q, n).unwrap();
+            refill_process(&mut self.table[q as usize], history.tape(p), marks.checks(q as usize));
+        }
     }
 }

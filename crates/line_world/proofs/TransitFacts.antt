@@ -1,15 +1,16 @@
 -- What is in transit on each link, as the events of a sender are gone through.
-use Rattle.std.proofs.Common.{◌≡◌, ◌≢◌, ℕ, suc, ◌+◌, ◌<◌, ◌≤◌, Bool, true, false, cond, List, [], ◌∷◌, ◌++◌, length, drop, get_or, map, filter, None, refl, sym, ap, ◌∙◌, subst, arith, inl, inr}
+use Rattle.std.proofs.Common.{◌≡◌, ◌≢◌, ℕ, suc, ◌+◌, ◌<◌, ◌≤◌, Bool, true, false, cond, List, [], ◌∷◌, ◌++◌, length, take, drop, get_or, map, filter, None, refl, sym, ap, ◌∙◌, subst, arith, inl, inr}
 use Rattle.std.specs.Prelude.{◌==◌}
+use Rattle.std.specs.List.{All}
 use Rattle.std.proofs.lemmas.Bool.{cases_eq, eq-eqb, ne_eqb}
-use Rattle.std.proofs.lemmas.List.{append_assoc, drop_more}
+use Rattle.std.proofs.lemmas.List.{append_assoc, drop_more, get_or-take, length-take}
 use Rattle.line_names.specs.declared.choices.Choice.{Choice}
 use Rattle.line_names.specs.declared.messages.MsgName.{MsgName}
 use Rattle.line_tape.specs.declared.events.Event.{Event}
 use Rattle.line_tape.specs.declared.events.Event.TheVariants.{Send, Recv, Check, Mark}
 use Rattle.line_tape.specs.declared.items.Item.{Item}
 use Rattle.line_tape.specs.declared.items.Item.TheVariants.{Message}
-use Rattle.line_tape.specs.Event.{incarnation_of}
+use Rattle.line_tape.specs.Event.{incarnation_of, NamesBelow}
 use Rattle.line_tape.specs.History.{Process}
 use Rattle.line_tape.specs.Transit.{Letter, letters, is_open, in_transit_between}
 use Rattle.line_world.specs.Queues.{queue_at, with_queue}
@@ -144,3 +145,10 @@ ArePutBelow-more history line old p queues new before queued put others = record
   ];
   others = λ a b past. others a b (λ e. absurd (omega (arith, past, e))) ∙ before.others a b (omega (arith, past));
 }
+
+-- whom a send names
+pub named-send : (n : ℕ) (tape : List Event) (k : ℕ) (events : List Event) (i : ℕ) (item : Event) (to inc : ℕ) (body : List ℕ) → All (NamesBelow n) tape → events ≡ take k tape → i < length events → item ≡ get_or events i item → item ≡ Send to inc body → to < n
+named-send n tape k events i item to inc body named cut within is send =
+    let size : length events ≡ length (take k tape) = ap (λ (es : List Event). length es) cut in
+    let here : item ≡ get_or tape i item = is ∙ ap (λ (es : List Event). get_or es i item) cut ∙ get_or-take k tape i item (omega (arith, within, size, length-take k tape)) in
+    subst (NamesBelow n) (sym here ∙ send) (named i item (omega (arith, within, size, length-take k tape)))
