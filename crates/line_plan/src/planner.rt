@@ -4,6 +4,7 @@ ghost use Rattle.line_tape.specs.Chain.{latest_choice, first_ceilings, IsChain};
 ghost use Rattle.line_tape.specs.Height.{IsLed, height};
 ghost use Rattle.line_tape.specs.Line.{events_before, IsLine, IsOrphan, AreSentBefore, IsFoundAmong};
 ghost use Rattle.line_tape.specs.Survival.{IsLatest};
+ghost use Rattle.line_tape.specs.Transit.{in_transit};
 ghost use Rattle.line_plan.specs.Search.{IsMoved, AreSentBelow};
 
 use crate::plans::{Plan, PlanError};
@@ -129,13 +130,14 @@ fn sweep(
 ///
 /// The ceilings start at each process's latest surviving choice. A sweep visits the processes in the order of their numbers; at a visit a process is lowered to its next lower surviving choice while it has received an orphan, and each choice passed over is written down with the orphan from the lowest sender, of its messages the one with the greatest number. Sweeps go on until one lowers nothing.
 ///
-/// A visit looks at each event before the process's ceiling.
+/// A visit looks at each event before the process's ceiling. At the end each event before the line is looked at once more, for what is in transit there.
 pub fn plan(alloc: Global, catalogue: &Catalogue, failed: &ProcSet) -> Result<Plan, PlanError>
     ensures latest { IfOk result (λ plan. IsLatest catalogue.now.processes catalogue.now.marks failed.now plan.line) }
     ensures chain { IfOk result (λ plan.
         IsChain catalogue.now.processes catalogue.now.marks failed.now plan.certificate.items plan.line) }
     ensures some_sweep { IfOk result (λ plan. 1 ≤ plan.sweeps) }
     ensures few_sweeps { IfOk result (λ plan. plan.sweeps ≤ vec_len plan.certificate + 1) }
+    ensures replays { IfOk result (λ plan. plan.replays.items ≡ in_transit catalogue.now.processes plan.line) }
 {
     let _n = catalogue.n();
     let mut line = first_ceilings(catalogue, failed);
@@ -145,10 +147,12 @@ pub fn plan(alloc: Global, catalogue: &Catalogue, failed: &ProcSet) -> Result<Pl
         let lowered = sweep(catalogue, failed, &mut line, &mut certificate)?;
         sweeps += 1;
         if !lowered {
+            let replays = catalogue.history().transit(alloc, &line)?;
             return Ok(Plan {
                 line,
                 certificate,
                 sweeps,
+                replays,
             });
         }
     }

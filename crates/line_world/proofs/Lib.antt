@@ -2,6 +2,7 @@ pub mod QueueLemmas
 pub mod LinkLemmas
 pub mod FateLemmas
 pub mod WorldLemmas
+pub mod TransitFacts
 pub mod StartLemmas
 pub mod AgreeLemmas
 pub mod LineFacts

@@ -40,10 +40,10 @@ module _ (history : List Process) (queues : List (List (List Item))) (are : AreQ
   column_within p q p_within q_within = omega (arith, are.shape.columns p p_within)
 
   -- a link that an event neither takes from nor puts on
-  link_same : (at : ℕ) (event : Event) → at < length history → (p q : ℕ) → items_got at event p q ≡ [] → items_put history at event p q ≡ []
+  link_same : (at : ℕ) (event : Event) → at < length history → (p q : ℕ) → p < length (with_event history at event) → q < length (with_event history at event) → items_got at event p q ≡ [] → items_put history at event p q ≡ []
       → queue_at queues p q ≡ link (with_event history at event) p q
-  link_same at event within p q got put =
-      world.links p q
+  link_same at event within p q p_within q_within got put =
+      world.links p q (omega (arith, p_within, length-with_event history at event)) (omega (arith, q_within, length-with_event history at event))
       ∙ sym (append-nil (link history p q))
       ∙ ap (λ (xs : List Item). link history p q ++ xs) (sym put)
       ∙ sym (link_after history at event world.fit within p q (link history p q) (ap (λ (xs : List Item). xs ++ link history p q) (sym got)))
@@ -54,7 +54,7 @@ module _ (history : List Process) (queues : List (List (List Item))) (are : AreQ
       let event : Event = Check state None in
       record {
         fit = stays_fit history at event world.fit within tt;
-        links = λ p q. link_same at event within p q (same_nil (q == at)) (same_nil (p == at));
+        links = λ p q p_within q_within. link_same at event within p q p_within q_within (same_nil (q == at)) (same_nil (p == at));
       }
 
   module _ (from to : ℕ) (from_within : from < length history) (to_within : to < length history) where
@@ -84,16 +84,16 @@ module _ (history : List Process) (queues : List (List (List Item))) (are : AreQ
           link_after history from event world.fit from_within from to (link history from to) (ap (λ (xs : List Item). xs ++ link history from to) (sym (same_nil (to == from)))) in
           record {
             fit = stays_fit history from event world.fit from_within tt;
-            links = λ p q. elim (cases_eq p from) [
+            links = λ p q p_within q_within. elim (cases_eq p from) [
               | inl p_same ↦ elim (cases_eq q to) [
                 | inl q_same ↦ subst (λ (v : ℕ). queue_at (with_queue queues from to items) v q ≡ link (with_event history from event) v q) (sym p_same)
                     (subst (λ (v : ℕ). queue_at (with_queue queues from to items) from v ≡ link (with_event history from event) from v) (sym q_same)
-                    (there ∙ ap (λ (xs : List Item). xs ++ item ∷ []) (world.links from to) ∙ ap (λ (xs : List Item). link history from to ++ xs) (sym sent_there) ∙ sym after))
+                    (there ∙ ap (λ (xs : List Item). xs ++ item ∷ []) (world.links from to from_within to_within) ∙ ap (λ (xs : List Item). link history from to ++ xs) (sym sent_there) ∙ sym after))
                 | inr q_other ↦ queue-other queues from to items row p q (λ e. q_other e.1)
-                    ∙ link_same from event from_within p q (same_nil (q == from)) (sent_elsewhere p q (λ e. q_other e.1))
+                    ∙ link_same from event from_within p q p_within q_within (same_nil (q == from)) (sent_elsewhere p q (λ e. q_other e.1))
               ]
               | inr p_other ↦ queue-other queues from to items row p q (λ e. p_other e.0)
-                  ∙ link_same from event from_within p q (same_nil (q == from)) (sent_elsewhere p q (λ e. p_other e.0))
+                  ∙ link_same from event from_within p q p_within q_within (same_nil (q == from)) (sent_elsewhere p q (λ e. p_other e.0))
             ];
           }
 
@@ -112,7 +112,7 @@ module _ (history : List Process) (queues : List (List (List Item))) (are : AreQ
           ∙ ap (λ b. cons_option (cond b (Some (Message message)) None) []) (eq-eqb message.from from named)
 
       held : link history from to ≡ Message message ∷ drop 1 (queue_at queues from to)
-      held = sym (world.links from to) ∙ first_rest (queue_at queues from to) (Message message) first
+      held = sym (world.links from to from_within to_within) ∙ first_rest (queue_at queues from to) (Message message) first
 
       pub IsOrdered-take : IsOrderedWorld (with_event history to (Recv message)) (with_queue queues from to (drop 1 (queue_at queues from to)))
       IsOrdered-take =
@@ -125,15 +125,15 @@ module _ (history : List Process) (queues : List (List (List Item))) (are : AreQ
           let next : IsNextFifo history to event = (items, ap (λ (v : ℕ). link history v to) named ∙ held) in
           record {
             fit = stays_fit history to event world.fit to_within next;
-            links = λ p q. elim (cases_eq p from) [
+            links = λ p q p_within q_within. elim (cases_eq p from) [
               | inl p_same ↦ elim (cases_eq q to) [
                 | inl q_same ↦ subst (λ (v : ℕ). queue_at (with_queue queues from to items) v q ≡ link (with_event history to event) v q) (sym p_same)
                     (subst (λ (v : ℕ). queue_at (with_queue queues from to items) from v ≡ link (with_event history to event) from v) (sym q_same)
                     (there ∙ sym (append-nil items) ∙ ap (λ (xs : List Item). items ++ xs) (sym (same_nil (from == to))) ∙ sym after))
                 | inr q_other ↦ queue-other queues from to items row p q (λ e. q_other e.1)
-                    ∙ link_same to event to_within p q (taken_elsewhere p q (λ e. q_other e.1)) (same_nil (p == to))
+                    ∙ link_same to event to_within p q p_within q_within (taken_elsewhere p q (λ e. q_other e.1)) (same_nil (p == to))
               ]
               | inr p_other ↦ queue-other queues from to items row p q (λ e. p_other e.0)
-                  ∙ link_same to event to_within p q (taken_elsewhere p q (λ e. p_other e.0)) (same_nil (p == to))
+                  ∙ link_same to event to_within p q p_within q_within (taken_elsewhere p q (λ e. p_other e.0)) (same_nil (p == to))
             ];
           }

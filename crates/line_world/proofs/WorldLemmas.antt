@@ -1,11 +1,13 @@
 -- Each kind of step keeps what a world keeps true, in each mode.
-use Rattle.std.proofs.Common.{◌≡◌, ℕ, zero, suc, ◌<◌, Bool, true, false, cond, List, [], ◌∷◌, ◌++◌, length, drop, get_or, Some, None, refl, sym, ap, ◌∙◌, subst, arith, inl, inr}
+use Rattle.std.proofs.Common.{◌≡◌, ℕ, zero, suc, ◌<◌, Bool, true, false, cond, List, [], ◌∷◌, ◌++◌, length, drop, get_or, map, Some, None, refl, sym, ap, ◌∙◌, subst, arith, inl, inr}
 use Rattle.std.specs.Prelude.{◌==◌, ◌&&◌, not, if◌then◌else◌}
-use Rattle.std.specs.List.{All, Contains, filter_map, slice_get}
+use Rattle.std.specs.List.{All, Contains, filter_map, range_with_len, slice_get}
 use Rattle.std.specs.Cmp.Derive.{both_true}
 use Rattle.std.proofs.lemmas.Bool.{cases_eq, eq-eqb, ne_eqb}
 use Rattle.std.proofs.lemmas.List.{append-nil}
+use Rattle.std.proofs.lemmas.List.FromFn.{fill_by_all}
 use Rattle.std.proofs.lemmas.List.Elements.{All-push, filter_map-append, Contains-append_right}
+use Rattle.line_names.specs.declared.choices.Choice.{Choice}
 use Rattle.line_names.specs.declared.messages.MsgName.{MsgName}
 use Rattle.line_tape.specs.declared.events.Event.{Event}
 use Rattle.line_tape.specs.declared.events.Event.TheVariants.{Send, Recv, Check}
@@ -14,13 +16,16 @@ use Rattle.line_tape.specs.declared.items.Item.TheVariants.{Message, Marker}
 use Rattle.line_tape.specs.Event.{incarnations_sent, Holds}
 use Rattle.line_tape.specs.Fit.{link, received, IsFitFifo, IsSentTo}
 use Rattle.line_tape.specs.History.{Process, tape_at, incarnation_at, with_event}
+use Rattle.line_tape.specs.Line.{IsConsistent}
+use Rattle.line_tape.specs.Restart.{restarted}
 use Rattle.line_tape.specs.Spent.{next_name}
-use Rattle.line_tape.specs.Transit.{addressees, has_received}
+use Rattle.line_tape.specs.Transit.{addressees, has_received, in_transit_between}
 use Rattle.line_tape.specs.Views.{MarksView}
-use Rattle.line_tape.proofs.CopyLemmas.{unordered_event, copy_addressed}
-use Rattle.line_tape.proofs.LinkLemmas.{In-append_right}
+use Rattle.line_tape.proofs.CopyLemmas.{unordered_event, unordered_restarted, copy_addressed}
+use Rattle.line_tape.proofs.LinkLemmas.{In-append_right, restart_fit, restart_link}
 use Rattle.line_tape.proofs.OrderLemmas.{messages_sent, sent_is}
 use Rattle.line_tape.proofs.SentLemmas.{messages, In}
+use Rattle.line_tape.proofs.SpentLemmas.{length_restarted}
 use Rattle.line_world.specs.declared.fates.Fate.TheVariants.{Taken, Stale, Repeated}
 use Rattle.line_world.specs.declared.replies.Reply.TheVariants.{Sent}
 use Rattle.line_world.specs.declared.steps.Mode.{Mode}
@@ -28,7 +33,7 @@ use Rattle.line_world.specs.declared.steps.Mode.TheVariants.{Fifo, Unordered}
 use Rattle.line_world.specs.Fates.{fate_of, is_held}
 use Rattle.line_world.specs.Machine.{Machine, IsFitIn, copies_in, items_in}
 use Rattle.line_world.specs.Queues.{queue_at, with_queue, taken_off, IsSquare}
-use Rattle.line_world.specs.Steps.{Sends}
+use Rattle.line_world.specs.Steps.{Sends, restarted_copies}
 use Rattle.line_world.specs.Worlds.{IsMessageOf, message_of, messages_at, AreQueues, IsLinked, IsWorld}
 use Rattle.line_world.proofs.FateLemmas.{held-true}
 use Rattle.line_world.proofs.LinkLemmas.{length-with_event, first_rest, IsOrdered-check, IsOrdered-send, IsOrdered-take}
@@ -40,9 +45,9 @@ IsFit-world Fifo history queues world = world.linked.fit
 IsFit-world Unordered history queues world = world.linked.fit
 
 -- a queue is what its link holds
-pub items-world : (mode : Mode) (history : List Process) (queues : List (List (List Item))) → IsWorld mode history queues → (p q : ℕ) → queue_at queues p q ≡ items_in mode history (copies_in mode queues) p q
-items-world Fifo history queues world p q = world.linked.links p q
-items-world Unordered history queues world p q = refl
+pub items-world : (mode : Mode) (history : List Process) (queues : List (List (List Item))) → IsWorld mode history queues → (p q : ℕ) → p < length history → q < length history → queue_at queues p q ≡ items_in mode history (copies_in mode queues) p q
+items-world Fifo history queues world p q p_within q_within = world.linked.links p q p_within q_within
+items-world Unordered history queues world p q p_within q_within = refl
 
 -- what is taken of copies is held, and new
 taken-means : (held received : Bool) → (if not held then Stale else if received then Repeated else Taken) ≡ Taken → (held ≡ true) × (received ≡ false)
@@ -74,10 +79,10 @@ AreQueues-kept history queues at event are = record {
 
 module _ (history : List Process) (queues : List (List (List Item))) (are : AreQueues history queues) (p q : ℕ) (p_within : p < length history) (q_within : q < length history) where
   -- a row and a column of queues
-  row : p < length queues
+  pub row : p < length queues
   row = omega (arith, are.shape.rows)
 
-  column : q < length (get_or queues p [])
+  pub column : q < length (get_or queues p [])
   column = omega (arith, are.shape.columns p p_within)
 
   -- another queue of messages in place of one
@@ -159,7 +164,7 @@ module _ (history : List Process) (queues : List (List (List Item))) where
       IsWorld-held Fifo world first taken =
           let here : slice_get (queue_at queues from to) 0 ≡ Some (Message message) = ap (λ (k : ℕ). slice_get (queue_at queues from to) k) (sym (first refl)) ∙ at in
           subst (λ (v : ℕ). Holds (tape_at history v) message.inc message.number) (sym named)
-          (first-held history world.linked.fit from to message (drop 1 (queue_at queues from to)) (sym (world.linked.links from to) ∙ first_rest (queue_at queues from to) (Message message) here))
+          (first-held history world.linked.fit from to message (drop 1 (queue_at queues from to)) (sym (world.linked.links from to from_within to_within) ∙ first_rest (queue_at queues from to) (Message message) here))
       IsWorld-held Unordered world first taken = held-true history message (taken-means (is_held history message) (has_received (tape_at history to) message) taken).0
 
       pub IsWorld-take : (mode : Mode) → IsWorld mode history queues → (mode ≡ Fifo → pick ≡ 0) → fate_of mode history to message ≡ Taken
@@ -202,3 +207,45 @@ Sends-seen mode history marks queues from to body message after marks_after queu
       ∙ ap (λ (copies : List (List (List Item))). let m : Machine = record { mode = mode; history = with_event history from (Send to (incarnation_at history from) body); marks = marks; copies = copies } in m)
       (copy_kept mode queues from to (Message (next_name history from)));
 }
+
+-- the messages of items that are messages
+messages-back : (ms : List MsgName) → filter_map message_of (map (λ m. Message m) ms) ≡ ms
+messages-back [] = refl
+messages-back (m ∷ ms) = ap (λ (xs : List MsgName). m ∷ xs) (messages-back ms)
+
+module _ (history : List Process) (queues new : List (List (List Item))) (line : List Choice) (length_is : length line ≡ length history) (consistent : IsConsistent history line) (queued : AreQueues history new) where
+  -- after a restart at a consistent line
+  pub IsWorld-restart : (mode : Mode) → IsWorld mode history queues
+      → ((p q : ℕ) → p < length history → q < length history → queue_at new p q ≡ queue_at (copies_in mode queues) p q ++ map (λ m. Message m) (in_transit_between history line p q))
+      → IsWorld mode (restarted history line) new
+  IsWorld-restart mode world put = record {
+    queued = record {
+      shape = subst (λ (n : ℕ). IsSquare n new) (sym (length_restarted history line length_is)) queued.shape;
+      messages = queued.messages;
+    };
+    linked = linked mode world.linked put;
+  }
+    where
+      linked : (m : Mode) → IsLinked m history queues
+          → ((p q : ℕ) → p < length history → q < length history → queue_at new p q ≡ queue_at (copies_in m queues) p q ++ map (λ m. Message m) (in_transit_between history line p q))
+          → IsLinked m (restarted history line) new
+      linked Fifo is put = record {
+        fit = restart_fit history line is.fit consistent length_is;
+        links = λ p q p_within q_within.
+            put p q (omega (arith, p_within, length_restarted history line length_is)) (omega (arith, q_within, length_restarted history line length_is)) ∙ sym (restart_link history line is.fit consistent length_is p q);
+      }
+      linked Unordered is put = unordered_restarted history line (messages_at queues) (messages_at new) is consistent length_is (λ p q p_within q_within.
+          ap (filter_map message_of) (put p q p_within q_within)
+          ∙ filter_map-append message_of (queue_at queues p q) (map (λ m. Message m) (in_transit_between history line p q))
+          ∙ ap (λ (ms : List MsgName). messages_at queues p q ++ ms) (messages-back (in_transit_between history line p q)))
+
+  -- what callers see then
+  pub seen-restart : (mode : Mode)
+      → ((p q : ℕ) → p < length history → q < length history → queue_at new p q ≡ queue_at (copies_in mode queues) p q ++ map (λ m. Message m) (in_transit_between history line p q))
+      → copies_in mode new ≡ restarted_copies mode history line (copies_in mode queues)
+  seen-restart Fifo put = refl
+  seen-restart Unordered put =
+      let n : ℕ = length history in
+      let f : ℕ → ℕ → List Item = λ p q. queue_at queues p q ++ map (λ m. Message m) (in_transit_between history line p q) in
+      fill_by_all (λ (p : ℕ). map (f p) (range_with_len 0 n)) new n [] queued.shape.rows
+      (λ p p_within. fill_by_all (f p) (get_or new p []) n [] (queued.shape.columns p p_within) (λ q q_within. put p q p_within q_within))

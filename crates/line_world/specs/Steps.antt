@@ -1,5 +1,5 @@
 -- What an accepted step replies and leaves.
-use Rattle.std.specs.Prelude.{◌≡◌, ℕ, ◌+◌, ◌≤◌, Bool, List, [], ◌∷◌, length, map, slice_get, Option, Some, None}
+use Rattle.std.specs.Prelude.{◌≡◌, ℕ, ◌+◌, ◌≤◌, Bool, List, [], ◌∷◌, ◌++◌, length, map, slice_get, Option, Some, None}
 use Rattle.std.specs.List.{range_with_len}
 use Rattle.line_names.specs.declared.choices.Choice.{Choice}
 use Rattle.line_names.specs.declared.choices.Choice.TheVariants.{Check as AtCheck, Now}
@@ -8,20 +8,24 @@ use Rattle.line_names.specs.Lines.{choice_at}
 use Rattle.line_plan.specs.declared.plans.Plan.{Plan}
 use Rattle.line_tape.specs.declared.events.Event.{Event}
 use Rattle.line_tape.specs.declared.events.Event.TheVariants.{Send as SendEvent, Check as CheckEvent}
+use Rattle.line_tape.specs.declared.items.Item.{Item}
 use Rattle.line_tape.specs.declared.items.Item.TheVariants.{Message}
 use Rattle.line_tape.specs.Chain.{IsChain}
 use Rattle.line_tape.specs.Event.{checks, stored_state}
 use Rattle.line_tape.specs.History.{Process, tape_at, incarnation_at}
-use Rattle.line_tape.specs.Restart.{restarted, HaveFurther}
+use Rattle.line_tape.specs.Restart.{restarted, restarted_marks, HaveFurther}
 use Rattle.line_tape.specs.Spent.{next_name}
 use Rattle.line_tape.specs.Survival.{IsLatest}
+use Rattle.line_tape.specs.Transit.{in_transit, in_transit_between}
 use Rattle.line_tape.specs.Views.{with_mark}
+use Rattle.line_world.specs.declared.steps.Mode.{Mode}
 use Rattle.line_world.specs.declared.steps.Step.{Step}
 use Rattle.line_world.specs.declared.steps.Step.TheVariants.{Send, Deliver, Check, Damage, Recover}
 use Rattle.line_world.specs.declared.replies.Reply.{Reply}
 use Rattle.line_world.specs.declared.replies.Reply.TheVariants.{Sent, Checked, Damaged, Recovered}
 use Rattle.line_world.specs.Fates.{fate_of, events_of, reply_of}
-use Rattle.line_world.specs.Machine.{Machine, items_on, with_copy, with_step}
+use Rattle.line_world.specs.Machine.{Machine, copies_in, items_on, with_copy, with_step}
+use Rattle.line_world.specs.Queues.{queue_at}
 
 -- the index of the next check of process p
 abbrev pub next_check : List Process → ℕ → ℕ
@@ -58,24 +62,35 @@ restored tape Now = None
 abbrev pub restored_states : List Process → List Choice → List (Option (List ℕ))
 restored_states history line = map (λ p. restored (tape_at history p) (choice_at line p)) (range_with_len 0 (length history))
 
--- the incarnation of each process after a restart at a line
-abbrev pub restarted_incarnations : List Process → List Choice → List ℕ
-restarted_incarnations history line = map (λ (process : Process). process.incarnation) (restarted history line)
-
 -- the plan is of the latest line, by any valid chain
 pub record IsPlan (machine : Machine) (failed : List Bool) (plan : Plan) : Type 0 where
   pub latest : IsLatest machine.history machine.marks failed plan.line
   pub chain : IsChain machine.history machine.marks failed plan.certificate.items plan.line
   pub some_sweep : 1 ≤ plan.sweeps
   pub few_sweeps : plan.sweeps ≤ length plan.certificate.items + 1
+  pub replays : plan.replays.items ≡ in_transit machine.history plan.line
 
--- Recover plans, tells what a restart at the plan's line would leave, and changes nothing
+-- what the links hold after a restart at a line: each has one more copy of what is in transit on it; none are kept in `Fifo`
+abbrev pub restarted_copies : Mode → List Process → List Choice → List (List (List Item)) → List (List (List Item))
+restarted_copies mode history line copies =
+    let processes = range_with_len 0 (length history) in
+    copies_in mode (map (λ p. map (λ q. queue_at copies p q ++ map (λ m. Message m) (in_transit_between history line p q)) processes) processes)
+
+-- the machine that goes on from a line
+abbrev pub restarted_machine : Machine → List Choice → Machine
+restarted_machine old line = record old {
+  history = restarted old.history line;
+  marks = restarted_marks old.marks line;
+  copies = restarted_copies old.mode old.history line old.copies;
+}
+
+-- Recover plans, and goes on from the plan's line
 pub record Recovers (old : Machine) (failed : List Bool) (plan : Plan) (states : List (Option (List ℕ))) (incarnations : List ℕ) (new : Machine) : Type 0 where
   pub plan_is : IsPlan old failed plan
   pub further : HaveFurther old.history plan.line
   pub states_are : states ≡ restored_states old.history plan.line
-  pub incarnations_are : incarnations ≡ restarted_incarnations old.history plan.line
-  pub new_is : new ≡ old
+  pub incarnations_are : incarnations ≡ map (λ (process : Process). process.incarnation) new.history
+  pub new_is : new ≡ restarted_machine old plan.line
 
 -- a Recover replies Recovered
 abbrev pub RecoversWith : Machine → List Bool → Reply → Machine → Type 0

@@ -1,5 +1,5 @@
 -- What a world keeps true of its queues.
-use Rattle.std.specs.Prelude.{◌≡◌, ℕ, List, length, All, Option, Some, None}
+use Rattle.std.specs.Prelude.{◌≡◌, ℕ, ◌<◌, List, length, All, Option, Some, None}
 use Rattle.std.specs.List.{filter_map}
 use Rattle.line_names.specs.declared.messages.MsgName.{MsgName}
 use Rattle.line_tape.specs.declared.items.Item.{Item}
@@ -33,7 +33,7 @@ pub record AreQueues (history : List Process) (queues : List (List (List Item)))
 -- in order: the history fits, and each queue is what its link holds
 pub record IsOrderedWorld (history : List Process) (queues : List (List (List Item))) : Type 0 where
   pub fit : IsFitFifo history
-  pub links : (p q : ℕ) → queue_at queues p q ≡ link history p q
+  pub links : (p q : ℕ) → p < length history → q < length history → queue_at queues p q ≡ link history p q
 
 -- what a world keeps true in each mode of its history and its queues
 abbrev pub IsLinked : Mode → List Process → List (List (List Item)) → Type 0

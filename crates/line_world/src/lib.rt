@@ -7,6 +7,7 @@ mod fates;
 mod links;
 mod moves;
 mod replies;
+mod restarts;
 mod restores;
 mod steps;
 mod worlds;

@@ -1,11 +1,11 @@
-//! What a restart at a line would leave.
-ghost use Rattle.std.specs.Prelude.{◌≡◌, ◌<◌, length, IfOk};
+//! What a restart at a line tells.
+ghost use Rattle.std.specs.Prelude.{◌≡◌, ◌<◌, length, map, IfOk};
 ghost use Rattle.line_tape.specs.Front.{HasChoice};
-ghost use Rattle.line_tape.specs.History.{process_at, tape_at, incarnation_at};
+ghost use Rattle.line_tape.specs.History.{Process, process_at, tape_at, incarnation_at};
 ghost use Rattle.line_tape.specs.Line.{IsLine};
-ghost use Rattle.line_tape.specs.Restart.{restarted_incarnation, HasFurther, HaveFurther};
+ghost use Rattle.line_tape.specs.Restart.{restarted, restarted_incarnation, HasFurther, HaveFurther};
 ghost use Rattle.line_names.specs.Lines.{choice_at};
-ghost use Rattle.line_world.specs.Steps.{restored, restored_states, restarted_incarnations};
+ghost use Rattle.line_world.specs.Steps.{restored, restored_states};
 
 use line_names::{Choice, Line, ProcId};
 use line_tape::{History, State};
@@ -71,7 +71,8 @@ pub fn restarted_incarnations(
 ) -> Result<Vec<u16>, AllocError>
     requires line { length line.now ≡ length history.now.processes }
     requires further { HaveFurther history.now.processes line.now }
-    ensures { IfOk result (λ incarnations. incarnations.items ≡ restarted_incarnations history.now.processes line.now) }
+    ensures { IfOk result (λ incarnations. incarnations.items
+        ≡ map (λ (process : Process). process.incarnation) (restarted history.now.processes line.now)) }
 {
     let n = history.n();
     let mut incarnations = Vec::with_capacity(alloc, n as usize)?;

@@ -14,6 +14,7 @@ use crate::fates::{Fate, fate_of};
 use crate::links::Links;
 use crate::moves::{add_check, message_at, put_message, take_message};
 use crate::replies::{Answer, Reply, RunStopped, StepError};
+use crate::restarts::restarted_links;
 use crate::restores::{restarted_incarnations, restored_states};
 use crate::steps::{Mode, Step};
 use line_catalogue::Catalogue;
@@ -203,10 +204,11 @@ impl World {
         Ok(plan)
     }
 
-    /// Plans, and tells what a restart at the plan's line would leave.
-    fn recover(&self, alloc: Global, failed: &ProcSet) -> Result<Reply, StepError>
-        ensures done { IfOk result (λ reply. Takes self.now (Recover failed.now) (Done reply) self.now) }
-        ensures refused { IfErr result (λ e. e ≢ StepError.OutOfMemory → Takes self.now (Recover failed.now) (Refused e) self.now) }
+    /// Plans, and has all go on from the plan's line.
+    fn recover(&mut self, alloc: Global, failed: &ProcSet) -> Result<Reply, StepError>
+        ensures done { IfOk result (λ reply. Takes self.old (Recover failed.now) (Done reply) self.new) }
+        ensures refused { IfErr result (λ e. e ≢ StepError.OutOfMemory → Takes self.old (Recover failed.now) (Refused e) self.new) }
+        ensures memory { IsErrOf result StepError.OutOfMemory → self.new ≡ self.old }
     {
         let plan = self.plan_for(alloc, failed)?;
         let history = self.catalogue.history();
@@ -215,6 +217,9 @@ impl World {
         }
         let states = restored_states(alloc, history, &plan.line)?;
         let incarnations = restarted_incarnations(alloc, history, &plan.line)?;
+        let links = restarted_links(alloc, self.mode, history, &self.links, &plan.line)?;
+        self.catalogue.restart(&plan.line);
+        self.links = links;
         Ok(Reply::Recovered {
             plan,
             states,
@@ -224,7 +229,7 @@ impl World {
 
     /// Takes one step.
     ///
-    /// Sending, delivering and taking a check cost the same however much was done before; recovering costs what a plan does, and tells what a restart would leave without taking one.
+    /// Sending, delivering and taking a check cost the same however much was done before; recovering costs what a plan does, and looks at each event and at each copy.
     pub fn step(&mut self, alloc: Global, step: &Step) -> Result<Reply, StepError>
         ensures done { IfOk result (λ reply. Takes self.old step.now (Done reply) self.new) }
         ensures refused { IfErr result (λ e. e ≢ StepError.OutOfMemory → Takes self.old step.now (Refused e) self.new) }

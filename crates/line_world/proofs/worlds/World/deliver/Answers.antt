@@ -38,7 +38,8 @@ returns-in-Stale-clause-done c =
     let few : length (tape_at history c.args.to) ≤ MOST_EVENTS = (IsHistory-at history c.args.to within c.n-n.ensures.limits).tape.few in
     Takes-idle c.args.self.now c.args.from c.args.to c.args.pick c.args.state.now c.message_at-message.result Stale passed
     (ap (λ (m : Machine). slice_get (items_on m c.args.from c.args.to) c.args.pick) (sym c.self.view_is)
-    ∙ ap (λ (items : List Item). slice_get items c.args.pick) (sym (items-world c.self.inside.mode history c.self.inside.links c.self.invariant c.args.from c.args.to)) ∙ c.message_at-message.ensures.at)
+    ∙ ap (λ (items : List Item). slice_get items c.args.pick) (sym (items-world c.self.inside.mode history c.self.inside.links c.self.invariant c.args.from c.args.to
+    (omega (arith, may.named.from_within, ap (λ (m : Machine). length m.history) c.self.view_is)) within)) ∙ c.message_at-message.ensures.at)
     (ap (λ (m : Machine). fate_of m.mode m.history c.args.to c.message_at-message.result) (sym c.self.view_is) ∙ fate_here ∙ c.in-Stale.is) refl
     (omega (arith, few, ap (λ (m : Machine). length (tape_at m.history c.args.to)) c.self.view_is))
 
@@ -53,7 +54,8 @@ returns-in-Repeated-clause-done c =
     let few : length (tape_at history c.args.to) ≤ MOST_EVENTS = (IsHistory-at history c.args.to within c.n-n.ensures.limits).tape.few in
     Takes-idle c.args.self.now c.args.from c.args.to c.args.pick c.args.state.now c.message_at-message.result Repeated passed
     (ap (λ (m : Machine). slice_get (items_on m c.args.from c.args.to) c.args.pick) (sym c.self.view_is)
-    ∙ ap (λ (items : List Item). slice_get items c.args.pick) (sym (items-world c.self.inside.mode history c.self.inside.links c.self.invariant c.args.from c.args.to)) ∙ c.message_at-message.ensures.at)
+    ∙ ap (λ (items : List Item). slice_get items c.args.pick) (sym (items-world c.self.inside.mode history c.self.inside.links c.self.invariant c.args.from c.args.to
+    (omega (arith, may.named.from_within, ap (λ (m : Machine). length m.history) c.self.view_is)) within)) ∙ c.message_at-message.ensures.at)
     (ap (λ (m : Machine). fate_of m.mode m.history c.args.to c.message_at-message.result) (sym c.self.view_is) ∙ fate_here ∙ c.in-Repeated.is) refl
     (omega (arith, few, ap (λ (m : Machine). length (tape_at m.history c.args.to)) c.self.view_is))
 

@@ -1,16 +1,25 @@
--- The latest line is told, or refused where it takes back a process that has no further incarnation.
-use Rattle.std.proofs.Common.{◌≡◌, List, length, None, refl, sym, ap, ◌∙◌, subst}
+-- All go on from the latest line, or it takes back a process that has no further incarnation.
+use Rattle.std.proofs.Common.{◌≡◌, ◌<◌, ◌++◌, ℕ, List, length, map, None, refl, sym, ap, ◌∙◌, subst}
 use Rattle.std.proofs.lemmas.Bool.{both_ways, false_from_ne_true}
+use Rattle.line_names.specs.declared.choices.Choice.{Choice}
+use Rattle.line_tape.specs.declared.items.Item.{Item}
+use Rattle.line_tape.specs.declared.items.Item.TheVariants.{Message}
 use Rattle.line_tape.specs.History.{Process}
-use Rattle.line_tape.specs.Line.{IsLine}
-use Rattle.line_tape.specs.Restart.{HaveFurther}
+use Rattle.line_tape.specs.Line.{IsLine, IsConsistent}
+use Rattle.line_tape.specs.Restart.{HaveFurther, restarted, restarted_marks}
+use Rattle.line_tape.specs.Transit.{in_transit_between}
+use Rattle.line_tape.specs.Views.{MarksView}
 use Rattle.line_world.specs.declared.replies.StepError.TheVariants.{NoMoreIncarnations}
 use Rattle.line_world.specs.declared.steps.Step.TheVariants.{Recover}
-use Rattle.line_world.specs.Machine.{Machine}
+use Rattle.line_world.specs.declared.steps.Mode.{Mode}
+use Rattle.line_world.specs.Machine.{Machine, copies_in}
+use Rattle.line_world.specs.Queues.{queue_at}
 use Rattle.line_world.specs.Refusals.{refusal_of, has_stranger, IsRefused}
-use Rattle.line_world.specs.Steps.{restored_states, restarted_incarnations}
+use Rattle.line_world.specs.Steps.{restored_states, restarted_machine}
+use Rattle.line_world.specs.Worlds.{IsWorld, AreQueues}
 use Rattle.line_world.proofs.LineFacts.{IsLine-latest}
 use Rattle.line_world.proofs.StepLemmas.{may_recover}
+use Rattle.line_world.proofs.WorldLemmas.{IsWorld-restart, seen, seen-restart}
 use Rattle.line_world.proofs.worlds.World.recover.Goals as goal
 
 pub returns-then-not-has_further-clause-refused : goal.returns-then-not-has_further-clause-refused
@@ -33,21 +42,73 @@ restored_states-requires c =
     subst (λ (h : List Process). IsLine h c.in_ok-plan.plan.line) (sym same)
     (IsLine-latest c.args.self.now.history c.args.self.now.marks c.args.failed.now c.in_ok-plan.plan.line c.in_ok-plan.ensures.plan.latest)
 
+pub restarted_incarnations-requires-clause-line : goal.restarted_incarnations-requires-clause-line
+restarted_incarnations-requires-clause-line c =
+    c.in_ok-plan.ensures.plan.latest.recoverable.length_is ∙ ap (λ (m : Machine). length m.history) (sym c.self.view_is) ∙ ap (λ (h : List Process). length h) (sym c.history-history.ensures.processes)
+
+pub restarted_links-requires-clause-line : goal.restarted_links-requires-clause-line
+restarted_links-requires-clause-line c =
+    let same : c.history-history.result.now.processes ≡ c.args.self.now.history = c.history-history.ensures.processes ∙ ap (λ (m : Machine). m.history) c.self.view_is in
+    subst (λ (h : List Process). IsLine h c.in_ok-plan.plan.line) (sym same)
+    (IsLine-latest c.args.self.now.history c.args.self.now.marks c.args.failed.now c.in_ok-plan.plan.line c.in_ok-plan.ensures.plan.latest)
+
+pub restarted_links-requires-clause-queued : goal.restarted_links-requires-clause-queued
+restarted_links-requires-clause-queued c =
+    subst (λ (h : List Process). AreQueues h c.self.inside.links) (sym c.history-history.ensures.processes) c.self.invariant.queued
+
+pub restart-requires-clause-line : goal.restart-requires-clause-line
+restart-requires-clause-line c =
+    subst (λ (m : Machine). IsLine m.history c.in_ok-plan.plan.line) (sym c.self.view_is)
+    (IsLine-latest c.args.self.now.history c.args.self.now.marks c.args.failed.now c.in_ok-plan.plan.line c.in_ok-plan.ensures.plan.latest)
+
+pub restart-requires-clause-consistent : goal.restart-requires-clause-consistent
+restart-requires-clause-consistent c =
+    subst (λ (m : Machine). IsConsistent m.history c.in_ok-plan.plan.line) (sym c.self.view_is) c.in_ok-plan.ensures.plan.latest.recoverable.consistent
+
+pub restart-requires-clause-further : goal.restart-requires-clause-further
+restart-requires-clause-further c =
+    subst (λ (h : List Process). HaveFurther h c.in_ok-plan.plan.line) c.history-history.ensures.processes (c.has_further.ensures.0 c.if-not-has_further.false)
+
+pub invariant_of-self : goal.invariant_of-self
+invariant_of-self c =
+    let mode : Mode = c.self.inside.mode in
+    let old : List Process = c.self.inside.catalogue.processes in
+    let links : List (List (List Item)) = c.self.inside.links in
+    let new : List (List (List Item)) = c.in_ok-links.links in
+    let line : List Choice = c.in_ok-plan.plan.line in
+    let size : length line ≡ length old = c.in_ok-plan.ensures.plan.latest.recoverable.length_is ∙ ap (λ (m : Machine). length m.history) (sym c.self.view_is) in
+    let consistent : IsConsistent old line = subst (λ (m : Machine). IsConsistent m.history line) (sym c.self.view_is) c.in_ok-plan.ensures.plan.latest.recoverable.consistent in
+    let queued : AreQueues old new = subst (λ (h : List Process). AreQueues h new) c.history-history.ensures.processes c.in_ok-links.ensures.queued in
+    subst (λ (h : List Process). IsWorld mode h new) (sym c.restart.ensures.processes)
+    (IsWorld-restart old links new line size consistent queued mode c.self.invariant
+    (subst (λ (h : List Process). (p q : ℕ) → p < length h → q < length h → queue_at new p q ≡ queue_at (copies_in mode links) p q ++ map (λ m. Message m) (in_transit_between h line p q)) c.history-history.ensures.processes c.in_ok-links.ensures.put))
+
 pub returns-clause-done : goal.returns-clause-done
 returns-clause-done c =
+    let mode : Mode = c.self.inside.mode in
+    let old : List Process = c.self.inside.catalogue.processes in
+    let marks : MarksView = c.self.inside.catalogue.marks in
+    let links : List (List (List Item)) = c.self.inside.links in
+    let new : List (List (List Item)) = c.in_ok-links.links in
+    let line : List Choice = c.in_ok-plan.plan.line in
+    let size : length line ≡ length old = c.in_ok-plan.ensures.plan.latest.recoverable.length_is ∙ ap (λ (m : Machine). length m.history) (sym c.self.view_is) in
+    let consistent : IsConsistent old line = subst (λ (m : Machine). IsConsistent m.history line) (sym c.self.view_is) c.in_ok-plan.ensures.plan.latest.recoverable.consistent in
+    let queued : AreQueues old new = subst (λ (h : List Process). AreQueues h new) c.history-history.ensures.processes c.in_ok-links.ensures.queued in
     let same : c.history-history.result.now.processes ≡ c.args.self.now.history = c.history-history.ensures.processes ∙ ap (λ (m : Machine). m.history) c.self.view_is in
     let none : refusal_of c.args.self.now (Recover c.args.failed.now) ≡ None =
     may_recover c.args.self.now c.args.failed.now (false_from_ne_true (has_stranger c.args.self.now c.args.failed.now) (λ t. let wrong = c.in_ok-plan.ensures.stranger.1 t in absurd (cc))) in (
       none,
       record {
         plan_is = c.in_ok-plan.ensures.plan;
-        further = subst (λ (h : List Process). HaveFurther h c.in_ok-plan.plan.line) same (c.has_further.ensures.0 c.if-not-has_further.false);
-        states_are = c.in_ok-states.ensures ∙ ap (λ (h : List Process). restored_states h c.in_ok-plan.plan.line) same;
-        incarnations_are = c.in_ok-incarnations.ensures ∙ ap (λ (h : List Process). restarted_incarnations h c.in_ok-plan.plan.line) same;
-        new_is = refl;
+        further = subst (λ (h : List Process). HaveFurther h line) same (c.has_further.ensures.0 c.if-not-has_further.false);
+        states_are = c.in_ok-states.ensures ∙ ap (λ (h : List Process). restored_states h line) same;
+        incarnations_are = c.in_ok-incarnations.ensures ∙ ap (λ (h : List Process). map (λ (process : Process). process.incarnation) (restarted h line)) c.history-history.ensures.processes
+            ∙ ap (λ (h : List Process). map (λ (process : Process). process.incarnation) h) (sym c.restart.ensures.processes);
+        new_is = ap (λ (h : List Process). seen mode h c.restart.new.self.marks new) c.restart.ensures.processes
+            ∙ ap (λ (v : MarksView). seen mode (restarted old line) v new) c.restart.ensures.marks
+            ∙ ap (λ (copies : List (List (List Item))). let m : Machine = record { mode = mode; history = restarted old line; marks = restarted_marks marks line; copies = copies } in m)
+            (seen-restart old links new line size consistent queued mode
+            (subst (λ (h : List Process). (p q : ℕ) → p < length h → q < length h → queue_at new p q ≡ queue_at (copies_in mode links) p q ++ map (λ m. Message m) (in_transit_between h line p q)) c.history-history.ensures.processes c.in_ok-links.ensures.put))
+            ∙ ap (λ (m : Machine). restarted_machine m line) c.self.view_is;
       },
     )
-
-pub restarted_incarnations-requires-clause-line : goal.restarted_incarnations-requires-clause-line
-restarted_incarnations-requires-clause-line c =
-    c.in_ok-plan.ensures.plan.latest.recoverable.length_is ∙ ap (λ (m : Machine). length m.history) (sym c.self.view_is) ∙ ap (λ (h : List Process). length h) (sym c.history-history.ensures.processes)
