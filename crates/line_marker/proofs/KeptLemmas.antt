@@ -1,13 +1,12 @@
 -- What is kept stays right as a round is recorded and a channel is closed.
-use Rattle.std.proofs.Common.{◌≡◌, ℕ, zero, suc, ◌+◌, ◌<◌, ◌≤◌, true, false, Bool, List, [], ◌∷◌, ◌++◌, length, map, replicate, get_or, set, sym, ap, ◌∙◌, refl, subst, arith}
-use Rattle.std.specs.Prelude.{All}
-use Rattle.std.proofs.lemmas.List.{length-map, map-append, map-set, get_or-map}
+use Rattle.std.proofs.Common.{◌≡◌, ℕ, zero, suc, ◌<◌, true, List, [], ◌∷◌, ◌++◌, length, map, replicate, get_or, set, sym, ap, ◌∙◌, refl, subst, arith}
+use Rattle.std.proofs.lemmas.List.{map-append, map-set, get_or-map}
 use Rattle.line_names.specs.declared.messages.MsgName.{MsgName}
 use Rattle.line_marker.specs.declared.spans.Span.{Span}
 use Rattle.line_marker.specs.declared.spans.Span.TheVariants.{Open, Closed}
 use Rattle.line_marker.specs.Recording.{Recorded, Channel, open_channel, channel_at, with_channel, with_marker, with_round}
-use Rattle.line_marker.specs.Spans.{RoundView, recorded_of, channel_of, channels_of, closed, is_over, opened, AllWithin, AreWithin, AreKept, IsAscending, IsWithin}
-use Rattle.line_marker.proofs.SpanLemmas.{channels_of-opened, AreWithin-opened, channels_of-closed, AreWithin-closed, channels_of-at, AreWithin-at}
+use Rattle.line_marker.specs.Spans.{RoundView, recorded_of, channel_of, channels_of, closed, is_over, opened, AllWithin, AreWithin, AreKept, IsAscending}
+use Rattle.line_marker.proofs.SpanLemmas.{channels_of-opened, AreWithin-opened, channels_of-closed, AreWithin-closed, channels_of-at}
 use Rattle.line_marker.proofs.RoundLemmas.{last_number, IsAscending-push, with_marker-at}
 
 pub within-at : (logs : List (List MsgName)) (rounds : List RoundView) (i : ℕ) (d : RoundView) → AllWithin logs rounds → i < length rounds → AreWithin logs (get_or rounds i d).spans

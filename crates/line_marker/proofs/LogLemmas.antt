@@ -1,6 +1,6 @@
 -- The messages from each process, and the room for more, as one log changes.
-use Rattle.std.proofs.Common.{◌≡◌, ℕ, zero, suc, ◌+◌, ◌<◌, ◌≤◌, List, [], ◌∷◌, ◌++◌, length, map, get_or, set, min, sym, ap, ◌∙◌, refl, arith}
-use Rattle.std.proofs.lemmas.List.{get_or-map, get_or_default, map-set, set-get_or}
+use Rattle.std.proofs.Common.{◌≡◌, ℕ, zero, suc, ◌+◌, ◌<◌, ◌≤◌, List, [], ◌∷◌, ◌++◌, length, get_or, set, sym, ap, ◌∙◌, arith}
+use Rattle.std.proofs.lemmas.List.{get_or-map, map-set, set-get_or}
 use Rattle.line_names.specs.declared.messages.MsgName.{MsgName}
 use Rattle.line_marker.specs.Spans.{LogView, names_of, room_of}
 

@@ -1,13 +1,11 @@
 -- The rounds, as they are recorded, found and changed.
-use Rattle.std.proofs.Common.{◌≡◌, ◌≢◌, ℕ, zero, suc, ◌+◌, ◌<◌, ◌≤◌, true, false, cond, eqb, List, [], ◌∷◌, ◌++◌, length, map, max, get_or, set, Option, Some, None, sym, ap, ◌∙◌, refl, subst, arith, inl, inr, Bool}
-use Rattle.std.specs.Prelude.{All, if◌then◌else◌}
-use Rattle.std.proofs.lemmas.List.{length-map, map-append, map-set, get_or-map}
-use Rattle.std.proofs.lemmas.Bool.{eqb-true, eq-eqb, ne_eqb, cases_eq, cases_lt}
+use Rattle.std.proofs.Common.{◌≡◌, ◌≢◌, ℕ, zero, suc, ◌+◌, ◌<◌, ◌≤◌, true, false, eqb, List, [], ◌∷◌, ◌++◌, length, map, max, get_or, set, Some, None, sym, ap, ◌∙◌, refl, arith, inl, inr, Bool}
+use Rattle.std.specs.Prelude.{if◌then◌else◌}
+use Rattle.std.proofs.lemmas.Bool.{eq-eqb, ne_eqb, cases_eq, cases_lt}
 use Rattle.line_names.specs.declared.messages.MsgName.{MsgName}
-use Rattle.line_marker.specs.declared.spans.Span.{Span}
-use Rattle.line_marker.specs.Recording.{Recorded, Channel, open_channel, channel_at, with_channel, round_of, latest, with_marker, with_round, noted, heard}
-use Rattle.line_marker.specs.Spans.{RoundView, recorded_of, channels_of, AllWithin, AreWithin, AreKept, IsAscending, opened}
-use Rattle.line_marker.proofs.SpanLemmas.{channels_of-push, AreWithin-push, channels_of-opened, AreWithin-opened}
+use Rattle.line_marker.specs.Recording.{Recorded, Channel, channel_at, with_channel, round_of, latest, with_marker, noted, heard}
+use Rattle.line_marker.specs.Spans.{RoundView, recorded_of, AllWithin, AreKept, IsAscending}
+use Rattle.line_marker.proofs.SpanLemmas.{channels_of-push, AreWithin-push}
 
 -- a message comes
 pub rounds-push : (logs : List (List MsgName)) (rounds : List RoundView) (message : MsgName) → AllWithin logs rounds → message.from < length logs

@@ -1,6 +1,6 @@
 -- The channels of one round, as messages and markers come.
 use Rattle.std.proofs.Common.{◌≡◌, ℕ, zero, suc, ◌-◌, ◌<◌, ◌≤◌, true, false, List, [], ◌∷◌, ◌++◌, length, map, take, drop, replicate, get_or, set, sym, ap, ◌∙◌, refl, subst, arith}
-use Rattle.std.proofs.lemmas.List.{take-append-le, drop-append-le, drop_all, take_rest, take_all, length-append, length-drop, length_push}
+use Rattle.std.proofs.lemmas.List.{take-append-le, drop-append-le, drop_all, take_rest, length-drop, length_push}
 use Rattle.line_names.specs.declared.messages.MsgName.{MsgName}
 use Rattle.line_marker.specs.declared.spans.Span.{Span}
 use Rattle.line_marker.specs.declared.spans.Span.TheVariants.{Open, Closed}

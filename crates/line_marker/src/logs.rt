@@ -82,6 +82,7 @@ impl Logs {
     pub fn reserve(&mut self) -> Result<(), AllocError>
         ensures same { names_of self.new ≡ names_of self.old }
         ensures ok { OnOk result (0 < room_of self.new) }
+        ensures succeeds { 0 < room_of self.old → IsOk result }
         ensures room { room_of self.old ≤ room_of self.new }
     {
         for i in 0..self.logs.len() {

@@ -25,7 +25,7 @@ pub enum Effect {
 
 /// What one process has recorded of rounds, and of each channel to it.
 ///
-/// The messages from one process are kept once for all rounds, and each round keeps where its channels begin and end among them. So a message costs the same whatever the number of recorded rounds, a round costs its processes once, and a marker one search among the rounds. What is kept only grows: when rounds are over and not asked for any more, make a new one with `latest()` as its floor.
+/// The messages from one process are kept once for all rounds, and each round keeps where its channels begin and end among them. So a message costs one push, whatever the number of rounds, open or over, and nothing where no round is recorded; recording a round costs its processes once; a marker, `channel` and `is_closed` look for their round from the newest on. What is kept only grows, also behind rounds that are over: when they are not asked for any more, make a new `Marker` with `latest()` as its floor.
 #[derive(Drop)]
 pub struct Marker {
     alloc: Global,
@@ -214,7 +214,9 @@ impl Marker {
         }
     }
 
-    /// A message has come from another process.
+    /// A message has come from another process. Each recorded round whose channel from its sender is not closed has it from now on.
+    ///
+    /// Its cost is one push, whatever the number of rounds, and nothing where no round is recorded.
     pub fn note(&mut self, message: MsgName) -> Result<(), AllocError>
         requires process { message.from < self.old.n }
         requires other { message.from ≢ self.old.me }
@@ -264,6 +266,7 @@ impl Marker {
         ensures rounds { self.new.rounds ≡ self.old.rounds }
         ensures same { IsSameProcess self.old self.new }
         ensures ok { OnOk result (0 < self.new.room) }
+        ensures succeeds { 0 < self.old.room → IsOk result }
         ensures room { self.old.room ≤ self.new.room }
     {
         let n = self.logs.len();

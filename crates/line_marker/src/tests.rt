@@ -1,6 +1,5 @@
 //! The two rules at work, with memory enough.
 ghost use Rattle.std.specs.Prelude.{◌≡◌, ◌<◌, IfOk};
-ghost use Rattle.line_marker.specs.Recording.{MarkerView};
 
 use crate::{BeginError, Effect, Marker, MarkerError};
 use line_names::{MsgName, ProcId};
@@ -30,10 +29,12 @@ fn begun(rt: HostRuntime) -> Result<Marker, Fail>
     ensures of { IfOk result (λ marker. marker.n ≡ 3) }
     ensures me { IfOk result (λ marker. marker.me ≡ 0) }
 {
-    let mut marker = Marker::new(rt.alloc(), 3, process(0)?, 0)?;
+    let me = process(0)?;
+    let first = message(0)?;
+    let mut marker = Marker::new(rt.alloc(), 3, me, 0)?;
     marker.reserve()?;
     marker.begin(1)?;
-    marker.note(message(0)?)?;
+    marker.note(first)?;
     Ok(marker)
 }
 
@@ -49,9 +50,10 @@ fn a_number_is_taken_once(rt: HostRuntime) -> Result<(), Fail> {
 fn a_channel_ends_at_its_marker(rt: HostRuntime) -> Result<(), Fail> {
     let mut marker = begun(rt)?;
     let from = process(1)?;
+    let (first, second) = (message(0)?, message(1)?);
     assert_eq!(rt; marker.on_marker(from, 1)?, Effect::Closed);
-    marker.note(message(1)?)?;
-    assert_eq!(rt; marker.channel(from, 1), Some([message(0)?].as_slice()));
+    marker.note(second)?;
+    assert_eq!(rt; marker.channel(from, 1), Some([first].as_slice()));
     assert_eq!(rt; marker.on_marker(from, 1), Err(MarkerError::MarkerRepeated));
     Ok(())
 }
@@ -59,9 +61,10 @@ fn a_channel_ends_at_its_marker(rt: HostRuntime) -> Result<(), Fail> {
 #[test]
 fn a_round_is_over_with_its_last_marker(rt: HostRuntime) -> Result<(), Fail> {
     let mut marker = begun(rt)?;
-    assert_eq!(rt; marker.on_marker(process(1)?, 1)?, Effect::Closed);
+    let (one, two) = (process(1)?, process(2)?);
+    assert_eq!(rt; marker.on_marker(one, 1)?, Effect::Closed);
     assert!(rt; !marker.is_closed(1));
-    assert_eq!(rt; marker.on_marker(process(2)?, 1)?, Effect::Closed);
+    assert_eq!(rt; marker.on_marker(two, 1)?, Effect::Closed);
     assert!(rt; marker.is_closed(1));
     Ok(())
 }
@@ -69,11 +72,11 @@ fn a_round_is_over_with_its_last_marker(rt: HostRuntime) -> Result<(), Fail> {
 #[test]
 fn a_marker_forces_a_round(rt: HostRuntime) -> Result<(), Fail> {
     let mut marker = begun(rt)?;
-    let from = process(2)?;
-    assert_eq!(rt; marker.on_marker(from, 3)?, Effect::Forced);
-    assert_eq!(rt; marker.on_marker(process(1)?, 2)?, Effect::Ignored);
-    assert_eq!(rt; marker.channel(from, 3), Some([].as_slice()));
-    assert_eq!(rt; marker.channel(from, 2), None);
+    let (one, two) = (process(1)?, process(2)?);
+    assert_eq!(rt; marker.on_marker(two, 3)?, Effect::Forced);
+    assert_eq!(rt; marker.on_marker(one, 2)?, Effect::Ignored);
+    assert_eq!(rt; marker.channel(two, 3), Some([].as_slice()));
+    assert_eq!(rt; marker.channel(two, 2), None);
     assert_eq!(rt; marker.latest(), 3);
     Ok(())
 }

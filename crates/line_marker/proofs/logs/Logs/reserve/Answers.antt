@@ -2,8 +2,8 @@
 use Rattle.std.proofs.Common.{◌≡◌, ◌-◌, ◌<◌, ◌≤◌, List, ℕ, length, get_or, set, ap, ◌∙◌, arith}
 use Rattle.std.specs.Prelude.{vec_len, vec_capacity}
 use Rattle.std.proofs.lemmas.List.{length-set}
-use Rattle.line_marker.specs.Spans.{LogView, names_of, room_of}
-use Rattle.line_marker.proofs.LogLemmas.{names-same, room_of-set, room_of-all, rooms-more}
+use Rattle.line_marker.specs.Spans.{LogView, room_of}
+use Rattle.line_marker.proofs.LogLemmas.{names-same, room_of-at, room_of-set, room_of-all, rooms-more}
 use Rattle.line_marker.proofs.logs.Logs.reserve.Goals as goal
 
 pub loop-i-preserved : goal.loop-i-preserved
@@ -23,6 +23,18 @@ loop-i-preserved c =
       rooms-more items i new within room c.loop-i.invariant.2,
       length-set items i new ∙ c.loop-i.invariant.3,
     )
+
+pub returns-in_err-reserve-clause-succeeds : goal.returns-in_err-reserve-clause-succeeds
+returns-in_err-reserve-clause-succeeds c = λ h.
+    let items : List LogView = c.loop-i.self-inside.logs.items in
+    let i : ℕ = c.loop-i.i in
+    let old : LogView = c.index_mut-log.result.now in
+    let seen : room_of c.self.inside.logs.items ≡ room_of c.args.self.now = ap (λ (xs : List LogView). room_of xs) c.self.view_is in
+    let within : i < length items = omega (arith, c.loop-i-test.true, c.loop-i.invariant.3) in
+    let read : old.room ≡ (get_or items i old).room = ap (λ (log : LogView). log.room) c.index_mut-log.ensures.value in
+    let least : room_of items ≤ (get_or items i old).room = room_of-at items i old within in
+    let kept : vec_capacity c.log.inside.names - vec_len c.log.inside.names ≡ old.room = ap (λ (log : LogView). log.room) c.log.view_is in
+    absurd (omega (arith, c.in_err-reserve.ensures.full, c.loop-i.invariant.1))
 
 pub returns-clause-ok : goal.returns-clause-ok
 returns-clause-ok c =

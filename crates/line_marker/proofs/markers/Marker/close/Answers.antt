@@ -1,11 +1,10 @@
 -- One span of one round ends where the messages of its sender end.
 use Rattle.std.proofs.Common.{◌≡◌, ℕ, ◌<◌, [], List, length, map, get_or, set, sym, ap, ◌∙◌, subst, arith}
 use Rattle.std.proofs.lemmas.List.{length-map, get_or-map}
-use Rattle.std.specs.Prelude.{vec_len}
 use Rattle.line_names.specs.declared.messages.MsgName.{MsgName}
 use Rattle.line_marker.specs.declared.spans.Span.{Span}
 use Rattle.line_marker.specs.Recording.{MarkerView, Recorded, with_marker}
-use Rattle.line_marker.specs.Spans.{LogView, RoundView, names_of, recorded_of, closed, AreKept, AreWithin}
+use Rattle.line_marker.specs.Spans.{LogView, RoundView, names_of, recorded_of, closed, AreWithin}
 use Rattle.line_marker.proofs.SpanLemmas.{AreWithin-length}
 use Rattle.line_marker.proofs.KeptLemmas.{within-at, AreKept-close, rounds-close}
 use Rattle.line_marker.proofs.markers.Marker.close.Goals as goal

@@ -1,10 +1,10 @@
 -- A span that is over is a closed channel.
-use Rattle.std.proofs.Common.{◌≡◌, ℕ, ◌<◌, [], List, length, map, get_or, set, sym, ap, ◌∙◌, subst, arith}
+use Rattle.std.proofs.Common.{◌≡◌, ℕ, ◌<◌, [], List, length, map, get_or, sym, ap, ◌∙◌, subst, arith}
 use Rattle.std.proofs.lemmas.List.{length-map}
 use Rattle.line_names.specs.declared.messages.MsgName.{MsgName}
 use Rattle.line_marker.specs.declared.spans.Span.{Span}
 use Rattle.line_marker.specs.Recording.{MarkerView, Recorded, Channel, channel_at}
-use Rattle.line_marker.specs.Spans.{LogView, RoundView, names_of, recorded_of, channel_of, is_over, AreWithin}
+use Rattle.line_marker.specs.Spans.{LogView, RoundView, names_of, recorded_of, channel_of, AreWithin}
 use Rattle.line_marker.proofs.SpanLemmas.{AreWithin-length}
 use Rattle.line_marker.proofs.KeptLemmas.{within-at, channel-at, is_over-closed}
 use Rattle.line_marker.proofs.markers.Marker.has_marker.Goals as goal

@@ -1,5 +1,5 @@
 -- A span that is over is a closed channel, for each other process.
-use Rattle.std.proofs.Common.{◌≡◌, ◌≢◌, ℕ, ◌<◌, [], List, length, map, get_or, Option, Bool, sym, ap, ◌∙◌, subst, arith}
+use Rattle.std.proofs.Common.{◌≡◌, ◌≢◌, ℕ, ◌<◌, [], List, length, map, get_or, Option, sym, ap, ◌∙◌, subst, arith}
 use Rattle.std.specs.Prelude.{IsTrue, MatchOption}
 use Rattle.std.proofs.lemmas.List.{length-map}
 use Rattle.line_names.specs.declared.messages.MsgName.{MsgName}

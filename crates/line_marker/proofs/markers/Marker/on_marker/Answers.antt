@@ -1,8 +1,8 @@
 -- What the marker does follows from where its round stands.
-use Rattle.std.proofs.Common.{◌≡◌, ℕ, ◌<◌, List, get_or, Option, Some, Bool, true, false, sym, ap, ◌∙◌, subst, refl}
+use Rattle.std.proofs.Common.{◌≡◌, [], get_or, Option, true, false, sym, ap, ◌∙◌, subst, refl}
 use Rattle.std.specs.Prelude.{IsTrue, MatchOption, nat_lt}
 use Rattle.std.proofs.lemmas.Bool.{both_ways}
-use Rattle.line_marker.specs.Recording.{Recorded, channel_at, open_channel, effect_by, latest}
+use Rattle.line_marker.specs.Recording.{Recorded, channel_at, effect_by, latest}
 use Rattle.line_marker.proofs.RoundLemmas.{round_of-number}
 use Rattle.line_marker.proofs.markers.Marker.on_marker.Goals as goal
 
@@ -26,6 +26,7 @@ returns-else-has_marker-clause-rounds c =
 pub returns-else-has_marker-clause-repeated : goal.returns-else-has_marker-clause-repeated
 returns-else-has_marker-clause-repeated c =
     let Repeated : Option Recorded → Type 0 = λ o. MatchOption o ⊥ (λ (round : Recorded). IsTrue (channel_at round c.args.from).is_closed) in
-    let open : (channel_at (get_or c.args.self.now.rounds c.in-Some.i no_round) c.args.from).is_closed ≡ false = sym (c.has_marker.ensures no_round) ∙ c.if-has_marker.false in
-    (λ h. let no : ⊥ = cc in absurd no,
-     λ h. absurd (both_ways (channel_at (get_or c.args.self.now.rounds c.in-Some.i no_round) c.args.from).is_closed open (subst Repeated (c.in-Some.ensures.1 no_round) h)))
+    let unshut : (channel_at (get_or c.args.self.now.rounds c.in-Some.i no_round) c.args.from).is_closed ≡ false = sym (c.has_marker.ensures no_round) ∙ c.if-has_marker.false in (
+      λ h. let no : ⊥ = cc in absurd no,
+      λ h. absurd (both_ways (channel_at (get_or c.args.self.now.rounds c.in-Some.i no_round) c.args.from).is_closed unshut (subst Repeated (c.in-Some.ensures.1 no_round) h)),
+    )

@@ -1,9 +1,9 @@
 -- Numbers ascend, so a search from the newest round on can stop at a smaller one.
-use Rattle.std.proofs.Common.{◌≡◌, ℕ, ◌+◌, ◌-◌, ◌<◌, ◌≤◌, List, length, map, get_or, Some, None, sym, ap, ◌∙◌, arith}
+use Rattle.std.proofs.Common.{◌≡◌, ℕ, ◌-◌, ◌<◌, List, length, map, get_or, Some, sym, ap, ◌∙◌, arith}
 use Rattle.std.proofs.lemmas.List.{length-map, get_or_default}
 use Rattle.line_names.specs.declared.messages.MsgName.{MsgName}
 use Rattle.line_marker.specs.Recording.{MarkerView, Recorded, round_of}
-use Rattle.line_marker.specs.Spans.{RoundView, names_of, recorded_of, IsAscending}
+use Rattle.line_marker.specs.Spans.{RoundView, names_of, recorded_of}
 use Rattle.line_marker.proofs.RoundLemmas.{round_of-at, round_of-none, newest-below}
 use Rattle.line_marker.proofs.markers.Marker.place.Goals as goal
 

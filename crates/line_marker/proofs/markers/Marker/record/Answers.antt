@@ -1,9 +1,8 @@
 -- The new round is greater than the last one, and its channels begin where the messages end.
-use Rattle.std.proofs.Common.{◌≡◌, ℕ, ◌<◌, ◌++◌, ◌∷◌, [], List, length, map, sym, ap, ◌∙◌, subst, arith}
+use Rattle.std.proofs.Common.{◌≡◌, ℕ, ◌++◌, ◌∷◌, [], List, length, map, sym, ap, ◌∙◌, subst, arith}
 use Rattle.std.proofs.lemmas.List.{length-map}
 use Rattle.line_names.specs.declared.messages.MsgName.{MsgName}
-use Rattle.line_marker.specs.declared.spans.Span.{Span}
-use Rattle.line_marker.specs.Recording.{MarkerView, Recorded, latest, with_round}
+use Rattle.line_marker.specs.Recording.{MarkerView, latest, with_round}
 use Rattle.line_marker.specs.Spans.{LogView, RoundView, names_of, recorded_of, opened, AreKept}
 use Rattle.line_marker.proofs.RoundLemmas.{last_number, latest-last}
 use Rattle.line_marker.proofs.KeptLemmas.{rounds-record, AreKept-record}
