@@ -1,0 +1,4 @@
+pub mod LogLemmas
+pub mod SpanLemmas
+pub mod RoundLemmas
+pub mod KeptLemmas

@@ -1,0 +1,89 @@
+-- One span of one round ends where the messages of its sender end.
+use Rattle.std.proofs.Common.{◌≡◌, ℕ, ◌<◌, [], List, length, map, get_or, set, sym, ap, ◌∙◌, subst, arith}
+use Rattle.std.proofs.lemmas.List.{length-map, get_or-map}
+use Rattle.line_names.specs.declared.messages.MsgName.{MsgName}
+use Rattle.line_marker.specs.declared.spans.Span.{Span}
+use Rattle.line_marker.specs.Recording.{MarkerView, Recorded, with_marker}
+use Rattle.line_marker.specs.Spans.{LogView, RoundView, names_of, recorded_of, closed, AreWithin}
+use Rattle.line_marker.proofs.SpanLemmas.{AreWithin-length}
+use Rattle.line_marker.proofs.KeptLemmas.{within-at, AreKept-close, rounds-close}
+use Rattle.line_marker.proofs.markers.Marker.close.Goals as goal
+
+pub index-requires : goal.index-requires
+index-requires c =
+    let logs : List (List MsgName) = names_of c.self.inside.logs in
+    let rounds : List RoundView = c.self.inside.rounds.items in
+    let old : RoundView = c.index_mut-round.result.now in
+    let p : ℕ = c.get-p.result in
+    let at : p ≡ c.args.from = c.get-p.ensures.value in
+    let n : length c.self.inside.logs ≡ c.args.self.now.n = ap (λ (m : MarkerView). m.n) c.self.view_is in
+    let seen : map (recorded_of logs) rounds ≡ c.args.self.now.rounds = ap (λ (m : MarkerView). m.rounds) c.self.view_is in
+    let within : c.args.i < length rounds = omega (arith, c.requires.round, ap (λ (rs : List Recorded). length rs) seen, length-map rounds (recorded_of logs)) in
+    let below : p < length logs = omega (arith, c.requires.process, length-map c.self.inside.logs (λ (log : LogView). log.names)) in
+    let spans : c.round.inside.spans.items ≡ old.spans = ap (λ (r : RoundView). r.spans) c.round.view_is in
+    let before : AreWithin logs old.spans = subst (λ (r : RoundView). AreWithin logs r.spans) (sym c.index_mut-round.ensures.value) (within-at logs rounds c.args.i old c.self.invariant.1.within within) in
+    omega (arith, AreWithin-length logs old.spans before, ap (λ (ss : List Span). length ss) spans, c.round.inside.spans.ok.0)
+
+pub index_mut-requires : goal.index_mut-requires
+index_mut-requires c =
+    let logs : List (List MsgName) = names_of c.self.inside.logs in
+    let rounds : List RoundView = c.self.inside.rounds.items in
+    let old : RoundView = c.index_mut-round.result.now in
+    let p : ℕ = c.get-p.result in
+    let at : p ≡ c.args.from = c.get-p.ensures.value in
+    let n : length c.self.inside.logs ≡ c.args.self.now.n = ap (λ (m : MarkerView). m.n) c.self.view_is in
+    let seen : map (recorded_of logs) rounds ≡ c.args.self.now.rounds = ap (λ (m : MarkerView). m.rounds) c.self.view_is in
+    let within : c.args.i < length rounds = omega (arith, c.requires.round, ap (λ (rs : List Recorded). length rs) seen, length-map rounds (recorded_of logs)) in
+    let below : p < length logs = omega (arith, c.requires.process, length-map c.self.inside.logs (λ (log : LogView). log.names)) in
+    let spans : c.round.inside.spans.items ≡ old.spans = ap (λ (r : RoundView). r.spans) c.round.view_is in
+    let before : AreWithin logs old.spans = subst (λ (r : RoundView). AreWithin logs r.spans) (sym c.index_mut-round.ensures.value) (within-at logs rounds c.args.i old c.self.invariant.1.within within) in
+    omega (arith, AreWithin-length logs old.spans before, ap (λ (ss : List Span). length ss) spans, c.round.inside.spans.ok.0)
+
+pub invariant_of-self : goal.invariant_of-self
+invariant_of-self c =
+    let logs : List (List MsgName) = names_of c.self.inside.logs in
+    let rounds : List RoundView = c.self.inside.rounds.items in
+    let old : RoundView = c.index_mut-round.result.now in
+    let p : ℕ = c.get-p.result in
+    let at : p ≡ c.args.from = c.get-p.ensures.value in
+    let n : length c.self.inside.logs ≡ c.args.self.now.n = ap (λ (m : MarkerView). m.n) c.self.view_is in
+    let seen : map (recorded_of logs) rounds ≡ c.args.self.now.rounds = ap (λ (m : MarkerView). m.rounds) c.self.view_is in
+    let within : c.args.i < length rounds = omega (arith, c.requires.round, ap (λ (rs : List Recorded). length rs) seen, length-map rounds (recorded_of logs)) in
+    let below : p < length logs = omega (arith, c.requires.process, length-map c.self.inside.logs (λ (log : LogView). log.names)) in
+    let spans : c.round.inside.spans.items ≡ old.spans = ap (λ (r : RoundView). r.spans) c.round.view_is in
+    let span : Span = c.index.result.now in
+    let end : ℕ = length c.names-end.result.now in
+    let new : RoundView = record { number = c.round.inside.number; spans = set c.round.inside.spans.items p c.closed.result } in
+    let here : span ≡ get_or old.spans p span = subst (λ (ss : List Span). span ≡ get_or ss p span) spans c.index.ensures in
+    let len : end ≡ length (get_or logs p []) = ap (λ (names : List MsgName). length names) c.names-end.ensures ∙ ap (λ (k : ℕ). length (get_or logs k [])) (sym at) in
+    let number : new.number ≡ old.number = ap (λ (r : RoundView). r.number) c.round.view_is in
+    let written : new.spans ≡ set old.spans p (closed end span) = ap (λ (ss : List Span). set ss p c.closed.result) spans ∙ ap (λ (s : Span). set old.spans p s) c.closed.ensures in
+    (c.self.invariant.0, AreKept-close logs c.self.inside.floor rounds c.args.i p end old new span c.self.invariant.1 within below c.index_mut-round.ensures.value here len number written)
+
+pub returns-clause-rounds : goal.returns-clause-rounds
+returns-clause-rounds c = λ k named.
+    let logs : List (List MsgName) = names_of c.self.inside.logs in
+    let rounds : List RoundView = c.self.inside.rounds.items in
+    let old : RoundView = c.index_mut-round.result.now in
+    let p : ℕ = c.get-p.result in
+    let at : p ≡ c.args.from = c.get-p.ensures.value in
+    let n : length c.self.inside.logs ≡ c.args.self.now.n = ap (λ (m : MarkerView). m.n) c.self.view_is in
+    let seen : map (recorded_of logs) rounds ≡ c.args.self.now.rounds = ap (λ (m : MarkerView). m.rounds) c.self.view_is in
+    let within : c.args.i < length rounds = omega (arith, c.requires.round, ap (λ (rs : List Recorded). length rs) seen, length-map rounds (recorded_of logs)) in
+    let below : p < length logs = omega (arith, c.requires.process, length-map c.self.inside.logs (λ (log : LogView). log.names)) in
+    let spans : c.round.inside.spans.items ≡ old.spans = ap (λ (r : RoundView). r.spans) c.round.view_is in
+    let span : Span = c.index.result.now in
+    let end : ℕ = length c.names-end.result.now in
+    let new : RoundView = record { number = c.round.inside.number; spans = set c.round.inside.spans.items p c.closed.result } in
+    let here : span ≡ get_or old.spans p span = subst (λ (ss : List Span). span ≡ get_or ss p span) spans c.index.ensures in
+    let len : end ≡ length (get_or logs p []) = ap (λ (names : List MsgName). length names) c.names-end.ensures ∙ ap (λ (k : ℕ). length (get_or logs k [])) (sym at) in
+    let number : new.number ≡ old.number = ap (λ (r : RoundView). r.number) c.round.view_is in
+    let written : new.spans ≡ set old.spans p (closed end span) = ap (λ (ss : List Span). set ss p c.closed.result) spans ∙ ap (λ (s : Span). set old.spans p s) c.closed.ensures in
+    let is : old.number ≡ k =
+    ap (λ (r : RoundView). r.number) c.index_mut-round.ensures.value
+    ∙ ap (λ (r : Recorded). r.number) (sym (get_or-map (recorded_of logs) rounds c.args.i old (recorded_of logs old) within))
+    ∙ ap (λ (rs : List Recorded). (get_or rs c.args.i (recorded_of logs old)).number) seen
+    ∙ named (recorded_of logs old) in
+    rounds-close logs c.self.inside.floor rounds c.args.i p end k old new span c.self.invariant.1 within below c.index_mut-round.ensures.value here len number written is
+    ∙ ap (λ (q : ℕ). with_marker (map (recorded_of logs) rounds) q k) at
+    ∙ ap (λ (rs : List Recorded). with_marker rs c.args.from k) seen

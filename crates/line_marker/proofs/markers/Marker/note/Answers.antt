@@ -1,0 +1,47 @@
+-- The log of the sender has the message, and each round reads it where its channel is open.
+use Rattle.std.proofs.Common.{◌≡◌, ℕ, ◌<◌, ◌++◌, ◌∷◌, [], List, length, map, get_or, set, sym, ap, ◌∙◌, subst, arith}
+use Rattle.std.specs.Prelude.{Result, Ok, Err, OnOk, OnErr}
+use Rattle.std.proofs.lemmas.List.{length-map}
+use Rattle.line_names.specs.declared.messages.MsgName.{MsgName}
+use Rattle.line_marker.specs.Recording.{MarkerView, Recorded, noted}
+use Rattle.line_marker.specs.Spans.{LogView, RoundView, names_of, recorded_of, AreKept}
+use Rattle.line_marker.proofs.RoundLemmas.{rounds-push, AreKept-push}
+use Rattle.line_marker.proofs.markers.Marker.note.Goals as goal
+
+-- a fact that holds either way
+either : {T E : Type 0} (P Q : Type 0) (r : Result T E) → OnOk r P → OnErr r Q → (R : Type 0) → (P → R) → (Q → R) → R
+either P Q (Ok x) p q R f g = f p
+either P Q (Err e) p q R f g = g q
+
+on_ok : {T E : Type 0} (P Q : Type 0) (r : Result T E) → OnOk r P → (P → Q) → OnOk r Q
+on_ok P Q (Ok x) p f = f p
+on_ok P Q (Err e) p f = tt
+
+pub invariant_of-self : goal.invariant_of-self
+invariant_of-self c =
+    let logs : List (List MsgName) = names_of c.self.inside.logs in
+    let after : List (List MsgName) = names_of c.push.new.self in
+    let p : ℕ = c.args.message.from in
+    let rounds : List RoundView = c.self.inside.rounds.items in
+    let floor : ℕ = c.self.inside.floor in
+    let more : List (List MsgName) = set logs p (get_or logs p [] ++ c.args.message ∷ []) in
+    let kept : AreKept after floor rounds =
+    either (after ≡ more) (after ≡ logs) c.push.result c.push.ensures.ok c.push.ensures.err (AreKept after floor rounds)
+    (λ (e : after ≡ more). subst (λ (xs : List (List MsgName)). AreKept xs floor rounds) (sym e) (AreKept-push logs floor rounds p c.args.message c.self.invariant.1))
+    (λ (e : after ≡ logs). subst (λ (xs : List (List MsgName)). AreKept xs floor rounds) (sym e) c.self.invariant.1) in
+    (c.self.invariant.0, kept)
+
+pub returns-clause-ok : goal.returns-clause-ok
+returns-clause-ok c =
+    let logs : List (List MsgName) = names_of c.self.inside.logs in
+    let after : List (List MsgName) = names_of c.push.new.self in
+    let p : ℕ = c.args.message.from in
+    let rounds : List RoundView = c.self.inside.rounds.items in
+    let more : List (List MsgName) = set logs p (get_or logs p [] ++ c.args.message ∷ []) in
+    let count : length c.self.inside.logs ≡ c.args.self.now.n = ap (λ (m : MarkerView). m.n) c.self.view_is in
+    let below : p < length logs = omega (arith, c.requires.process, length-map c.self.inside.logs (λ (log : LogView). log.names)) in
+    let seen : map (recorded_of logs) rounds ≡ c.args.self.now.rounds = ap (λ (m : MarkerView). m.rounds) c.self.view_is in
+    on_ok (after ≡ more) (map (recorded_of after) rounds ≡ noted c.args.self.now.rounds c.args.message) c.push.result c.push.ensures.ok
+    (λ (e : after ≡ more). ap (λ (xs : List (List MsgName)). map (recorded_of xs) rounds) e
+    ∙ rounds-push logs rounds c.args.message c.self.invariant.1.within below
+    ∙ ap (λ (rs : List Recorded). noted rs c.args.message) seen)

@@ -1,0 +1,77 @@
+-- How recorded rounds are kept: the messages from each process once, and for each round where its channels begin and end among them.
+use Rattle.std.specs.Prelude.{ℕ, ◌-◌, ◌<◌, ◌≤◌, min, Bool, true, false, List, [], ◌∷◌, length, map, take, drop}
+use Rattle.line_names.specs.declared.messages.MsgName.{MsgName}
+use Rattle.line_marker.specs.declared.spans.Span.{Span}
+use Rattle.line_marker.specs.declared.spans.Span.TheVariants.{Open, Closed}
+use Rattle.line_marker.specs.Recording.{Channel, Recorded}
+
+-- the messages kept from one process, and how many further ones take no memory
+pub record LogView : Type 0 where
+  pub names : List MsgName
+  pub room : ℕ
+
+-- a round: its number, and where its channel from each process begins and ends
+pub record RoundView : Type 0 where
+  pub number : ℕ
+  pub spans : List Span
+
+-- the messages kept from each process
+abbrev pub names_of : List LogView → List (List MsgName)
+names_of logs = map (λ log. log.names) logs
+
+-- how many further messages, whoever sends them, take no memory
+abbrev pub room_of : List LogView → ℕ
+room_of [] = 1
+room_of (log ∷ logs) = min log.room (room_of logs)
+
+-- a channel that begins where its sender's messages end
+abbrev pub opened : List MsgName → Span
+opened names = Open (length names)
+
+-- a channel that is closed where this many messages stand; where it was closed before, as it was
+abbrev pub closed : ℕ → Span → Span
+closed end (Open start) = Closed start end
+closed end (Closed start before) = Closed start before
+
+-- its marker has come
+abbrev pub is_over : Span → Bool
+is_over (Open start) = false
+is_over (Closed start end) = true
+
+-- the channel that stands there
+abbrev pub channel_of : List MsgName → Span → Channel
+channel_of names (Open start) = record { messages = drop start names; is_closed = false }
+channel_of names (Closed start end) = record { messages = take (end - start) (drop start names); is_closed = true }
+
+abbrev pub channels_of : List (List MsgName) → List Span → List Channel
+channels_of [] spans = []
+channels_of (names ∷ rest) [] = []
+channels_of (names ∷ rest) (span ∷ spans) = channel_of names span ∷ channels_of rest spans
+
+abbrev pub recorded_of : List (List MsgName) → RoundView → Recorded
+recorded_of names round = record { number = round.number; channels = channels_of names round.spans }
+
+-- a channel lies within its sender's messages
+abbrev pub IsWithin : List MsgName → Span → Type 0
+IsWithin names (Open start) = start ≤ length names
+IsWithin names (Closed start end) = (start ≤ end) × (end ≤ length names)
+
+-- each process has one channel, within its messages
+abbrev pub AreWithin : List (List MsgName) → List Span → Type 0
+AreWithin [] [] = Unit {0}
+AreWithin [] (span ∷ spans) = ⊥
+AreWithin (names ∷ rest) [] = ⊥
+AreWithin (names ∷ rest) (span ∷ spans) = IsWithin names span × AreWithin rest spans
+
+-- the numbers ascend, above the floor
+abbrev pub IsAscending : ℕ → List RoundView → Type 0
+IsAscending floor [] = Unit {0}
+IsAscending floor (round ∷ rounds) = (floor < round.number) × IsAscending round.number rounds
+
+abbrev pub AllWithin : List (List MsgName) → List RoundView → Type 0
+AllWithin names [] = Unit {0}
+AllWithin names (round ∷ rounds) = AreWithin names round.spans × AllWithin names rounds
+
+pub record AreKept (names : List (List MsgName)) (floor : ℕ) (rounds : List RoundView) : Type 0 where
+  pub ascending : IsAscending floor rounds
+  pub within : AllWithin names rounds

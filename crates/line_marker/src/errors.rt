@@ -1,0 +1,90 @@
+//! Why a round or a marker was not taken.
+ghost use Rattle.std.specs.Prelude.{◌≡◌};
+
+use std::alloc::AllocError;
+use std::error::Error;
+use std::fmt;
+
+/// Why a round was not begun.
+#[derive(Clone, Copy, Debug, PartialEq, Eq, Hash)]
+pub enum BeginError {
+    OutOfMemory,
+    RoundNotNew,
+}
+
+impl BeginError {
+    /// The number of the refusal, as replies show it.
+    pub fn code(self) -> u32
+        ensures memory { self ≡ BeginError.OutOfMemory → result ≡ 0 }
+        ensures not_new { self ≡ BeginError.RoundNotNew → result ≡ 9 }
+    {
+        match self {
+            BeginError::OutOfMemory => 0,
+            BeginError::RoundNotNew => 9,
+        }
+    }
+}
+
+impl fmt::Display for BeginError {
+    fn fmt<W: fmt::Write>(&self, f: &mut fmt::Formatter<W>) -> fmt::Result {
+        f.write_str(match self {
+            BeginError::OutOfMemory => "out of memory",
+            BeginError::RoundNotNew => "the round is not greater than those known",
+        })
+    }
+}
+
+impl Error for BeginError {}
+
+impl From<AllocError> for BeginError {
+    ghost use Rattle.std.specs.Prelude.{◌≡◌};
+    ghost use Rattle.line_marker.specs.declared.errors.BeginError.TheVariants.{OutOfMemory};
+
+    ghost from_gives = { λ _ e. e ≡ OutOfMemory };
+
+    fn from(_refused: AllocError) -> BeginError {
+        BeginError::OutOfMemory
+    }
+}
+
+/// Why a marker was not taken.
+#[derive(Clone, Copy, Debug, PartialEq, Eq, Hash)]
+pub enum MarkerError {
+    OutOfMemory,
+    MarkerRepeated,
+}
+
+impl MarkerError {
+    /// The number of the refusal, as replies show it.
+    pub fn code(self) -> u32
+        ensures memory { self ≡ MarkerError.OutOfMemory → result ≡ 0 }
+        ensures repeated { self ≡ MarkerError.MarkerRepeated → result ≡ 10 }
+    {
+        match self {
+            MarkerError::OutOfMemory => 0,
+            MarkerError::MarkerRepeated => 10,
+        }
+    }
+}
+
+impl fmt::Display for MarkerError {
+    fn fmt<W: fmt::Write>(&self, f: &mut fmt::Formatter<W>) -> fmt::Result {
+        f.write_str(match self {
+            MarkerError::OutOfMemory => "out of memory",
+            MarkerError::MarkerRepeated => "that channel of that round is closed",
+        })
+    }
+}
+
+impl Error for MarkerError {}
+
+impl From<AllocError> for MarkerError {
+    ghost use Rattle.std.specs.Prelude.{◌≡◌};
+    ghost use Rattle.line_marker.specs.declared.errors.MarkerError.TheVariants.{OutOfMemory};
+
+    ghost from_gives = { λ _ e. e ≡ OutOfMemory };
+
+    fn from(_refused: AllocError) -> MarkerError {
+        MarkerError::OutOfMemory
+    }
+}

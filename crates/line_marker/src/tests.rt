@@ -1,0 +1,93 @@
+//! The two rules at work, with memory enough.
+ghost use Rattle.std.specs.Prelude.{◌≡◌, ◌<◌, IfOk};
+
+use crate::{BeginError, Effect, Marker, MarkerError};
+use line_names::{MsgName, ProcId};
+use std::test::Fail;
+
+/// One of three processes.
+fn process(p: u32) -> Result<ProcId, Fail>
+    ensures { IfOk result (λ named. (named ≡ p) × (p < 3)) }
+{
+    Ok(ProcId::try_new(p, 3)?)
+}
+
+/// A message of process 1, in its first incarnation.
+fn message(number: u32) -> Result<MsgName, Fail>
+    ensures { IfOk result (λ message. message.from ≡ 1) }
+{
+    let from = process(1)?;
+    Ok(MsgName {
+        from,
+        inc: 0,
+        number,
+    })
+}
+
+/// Process 0 of three, with room, has begun round 1 and then received a message of process 1.
+fn begun(rt: HostRuntime) -> Result<Marker, Fail>
+    ensures of { IfOk result (λ marker. marker.n ≡ 3) }
+    ensures me { IfOk result (λ marker. marker.me ≡ 0) }
+{
+    let me = process(0)?;
+    let first = message(0)?;
+    let mut marker = Marker::new(rt.alloc(), 3, me, 0)?;
+    marker.reserve()?;
+    marker.begin(1)?;
+    marker.note(first)?;
+    Ok(marker)
+}
+
+#[test]
+fn a_number_is_taken_once(rt: HostRuntime) -> Result<(), Fail> {
+    let mut marker = begun(rt)?;
+    assert_eq!(rt; marker.begin(1), Err(BeginError::RoundNotNew));
+    assert_eq!(rt; marker.latest(), 1);
+    Ok(())
+}
+
+#[test]
+fn a_channel_ends_at_its_marker(rt: HostRuntime) -> Result<(), Fail> {
+    let mut marker = begun(rt)?;
+    let from = process(1)?;
+    let (first, second) = (message(0)?, message(1)?);
+    assert_eq!(rt; marker.on_marker(from, 1)?, Effect::Closed);
+    marker.note(second)?;
+    assert_eq!(rt; marker.channel(from, 1), Some([first].as_slice()));
+    assert_eq!(rt; marker.on_marker(from, 1), Err(MarkerError::MarkerRepeated));
+    Ok(())
+}
+
+#[test]
+fn a_round_is_over_with_its_last_marker(rt: HostRuntime) -> Result<(), Fail> {
+    let mut marker = begun(rt)?;
+    let (one, two) = (process(1)?, process(2)?);
+    assert_eq!(rt; marker.on_marker(one, 1)?, Effect::Closed);
+    assert!(rt; !marker.is_closed(1));
+    assert_eq!(rt; marker.on_marker(two, 1)?, Effect::Closed);
+    assert!(rt; marker.is_closed(1));
+    Ok(())
+}
+
+#[test]
+fn a_marker_forces_a_round(rt: HostRuntime) -> Result<(), Fail> {
+    let mut marker = begun(rt)?;
+    let (one, two) = (process(1)?, process(2)?);
+    assert_eq!(rt; marker.on_marker(two, 3)?, Effect::Forced);
+    assert_eq!(rt; marker.on_marker(one, 2)?, Effect::Ignored);
+    assert_eq!(rt; marker.channel(two, 3), Some([].as_slice()));
+    assert_eq!(rt; marker.channel(two, 2), None);
+    assert_eq!(rt; marker.latest(), 3);
+    Ok(())
+}
+
+#[test]
+fn refusals_have_their_numbers(rt: HostRuntime) -> Result<(), Fail> {
+    let begin = format!(in rt.alloc(); "{}", BeginError::RoundNotNew)?;
+    assert_eq!(rt; begin.as_str(), "the round is not greater than those known");
+    let marker = format!(in rt.alloc(); "{}", MarkerError::MarkerRepeated)?;
+    assert_eq!(rt; marker.as_str(), "that channel of that round is closed");
+    assert_eq!(rt; BeginError::RoundNotNew.code(), 9);
+    assert_eq!(rt; MarkerError::MarkerRepeated.code(), 10);
+    Ok(())
+}
