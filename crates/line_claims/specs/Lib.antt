@@ -1,0 +1,9 @@
+pub mod Claims
+pub mod Cursors
+pub mod Entries
+pub mod Events
+pub mod Faults
+pub mod Histories
+pub mod Numbers
+pub mod Reads
+pub mod Texts

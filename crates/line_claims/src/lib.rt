@@ -1,0 +1,18 @@
+//! History texts and check texts: what they say, as values.
+//!
+//! A history text has the tapes of all processes. A check text is a history text and a claim on it: the
+//! checks that are damaged, the processes that failed, a line, and the certificate of that line.
+#![tactic(auto)]
+
+mod claims;
+mod cursors;
+mod entries;
+mod events;
+mod faults;
+mod histories;
+mod numbers;
+mod texts;
+
+pub use claims::Claim;
+pub use faults::{TextFault, name_of};
+pub use texts::{CheckText, read_certificate, read_check_text, read_history};
