@@ -9,7 +9,7 @@ use Rattle.line_claims.specs.declared.faults.TextFault.{TextFault}
 use Rattle.line_claims.specs.Claims.{Claim, Reading, claim_from, is_ended, step}
 use Rattle.line_claims.specs.Reads.{FailsText, error_at, fault_at}
 
-first_step : (s more : Reading) (i : ℕ) (r : Record) (rest : List Record) → step s r ≡ Ok more → claim_from s i (r ∷ rest) ≡ claim_from more (i + 1) rest
+pub first_step : (s more : Reading) (i : ℕ) (r : Record) (rest : List Record) → step s r ≡ Ok more → claim_from s i (r ∷ rest) ≡ claim_from more (i + 1) rest
 unfolding claim_from
 first_step s more i r rest h = rw h refl
 

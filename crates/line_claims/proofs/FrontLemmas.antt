@@ -9,7 +9,7 @@ use Rattle.line_claims.specs.declared.faults.TextFault.{TextFault}
 use Rattle.line_claims.specs.Histories.{Front, Tapes, begins_claim, ends_front, front_at, front_from, is_whole, step}
 use Rattle.line_claims.specs.Reads.{FailsText, error_at, fault_at}
 
-first_step : (t more : Tapes) (i : ℕ) (r : Record) (rest : List Record) → begins_claim r ≡ false → step t r ≡ Ok more → front_from t i (r ∷ rest) ≡ front_from more (i + 1) rest
+pub first_step : (t more : Tapes) (i : ℕ) (r : Record) (rest : List Record) → begins_claim r ≡ false → step t r ≡ Ok more → front_from t i (r ∷ rest) ≡ front_from more (i + 1) rest
 unfolding front_from
 first_step t more i r rest other h = rw (other, h) refl
 

@@ -5,5 +5,7 @@ pub mod Events
 pub mod Faults
 pub mod Histories
 pub mod Numbers
+pub mod Ranges
 pub mod Reads
+pub mod Records
 pub mod Texts

@@ -10,9 +10,18 @@ mod entries;
 mod events;
 mod faults;
 mod histories;
+mod judgements;
+mod laws;
 mod numbers;
 mod texts;
+mod writers;
 
 pub use claims::Claim;
 pub use faults::{TextFault, name_of};
+pub use judgements::{put_damage, put_judged, put_pass};
+pub use laws::{claims_are_read_again, histories_are_read_again};
 pub use texts::{CheckText, read_certificate, read_check_text, read_history};
+pub use writers::{put_history, write_history};
+
+#[cfg(test)]
+mod tests;
