@@ -1,5 +1,5 @@
 -- A history that is written is read again.
-use Rattle.std.proofs.Common.{◌≡◌, ◌≤◌, ◌<◌, ℕ, ◌+◌, ◌==◌, Bool, true, false, List, [], ◌∷◌, ◌++◌, length, drop, Result, Ok, refl, sym, ap, ◌∙◌, arith, append_assoc, eq-eqb, length-append}
+use Rattle.std.proofs.Common.{◌≡◌, ◌≤◌, ◌<◌, ℕ, ◌+◌, ◌==◌, true, List, [], ◌∷◌, ◌++◌, length, Result, Ok, refl, sym, ap, ◌∙◌, arith, append_assoc, eq-eqb, length-append}
 use Rattle.std.specs.Prelude.{map, replicate}
 use Rattle.std.specs.List.{AllByRecursion}
 use Rattle.std.proofs.Math.Seq.{get_or-append_seam, set-append_seam}
@@ -10,11 +10,11 @@ use Rattle.line_names.specs.declared.limits.TheConstants.{MOST_PROCESSES}
 use Rattle.line_fields.specs.Records.{Record}
 use Rattle.line_tape.specs.declared.events.Event.{Event}
 use Rattle.line_tape.specs.declared.limits.TheConstants.{MOST_EVENTS}
-use Rattle.line_tape.specs.History.{Process, fresh, process_at, tape_at, with_event, with_incarnation}
+use Rattle.line_tape.specs.History.{Process, fresh, tape_at, with_event, with_incarnation}
 use Rattle.line_claims.specs.declared.faults.TextFault.{TextFault}
-use Rattle.line_claims.specs.Histories.{Front, Tapes, count_in, ends_front, front_from, front_of, is_whole, no_tapes, step}
+use Rattle.line_claims.specs.Histories.{Front, Tapes, ends_front, front_from, front_of, step}
 use Rattle.line_claims.specs.Ranges.{IsHistoryInRange, IsInRange, IsTapeInRange}
-use Rattle.line_claims.specs.Records.{event_record, history_records, tape_record, tape_records, tapes_records}
+use Rattle.line_claims.specs.Records.{event_record, history_records, tape_record, tapes_records}
 use Rattle.line_claims.specs.Texts.{history_of}
 use Rattle.line_claims.proofs.FrontLemmas.{first_step, front_end}
 use Rattle.line_claims.proofs.SpellLemmas.{count_again, event_again, event_is_no_claim, tape_again, with_one, with_tape}
@@ -97,14 +97,14 @@ tapes_again n done (p ∷ others) h b a i more ends is at total few fit =
     let there : b < length h = omega (arith, at, long, total) in
     let wide : b ≤ 4294967295 = omega (arith, there, long, few) in
     let begun : with_tape t inc ≡ next
-        = ap (λ (x : List Process). with_history x (b + 1) b) (incarnation_between done after h b inc is at) ∙ ap (λ (k : ℕ). with_history (between done (process_with inc []) after) (k + 1) k) at in
+    = ap (λ (x : List Process). with_history x (b + 1) b) (incarnation_between done after h b inc is at) ∙ ap (λ (k : ℕ). with_history (between done (process_with inc []) after) (k + 1) k) at in
     let stepped : step t (tape_record b inc) ≡ Ok next = tape_again t inc there wide ok.incarnation ∙ ok_of begun in
     let first = first_step t next i (tape_record b inc) ((events ++ tapes_records (b + 1) others) ++ more) refl stepped in
     let around : length done + (1 + length after) ≡ n = omega (arith, count, total) in
     let room : 0 + length p.tape ≤ MOST_EVENTS = omega (arith, ok.few) in
     let read = events_again n done after inc [] p.tape later (i + 1) around few room ok.events in
     let back : front_from (reading done inc p.tape after) read.0 later ≡ front_from (with_history (done ++ p ∷ after) (b + 1) (length done)) read.0 later
-        = ap (λ (k : ℕ). front_from (with_history (done ++ p ∷ after) (k + 1) (length done)) read.0 later) (sym at) in
+    = ap (λ (k : ℕ). front_from (with_history (done ++ p ∷ after) (k + 1) (length done)) read.0 later) (sym at) in
     let one : b + 1 ≡ length (done ++ p ∷ []) = omega (arith, length-append done (p ∷ []), at) in
     let all : length (done ++ p ∷ []) + length others ≡ n = omega (arith, length-append done (p ∷ []), total) in
     let rest = tapes_again n (done ++ p ∷ []) others (done ++ p ∷ after) (b + 1) (length done) read.0 more ends (sym (append_assoc done (p ∷ []) after)) one all few fit.1 in

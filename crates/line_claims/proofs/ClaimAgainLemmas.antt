@@ -15,7 +15,6 @@ use Rattle.line_tape.specs.Survival.{is_damaged}
 use Rattle.line_tape.specs.Views.{MarksView, with_mark}
 use Rattle.line_claims.specs.declared.claims.Part.{Part}
 use Rattle.line_claims.specs.declared.claims.Part.TheVariants as parts
-use Rattle.line_claims.specs.declared.faults.TextFault.{TextFault}
 use Rattle.line_claims.specs.Claims.{Claim, Reading, claim_from, nothing, step}
 use Rattle.line_claims.specs.Entries.{failed_of}
 use Rattle.line_claims.specs.Histories.{ends_front}
@@ -57,7 +56,7 @@ marks_again n done after front (check ∷ checks) more i few there fit =
     let next : Reading = marking n (marks_of (done ++ (front ++ check ∷ []) ∷ after)) in
     let new : is_damaged marks (length done) check ≡ false = ap (λ (listed : List ℕ). list_any (λ mark. mark == check) listed) (get_or-append_seam done front after []) ∙ fit.2 in
     let stepped : step (marking n marks) (damage_record (length done) check) ≡ Ok next
-        = damage_step n (length done) check marks few there fit.0 fit.1 new ∙ ap (λ (m : MarksView). read_to (marking n m)) (mark_between done after front check) in
+    = damage_step n (length done) check marks few there fit.0 fit.1 new ∙ ap (λ (m : MarksView). read_to (marking n m)) (mark_between done after front check) in
     let first = first_step (marking n marks) next i (damage_record (length done) check) (map (damage_record (length done)) checks ++ more) stepped in
     let rest = marks_again n done after (front ++ check ∷ []) checks more (i + 1) few there fit.3 in
     (rest.0, first ∙ rest.1 ∙ ap (λ (listed : List ℕ). claim_from (marking n (marks_of (done ++ listed ∷ after))) rest.0 more) (append_assoc front (check ∷ []) checks))
@@ -76,13 +75,13 @@ damages_again n done (checks ∷ others) p i more few at room fit =
     let left : length (done ++ checks ∷ []) + length others ≤ n = omega (arith, room, length-append done (checks ∷ [])) in
     let rest = damages_again n (done ++ checks ∷ []) others (p + 1) read.0 more few one left fit.1 in
     let parted : claim_from s i (damages_records p (checks ∷ others) ++ more) ≡ claim_from s i (map (damage_record p) checks ++ later)
-        = ap (claim_from s i) (append_assoc (map (damage_record p) checks) (damages_records (p + 1) others) more) in
+    = ap (claim_from s i) (append_assoc (map (damage_record p) checks) (damages_records (p + 1) others) more) in
     let named : claim_from s i (map (damage_record p) checks ++ later) ≡ claim_from s i (map (damage_record (length done)) checks ++ later)
-        = ap (λ (q : ℕ). claim_from s i (map (damage_record q) checks ++ later)) at in
+    = ap (λ (q : ℕ). claim_from s i (map (damage_record q) checks ++ later)) at in
     let moved : claim_from (marking n (marks_of (done ++ checks ∷ after))) read.0 later ≡ claim_from (marking n (marks_of ((done ++ checks ∷ []) ++ after))) read.0 later
-        = ap (λ (damaged : List (List ℕ)). claim_from (marking n (marks_of damaged)) read.0 later) (sym (append_assoc done (checks ∷ []) after)) in
+    = ap (λ (damaged : List (List ℕ)). claim_from (marking n (marks_of damaged)) read.0 later) (sym (append_assoc done (checks ∷ []) after)) in
     let back : claim_from (marking n (marks_of ((done ++ checks ∷ []) ++ others))) rest.0 more ≡ claim_from (marking n (marks_of (done ++ checks ∷ others))) rest.0 more
-        = ap (λ (damaged : List (List ℕ)). claim_from (marking n (marks_of damaged)) rest.0 more) (append_assoc done (checks ∷ []) others) in
+    = ap (λ (damaged : List (List ℕ)). claim_from (marking n (marks_of damaged)) rest.0 more) (append_assoc done (checks ∷ []) others) in
     (rest.0, parted ∙ named ∙ read.1 ∙ moved ∙ rest.1 ∙ back)
 
 failed_step : (n : ℕ) (marks : MarksView) (failed : List Bool) → failed_of n (failed_record n failed) ≡ Ok failed → step (marking n marks) (failed_record n failed) ≡ Ok (so_far n parts.Failed marks failed [] [])
@@ -93,7 +92,7 @@ line_step : (n : ℕ) (marks : MarksView) (failed : List Bool) (line : List Choi
     → step (so_far n parts.Failed marks failed [] []) (line_record line) ≡ Ok (so_far n parts.Line marks failed line [])
 unfolding step
 line_step n marks failed line some short fit =
-    let width : length (line_record line) ≡ length line + 1 = omega (arith, length-map choice_text line) in
+    let width : length (line_record line) ≡ length line + 1 = omega (arith, length-map line choice_text) in
     let low : 2 ≤ length (line_record line) = omega arith in
     let high : length (line_record line) ≤ MOST_PROCESSES + 1 = omega arith in
     rw (le-leb 2 (length (line_record line)) low, le-leb (length (line_record line)) (MOST_PROCESSES + 1) high, line_again line fit) refl
@@ -130,9 +129,9 @@ judged_again claim i fit =
     let line : List Choice = claim.line in
     let entries : List Passed = claim.certificate in
     let first = first_step (marking n marks) (so_far n parts.Failed marks failed [] []) i (failed_record n failed) (line_record line ∷ (map pass_record entries ++ end_record ∷ []))
-        (failed_step n marks failed (failed_again n failed fit.few fit.whole fit.there)) in
+    (failed_step n marks failed (failed_again n failed fit.few fit.whole fit.there)) in
     let second = first_step (so_far n parts.Failed marks failed [] []) (so_far n parts.Line marks failed line []) (i + 1) (line_record line) (map pass_record entries ++ end_record ∷ [])
-        (line_step n marks failed line fit.some fit.short fit.choices) in
+    (line_step n marks failed line fit.some fit.short fit.choices) in
     let read = passes_again n marks failed line [] entries (end_record ∷ []) ((i + 1) + 1) fit.few fit.entries in
     let last = first_step (so_far n parts.Line marks failed line entries) (so_far n parts.End marks failed line entries) read.0 end_record [] (end_step n marks failed line entries) in
     first ∙ second ∙ read.1 ∙ last ∙ claim_end (so_far n parts.End marks failed line entries) (read.0 + 1) [] refl refl

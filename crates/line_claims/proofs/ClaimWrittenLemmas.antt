@@ -1,5 +1,5 @@
 -- The records of a claim have plain fields, and the text of a history and a claim on it is read again.
-use Rattle.std.proofs.Common.{◌≡◌, ◌≤◌, ◌<◌, ℕ, ◌+◌, ◌^◌, true, Bool, List, [], ◌∷◌, ◌++◌, length, Result, Ok, refl, sym, ap, ◌∙◌, arith}
+use Rattle.std.proofs.Common.{◌≡◌, ◌≤◌, ◌<◌, ℕ, ◌+◌, ◌^◌, true, List, [], ◌∷◌, ◌++◌, length, Ok, refl, sym, arith}
 use Rattle.std.specs.Prelude.{decimal, map}
 use Rattle.std.specs.List.{AllByRecursion, list_all}
 use Rattle.std.proofs.lemmas.List.Folds.{list_all-append}
@@ -12,12 +12,11 @@ use Rattle.line_fields.specs.Texts.{is_plain_field, is_written, records_text}
 use Rattle.line_fields.proofs.PlainLemmas.{plain_decimal}
 use Rattle.line_fields.proofs.ReadAgain.{written_is_input, written_is_read}
 use Rattle.line_tape.specs.History.{Process}
-use Rattle.line_claims.specs.declared.faults.TextFault.{TextFault}
 use Rattle.line_claims.specs.Claims.{Claim}
 use Rattle.line_claims.specs.Ranges.{AreMarks, IsChoice, IsClaimInRange, IsEntryInRange, IsHistoryInRange}
-use Rattle.line_claims.specs.Records.{choice_text, claim_records, damage_record, damages_records, end_record, failed_record, history_records, judged_records, line_record, members, pass_record}
-use Rattle.line_claims.specs.Texts.{Check, certificate_of, certificate_of_text, check_of, check_of_text}
-use Rattle.line_claims.proofs.AgainLemmas.{front_again, front_to}
+use Rattle.line_claims.specs.Records.{choice_text, claim_records, damage_record, damages_records, end_record, history_records, judged_records, members, pass_record}
+use Rattle.line_claims.specs.Texts.{certificate_of, certificate_of_text, check_of, check_of_text}
+use Rattle.line_claims.proofs.AgainLemmas.{front_again}
 use Rattle.line_claims.proofs.ClaimAgainLemmas.{claim_again, claim_ends_front}
 use Rattle.line_claims.proofs.EntryAgainLemmas.{members_below}
 use Rattle.line_claims.proofs.WrittenLemmas.{history_is_written}

@@ -1,7 +1,7 @@
 -- Records of a claim that are written are read again.
-use Rattle.std.proofs.Common.{inl, inr, ◌≡◌, ◌≤◌, ◌<◌, ℕ, zero, suc, ◌+◌, ◌^◌, ◌==◌, ◌&&◌, Bool, true, false, List, [], ◌∷◌, ◌++◌, length, get_or, Result, Ok, refl, sym, ap, ◌∙◌, arith, append_assoc, length-append, ne_eqb}
+use Rattle.std.proofs.Common.{inl, inr, ◌≡◌, ◌≤◌, ◌<◌, ℕ, zero, suc, ◌+◌, ◌==◌, Bool, true, false, List, [], ◌∷◌, ◌++◌, length, get_or, Result, Ok, refl, sym, ap, ◌∙◌, arith, append_assoc, length-append, ne_eqb}
 use Rattle.std.specs.Prelude.{codes, decimal, filter, fold, map, nat_lt, replicate}
-use Rattle.std.specs.List.{AllByRecursion, list_all, list_any, range_with_len}
+use Rattle.std.specs.List.{AllByRecursion, list_all, range_with_len}
 use Rattle.std.proofs.Math.ListN.{set}
 use Rattle.std.proofs.Math.Seq.{get_or-append_seam, set-append_seam}
 use Rattle.std.proofs.lemmas.Bool.{cases_Bool}
@@ -106,11 +106,11 @@ members_make xs (y ∷ ys) (suc k) room none =
     let long : length (xs ++ y ∷ []) ≡ length xs + 1 = length-append xs (y ∷ []) in
     let less : k ≤ length ys = omega arith in
     let none-here : (p : ℕ) → length (xs ++ y ∷ []) + k ≤ p → is_member ((xs ++ y ∷ []) ++ ys) p ≡ false
-        = λ p le. ap (λ (set : List Bool). is_member set p) moved ∙ none p (omega (arith, le, long)) in
+    = λ p le. ap (λ (set : List Bool). is_member set p) moved ∙ none p (omega (arith, le, long)) in
     let rest : fold with_member ((xs ++ y ∷ []) ++ replicate (length ys) false) (filter test (range_with_len (length xs + 1) k)) ≡ whole
-        = ap (λ (a : ℕ). fold with_member ((xs ++ y ∷ []) ++ replicate (length ys) false) (filter test (range_with_len a k))) (sym long)
-        ∙ ap (λ (set : List Bool). fold with_member ((xs ++ y ∷ []) ++ replicate (length ys) false) (filter (λ p. is_member set p) (range_with_len (length (xs ++ y ∷ [])) k))) (sym moved)
-        ∙ members_make (xs ++ y ∷ []) ys k less none-here ∙ moved in
+    = ap (λ (a : ℕ). fold with_member ((xs ++ y ∷ []) ++ replicate (length ys) false) (filter test (range_with_len a k))) (sym long)
+    ∙ ap (λ (set : List Bool). fold with_member ((xs ++ y ∷ []) ++ replicate (length ys) false) (filter (λ p. is_member set p) (range_with_len (length (xs ++ y ∷ [])) k))) (sym moved)
+    ∙ members_make (xs ++ y ∷ []) ys k less none-here ∙ moved in
     member_first xs ys y k whole (get_or-append_seam xs y ys false) rest
 
 pub failed_again : (n : ℕ) (set : List Bool) → n ≤ MOST_PROCESSES → length set ≡ MOST_PROCESSES → ((p : ℕ) → n ≤ p → is_member set p ≡ false)
@@ -120,6 +120,6 @@ failed_again n set few whole none =
     let below = members_below n set in
     let start : nobody ≡ replicate (length set) false = ap (λ (k : ℕ). replicate k false) (sym whole) in
     let made : fold with_member nobody (members n set) ≡ set
-        = ap (λ (acc : List Bool). fold with_member acc (members n set)) start ∙ members_make [] set n (omega (arith, whole, few)) (λ p le. none p (omega (arith, le))) in
+    = ap (λ (acc : List Bool). fold with_member acc (members n set)) start ∙ members_make [] set n (omega (arith, whole, few)) (λ p le. none p (omega (arith, le))) in
     let P : List Bool → Result (List Bool) Fault = λ made-set. Ok made-set in
     rw (numbers_again (members n set) (wide_if_below n (members n set) few below), all_below n (members n set) below) (ap P made)

@@ -35,7 +35,7 @@ tape_written now later total history p lt h k =
     let process : Process = process_at history p in
     let others : List Record = tapes_records (p + 1) (drop (p + 1) history) in
     let split : records_text (tapes_records p (drop p history)) ≡ records_text (tape_records p process) ++ records_text others
-        = ap (λ (rest : List Process). records_text (tapes_records p rest)) (drop_more history p fresh lt) ∙ flat_map-append record_text (tape_records p process) others in
+    = ap (λ (rest : List Process). records_text (tapes_records p rest)) (drop_more history p fresh lt) ∙ flat_map-append record_text (tape_records p process) others in
     ap (λ (text : List ℕ). text ++ records_text others) k ∙ append_assoc now (records_text (tape_records p process)) (records_text others)
     ∙ ap (λ (text : List ℕ). now ++ text) (sym split) ∙ h
 
@@ -58,7 +58,7 @@ failed_in n set h =
     let test : ℕ → Bool = λ p. is_member set p in
     let last : filter test (n ∷ []) ≡ n ∷ [] = rw h refl in
     let more : members (n + 1) set ≡ members n set ++ n ∷ []
-        = ap (filter test) (range_more n) ∙ filter-append test (range_with_len 0 n) (n ∷ []) ∙ ap (λ (xs : List ℕ). members n set ++ xs) last in
+    = ap (filter test) (range_more n) ∙ filter-append test (range_with_len 0 n) (n ∷ []) ∙ ap (λ (xs : List ℕ). members n set ++ xs) last in
     ap (λ (ps : List ℕ). codes "failed" ∷ map decimal ps) more ∙ ap (λ (fields : Record). codes "failed" ∷ fields) (map-append decimal (members n set) (n ∷ []))
 
 -- it isn't
@@ -67,7 +67,7 @@ failed_out n set h =
     let test : ℕ → Bool = λ p. is_member set p in
     let last : filter test (n ∷ []) ≡ [] = rw h refl in
     let more : members (n + 1) set ≡ members n set
-        = ap (filter test) (range_more n) ∙ filter-append test (range_with_len 0 n) (n ∷ []) ∙ ap (λ (xs : List ℕ). members n set ++ xs) last ∙ append-nil (members n set) in
+    = ap (filter test) (range_more n) ∙ filter-append test (range_with_len 0 n) (n ∷ []) ∙ ap (λ (xs : List ℕ). members n set ++ xs) last ∙ append-nil (members n set) in
     ap (λ (ps : List ℕ). codes "failed" ∷ map decimal ps) more
 
 -- one process more is added, or none

@@ -1,5 +1,5 @@
 -- The records of a history have plain fields.
-use Rattle.std.proofs.Common.{◌≡◌, ◌≤◌, ◌<◌, ℕ, zero, suc, ◌+◌, ◌^◌, true, List, [], ◌∷◌, ◌++◌, Option, Some, None, length, get_or, refl, arith, ◌∙◌, sym, ap, Result, Ok}
+use Rattle.std.proofs.Common.{◌≡◌, ◌≤◌, ◌<◌, ℕ, zero, suc, ◌+◌, ◌^◌, true, List, [], ◌∷◌, Option, Some, None, length, get_or, refl, arith, ◌∙◌, sym, ap, Result, Ok}
 use Rattle.std.specs.Prelude.{map}
 use Rattle.std.specs.List.{AllByRecursion, list_all}
 use Rattle.std.proofs.lemmas.List.Folds.{list_all-append}
@@ -11,8 +11,8 @@ use Rattle.line_tape.specs.declared.events.Event.{Event}
 use Rattle.line_tape.specs.declared.events.Event.TheVariants.{Send, Recv, Check, Mark}
 use Rattle.line_tape.specs.History.{Process}
 use Rattle.line_claims.specs.declared.faults.TextFault.{TextFault}
-use Rattle.line_claims.specs.Ranges.{AreBytes, IsHistoryInRange, IsInRange, IsRound, IsTapeInRange}
-use Rattle.line_claims.specs.Records.{event_record, history_records, history_record, round_text, tape_records, tapes_records}
+use Rattle.line_claims.specs.Ranges.{IsHistoryInRange, IsInRange, IsRound, IsTapeInRange}
+use Rattle.line_claims.specs.Records.{event_record, history_records, round_text, tape_records, tapes_records}
 use Rattle.line_claims.specs.Texts.{history_of_text}
 use Rattle.line_claims.proofs.AgainLemmas.{history_again}
 

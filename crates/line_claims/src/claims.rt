@@ -197,11 +197,7 @@ impl Reading {
 }
 
 /// The claim among `n` processes that the records from a place on spell.
-pub(crate) fn read_claim(
-    alloc: Global,
-    n: u32,
-    cursor: &mut Cursor<'_>,
-) -> Result<Claim, TextError>
+pub(crate) fn read_claim(alloc: Global, n: u32, cursor: &mut Cursor<'_>) -> Result<Claim, TextError>
     requires { n ≤ MOST_PROCESSES }
     ensures { Yields spec.seen result (spec.claim_from (spec.nothing n) cursor.old.number cursor.old.left) }
 {

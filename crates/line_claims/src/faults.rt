@@ -54,10 +54,14 @@ pub struct TextFault {
     pub code: u32,
 }
 
-/// Why a text was not read.
-#[derive(Clone, Copy, Debug, PartialEq, Eq)]
-pub(crate) enum TextError {
+/// Why a text was not read, for those that read texts of their own.
+#[derive(Clone, Copy, Debug, PartialEq, Eq, Error)]
+pub enum TextError {
+    /// A growth was refused.
+    #[error("OutOfMemory")]
     OutOfMemory,
+    /// The text has this fault.
+    #[error(transparent)]
     Fault(TextFault),
 }
 
@@ -82,7 +86,7 @@ impl<T: Drop> From<AllocFailed<T>> for TextError {
 }
 
 /// A fault of the record with that number.
-pub(crate) fn fault_at(record_number: u64, fault: Fault) -> TextError
+pub fn fault_at(record_number: u64, fault: Fault) -> TextError
     ensures { result ≡ TextError.Fault (record { record_number = record_number; code = code_of fault }) }
 {
     TextError::Fault(TextFault {
@@ -92,7 +96,7 @@ pub(crate) fn fault_at(record_number: u64, fault: Fault) -> TextError
 }
 
 /// Why the record with that number was not read.
-pub(crate) fn error_at(record_number: u64, error: ReadError) -> TextError
+pub fn error_at(record_number: u64, error: ReadError) -> TextError
     ensures { result ≡ error_at record_number error }
 {
     match error {
@@ -101,8 +105,8 @@ pub(crate) fn error_at(record_number: u64, error: ReadError) -> TextError
     }
 }
 
-/// What a caller is told of an error.
-pub(crate) fn told(error: TextError) -> TextFault
+/// What a caller is told of an error: want of memory is the fault 0 of record 0.
+pub fn told(error: TextError) -> TextFault
     ensures { result ≡ told error }
 {
     match error {

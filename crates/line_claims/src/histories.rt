@@ -55,10 +55,7 @@ pub(crate) fn count_of(row: &Row) -> Result<u32, Fault>
     let version = plain(row, 1)?;
     let n = plain(row, 2)?;
     want(version == 1, Fault::BadVersion)?;
-    want(
-        1 <= n && n as usize <= MOST_PROCESSES,
-        Fault::BadCount,
-    )?;
+    want(1 <= n && n as usize <= MOST_PROCESSES, Fault::BadCount)?;
     Ok(n)
 }
 

@@ -83,11 +83,7 @@ fn add_choices(draft: &mut Draft, choices: &[Choice]) -> Result<(), AllocError>
 }
 
 // Writes `line,CHOICE,..`.
-fn put_line(
-    writer: &mut RecordWriter,
-    draft: &mut Draft,
-    line: &Line,
-) -> Result<(), AllocError>
+fn put_line(writer: &mut RecordWriter, draft: &mut Draft, line: &Line) -> Result<(), AllocError>
     ensures { OnOk result (writer.new ≡ writer.old ++ record_text (spec.line_record line.now)) }
 {
     add_choices(draft, line.choices())?;

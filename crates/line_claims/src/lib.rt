@@ -17,7 +17,7 @@ mod texts;
 mod writers;
 
 pub use claims::Claim;
-pub use faults::{TextFault, name_of};
+pub use faults::{TextError, TextFault, error_at, fault_at, name_of, told};
 pub use judgements::{put_damage, put_judged, put_pass};
 pub use laws::{claims_are_read_again, histories_are_read_again};
 pub use texts::{CheckText, read_certificate, read_check_text, read_history};

@@ -10,6 +10,7 @@ use line_fields::{Fault, Row, number};
 use line_names::{Choice, MOST_PROCESSES, ProcId};
 
 const MOST_NUMBER: u64 = 4_294_967_295;
+
 const MOST_SMALL: u64 = 65_535;
 
 /// A fault unless a test holds.

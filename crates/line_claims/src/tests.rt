@@ -59,7 +59,10 @@ fn finds_the_first_fault_of_a_history(rt: HostRuntime) {
         (HISTORY, None),
         (WHOLE, Some((13, 32))),
         (b"history,1,1\ntape,0,65535", None),
-        (b"history,1,1\r\n\ntape,0,0\ncheck,A1b2,00065535\nmark,0,1\n", None),
+        (
+            b"history,1,1\r\n\ntape,0,0\ncheck,A1b2,00065535\nmark,0,1\n",
+            None,
+        ),
         // Bytes that no text has, before all else.
         (b"world\ntape,0,\"0\"\n", Some((0, 32))),
         // The first record, in the order of its questions.
@@ -86,7 +89,10 @@ fn finds_the_first_fault_of_a_history(rt: HostRuntime) {
 #[test]
 fn finds_the_first_fault_of_an_event(rt: HostRuntime) {
     for (text, want) in [
-        (b"history,1,1\ntape,0,0\nsend,0,0".as_slice(), Some((3u64, 32u32))),
+        (
+            b"history,1,1\ntape,0,0\nsend,0,0".as_slice(),
+            Some((3u64, 32u32)),
+        ),
         (b"history,1,1\ntape,0,0\nsend,1,65536,", Some((3, 33))),
         (b"history,1,1\ntape,0,0\nsend,1,0,6", Some((3, 33))),
         (b"history,1,1\ntape,0,0\nsend,1,0,61", Some((3, 1))),

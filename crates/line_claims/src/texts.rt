@@ -44,13 +44,7 @@ fn history_row<'a>(cursor: &'a Cursor<'_>) -> Option<&'a Row>
 {
     match cursor.row() {
         None => None,
-        Some(row) => {
-            if begins_claim(row) {
-                None
-            } else {
-                Some(row)
-            }
-        }
+        Some(row) => { if begins_claim(row) { None } else { Some(row) } }
     }
 }
 

@@ -87,11 +87,7 @@ fn put_mark(
 }
 
 // Writes the record of an event.
-fn put_event(
-    writer: &mut RecordWriter,
-    draft: &mut Draft,
-    event: &Event,
-) -> Result<(), AllocError>
+fn put_event(writer: &mut RecordWriter, draft: &mut Draft, event: &Event) -> Result<(), AllocError>
     ensures { OnOk result (writer.new ≡ writer.old ++ record_text (spec.event_record event.now)) }
 {
     match event {
