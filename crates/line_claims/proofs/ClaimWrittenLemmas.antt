@@ -1,0 +1,94 @@
+-- The records of a claim have plain fields, and the text of a history and a claim on it is read again.
+use Rattle.std.proofs.Common.{◌≡◌, ◌≤◌, ◌<◌, ℕ, ◌+◌, ◌^◌, true, List, [], ◌∷◌, ◌++◌, length, Ok, refl, sym, arith}
+use Rattle.std.specs.Prelude.{decimal, map}
+use Rattle.std.specs.List.{AllByRecursion, list_all}
+use Rattle.std.proofs.lemmas.List.Folds.{list_all-append}
+use Rattle.line_names.specs.declared.certificates.Passed.{Passed}
+use Rattle.line_names.specs.declared.choices.Choice.{Choice}
+use Rattle.line_names.specs.declared.choices.Choice.TheVariants.{Check as AtCheck, Now}
+use Rattle.line_names.specs.declared.limits.TheConstants.{MOST_PROCESSES}
+use Rattle.line_fields.specs.Records.{Record}
+use Rattle.line_fields.specs.Texts.{is_plain_field, is_written, records_text}
+use Rattle.line_fields.proofs.PlainLemmas.{plain_decimal}
+use Rattle.line_fields.proofs.ReadAgain.{written_is_input, written_is_read}
+use Rattle.line_tape.specs.History.{Process}
+use Rattle.line_claims.specs.Claims.{Claim}
+use Rattle.line_claims.specs.Ranges.{AreMarks, IsChoice, IsClaimInRange, IsEntryInRange, IsHistoryInRange}
+use Rattle.line_claims.specs.Records.{choice_text, claim_records, damage_record, damages_records, end_record, history_records, judged_records, members, pass_record}
+use Rattle.line_claims.specs.Texts.{certificate_of, certificate_of_text, check_of, check_of_text}
+use Rattle.line_claims.proofs.AgainLemmas.{front_again}
+use Rattle.line_claims.proofs.ClaimAgainLemmas.{claim_again, claim_ends_front}
+use Rattle.line_claims.proofs.EntryAgainLemmas.{members_below}
+use Rattle.line_claims.proofs.WrittenLemmas.{history_is_written}
+
+marks_are_written : (p : ℕ) (before checks : List ℕ) → p < 2 ^ 64 → AreMarks before checks → list_all is_written (map (damage_record p) checks) ≡ true
+marks_are_written p before [] small fit = refl
+marks_are_written p before (check ∷ others) small fit =
+    let wide : check ≤ 4294967295 = fit.1 in
+    rw (plain_decimal p small, plain_decimal check (omega arith)) (marks_are_written p (before ++ check ∷ []) others small fit.3)
+
+damages_are_written : (p : ℕ) (damaged : List (List ℕ)) → p + length damaged ≤ MOST_PROCESSES → AllByRecursion (AreMarks []) damaged → list_all is_written (damages_records p damaged) ≡ true
+damages_are_written p [] room fit = refl
+damages_are_written p (checks ∷ others) room fit =
+    let one = marks_are_written p [] checks (omega arith) fit.0 in
+    let more = damages_are_written (p + 1) others (omega arith) fit.1 in
+    rw (list_all-append is_written (map (damage_record p) checks) (damages_records (p + 1) others), one, more) refl
+
+decimals_are_plain : (n : ℕ) (ps : List ℕ) → n ≤ MOST_PROCESSES → AllByRecursion (λ p. p < n) ps → list_all is_plain_field (map decimal ps) ≡ true
+decimals_are_plain n [] few fit = refl
+decimals_are_plain n (p ∷ others) few fit =
+    let there : p < n = fit.0 in
+    rw (plain_decimal p (omega arith)) (decimals_are_plain n others few fit.1)
+
+choice_is_plain : (c : Choice) → IsChoice c → is_plain_field (choice_text c) ≡ true
+choice_is_plain (AtCheck check) h = plain_decimal check (omega arith)
+choice_is_plain Now h = refl
+
+choices_are_plain : (line : List Choice) → AllByRecursion IsChoice line → list_all is_plain_field (map choice_text line) ≡ true
+choices_are_plain [] fit = refl
+choices_are_plain (c ∷ others) fit = rw (choice_is_plain c fit.0) (choices_are_plain others fit.1)
+
+entry_is_written : (n : ℕ) (entry : Passed) → n ≤ MOST_PROCESSES → IsEntryInRange n entry → is_written (pass_record entry) ≡ true
+entry_is_written n entry few fit =
+    let at : entry.at < n = fit.at in
+    let from : entry.message.from < n = fit.from in
+    let small : entry.message.inc ≤ 65535 = fit.inc in
+    let wide : entry.message.number ≤ 4294967295 = fit.number in
+    let a : entry.at < 2 ^ 64 = omega arith in
+    let b : entry.message.from < 2 ^ 64 = omega arith in
+    let c : entry.message.inc < 2 ^ 64 = omega arith in
+    let d : entry.message.number < 2 ^ 64 = omega arith in
+    rw (plain_decimal entry.at a, choice_is_plain entry.choice fit.choice, plain_decimal entry.message.from b, plain_decimal entry.message.inc c, plain_decimal entry.message.number d) refl
+
+entries_are_written : (n : ℕ) (entries : List Passed) → n ≤ MOST_PROCESSES → AllByRecursion (IsEntryInRange n) entries → list_all is_written (map pass_record entries ++ end_record ∷ []) ≡ true
+entries_are_written n [] few fit = refl
+entries_are_written n (entry ∷ others) few fit = rw (entry_is_written n entry few fit.0) (entries_are_written n others few fit.1)
+
+claim_is_written : (claim : Claim) → IsClaimInRange claim → list_all is_written (claim_records claim) ≡ true
+claim_is_written claim fit =
+    let n : ℕ = length claim.marks.damaged in
+    let few = fit.few in
+    let room : 0 + length claim.marks.damaged ≤ MOST_PROCESSES = omega (arith, few) in
+    let judged : List Record = judged_records n claim.failed claim.line claim.certificate in
+    let marks = damages_are_written 0 claim.marks.damaged room fit.marks in
+    let failed = decimals_are_plain n (members n claim.failed) fit.few (members_below n claim.failed) in
+    let line = choices_are_plain claim.line fit.choices in
+    let rest : list_all is_written judged ≡ true = rw (failed, line) (entries_are_written n claim.certificate fit.few fit.entries) in
+    rw (list_all-append is_written (damages_records 0 claim.marks.damaged) judged, marks, rest) refl
+
+pub claim_text_again : (claim : Claim) → IsClaimInRange claim → certificate_of_text (length claim.marks.damaged) (records_text (claim_records claim)) ≡ Ok claim
+unfolding certificate_of
+claim_text_again claim fit =
+    let written = claim_is_written claim fit in
+    rw (written_is_input (claim_records claim) written, written_is_read (claim_records claim) written) (claim_again claim 1 fit)
+
+-- a history and a claim on it are read again
+pub check_text_again : (history : List Process) (claim : Claim) → IsHistoryInRange history → IsClaimInRange claim → length claim.marks.damaged ≡ length history
+    → check_of_text (records_text (history_records history ++ claim_records claim)) ≡ Ok (record { history = history; claim = claim })
+unfolding check_of
+check_text_again history claim fit good same =
+    let records : List Record = history_records history ++ claim_records claim in
+    let written : list_all is_written records ≡ true = rw (list_all-append is_written (history_records history) (claim_records claim), history_is_written history fit, claim_is_written claim good) refl in
+    let front = front_again history (claim_records claim) fit (claim_ends_front claim) in
+    let rest = claim_again claim front.0 good in
+    rw (written_is_input records written, written_is_read records written, front.1, sym same, rest) refl

@@ -1,0 +1,10 @@
+pub mod AgainLemmas
+pub mod ClaimAgainLemmas
+pub mod ClaimLemmas
+pub mod ClaimWrittenLemmas
+pub mod EntryAgainLemmas
+pub mod EntryLemmas
+pub mod FrontLemmas
+pub mod SpellLemmas
+pub mod WriteLemmas
+pub mod WrittenLemmas

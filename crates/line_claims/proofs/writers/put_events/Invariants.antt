@@ -1,0 +1,8 @@
+use Rattle.std.proofs.Common.{◌≡◌, ◌++◌, take}
+use Rattle.std.specs.Prelude.{map}
+use Rattle.line_fields.specs.Texts.{records_text}
+use Rattle.line_claims.specs.Records.{event_record}
+use Rattle.line_claims.proofs.writers.put_events.Given as goal
+
+abbrev pub invariant-loop-event : goal.invariant-loop-event
+invariant-loop-event l = l.writer ≡ l.fn.writer ++ records_text (map event_record (take l.event-index l.events))

@@ -1,0 +1,30 @@
+-- The names that stand beside the numbers of refusals and faults.
+use Rattle.std.specs.Prelude.{ℕ, List, [], ◌==◌, if◌then◌else◌, codes}
+
+-- the name of a number, and none where nothing has it
+abbrev pub name_of : ℕ → List ℕ
+name_of code =
+    if code == 0 then codes "OutOfMemory"
+    else if code == 1 then codes "NoSuchProcess"
+    else if code == 2 then codes "BodyTooLong"
+    else if code == 3 then codes "TapeFull"
+    else if code == 4 then codes "NoSuchCheck"
+    else if code == 5 then codes "StateTooLong"
+    else if code == 6 then codes "BadCount"
+    else if code == 7 then codes "InitialDamage"
+    else if code == 8 then codes "AlreadyDamaged"
+    else if code == 17 then codes "ToSelf"
+    else if code == 18 then codes "LinkEmpty"
+    else if code == 19 then codes "BadPick"
+    else if code == 20 then codes "RoundOpen"
+    else if code == 21 then codes "NothingToTurn"
+    else if code == 22 then codes "WrongMode"
+    else if code == 23 then codes "NoMoreRounds"
+    else if code == 24 then codes "NoMoreIncarnations"
+    else if code == 32 then codes "BadRecord"
+    else if code == 33 then codes "BadNumber"
+    else if code == 34 then codes "NoWorld"
+    else if code == 35 then codes "BadVersion"
+    else if code == 36 then codes "ReadFault"
+    else if code == 37 then codes "WriteFault"
+    else []

@@ -1,0 +1,11 @@
+pub mod Claims
+pub mod Cursors
+pub mod Entries
+pub mod Events
+pub mod Faults
+pub mod Histories
+pub mod Numbers
+pub mod Ranges
+pub mod Reads
+pub mod Records
+pub mod Texts

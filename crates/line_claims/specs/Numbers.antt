@@ -1,0 +1,55 @@
+-- The numbers of fields, in their ranges, and the processes and choices that they name.
+use Rattle.std.specs.Prelude.{ℕ, List, [], ◌∷◌, nat_lt, Option, Some, None, Result, Ok, if◌then◌else◌, codes}
+use Rattle.std.specs.Str.{bytes_eq}
+use Rattle.line_names.specs.declared.choices.Choice.{Choice}
+use Rattle.line_names.specs.declared.choices.Choice.TheVariants.{Check, Now}
+use Rattle.line_fields.specs.declared.faults.Fault.{Fault}
+use Rattle.line_fields.specs.declared.faults.Fault.TheVariants as faults
+use Rattle.line_fields.specs.Fields.{◌>>=◌, want, num}
+use Rattle.line_fields.specs.Records.{Record}
+
+-- a number in its widest range, an incarnation, and a round
+abbrev pub plain : List ℕ → Result ℕ Fault
+plain text = num 0 4294967295 text
+
+abbrev pub incarnation : List ℕ → Result ℕ Fault
+incarnation text = num 0 65535 text
+
+abbrev pub round : List ℕ → Result ℕ Fault
+round text = num 1 65535 text
+
+-- what stands where there is nothing
+abbrev pub none_text : List ℕ
+none_text = codes "-"
+
+-- a round, or none
+abbrev pub round_or_none : List ℕ → Result (Option ℕ) Fault
+round_or_none text = if bytes_eq text none_text then Ok None else (round text >>= λ r. Ok (Some r))
+
+-- the word for where a process stands now
+abbrev pub now_text : List ℕ
+now_text = codes "now"
+
+-- a choice: the number of a check, or now
+abbrev pub choice : List ℕ → Result Choice Fault
+choice text = if bytes_eq text now_text then Ok Now else (plain text >>= λ check. Ok (Check check))
+
+-- the process of that number, among n
+abbrev pub process : ℕ → ℕ → Result ℕ Fault
+process n p = want (nat_lt p n) faults.NoSuchProcess >>= λ there. Ok p
+
+-- the numbers of fields, from left to right
+unfoldable pub numbers : Record → Result (List ℕ) Fault
+numbers [] = Ok []
+numbers (first ∷ others) = do
+  n ← plain first
+  ns ← numbers others
+  Ok (n ∷ ns)
+
+-- the choices of fields, from left to right
+unfoldable pub choices : Record → Result (List Choice) Fault
+choices [] = Ok []
+choices (first ∷ others) = do
+  one ← choice first
+  more ← choices others
+  Ok (one ∷ more)

@@ -1,0 +1,71 @@
+-- What keeps to the ranges that the fields of its records have.
+use Rattle.std.specs.Prelude.{◌≡◌, ℕ, ◌≤◌, ◌<◌, ◌==◌, false, List, [], ◌∷◌, ◌++◌, length, Option, Some, None}
+use Rattle.std.specs.List.{AllByRecursion, list_any}
+use Rattle.line_names.specs.declared.certificates.Passed.{Passed}
+use Rattle.line_names.specs.declared.choices.Choice.{Choice}
+use Rattle.line_names.specs.declared.choices.Choice.TheVariants.{Check as AtCheck, Now}
+use Rattle.line_names.specs.Sets.{is_member}
+use Rattle.line_names.specs.declared.limits.TheConstants.{MOST_BODY, MOST_PROCESSES}
+use Rattle.line_tape.specs.declared.events.Event.{Event}
+use Rattle.line_tape.specs.declared.events.Event.TheVariants.{Send, Recv, Check, Mark}
+use Rattle.line_tape.specs.declared.limits.TheConstants.{MOST_EVENTS, MOST_STATE}
+use Rattle.line_tape.specs.History.{Process}
+use Rattle.line_claims.specs.Claims.{Claim}
+
+-- bytes, and at most so many
+pub record AreBytes (most : ℕ) (bytes : List ℕ) : Type 0 where
+  pub few : length bytes ≤ most
+  pub fit : AllByRecursion (λ byte. byte < 256) bytes
+
+-- a round, if there is one, is from 1 to 65,535
+abbrev pub IsRound : Option ℕ → Type 0
+IsRound None = Unit {0}
+IsRound (Some round) = (1 ≤ round) × (round ≤ 65535)
+
+-- the numbers of an event, and what it carries; the processes that it names are below n
+abbrev pub IsInRange : ℕ → Event → Type 0
+IsInRange n (Send to inc body) = (to < n) × (inc ≤ 65535) × AreBytes MOST_BODY body
+IsInRange n (Recv message) = (message.from < n) × (message.inc ≤ 65535) × (message.number ≤ 4294967295)
+IsInRange n (Check state round) = AreBytes MOST_STATE state × IsRound round
+IsInRange n (Mark from round) = (from < n) × IsRound (Some round)
+
+-- a process, among n
+pub record IsTapeInRange (n : ℕ) (process : Process) : Type 0 where
+  pub incarnation : process.incarnation ≤ 65535
+  pub few : length process.tape ≤ MOST_EVENTS
+  pub events : AllByRecursion (IsInRange n) process.tape
+
+-- a history
+pub record IsHistoryInRange (history : List Process) : Type 0 where
+  pub some : 1 ≤ length history
+  pub few : length history ≤ MOST_PROCESSES
+  pub tapes : AllByRecursion (IsTapeInRange (length history)) history
+
+-- a choice
+abbrev pub IsChoice : Choice → Type 0
+IsChoice (AtCheck check) = check ≤ 4294967295
+IsChoice Now = Unit {0}
+
+-- an entry, on a history of n processes
+pub record IsEntryInRange (n : ℕ) (entry : Passed) : Type 0 where
+  pub at : entry.at < n
+  pub choice : IsChoice entry.choice
+  pub from : entry.message.from < n
+  pub inc : entry.message.inc ≤ 65535
+  pub number : entry.message.number ≤ 4294967295
+
+-- further marks of a process, behind these: none of the initial state, and none twice
+abbrev pub AreMarks : List ℕ → List ℕ → Type 0
+AreMarks before [] = Unit {0}
+AreMarks before (check ∷ others) = (1 ≤ check) × (check ≤ 4294967295) × (list_any (λ mark. mark == check) before ≡ false) × AreMarks (before ++ check ∷ []) others
+
+-- a claim, on a history of as many processes as it has lists of marks
+pub record IsClaimInRange (claim : Claim) : Type 0 where
+  pub few : length claim.marks.damaged ≤ MOST_PROCESSES
+  pub marks : AllByRecursion (AreMarks []) claim.marks.damaged
+  pub whole : length claim.failed ≡ MOST_PROCESSES
+  pub there : (p : ℕ) → length claim.marks.damaged ≤ p → is_member claim.failed p ≡ false
+  pub some : 1 ≤ length claim.line
+  pub short : length claim.line ≤ MOST_PROCESSES
+  pub choices : AllByRecursion IsChoice claim.line
+  pub entries : AllByRecursion (IsEntryInRange (length claim.marks.damaged)) claim.certificate

@@ -1,0 +1,90 @@
+-- How histories and claims are written, record by record.
+use Rattle.std.specs.Prelude.{ℕ, ◌+◌, Bool, List, [], ◌∷◌, ◌++◌, length, map, filter, Option, Some, None, codes, decimal}
+use Rattle.std.specs.List.{range_with_len}
+use Rattle.line_names.specs.declared.certificates.Passed.{Passed}
+use Rattle.line_names.specs.declared.choices.Choice.{Choice}
+use Rattle.line_names.specs.declared.choices.Choice.TheVariants.{Check as AtCheck, Now}
+use Rattle.line_names.specs.Sets.{is_member}
+use Rattle.line_fields.specs.Records.{Record}
+use Rattle.line_fields.specs.Texts.{hex_text}
+use Rattle.line_tape.specs.declared.events.Event.{Event}
+use Rattle.line_tape.specs.declared.events.Event.TheVariants.{Send, Recv, Check, Mark}
+use Rattle.line_tape.specs.History.{Process}
+use Rattle.line_claims.specs.Claims.{Claim}
+use Rattle.line_claims.specs.Numbers.{none_text, now_text}
+
+-- a round, or none
+abbrev pub round_text : Option ℕ → List ℕ
+round_text None = none_text
+round_text (Some round) = decimal round
+
+-- a choice: the number of a check, or now
+abbrev pub choice_text : Choice → List ℕ
+choice_text (AtCheck check) = decimal check
+choice_text Now = now_text
+
+-- send,TO,INC,HEX, recv,FROM,INC,NUMBER, check,HEX,ROUND or mark,FROM,ROUND
+abbrev pub event_record : Event → Record
+event_record (Send to inc body) = codes "send" ∷ decimal to ∷ decimal inc ∷ hex_text body ∷ []
+event_record (Recv message) = codes "recv" ∷ decimal message.from ∷ decimal message.inc ∷ decimal message.number ∷ []
+event_record (Check state round) = codes "check" ∷ hex_text state ∷ round_text round ∷ []
+event_record (Mark from round) = codes "mark" ∷ decimal from ∷ decimal round ∷ []
+
+-- tape,P,INC
+abbrev pub tape_record : ℕ → ℕ → Record
+tape_record p inc = codes "tape" ∷ decimal p ∷ decimal inc ∷ []
+
+-- a tape and its events
+abbrev pub tape_records : ℕ → Process → List Record
+tape_records p process = tape_record p process.incarnation ∷ map event_record process.tape
+
+-- the tapes of processes, the first of which has that number
+abbrev pub tapes_records : ℕ → List Process → List Record
+tapes_records p [] = []
+tapes_records p (process ∷ others) = tape_records p process ++ tapes_records (p + 1) others
+
+-- history,1,N
+abbrev pub history_record : ℕ → Record
+history_record n = codes "history" ∷ decimal 1 ∷ decimal n ∷ []
+
+-- a history
+abbrev pub history_records : List Process → List Record
+history_records history = history_record (length history) ∷ tapes_records 0 history
+
+-- damage,P,C
+abbrev pub damage_record : ℕ → ℕ → Record
+damage_record p check = codes "damage" ∷ decimal p ∷ decimal check ∷ []
+
+-- the marks of processes, the first of which has that number
+abbrev pub damages_records : ℕ → List (List ℕ) → List Record
+damages_records p [] = []
+damages_records p (checks ∷ others) = map (damage_record p) checks ++ damages_records (p + 1) others
+
+-- the processes of a set, of the first n
+abbrev pub members : ℕ → List Bool → List ℕ
+members n set = filter (λ p. is_member set p) (range_with_len 0 n)
+
+-- failed,P,..: each once, in order
+abbrev pub failed_record : ℕ → List Bool → Record
+failed_record n set = codes "failed" ∷ map decimal (members n set)
+
+-- line,CHOICE,..
+abbrev pub line_record : List Choice → Record
+line_record line = codes "line" ∷ map choice_text line
+
+-- pass,P,CHOICE,FROM,INC,NUMBER
+abbrev pub pass_record : Passed → Record
+pass_record entry =
+    codes "pass" ∷ decimal entry.at ∷ choice_text entry.choice ∷ decimal entry.message.from ∷ decimal entry.message.inc ∷ decimal entry.message.number ∷ []
+
+-- end
+abbrev pub end_record : Record
+end_record = codes "end" ∷ []
+
+-- what stands behind the marks of a claim
+abbrev pub judged_records : ℕ → List Bool → List Choice → List Passed → List Record
+judged_records n failed line certificate = failed_record n failed ∷ line_record line ∷ (map pass_record certificate ++ end_record ∷ [])
+
+-- a claim
+abbrev pub claim_records : Claim → List Record
+claim_records claim = damages_records 0 claim.marks.damaged ++ judged_records (length claim.marks.damaged) claim.failed claim.line claim.certificate

@@ -1,0 +1,71 @@
+//! A place among the records of a text.
+
+ghost use Rattle.std.specs.Prelude.{◌≡◌, ◌≢◌, ◌+◌, ◌∷◌, [], IfOk, IsTrue, MatchOption, OnOk, drop};
+ghost use Rattle.line_fields.specs.Bytes.{is_input_text};
+ghost use Rattle.line_fields.specs.Records.{Record, records_of_text};
+
+use line_fields::{RecordReader, Row};
+use std::alloc::{AllocError, Global};
+use std::marker::Model;
+
+/// A place among the records of a text: the record that stands there, if there is one, and its number.
+#[derive(Drop)]
+pub(crate) struct Cursor<'a> {
+    records: RecordReader<'a>,
+    row: Row,
+    found: bool,
+    number: u64,
+}
+
+impl<'a> Model for Cursor<'a> {
+    ghost use Rattle.std.specs.Prelude.{◌<◌, ◌+◌, ◌^◌, length};
+    ghost use Rattle.line_claims.specs.Cursors.{Place, from_found};
+
+    ghost Value = { Place };
+
+    ghost view = { λ s. record { number = s.number; left = from_found s.found s.row s.records } };
+
+    ghost invariant = { λ s. s.number + length (from_found s.found s.row s.records) < 2 ^ 64 };
+}
+
+impl<'a> Cursor<'a> {
+    /// The first record of a plain text.
+    pub fn open(alloc: Global, text: &'a [u8]) -> Result<Cursor<'a>, AllocError>
+        requires { IsTrue (is_input_text text.now) }
+        ensures { IfOk result (λ cursor. cursor ≡ record { number = 1; left = records_of_text text.entry.now }) }
+    {
+        let mut records = RecordReader::open(alloc, text);
+        let mut row = Row::new(alloc);
+        let found = records.next_row(&mut row)?;
+        Ok(Cursor {
+            records,
+            row,
+            found,
+            number: 1,
+        })
+    }
+
+    /// The number of the record that stands here, or of the one that would.
+    pub fn number(&self) -> u64
+        ensures { result ≡ self.now.number }
+    {
+        self.number
+    }
+
+    /// The record that stands here.
+    pub fn row(&self) -> Option<&Row>
+        ensures { MatchOption result (self.now.left ≡ []) (λ row. self.now.left ≡ row.now ∷ drop 1 self.now.left) }
+    {
+        if self.found { Some(&self.row) } else { None }
+    }
+
+    /// Goes on to the next record.
+    pub fn advance(&mut self) -> Result<(), AllocError>
+        requires { self.old.left ≢ [] }
+        ensures { OnOk result (self.new ≡ record { number = self.old.number + 1; left = drop 1 self.old.left }) }
+    {
+        self.found = self.records.next_row(&mut self.row)?;
+        self.number += 1;
+        Ok(())
+    }
+}

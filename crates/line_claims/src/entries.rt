@@ -1,0 +1,84 @@
+//! What the records of a claim spell.
+
+ghost use Rattle.std.specs.Prelude.{◌≡◌, ◌≤◌, ◌+◌, length};
+ghost use Rattle.line_names.specs.declared.limits.TheConstants.{MOST_PROCESSES};
+ghost use Rattle.line_claims.specs.Entries as spec;
+ghost use Rattle.line_claims.specs.Reads.{Steps};
+
+use crate::numbers::{choice, incarnation, plain, process};
+use line_fields::{Fault, ReadError, Row};
+use line_names::{Line, MOST_PROCESSES, MsgName, Passed, ProcId, ProcSet};
+use line_tape::{MarkError, Marks};
+
+/// Adds the mark of `damage,P,C`.
+#[tactic(auto, unfolding(crate::specs::Entries::damage_of))]
+pub(crate) fn damage_of(marks: &mut Marks, n: u32, row: &Row) -> Result<(), ReadError>
+    requires few { n ≤ MOST_PROCESSES }
+    requires whole { length marks.old.damaged ≡ n }
+    ensures exact { Steps result (spec.damage_of n marks.old row.now) marks.new }
+    ensures whole { length marks.new.damaged ≡ n }
+{
+    let p = plain(row, 1)?;
+    let check = plain(row, 2)?;
+    let p = process(n, p)?;
+    match marks.mark(p, check) {
+        Ok(()) => Ok(()),
+        Err(MarkError::OutOfMemory) => Err(ReadError::OutOfMemory),
+        Err(MarkError::InitialDamage) => Err(ReadError::Fault(Fault::InitialDamage)),
+        Err(MarkError::AlreadyDamaged) => Err(ReadError::Fault(Fault::AlreadyDamaged)),
+    }
+}
+
+/// The processes of `failed` or `failed,P,..`.
+pub(crate) fn failed_of(n: u32, row: &Row) -> Result<ProcSet, Fault>
+    requires { n ≤ MOST_PROCESSES }
+    ensures { result ≡ spec.failed_of n row.now }
+{
+    let mut failed = ProcSet::empty();
+    let mut below = true;
+    for place in 1..row.len() {
+        let p = plain(row, place)?;
+        match ProcId::try_new(p, n) {
+            Ok(p) => failed = failed.with(p),
+            Err(_) => below = false,
+        }
+    }
+    if !below {
+        return Err(Fault::NoSuchProcess);
+    }
+    Ok(failed)
+}
+
+/// The choices of `line,CHOICE,..`.
+pub(crate) fn line_of(row: &Row) -> Result<Line, Fault>
+    requires { length row.now ≤ MOST_PROCESSES + 1 }
+    ensures { result ≡ spec.line_of row.now }
+{
+    let mut line = Line::new();
+    for place in 1..row.len() {
+        let choice = choice(row, place)?;
+        line.push(choice);
+    }
+    Ok(line)
+}
+
+/// The entry of `pass,P,CHOICE,FROM,INC,NUMBER`.
+#[tactic(auto, unfolding(crate::specs::Entries::passed_of))]
+pub(crate) fn passed_of(n: u32, row: &Row) -> Result<Passed, Fault>
+    requires { n ≤ MOST_PROCESSES }
+    ensures { result ≡ spec.passed_of n row.now }
+{
+    let at = plain(row, 1)?;
+    let choice = choice(row, 2)?;
+    let from = plain(row, 3)?;
+    let inc = incarnation(row, 4)?;
+    let number = plain(row, 5)?;
+    let at = process(n, at)?;
+    let from = process(n, from)?;
+    let message = MsgName { from, inc, number };
+    Ok(Passed {
+        at,
+        choice,
+        message,
+    })
+}

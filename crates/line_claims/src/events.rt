@@ -1,0 +1,75 @@
+//! The events that the records of a history spell.
+
+ghost use Rattle.std.specs.Prelude.{◌≡◌, ◌≤◌, IfOk};
+ghost use Rattle.line_names.specs.declared.limits.TheConstants.{MOST_PROCESSES};
+ghost use Rattle.line_fields.specs.Fields.{Gives};
+ghost use Rattle.line_tape.specs.Event.{HasLongState, NamesBelow};
+ghost use Rattle.line_claims.specs.Events as spec;
+
+use crate::numbers::{incarnation, plain, process, round, round_or_none, want};
+use line_fields::{Fault, ReadError, Row, hex};
+use line_names::{Body, MOST_PROCESSES, MsgName};
+use line_tape::{Event, MOST_STATE, State};
+use std::alloc::Global;
+
+/// The event of `send,TO,INC,HEX`.
+#[tactic(auto, unfolding(crate::specs::Events::send_of))]
+pub(crate) fn send_of(alloc: Global, n: u32, row: &Row) -> Result<Event, ReadError>
+    requires { n ≤ MOST_PROCESSES }
+    ensures exact { Gives (λ event. event) result (spec.send_of n row.now) }
+    ensures named { IfOk result (NamesBelow n) }
+    ensures short { IfOk result (λ event. HasLongState event → ⊥) }
+{
+    let to = plain(row, 1)?;
+    let inc = incarnation(row, 2)?;
+    let bytes = hex(alloc, row.field(3))?;
+    let to = process(n, to)?;
+    let Ok(body) = Body::try_new(bytes.as_slice()) else {
+        return Err(ReadError::Fault(Fault::BodyTooLong));
+    };
+    Ok(Event::Send { to, inc, body })
+}
+
+/// The event of `recv,FROM,INC,NUMBER`.
+#[tactic(auto, unfolding(crate::specs::Events::recv_of))]
+pub(crate) fn recv_of(n: u32, row: &Row) -> Result<Event, Fault>
+    requires { n ≤ MOST_PROCESSES }
+    ensures exact { result ≡ spec.recv_of n row.now }
+    ensures named { IfOk result (NamesBelow n) }
+    ensures short { IfOk result (λ event. HasLongState event → ⊥) }
+{
+    let from = plain(row, 1)?;
+    let inc = incarnation(row, 2)?;
+    let number = plain(row, 3)?;
+    let from = process(n, from)?;
+    let message = MsgName { from, inc, number };
+    Ok(Event::Recv { message })
+}
+
+/// The event of `check,HEX,ROUND`.
+#[tactic(auto, unfolding(crate::specs::Events::check_of))]
+pub(crate) fn check_of(alloc: Global, n: u32, row: &Row) -> Result<Event, ReadError>
+    ensures exact { Gives (λ event. event) result (spec.check_of row.now) }
+    ensures named { IfOk result (NamesBelow n) }
+    ensures short { IfOk result (λ event. HasLongState event → ⊥) }
+{
+    let bytes = hex(alloc, row.field(1))?;
+    let round = round_or_none(row, 2)?;
+    want(bytes.len() <= MOST_STATE, Fault::StateTooLong)?;
+    let state = State::of(bytes);
+    Ok(Event::Check { state, round })
+}
+
+/// The event of `mark,FROM,ROUND`.
+#[tactic(auto, unfolding(crate::specs::Events::mark_of))]
+pub(crate) fn mark_of(n: u32, row: &Row) -> Result<Event, Fault>
+    requires { n ≤ MOST_PROCESSES }
+    ensures exact { result ≡ spec.mark_of n row.now }
+    ensures named { IfOk result (NamesBelow n) }
+    ensures short { IfOk result (λ event. HasLongState event → ⊥) }
+{
+    let from = plain(row, 1)?;
+    let round = round(row, 2)?;
+    let from = process(n, from)?;
+    Ok(Event::Mark { from, round })
+}

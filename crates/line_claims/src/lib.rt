@@ -1,0 +1,27 @@
+//! History texts and check texts: what they say, as values.
+//!
+//! A history text has the tapes of all processes. A check text is a history text and a claim on it: the
+//! checks that are damaged, the processes that failed, a line, and the certificate of that line.
+#![tactic(auto)]
+
+mod claims;
+mod cursors;
+mod entries;
+mod events;
+mod faults;
+mod histories;
+mod judgements;
+mod laws;
+mod numbers;
+mod texts;
+mod writers;
+
+pub use claims::Claim;
+pub use faults::{TextError, TextFault, error_at, fault_at, name_of, told};
+pub use judgements::{put_damage, put_judged, put_pass};
+pub use laws::{claims_are_read_again, histories_are_read_again};
+pub use texts::{CheckText, read_certificate, read_check_text, read_history};
+pub use writers::{put_history, write_history};
+
+#[cfg(test)]
+mod tests;

@@ -1,0 +1,78 @@
+//! The numbers of fields, in their ranges, and the processes and choices that they name.
+
+ghost use Rattle.std.specs.Prelude.{◌≡◌, ◌≤◌};
+ghost use Rattle.line_names.specs.declared.limits.TheConstants.{MOST_PROCESSES};
+ghost use Rattle.line_fields.specs.Fields as fields;
+ghost use Rattle.line_fields.specs.Records as records;
+ghost use Rattle.line_claims.specs.Numbers as spec;
+
+use line_fields::{Fault, Row, number};
+use line_names::{Choice, MOST_PROCESSES, ProcId};
+
+const MOST_NUMBER: u64 = 4_294_967_295;
+
+const MOST_SMALL: u64 = 65_535;
+
+/// A fault unless a test holds.
+pub(crate) fn want(holds: bool, fault: Fault) -> Result<(), Fault>
+    ensures { result ≡ fields.want holds fault }
+{
+    if holds { Ok(()) } else { Err(fault) }
+}
+
+/// The number in a field.
+pub(crate) fn plain(row: &Row, place: usize) -> Result<u32, Fault>
+    ensures { result ≡ spec.plain (records.field row.now place) }
+{
+    let value = number(row.field(place), 0, MOST_NUMBER)?;
+    Ok(value as u32)
+}
+
+/// The incarnation in a field.
+pub(crate) fn incarnation(row: &Row, place: usize) -> Result<u16, Fault>
+    ensures { result ≡ spec.incarnation (records.field row.now place) }
+{
+    let value = number(row.field(place), 0, MOST_SMALL)?;
+    Ok(value as u16)
+}
+
+/// The round in a field.
+pub(crate) fn round(row: &Row, place: usize) -> Result<u32, Fault>
+    ensures { result ≡ spec.round (records.field row.now place) }
+{
+    let value = number(row.field(place), 1, MOST_SMALL)?;
+    Ok(value as u32)
+}
+
+/// The round in a field, if there is one.
+pub(crate) fn round_or_none(row: &Row, place: usize) -> Result<Option<u32>, Fault>
+    ensures { result ≡ spec.round_or_none (records.field row.now place) }
+{
+    if row.field(place) == b"-".as_slice() {
+        return Ok(None);
+    }
+    let value = round(row, place)?;
+    Ok(Some(value))
+}
+
+/// The choice in a field.
+pub(crate) fn choice(row: &Row, place: usize) -> Result<Choice, Fault>
+    ensures { result ≡ spec.choice (records.field row.now place) }
+{
+    if row.field(place) == b"now".as_slice() {
+        return Ok(Choice::Now);
+    }
+    let check = plain(row, place)?;
+    Ok(Choice::Check(check))
+}
+
+/// The process of that number, among `n`.
+pub(crate) fn process(n: u32, p: u32) -> Result<ProcId, Fault>
+    requires { n ≤ MOST_PROCESSES }
+    ensures { result ≡ spec.process n p }
+{
+    match ProcId::try_new(p, n) {
+        Ok(p) => Ok(p),
+        Err(_) => Err(Fault::NoSuchProcess),
+    }
+}

@@ -1,0 +1,175 @@
+//! Texts: a history, a claim, or both.
+
+ghost use Rattle.std.specs.Prelude.{◌≡◌, ◌≢◌, ◌≤◌, ◌∷◌, [], true, false, drop, IfOk, MatchOption};
+ghost use Rattle.line_names.specs.declared.limits.TheConstants.{MOST_PROCESSES};
+ghost use Rattle.line_claims.specs.Claims as claims;
+ghost use Rattle.line_claims.specs.Histories.{Leaves, begins_claim, count_in, ends_front, front_from, front_of, no_tapes};
+ghost use Rattle.line_claims.specs.Reads.{Reads, Yields};
+ghost use Rattle.line_claims.specs.Texts as spec;
+
+use crate::claims::{Claim, read_claim};
+use crate::cursors::Cursor;
+use crate::faults::{TextError, TextFault, error_at, fault_at, told};
+use crate::histories::{Tapes, begins_claim, count_of};
+use line_fields::{Fault, Row, is_plain};
+use line_names::MOST_PROCESSES;
+use line_tape::History;
+use std::alloc::Global;
+
+/// A history, and a claim on it.
+#[derive(Drop)]
+pub struct CheckText {
+    /// The history.
+    pub history: History,
+    /// What is claimed of it.
+    pub claim: Claim,
+}
+
+// The records of a text.
+fn open(alloc: Global, text: &[u8]) -> Result<Cursor<'_>, TextError>
+    ensures records { Yields (λ cursor. cursor.left) result (spec.records_in text.entry.now) }
+    ensures first { IfOk result (λ cursor. cursor.number ≡ 1) }
+{
+    if !is_plain(text) {
+        return Err(fault_at(0, Fault::BadRecord));
+    }
+    let cursor = Cursor::open(alloc, text)?;
+    Ok(cursor)
+}
+
+// The record that stands here, unless the history ends before it.
+fn history_row<'a>(cursor: &'a Cursor<'_>) -> Option<&'a Row>
+    ensures { MatchOption result (ends_front cursor.now.left ≡ true)
+        (λ row. (cursor.now.left ≡ row.now ∷ drop 1 cursor.now.left) × (begins_claim row.now ≡ false)) }
+{
+    match cursor.row() {
+        None => None,
+        Some(row) => { if begins_claim(row) { None } else { Some(row) } }
+    }
+}
+
+// The tapes of `n` processes, up to the end or to a claim.
+fn read_tapes(alloc: Global, n: u32, cursor: &mut Cursor<'_>) -> Result<History, TextError>
+    requires some { 1 ≤ n }
+    requires few { n ≤ MOST_PROCESSES }
+    ensures { Leaves result (front_from (no_tapes n) cursor.old.number cursor.old.left) cursor.new }
+{
+    let mut tapes = Tapes::new(alloc, n)?;
+    'records: while let Some(row) = history_row(cursor) {
+        if let Err(error) = tapes.step(alloc, row) {
+            return Err(error_at(cursor.number(), error));
+        }
+        cursor.advance()?;
+    }
+    if !tapes.is_whole() {
+        return Err(fault_at(cursor.number(), Fault::BadRecord));
+    }
+    Ok(tapes.into_history())
+}
+
+// How many processes the first record announces.
+fn read_count(cursor: &Cursor<'_>) -> Result<u32, TextError>
+    ensures exact { Yields (λ n. n) result (count_in cursor.now.left) }
+    ensures within { IfOk result (λ n. (1 ≤ n) × (n ≤ MOST_PROCESSES) × (cursor.now.left ≢ [])) }
+{
+    match cursor.row() {
+        None => Err(fault_at(1, Fault::NoWorld)),
+        Some(row) => match count_of(row) {
+            Ok(n) => Ok(n),
+            Err(fault) => Err(fault_at(1, fault)),
+        },
+    }
+}
+
+// The history that a text begins with.
+#[tactic(auto, unfolding(crate::specs::Histories::front_of))]
+fn read_front(alloc: Global, cursor: &mut Cursor<'_>) -> Result<History, TextError>
+    requires { cursor.old.number ≡ 1 }
+    ensures { Leaves result (front_of cursor.old.left) cursor.new }
+{
+    let n = read_count(cursor)?;
+    cursor.advance()?;
+    read_tapes(alloc, n, cursor)
+}
+
+#[tactic(auto, unfolding(crate::specs::Texts::history_of))]
+fn history_in(alloc: Global, text: &[u8]) -> Result<History, TextError>
+    ensures { Yields (λ history. history.processes) result (spec.history_of_text text.now) }
+{
+    let mut cursor = open(alloc, text)?;
+    let history = read_front(alloc, &mut cursor)?;
+    if cursor.row().is_some() {
+        return Err(fault_at(cursor.number(), Fault::BadRecord));
+    }
+    Ok(history)
+}
+
+#[tactic(auto, unfolding(crate::specs::Texts::certificate_of))]
+fn certificate_in(alloc: Global, text: &[u8], n: u32) -> Result<Claim, TextError>
+    requires { n ≤ MOST_PROCESSES }
+    ensures { Yields claims.seen result (spec.certificate_of_text n text.now) }
+{
+    let mut cursor = open(alloc, text)?;
+    read_claim(alloc, n, &mut cursor)
+}
+
+#[tactic(auto, unfolding(crate::specs::Texts::check_of))]
+fn check_in(alloc: Global, text: &[u8]) -> Result<CheckText, TextError>
+    ensures { Yields spec.seen_check result (spec.check_of_text text.now) }
+{
+    let mut cursor = open(alloc, text)?;
+    let history = read_front(alloc, &mut cursor)?;
+    let claim = read_claim(alloc, history.n(), &mut cursor)?;
+    Ok(CheckText { history, claim })
+}
+
+/// The history that a text spells.
+///
+/// The first record tells how many processes there are. Their tapes follow in order, each with its
+/// events. The events need not fit together: it asks only that each number keeps to its range, that the
+/// processes are there, and that bodies, states and tapes keep to their limits.
+///
+/// Refused with the first fault of the text, the records taken in their order, and the questions to a
+/// record in the order in which its definition asks them. A byte that no text has is of record 0 and
+/// comes before all else; a text without records wants its first one; a missing tape is a fault of the
+/// record that stands in its place, or of the one that would. Want of memory, at any time, is the fault 0
+/// of record 0. It takes time and memory in proportion to the text.
+pub fn read_history(alloc: Global, text: &[u8]) -> Result<History, TextFault>
+    ensures { Reads (λ history. history.processes) result (spec.history_of_text text.now) }
+{
+    match history_in(alloc, text) {
+        Ok(history) => Ok(history),
+        Err(error) => Err(told(error)),
+    }
+}
+
+/// The claim among `n` processes that a text spells: the part of a check text that stands behind its
+/// history, with its records numbered from 1.
+///
+/// It asks nothing of a history: a mark or a choice may be of a check that isn't there, and the line may
+/// have any number of choices that a line can have.
+///
+/// Refused as a history is; a missing end is a fault of the record that would follow the last. It takes
+/// time and memory in proportion to the text, but that each mark of damage is compared with those before
+/// it of its process.
+pub fn read_certificate(alloc: Global, text: &[u8], n: u32) -> Result<Claim, TextFault>
+    requires { n ≤ MOST_PROCESSES }
+    ensures { Reads claims.seen result (spec.certificate_of_text n text.now) }
+{
+    match certificate_in(alloc, text, n) {
+        Ok(claim) => Ok(claim),
+        Err(error) => Err(told(error)),
+    }
+}
+
+/// The history that a text spells, and the claim on it that follows.
+///
+/// Refused as a history and a claim are, the records numbered through. The text is read once.
+pub fn read_check_text(alloc: Global, text: &[u8]) -> Result<CheckText, TextFault>
+    ensures { Reads spec.seen_check result (spec.check_of_text text.now) }
+{
+    match check_in(alloc, text) {
+        Ok(check) => Ok(check),
+        Err(error) => Err(told(error)),
+    }
+}

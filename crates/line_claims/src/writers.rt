@@ -1,0 +1,189 @@
+//! Histories, written record by record.
+
+ghost use Rattle.std.specs.Prelude.{◌≡◌, ◌<◌, ◌++◌, ◌∷◌, [], IfOk, OnOk, length, map};
+ghost use Rattle.line_fields.specs.Texts.{record_text, records_text};
+ghost use Rattle.line_tape.specs.History.{process_at};
+ghost use Rattle.line_claims.specs.Records as spec;
+
+use line_fields::{Draft, RecordWriter};
+use line_names::{Body, Choice, MsgName, ProcId};
+use line_tape::{Event, History, State};
+use std::alloc::{AllocError, Global};
+
+// Writes `send,TO,INC,HEX`.
+fn put_send(
+    writer: &mut RecordWriter,
+    draft: &mut Draft,
+    to: ProcId,
+    inc: u16,
+    body: &Body,
+) -> Result<(), AllocError>
+    ensures { OnOk result (writer.new ≡ writer.old ++ record_text (spec.event_record (Event.Send to inc body.now))) }
+{
+    draft.clear();
+    draft.word(b"send")?;
+    draft.number(u64::from(to.get()))?;
+    draft.number(u64::from(inc))?;
+    draft.bytes(body.bytes())?;
+    writer.put(draft)
+}
+
+// Writes `recv,FROM,INC,NUMBER`.
+fn put_recv(
+    writer: &mut RecordWriter,
+    draft: &mut Draft,
+    message: MsgName,
+) -> Result<(), AllocError>
+    ensures { OnOk result (writer.new ≡ writer.old ++ record_text (spec.event_record (Event.Recv message))) }
+{
+    draft.clear();
+    draft.word(b"recv")?;
+    draft.number(u64::from(message.from.get()))?;
+    draft.number(u64::from(message.inc))?;
+    draft.number(u64::from(message.number))?;
+    writer.put(draft)
+}
+
+// Adds a round, or `-`.
+fn add_round(draft: &mut Draft, round: Option<u32>) -> Result<(), AllocError>
+    ensures { OnOk result (draft.new ≡ draft.old ++ spec.round_text round ∷ []) }
+{
+    match round {
+        None => draft.word(b"-"),
+        Some(round) => draft.number(u64::from(round)),
+    }
+}
+
+// Writes `check,HEX,ROUND`.
+fn put_check(
+    writer: &mut RecordWriter,
+    draft: &mut Draft,
+    state: &State,
+    round: Option<u32>,
+) -> Result<(), AllocError>
+    ensures { OnOk result (writer.new ≡ writer.old ++ record_text (spec.event_record (Event.Check state.now round))) }
+{
+    draft.clear();
+    draft.word(b"check")?;
+    draft.bytes(state.bytes())?;
+    add_round(draft, round)?;
+    writer.put(draft)
+}
+
+// Writes `mark,FROM,ROUND`.
+fn put_mark(
+    writer: &mut RecordWriter,
+    draft: &mut Draft,
+    from: ProcId,
+    round: u32,
+) -> Result<(), AllocError>
+    ensures { OnOk result (writer.new ≡ writer.old ++ record_text (spec.event_record (Event.Mark from round))) }
+{
+    draft.clear();
+    draft.word(b"mark")?;
+    draft.number(u64::from(from.get()))?;
+    draft.number(u64::from(round))?;
+    writer.put(draft)
+}
+
+// Writes the record of an event.
+fn put_event(writer: &mut RecordWriter, draft: &mut Draft, event: &Event) -> Result<(), AllocError>
+    ensures { OnOk result (writer.new ≡ writer.old ++ record_text (spec.event_record event.now)) }
+{
+    match event {
+        Event::Send { to, inc, body } => put_send(writer, draft, *to, *inc, body),
+        Event::Recv { message } => put_recv(writer, draft, *message),
+        Event::Check { state, round } => put_check(writer, draft, state, *round),
+        Event::Mark { from, round } => put_mark(writer, draft, *from, *round),
+    }
+}
+
+// Writes the records of events.
+fn put_events(
+    writer: &mut RecordWriter,
+    draft: &mut Draft,
+    events: &[Event],
+) -> Result<(), AllocError>
+    ensures { OnOk result (writer.new ≡ writer.old ++ records_text (map spec.event_record events.now)) }
+{
+    for event in events {
+        put_event(writer, draft, event)?;
+    }
+    Ok(())
+}
+
+// Writes `tape,P,INC` and the records of its events.
+fn put_tape(
+    writer: &mut RecordWriter,
+    draft: &mut Draft,
+    p: ProcId,
+    inc: u16,
+    events: &[Event],
+) -> Result<(), AllocError>
+    ensures { OnOk result (writer.new ≡ writer.old ++ records_text (spec.tape_records p (record { incarnation = inc; tape = events.now }))) }
+{
+    draft.clear();
+    draft.word(b"tape")?;
+    draft.number(u64::from(p.get()))?;
+    draft.number(u64::from(inc))?;
+    writer.put(draft)?;
+    put_events(writer, draft, events)
+}
+
+// Writes the tape of a process.
+fn put_tape_of(
+    writer: &mut RecordWriter,
+    draft: &mut Draft,
+    history: &History,
+    p: ProcId,
+) -> Result<(), AllocError>
+    requires { p < length history.now.processes }
+    ensures { OnOk result (writer.new ≡ writer.old ++ records_text (spec.tape_records p (process_at history.now.processes p))) }
+{
+    let inc = history.incarnation(p);
+    let events = history.tape(p).front(Choice::Now);
+    put_tape(writer, draft, p, inc, events)
+}
+
+// Writes `history,1,N`.
+fn put_count(writer: &mut RecordWriter, draft: &mut Draft, n: u32) -> Result<(), AllocError>
+    ensures { OnOk result (writer.new ≡ writer.old ++ record_text (spec.history_record n)) }
+{
+    draft.clear();
+    draft.word(b"history")?;
+    draft.number(1)?;
+    draft.number(u64::from(n))?;
+    writer.put(draft)
+}
+
+/// Writes the records of a history behind those that were written before.
+///
+/// Where a growth is refused, the records that were written before are lost too. The draft holds the
+/// last record afterwards, and may be used again.
+pub fn put_history(
+    writer: &mut RecordWriter,
+    draft: &mut Draft,
+    history: &History,
+) -> Result<(), AllocError>
+    ensures { OnOk result (writer.new ≡ writer.old ++ records_text (spec.history_records history.now.processes)) }
+{
+    let n = history.n();
+    put_count(writer, draft, n)?;
+    for p in 0..n {
+        let Ok(p) = ProcId::try_new(p, n) else {
+            unreachable!()
+        };
+        put_tape_of(writer, draft, history, p)?;
+    }
+    Ok(())
+}
+
+/// The text of a history.
+pub fn write_history(alloc: Global, history: &History) -> Result<Vec<u8>, AllocError>
+    ensures { IfOk result (λ text. text.items ≡ records_text (spec.history_records history.now.processes)) }
+{
+    let mut draft = Draft::new(alloc);
+    let mut writer = RecordWriter::new(alloc);
+    put_history(&mut writer, &mut draft, history)?;
+    writer.into_bytes()
+}
