@@ -15,6 +15,7 @@ mod build;
 mod restarts;
 mod catalogues;
 mod claims;
+mod limits;
 mod search;
 
 /// a, b and c as in the picture of the README.
