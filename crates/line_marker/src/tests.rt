@@ -75,7 +75,8 @@ fn a_marker_forces_a_round(rt: HostRuntime) -> Result<(), Fail> {
     let (one, two) = (process(1)?, process(2)?);
     assert_eq!(rt; marker.on_marker(two, 3)?, Effect::Forced);
     assert_eq!(rt; marker.on_marker(one, 2)?, Effect::Ignored);
-    assert_eq!(rt; marker.channel(two, 3), Some([].as_slice()));
+    let nothing: &[MsgName] = &[];
+    assert_eq!(rt; marker.channel(two, 3), Some(nothing));
     assert_eq!(rt; marker.channel(two, 2), None);
     assert_eq!(rt; marker.latest(), 3);
     Ok(())
