@@ -1,8 +1,8 @@
 //! Limits and refusals, and the histories again, through the calls.
-use crate::tests::build::{Did, failed, history_of, process};
+use crate::tests::build::{Did, catalogue_of, failed, history_of, process};
 use crate::tests::search::{is_consistent_line, latest_of_two};
 use line_names::{Body, BodyError, Choice, MsgName, Passed, ProcId, ProcIdError};
-use line_plan::{Plan, plan_history};
+use line_plan::{Plan, plan};
 use line_tape::{
     CountError, Event, History, HistoryError, MOST_EVENTS, MOST_STATE, MarkError, Marks, State,
     Tape, TapeError, survives,
@@ -12,6 +12,8 @@ use std::process::Abort;
 use std::test::Fail;
 
 mod build;
+mod restarts;
+mod catalogues;
 mod search;
 
 /// a, b and c as in the picture of the README.
@@ -171,14 +173,14 @@ fn latest_line(
     damaged: Option<(u32, u32)>,
     lost: &[u32],
 ) -> Result<Option<(Choice, Choice)>, Fail> {
-    let history = history_of(alloc, all)?;
-    let mut marks = Marks::new(alloc, 2)?;
+    let mut catalogue = catalogue_of(alloc, all)?;
+    assert_eq!(rt; catalogue.n(), 2);
     if let Some((p, check)) = damaged {
-        marks.mark(process(p)?, check)?;
+        catalogue.damage(process(p)?, check)?;
     }
     let failed = failed(lost)?;
-    let found = latest_of_two(rt, alloc, &history, &marks, &failed)?;
-    let plan = plan_history(alloc, &history, &marks, &failed)?;
+    let found = latest_of_two(rt, alloc, catalogue.history(), catalogue.marks(), &failed)?;
+    let plan = plan(alloc, &catalogue, &failed)?;
     let planned = (plan.line.at(process(0)?), plan.line.at(process(1)?));
     assert_eq!(rt; Some(planned), found);
     Ok(found)
@@ -287,9 +289,8 @@ fn passed(at: u32, choice: Choice, from: u32, number: u32) -> Result<Passed, Fai
 
 /// The plan of a history of two processes of which the first failed.
 fn plan_of(alloc: Global, all: &[Did]) -> Result<Plan, Fail> {
-    let history = history_of(alloc, all)?;
-    let marks = Marks::new(alloc, 2)?;
-    Ok(plan_history(alloc, &history, &marks, &failed(&[0])?)?)
+    let catalogue = catalogue_of(alloc, all)?;
+    Ok(plan(alloc, &catalogue, &failed(&[0])?)?)
 }
 
 #[test]

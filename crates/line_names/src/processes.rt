@@ -1,5 +1,5 @@
 //! Processes and sets of them.
-ghost use Rattle.std.specs.Prelude.{◌≡◌, ◌≢◌, ◌<◌, ◌≤◌, ℕ, false, IsTrue, OkIff};
+ghost use Rattle.std.specs.Prelude.{◌≡◌, ◌≢◌, ◌<◌, ◌≤◌, ◌↔◌, ℕ, false, IsTrue, OkIff};
 ghost use Rattle.line_names.specs.Sets.{nobody, with_member, is_member};
 
 use crate::limits::MOST_PROCESSES;
@@ -122,5 +122,17 @@ impl ProcSet {
         ensures { result ≡ is_member self.now p }
     {
         self.members[p.get() as usize]
+    }
+
+    /// Whether each process of the set is below `n`.
+    pub fn is_below(&self, n: u32) -> bool
+        ensures { IsTrue result ↔ ((q : ℕ) → IsTrue (is_member self.now q) → q < n) }
+    {
+        for q in n as usize..MOST_PROCESSES {
+            if self.members[q] {
+                return false;
+            }
+        }
+        true
     }
 }

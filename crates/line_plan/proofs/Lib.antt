@@ -1,2 +1,1 @@
-pub mod LedLemmas
 pub mod MovedLemmas

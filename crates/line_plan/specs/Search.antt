@@ -1,33 +1,13 @@
 -- What the planner keeps on its way down.
-use Rattle.std.specs.Prelude.{◌≡◌, ℕ, ◌<◌, ◌≤◌, ◌+◌, Bool, true, false, List, [], ◌∷◌}
-use Rattle.line_names.specs.declared.certificates.Passed.{Passed}
+use Rattle.std.specs.Prelude.{◌≡◌, ℕ, ◌<◌, ◌≤◌, ◌+◌, Bool, true, false, List}
 use Rattle.line_names.specs.declared.choices.Choice.{Choice}
-use Rattle.line_names.specs.declared.choices.Choice.TheVariants.{Check as AtCheck, Now}
-use Rattle.line_tape.specs.declared.events.Event.{Event}
-use Rattle.line_tape.specs.Chain.{LeadsTo, first_ceilings}
-use Rattle.line_tape.specs.Event.{checks}
+use Rattle.line_tape.specs.Height.{height}
 use Rattle.line_tape.specs.History.{Process}
 use Rattle.line_tape.specs.Line.{events_before, AreSentBefore}
-use Rattle.line_tape.specs.Views.{MarksView}
-
--- these entries lead from the latest surviving choices to the line
-abbrev pub IsLed : List Process → MarksView → List Bool → List Passed → List Choice → Type 0
-IsLed history marks failed entries line = LeadsTo history marks failed (first_ceilings history marks failed) entries line
 
 -- none of the first n processes has received an orphan
 abbrev pub AreSentBelow : List Process → List Choice → ℕ → Type 0
 AreSentBelow history line n = (q : ℕ) → q < n → AreSentBefore history line (events_before history line q)
-
--- how many choices of the tape stand below a choice
-abbrev pub rank : List Event → Choice → ℕ
-rank tape (AtCheck c) = c
-rank tape Now = checks tape + 1
-
--- how many choices stand below a line, of all processes together
-abbrev pub height : List Process → List Choice → ℕ
-height [] line = 0
-height (process ∷ rest) [] = 0
-height (process ∷ rest) (choice ∷ line) = rank process.tape choice + height rest line
 
 -- the line stays with its entries, or it is lower and has more of them, which its height pays for
 pub record IsMoved (history : List Process) (old : List Choice) (entries : ℕ) (lowered : Bool) (new : List Choice) (entries' : ℕ) : Type 0 where

@@ -4,5 +4,5 @@
 mod planner;
 mod plans;
 
-pub use planner::plan_history;
+pub use planner::plan;
 pub use plans::{Plan, PlanError};

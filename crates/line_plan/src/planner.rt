@@ -1,34 +1,71 @@
 //! Sweeps over the processes, each of which is lowered until it has no orphan.
 ghost use Rattle.std.specs.Prelude.{◌≡◌, ◌<◌, ◌≤◌, ◌+◌, false, length, vec_len, OnOk, IfOk};
-ghost use Rattle.line_tape.specs.Chain.{IsChain};
-ghost use Rattle.line_tape.specs.Line.{events_before, IsOrphan, AreSentBefore};
+ghost use Rattle.line_tape.specs.Chain.{latest_choice, first_ceilings, IsChain};
+ghost use Rattle.line_tape.specs.Height.{IsLed, height};
+ghost use Rattle.line_tape.specs.Line.{events_before, IsLine, IsOrphan, AreSentBefore, IsFoundAmong};
 ghost use Rattle.line_tape.specs.Survival.{IsLatest};
-ghost use Rattle.line_plan.specs.Search.{IsLed, IsMoved, AreSentBelow, height};
+ghost use Rattle.line_tape.specs.Transit.{in_transit};
+ghost use Rattle.line_plan.specs.Search.{IsMoved, AreSentBelow};
 
 use crate::plans::{Plan, PlanError};
-use line_names::{Line, MsgName, Passed, ProcId, ProcSet};
-use line_tape::{History, Marks, first_ceilings, next_lower, orphan_at};
+use line_catalogue::Catalogue;
+use line_names::{Choice, Line, MsgName, Passed, ProcId, ProcSet};
+use line_tape::orphan_at;
 use std::alloc::{AllocError, Global};
+
+/// The latest surviving choice of a process. It looks at one check for each that does not survive.
+fn latest_choice(catalogue: &Catalogue, failed: &ProcSet, p: ProcId) -> Choice
+    requires { p < length catalogue.now.processes }
+    ensures { result ≡ latest_choice catalogue.now.processes catalogue.now.marks failed.now p }
+{
+    if catalogue.survives(p, Choice::Now, failed) {
+        return Choice::Now;
+    }
+    catalogue.next_lower(p, Choice::Now, failed).unwrap()
+}
+
+/// The line of the latest surviving choice of each process.
+fn first_ceilings(catalogue: &Catalogue, failed: &ProcSet) -> Line
+    ensures { result ≡ first_ceilings catalogue.now.processes catalogue.now.marks failed.now }
+{
+    let n = catalogue.n();
+    let mut line = Line::new();
+    for q in 0..n {
+        let p = ProcId::try_new(q, n).unwrap();
+        line.push(latest_choice(catalogue, failed, p));
+    }
+    line
+}
+
+/// An orphan at a process, if there is one: of several that of the lowest sender, and of that sender the one with the greatest number.
+///
+/// It looks once at each event before the process's choice.
+fn find_orphan(catalogue: &Catalogue, line: &Line, at: ProcId) -> Option<MsgName>
+    requires line { IsLine catalogue.now.processes line.now }
+    requires process { at < length catalogue.now.processes }
+    ensures { IsFoundAmong catalogue.now.processes line.now (events_before catalogue.now.processes line.now at) result }
+{
+    orphan_at(catalogue.history(), line, at)
+}
 
 /// Passes the choice of a process over, for an orphan that it has received.
 fn pass_over(
-    history: &History,
-    marks: &Marks,
+    catalogue: &Catalogue,
     failed: &ProcSet,
     at: ProcId,
     message: MsgName,
     line: &mut Line,
     certificate: &mut Vec<Passed>,
 ) -> Result<(), AllocError>
-    requires process { at < length history.now.processes }
-    requires led { IsLed history.now.processes marks.now failed.now certificate.old.items line.old }
-    requires orphan { IsOrphan history.now.processes line.old at message }
-    ensures led { OnOk result (IsLed history.now.processes marks.now failed.now certificate.new.items line.new) }
+    requires process { at < length catalogue.now.processes }
+    requires led { IsLed catalogue.now.processes catalogue.now.marks failed.now certificate.old.items line.old }
+    requires orphan { IsOrphan catalogue.now.processes line.old at message }
+    ensures led { OnOk result (IsLed catalogue.now.processes catalogue.now.marks failed.now certificate.new.items line.new) }
     ensures longer { OnOk result (vec_len certificate.new ≡ vec_len certificate.old + 1) }
-    ensures lower { OnOk result (height history.now.processes line.new < height history.now.processes line.old) }
+    ensures lower { OnOk result (height catalogue.now.processes line.new < height catalogue.now.processes line.old) }
 {
     let choice = line.at(at);
-    let next = next_lower(history, marks, failed, at, choice);
+    let next = catalogue.next_lower(at, choice, failed).unwrap();
     certificate.push(Passed {
         at,
         choice,
@@ -40,25 +77,24 @@ fn pass_over(
 
 /// Lowers a process until it has received no orphan, and says whether it was lowered.
 fn visit(
-    history: &History,
-    marks: &Marks,
+    catalogue: &Catalogue,
     failed: &ProcSet,
     at: ProcId,
     line: &mut Line,
     certificate: &mut Vec<Passed>,
 ) -> Result<bool, AllocError>
-    requires process { at < length history.now.processes }
-    requires led { IsLed history.now.processes marks.now failed.now certificate.old.items line.old }
-    ensures led { OnOk result (IsLed history.now.processes marks.now failed.now certificate.new.items line.new) }
-    ensures none { OnOk result (AreSentBefore history.now.processes line.new (events_before history.now.processes line.new at)) }
+    requires process { at < length catalogue.now.processes }
+    requires led { IsLed catalogue.now.processes catalogue.now.marks failed.now certificate.old.items line.old }
+    ensures led { OnOk result (IsLed catalogue.now.processes catalogue.now.marks failed.now certificate.new.items line.new) }
+    ensures none { OnOk result (AreSentBefore catalogue.now.processes line.new (events_before catalogue.now.processes line.new at)) }
     ensures moved { IfOk result (λ lowered.
-        IsMoved history.now.processes line.old (vec_len certificate.old) lowered line.new (vec_len certificate.new)) }
+        IsMoved catalogue.now.processes line.old (vec_len certificate.old) lowered line.new (vec_len certificate.new)) }
 {
     let mut lowered = false;
     'orphans: loop {
-        match orphan_at(history, line, at) {
+        match find_orphan(catalogue, line, at) {
             Some(message) => {
-                pass_over(history, marks, failed, at, message, line, certificate)?;
+                pass_over(catalogue, failed, at, message, line, certificate)?;
                 lowered = true;
             }
             None => return Ok(lowered),
@@ -68,24 +104,23 @@ fn visit(
 
 /// Visits each process once, and says whether one was lowered.
 fn sweep(
-    history: &History,
-    marks: &Marks,
+    catalogue: &Catalogue,
     failed: &ProcSet,
     line: &mut Line,
     certificate: &mut Vec<Passed>,
 ) -> Result<bool, AllocError>
-    requires led { IsLed history.now.processes marks.now failed.now certificate.old.items line.old }
-    ensures led { OnOk result (IsLed history.now.processes marks.now failed.now certificate.new.items line.new) }
+    requires led { IsLed catalogue.now.processes catalogue.now.marks failed.now certificate.old.items line.old }
+    ensures led { OnOk result (IsLed catalogue.now.processes catalogue.now.marks failed.now certificate.new.items line.new) }
     ensures none { IfOk result (λ lowered. lowered ≡ false
-        → AreSentBelow history.now.processes line.new (length history.now.processes)) }
+        → AreSentBelow catalogue.now.processes line.new (length catalogue.now.processes)) }
     ensures moved { IfOk result (λ lowered.
-        IsMoved history.now.processes line.old (vec_len certificate.old) lowered line.new (vec_len certificate.new)) }
+        IsMoved catalogue.now.processes line.old (vec_len certificate.old) lowered line.new (vec_len certificate.new)) }
 {
-    let n = history.n();
+    let n = catalogue.n();
     let mut lowered = false;
     for q in 0..n {
         let at = ProcId::try_new(q, n).unwrap();
-        let moved = visit(history, marks, failed, at, line, certificate)?;
+        let moved = visit(catalogue, failed, at, line, certificate)?;
         lowered |= moved;
     }
     Ok(lowered)
@@ -95,31 +130,33 @@ fn sweep(
 ///
 /// The ceilings start at each process's latest surviving choice. A sweep visits the processes in the order of their numbers; at a visit a process is lowered to its next lower surviving choice while it has received an orphan, and each choice passed over is written down with the orphan from the lowest sender, of its messages the one with the greatest number. Sweeps go on until one lowers nothing.
 ///
-/// A visit looks at each event before the process's ceiling.
-pub fn plan_history(
+/// A visit looks at each event before the process's ceiling. At the end each event before the line is looked at once more, for what is in transit there.
+pub fn plan(
     alloc: Global,
-    history: &History,
-    marks: &Marks,
+    catalogue: &Catalogue,
     failed: &ProcSet,
 ) -> Result<Plan, PlanError>
-    ensures latest { IfOk result (λ plan. IsLatest history.now.processes marks.now failed.now plan.line) }
+    ensures latest { IfOk result (λ plan. IsLatest catalogue.now.processes catalogue.now.marks failed.now plan.line) }
     ensures chain { IfOk result (λ plan.
-        IsChain history.now.processes marks.now failed.now plan.certificate.items plan.line) }
+        IsChain catalogue.now.processes catalogue.now.marks failed.now plan.certificate.items plan.line) }
     ensures some_sweep { IfOk result (λ plan. 1 ≤ plan.sweeps) }
     ensures few_sweeps { IfOk result (λ plan. plan.sweeps ≤ vec_len plan.certificate + 1) }
+    ensures replays { IfOk result (λ plan. plan.replays.items ≡ in_transit catalogue.now.processes plan.line) }
 {
-    let _n = history.n();
-    let mut line = first_ceilings(history, marks, failed);
+    let _n = catalogue.n();
+    let mut line = first_ceilings(catalogue, failed);
     let mut certificate = Vec::new(alloc);
     let mut sweeps = 0u32;
     'sweeps: loop {
-        let lowered = sweep(history, marks, failed, &mut line, &mut certificate)?;
+        let lowered = sweep(catalogue, failed, &mut line, &mut certificate)?;
         sweeps += 1;
         if !lowered {
+            let replays = catalogue.history().transit(alloc, &line)?;
             return Ok(Plan {
                 line,
                 certificate,
                 sweeps,
+                replays,
             });
         }
     }

@@ -6,3 +6,16 @@ pub mod ChoiceLemmas
 pub mod ChainLemmas
 pub mod LineLemmas
 pub mod NextLemmas
+pub mod LedLemmas
+pub mod SentLemmas
+pub mod LinkLemmas
+pub mod StayLemmas
+pub mod LetterLemmas
+pub mod SpentLemmas
+pub mod CopyLemmas
+pub mod OrderLemmas
+pub mod CutLemmas
+pub mod RoomLemmas
+pub mod EachLemmas
+pub mod HistoryCuts
+pub mod TransitLemmas

@@ -5,9 +5,11 @@ use Rattle.line_tape.specs.declared.events.Event.{Event}
 use Rattle.line_tape.specs.declared.events.Event.TheVariants.{Send, Recv, Check, Mark}
 use Rattle.line_tape.specs.declared.items.Item.{Item}
 use Rattle.line_tape.specs.declared.items.Item.TheVariants.{Message, Marker}
-use Rattle.line_tape.specs.Event.{sends}
-use Rattle.line_tape.specs.History.{Process, tape_at}
+use Rattle.line_names.specs.declared.messages.MsgName.{MsgName}
+use Rattle.line_tape.specs.Event.{sends, Holds}
+use Rattle.line_tape.specs.History.{Process, tape_at, incarnation_at}
 use Rattle.line_tape.specs.Rounds.{rounds_checked, has_check_of}
+use Rattle.line_tape.specs.Transit.{addressee, has_received, names_received}
 
 -- what process p puts on its link to q by these events, its first send having this number: its messages to q, and a marker for each check of a round
 abbrev pub items_sent : ℕ → ℕ → ℕ → List Event → List Item
@@ -72,3 +74,20 @@ items_put history at event p q = if p == at then items_sent p q (sends (tape_at 
 -- what it takes from that link
 abbrev pub items_got : ℕ → Event → ℕ → ℕ → List Item
 items_got at event p q = if q == at then filter_map (item_received p) (event ∷ []) else []
+
+-- the sender's tape holds the message, and its send is to process q
+pub record IsSentTo (history : List Process) (q : ℕ) (message : MsgName) : Type 0 where
+  pub held : Holds (tape_at history message.from) message.inc message.number
+  pub to_is : addressee history message ≡ Some q
+
+-- what a process received was sent to it, and it received nothing twice: the histories that links which lose, repeat and overtake can lead to
+pub record IsFitUnordered (history : List Process) : Type 0 where
+  pub held : (q : ℕ) (message : MsgName) → Contains (tape_at history q) (Recv message) → IsSentTo history q message
+  pub once : (q : ℕ) → AreDistinct (names_received (tape_at history q))
+
+-- the event may come next at process p: a send is of the present incarnation, and what is received was sent to p and is new to its tape
+abbrev pub IsNextUnordered : List Process → ℕ → Event → Type 0
+IsNextUnordered history p (Send to inc body) = inc ≡ incarnation_at history p
+IsNextUnordered history p (Recv message) = IsSentTo history p message × (has_received (tape_at history p) message ≡ false)
+IsNextUnordered history p (Check state round) = Unit {0}
+IsNextUnordered history p (Mark from round) = Unit {0}

@@ -1,6 +1,6 @@
 -- What a tape keeps beside its events, so that no question scans them.
-use Rattle.std.specs.Prelude.{◌≡◌, ℕ, suc, ◌<◌, List, length, take, slice_index_or, Option, Some, None, Contains}
-use Rattle.std.specs.HashMap.{get, spare}
+use Rattle.std.specs.Prelude.{◌≡◌, ℕ, suc, ◌+◌, ◌<◌, List, length, take, slice_index_or, Option, Some, None, Contains}
+use Rattle.std.specs.HashMap.{get, spare, hash_map_len, IsUnique}
 use Rattle.line_names.specs.declared.messages.MsgName.{MsgName}
 use Rattle.line_names.specs.Names.{is_name}
 use Rattle.line_tape.specs.declared.events.Event.{Event}
@@ -39,6 +39,14 @@ first_place receipts = get is_name receipts.first
 -- how many further receipts are taken with no more memory
 abbrev pub receipts_room : Receipts → ℕ
 receipts_room receipts = spare receipts.first
+
+-- how many receipts are kept, and how many further ones are taken with no more memory
+abbrev pub whole_room : Receipts → ℕ
+whole_room receipts = hash_map_len receipts.first + spare receipts.first
+
+-- no message has two places
+abbrev pub AreApart : Receipts → Type 0
+AreApart receipts = IsUnique is_name receipts.first
 
 -- the events of a tape, and an index that answers for them
 pub record IsIndexed (events : List Event) (rows : List CheckRow) (incarnations : List ℕ) (receipts : Receipts) : Type 0 where

@@ -4,6 +4,7 @@ pub mod History
 pub mod Line
 pub mod Survival
 pub mod Chain
+pub mod Height
 pub mod Transit
 pub mod Rounds
 pub mod Fit
@@ -12,3 +13,5 @@ pub mod Views
 pub mod Kept
 pub mod Plain
 pub mod Refusals
+pub mod Spent
+pub mod Copies

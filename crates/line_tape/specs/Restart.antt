@@ -1,12 +1,14 @@
 -- What a restart at a line leaves of a history and of its damage marks.
-use Rattle.std.specs.Prelude.{ℕ, ◌+◌, Bool, true, nat_le, List, [], ◌∷◌, filter, Option, Some, None}
+use Rattle.std.specs.Prelude.{◌≢◌, ℕ, ◌+◌, ◌<◌, Bool, true, nat_le, List, [], ◌∷◌, length, filter, Option, Some, None}
 use Rattle.std.specs.List.{filter_map}
 use Rattle.line_names.specs.declared.choices.Choice.{Choice}
 use Rattle.line_names.specs.declared.choices.Choice.TheVariants.{Check as AtCheck, Now}
+use Rattle.line_names.specs.Lines.{choice_at}
 use Rattle.line_tape.specs.declared.events.Event.{Event}
 use Rattle.line_tape.specs.declared.events.Event.TheVariants.{Send, Recv, Check, Mark}
+use Rattle.line_tape.specs.declared.limits.TheConstants.{LAST_INCARNATION}
 use Rattle.line_tape.specs.Front.{front}
-use Rattle.line_tape.specs.History.{Process}
+use Rattle.line_tape.specs.History.{Process, process_at}
 use Rattle.line_tape.specs.Views.{MarksView}
 
 -- what is left of an event: marks go, and checks lose their round
@@ -20,6 +22,15 @@ restarted_event (Mark from round) = None
 abbrev pub restarted_incarnation : Choice → ℕ → ℕ
 restarted_incarnation (AtCheck c) inc = inc + 1
 restarted_incarnation Now inc = inc
+
+-- a process that goes back has a further incarnation
+abbrev pub HasFurther : Process → Choice → Type 0
+HasFurther process (AtCheck c) = process.incarnation ≢ LAST_INCARNATION
+HasFurther process Now = Unit {0}
+
+-- each process that goes back has a further incarnation
+abbrev pub HaveFurther : List Process → List Choice → Type 0
+HaveFurther history line = (p : ℕ) → p < length history → HasFurther (process_at history p) (choice_at line p)
 
 -- a process that goes on from a choice: its tape is cut to the choice's front
 abbrev pub restarted_process : Process → Choice → Process

@@ -1,12 +1,12 @@
 -- Messages in transit at a line (Elnozahy, Alvisi, Wang and Johnson, ACM Computing Surveys 34(3), 2002).
-use Rattle.std.specs.Prelude.{ℕ, suc, Bool, not, ◌==◌, List, [], ◌∷◌, length, map, filter, Option, Some, None}
+use Rattle.std.specs.Prelude.{ℕ, suc, Bool, false, not, ◌==◌, ◌&&◌, List, [], ◌∷◌, length, map, filter, slice_get, Option, Some, None}
 use Rattle.std.specs.List.{list_any, flat_map, filter_map, range_with_len}
 use Rattle.line_names.specs.declared.messages.MsgName.{MsgName}
 use Rattle.line_names.specs.declared.choices.Choice.{Choice}
 use Rattle.line_names.specs.Names.{is_name}
 use Rattle.line_tape.specs.declared.events.Event.{Event}
 use Rattle.line_tape.specs.declared.events.Event.TheVariants.{Send, Recv, Check, Mark}
-use Rattle.line_tape.specs.History.{Process}
+use Rattle.line_tape.specs.History.{Process, tape_at}
 use Rattle.line_tape.specs.Line.{events_before}
 
 -- a message, and the process that its send names
@@ -51,3 +51,31 @@ in_transit history line =
 abbrev pub in_transit_between : List Process → List Choice → ℕ → ℕ → List MsgName
 in_transit_between history line p q =
     map (λ (letter : Letter). letter.message) (filter (λ (letter : Letter). letter.to == q) (open_letters history line p))
+
+-- the messages received among these events, in order
+abbrev pub names_received : List Event → List MsgName
+names_received events = filter_map received_name events
+
+-- the process that an event sends to
+abbrev pub addressee_of : Event → Option ℕ
+addressee_of (Send to inc body) = Some to
+addressee_of (Recv message) = None
+addressee_of (Check state round) = None
+addressee_of (Mark from round) = None
+
+-- the processes that a tape sent to, send by send
+abbrev pub addressees : List Event → List ℕ
+addressees tape = filter_map addressee_of tape
+
+-- the process that the message's send names
+abbrev pub addressee : List Process → MsgName → Option ℕ
+addressee history message = slice_get (addressees (tape_at history message.from)) message.number
+
+-- the process that is named, if one is, is q
+abbrev pub is_named : ℕ → Option ℕ → Bool
+is_named q None = false
+is_named q (Some to) = to == q
+
+-- the message goes from process p to process q
+abbrev pub goes_between : List Process → ℕ → ℕ → MsgName → Bool
+goes_between history p q message = (message.from == p) && is_named q (addressee history message)

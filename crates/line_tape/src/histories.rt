@@ -5,6 +5,8 @@ ghost use Rattle.line_tape.specs.History.{fresh, process_at, tape_at, incarnatio
 ghost use Rattle.line_tape.specs.Plain.{plain};
 ghost use Rattle.line_tape.specs.Views.{room_at};
 
+mod restarts;
+
 use crate::events::Event;
 use crate::limits::{MOST_EVENTS, MOST_STATE};
 use crate::tapes::{Tape, TapeError};

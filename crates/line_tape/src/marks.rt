@@ -1,9 +1,10 @@
 //! Marks of damage.
-ghost use Rattle.std.specs.Prelude.{◌≡◌, ◌≢◌, ◌<◌, ◌≤◌, ◌↔◌, [], IsTrue, length, replicate, IfOk, OnOk, OnErr, IsErrOf};
+ghost use Rattle.std.specs.Prelude.{◌≡◌, ◌≢◌, ◌<◌, ◌≤◌, ◌↔◌, [], IsTrue, length, filter, replicate, slice_index_or, IfOk, OnOk, OnErr, IsErrOf};
+ghost use Rattle.line_tape.specs.Restart.{is_kept, restarted_marks};
 ghost use Rattle.line_tape.specs.Survival.{is_damaged};
 ghost use Rattle.line_tape.specs.Views.{with_mark};
 
-use line_names::ProcId;
+use line_names::{Choice, Line, ProcId};
 use std::alloc::{AllocError, Global};
 use std::error::Error;
 use std::fmt;
@@ -21,6 +22,18 @@ impl Model for Damaged {
     ghost Value = { List ℕ };
 
     ghost view = { λ d. d.checks.items };
+}
+
+impl Damaged {
+    /// Takes the marks off the checks that come after a choice.
+    fn restart(&mut self, choice: Choice)
+        ensures { self.new ≡ filter (is_kept choice) self.old }
+    {
+        match choice {
+            Choice::Check(last) => self.checks.retain(|check| *check <= last),
+            Choice::Now => {}
+        }
+    }
 }
 
 /// Which checks are damaged, process by process.
@@ -75,6 +88,17 @@ impl Marks {
         Ok(())
     }
 
+    /// Takes the marks off the checks that a restart at a line cuts off. It takes no memory.
+    pub fn restart(&mut self, line: &Line)
+        requires { length self.old.damaged ≤ length line.now }
+        ensures { self.new ≡ restarted_marks self.old line.now }
+    {
+        let choices = line.choices();
+        for p in 0..self.damaged.len() {
+            self.damaged[p].restart(choices[p]);
+        }
+    }
+
     /// Whether a check carries a mark. It looks at each mark of the process.
     pub fn has(&self, p: ProcId, check: u32) -> bool
         ensures { result ≡ is_damaged self.now p check }
@@ -83,6 +107,34 @@ impl Marks {
             Some(damaged) => damaged.checks.contains(&check),
             None => false,
         }
+    }
+
+    /// How many processes it was made for.
+    pub fn processes(&self) -> usize
+        ensures { result ≡ length self.now.damaged }
+    {
+        self.damaged.len()
+    }
+
+    /// The damaged checks of the process of that number, in the order in which they were marked.
+    pub fn checks(&self, p: usize) -> &[u32]
+        requires { p < length self.now.damaged }
+        ensures { result.now ≡ slice_index_or self.now.damaged p [] }
+    {
+        self.damaged[p].checks.as_slice()
+    }
+
+    /// The same marks in memory of their own.
+    pub fn copy(&self, alloc: Global) -> Result<Marks, AllocError>
+        ensures { IfOk result (λ marks. marks ≡ self.now) }
+    {
+        let mut damaged = Vec::with_capacity(alloc, self.damaged.len())?;
+        for process in &self.damaged {
+            damaged.push(Damaged {
+                checks: Vec::from_slice(alloc, process.checks.as_slice())?,
+            })?;
+        }
+        Ok(Marks { damaged })
     }
 }
 

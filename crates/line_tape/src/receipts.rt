@@ -1,11 +1,12 @@
 //! An index of the receipts of one tape.
-ghost use Rattle.std.specs.Prelude.{◌≡◌, ◌<◌, ◌≤◌, ◌+◌, ◌^◌, ◌↔◌, [], ◌∷◌, ◌++◌, List, length, take, OnOk, OnErr, IsOk, IsTrue, Contains};
+ghost use Rattle.std.specs.Prelude.{◌≡◌, ◌<◌, ◌≤◌, ◌+◌, ◌^◌, ◌↔◌, [], ◌∷◌, ◌++◌, List, length, take, OnOk, OnErr, IsOk, IsTrue, IsSome, None, Contains};
 ghost use Rattle.line_names.specs.declared.messages.MsgName.{MsgName};
 ghost use Rattle.line_tape.specs.declared.events.Event.{Event};
 ghost use Rattle.line_tape.specs.declared.events.Event.TheVariants.{Recv};
-ghost use Rattle.line_tape.specs.Kept.{AreFirst, first_place, receipts_room};
+ghost use Rattle.line_tape.specs.Kept.{AreApart, AreFirst, first_place, receipts_room, whole_room};
 
 use crate::events::Event;
+use crate::limits::MOST_EVENTS;
 use line_names::MsgName;
 use std::alloc::{AllocError, Global};
 use std::collections::HashMap;
@@ -38,12 +39,14 @@ impl Receipts {
         self.first.reserve(k)
     }
 
-    /// Takes in an event that comes to stand behind `place` others.
+    /// Takes in an event that comes to stand behind `place` others. A message's first receipt takes room.
     pub fn note(&mut self, event: &Event, place: u32)
-        requires { 0 < receipts_room self.old }
+        requires { (message : MsgName) → event.now ≡ Recv message → first_place self.old message ≡ None → 0 < receipts_room self.old }
         ensures first { (events : List Event) → length events ≡ place → AreFirst events (first_place self.old)
             → AreFirst (events ++ event.now ∷ []) (first_place self.new) }
         ensures room { receipts_room self.old ≤ receipts_room self.new + 1 }
+        ensures whole { whole_room self.old ≤ whole_room self.new }
+        ensures apart { AreApart self.old → AreApart self.new }
     {
         match event {
             Event::Recv { message } => {
@@ -55,6 +58,19 @@ impl Receipts {
             Event::Send { .. } => {}
             Event::Check { .. } => {}
             Event::Mark { .. } => {}
+        }
+    }
+
+    /// The index of other events, whose messages it has a place for. It takes no memory.
+    pub fn restart(&mut self, events: &[Event])
+        requires known { (message : MsgName) → Contains events.now (Recv message) → IsSome (first_place self.old message) }
+        requires few { length events.now ≤ MOST_EVENTS }
+        ensures first { AreFirst events.now (first_place self.new) }
+        ensures room { receipts_room self.old ≤ receipts_room self.new }
+    {
+        self.first.clear();
+        for i in 0..events.len() {
+            self.note(&events[i], i as u32);
         }
     }
 

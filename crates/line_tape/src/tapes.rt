@@ -1,12 +1,14 @@
 //! The tape of one process.
-ghost use Rattle.std.specs.Prelude.{◌≡◌, ◌≢◌, ◌<◌, ◌≤◌, ◌+◌, ◌↔◌, [], ◌∷◌, ◌++◌, length, OnOk, OnErr, IfOk, IsErrOf, IsOk, IsTrue, Contains, slice_get, vec_len, vec_capacity, Some, false};
+ghost use Rattle.std.specs.Prelude.{◌≡◌, ◌≢◌, ◌<◌, ◌≤◌, ◌+◌, ◌↔◌, [], ◌∷◌, ◌++◌, length, OnOk, OnErr, IfOk, IsErrOf, IsOk, IsTrue, Contains, slice_get, vec_len, vec_capacity, Some, ℕ, true, false};
 ghost use Rattle.std.specs.Option.{SomeIff};
 ghost use Rattle.line_tape.specs.declared.events.Event.TheVariants.{Recv};
 ghost use Rattle.line_tape.specs.declared.tapes.TapeError.TheVariants.{StateTooLong, TapeFull, OutOfMemory};
-ghost use Rattle.line_tape.specs.Event.{checks, sends, stored_state, Holds, HasLongState, IsShort};
+ghost use Rattle.line_tape.specs.Event.{is_check, incarnation_of, checks, sends, stored_state, Holds, HasLongState, IsShort};
 ghost use Rattle.line_tape.specs.Front.{place, front, HasChoice};
 ghost use Rattle.line_tape.specs.History.{IsTape};
 ghost use Rattle.line_tape.specs.Kept.{AreRows};
+
+mod cuts;
 
 use crate::events::Event;
 use crate::limits::{MOST_EVENTS, MOST_STATE};
@@ -75,8 +77,8 @@ fn note_event(
 )
     requires rows { AreRows events.now checks.old.items incarnations.old.items }
     requires few { length events.now < MOST_EVENTS }
-    requires checks_room { vec_len checks.old < vec_capacity checks.old }
-    requires sends_room { vec_len incarnations.old < vec_capacity incarnations.old }
+    requires checks_room { is_check event.now ≡ true → vec_len checks.old < vec_capacity checks.old }
+    requires sends_room { (inc : ℕ) → incarnation_of event.now ≡ Some inc → vec_len incarnations.old < vec_capacity incarnations.old }
     ensures rows { AreRows (events.now ++ event.now ∷ []) checks.new.items incarnations.new.items }
     ensures checks_room { (vec_capacity checks.old ≤ vec_capacity checks.new) × (vec_len checks.new ≤ vec_len checks.old + 1) }
     ensures sends_room { (vec_capacity incarnations.old ≤ vec_capacity incarnations.new) × (vec_len incarnations.new ≤ vec_len incarnations.old + 1) }

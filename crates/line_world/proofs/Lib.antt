@@ -1,6 +1,11 @@
 pub mod QueueLemmas
 pub mod LinkLemmas
+pub mod FateLemmas
+pub mod WorldLemmas
+pub mod TransitFacts
 pub mod StartLemmas
+pub mod AgreeLemmas
 pub mod LineFacts
 pub mod StepLemmas
+pub mod DeliverLemmas
 pub mod RunLemmas

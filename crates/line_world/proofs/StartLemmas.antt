@@ -7,8 +7,12 @@ use Rattle.line_tape.specs.declared.events.Event.{Event}
 use Rattle.line_tape.specs.declared.items.Item.{Item}
 use Rattle.line_tape.specs.Fit.{items_sent, item_received, IsPrefix, AreDistinct, MarksFollow}
 use Rattle.line_tape.specs.History.{Process, fresh, tape_at}
+use Rattle.line_tape.proofs.CopyLemmas.{unordered_start}
 use Rattle.line_tape.specs.Rounds.{rounds_checked}
-use Rattle.line_world.specs.Queues.{queue_at, IsMessageOf, IsWorld}
+use Rattle.line_world.specs.declared.steps.Mode.{Mode}
+use Rattle.line_world.specs.declared.steps.Mode.TheVariants.{Fifo, Unordered}
+use Rattle.line_world.specs.Queues.{queue_at, IsSquare}
+use Rattle.line_world.specs.Worlds.{IsMessageOf, message_of, messages_at, AreQueues, IsOrderedWorld, IsLinked, IsWorld}
 
 get_or-replicate_self : {X : Type 0} (n i : ℕ) (x : X) → get_or (replicate n x) i x ≡ x
 get_or-replicate_self n i x = elim (cases_lt i n) [
@@ -36,18 +40,32 @@ module _ (n : ℕ) where
       let P : List Event → List Event → Type 0 = λ s t. drop (length (filter_map (item_received p) t)) (items_sent p q 0 s) ≡ [] in
       subst (λ (v : List Event). P v t) e (subst (λ (v : List Event). P [] v) f refl)
 
-  pub IsWorld-start : IsWorld (replicate n fresh) (replicate n (replicate n []))
-  IsWorld-start = record {
+  shape-start : IsSquare (length (replicate n fresh)) (replicate n (replicate n []))
+  shape-start = record {
+    rows = length-replicate n (replicate n []) ∙ sym (length-replicate n fresh);
+    columns = λ p within. ap (λ (xs : List (List Item)). length xs) (get_or-replicate n p (replicate n []) [] (omega (arith, within, length-replicate n fresh)))
+        ∙ length-replicate n [] ∙ sym (length-replicate n fresh);
+  }
+
+  AreQueues-start : AreQueues (replicate n fresh) (replicate n (replicate n []))
+  AreQueues-start = record {
+    shape = shape-start;
+    messages = λ p q. subst (λ (xs : List Item). All (IsMessageOf p) xs) (sym (queue-start p q)) (λ k d within. absurd (omega (arith, within)));
+  }
+
+  IsOrdered-start : IsOrderedWorld (replicate n fresh) (replicate n (replicate n []))
+  IsOrdered-start = record {
     fit = record {
       order = λ p q. order-start p q (tape_at (replicate n fresh) p) (tape_at (replicate n fresh) q) (sym (tape-start p)) (sym (tape-start q));
       rounds = λ p. subst (λ (v : List Event). AreDistinct (rounds_checked v)) (sym (tape-start p)) (λ i j d near far. absurd (omega (arith, far)));
       marks = λ p. subst MarksFollow (sym (tape-start p)) (λ i from round e. absurd (cc));
     };
-    shape = record {
-      rows = length-replicate n (replicate n []) ∙ sym (length-replicate n fresh);
-      columns = λ p within. ap (λ (xs : List (List Item)). length xs) (get_or-replicate n p (replicate n []) [] (omega (arith, within, length-replicate n fresh)))
-          ∙ length-replicate n [] ∙ sym (length-replicate n fresh);
-    };
-    links = λ p q. queue-start p q ∙ sym (link-start p q (tape_at (replicate n fresh) p) (tape_at (replicate n fresh) q) (sym (tape-start p)) (sym (tape-start q)));
-    messages = λ p q. subst (λ (xs : List Item). All (IsMessageOf p) xs) (sym (queue-start p q)) (λ k d within. absurd (omega (arith, within)));
+    links = λ p q p_within q_within. queue-start p q ∙ sym (link-start p q (tape_at (replicate n fresh) p) (tape_at (replicate n fresh) q) (sym (tape-start p)) (sym (tape-start q)));
   }
+
+  pub IsWorld-start : (mode : Mode) → IsWorld mode (replicate n fresh) (replicate n (replicate n []))
+  IsWorld-start mode = record { queued = AreQueues-start; linked = linked mode }
+    where
+      linked : (m : Mode) → IsLinked m (replicate n fresh) (replicate n (replicate n []))
+      linked Fifo = IsOrdered-start
+      linked Unordered = unordered_start n (messages_at (replicate n (replicate n []))) (λ p q. ap (filter_map message_of) (queue-start p q))

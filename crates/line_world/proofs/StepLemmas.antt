@@ -1,16 +1,19 @@
 -- What is known of a step that no cause refuses, and of one that is refused.
-use Rattle.std.proofs.Common.{◌≡◌, ℕ, ◌<◌, ◌≤◌, Bool, true, false, cond, List, length, Option, Some, None, refl, ap, subst, arith}
-use Rattle.std.specs.Prelude.{◌||◌, ◌==◌, not}
+use Rattle.std.proofs.Common.{◌≡◌, ℕ, ◌+◌, ◌<◌, ◌≤◌, Bool, true, false, cond, List, length, Option, Some, None, refl, ap, ◌∙◌, subst, arith}
+use Rattle.std.specs.Prelude.{◌||◌, ◌==◌, slice_get}
 use Rattle.std.proofs.lemmas.Bool.{or_parts, leb-false, ltb-false, eqb-true, eqb-false, not-false}
+use Rattle.line_tape.specs.declared.items.Item.{Item}
 use Rattle.line_tape.specs.declared.limits.TheConstants.{MOST_EVENTS, MOST_STATE}
 use Rattle.line_tape.specs.History.{tape_at}
+use Rattle.line_world.specs.declared.steps.Mode.{Mode}
+use Rattle.line_world.specs.declared.steps.Mode.TheVariants.{Fifo, Unordered}
 use Rattle.line_world.specs.declared.steps.Step.{Step}
 use Rattle.line_world.specs.declared.steps.Step.TheVariants.{Send, Deliver, Check, Recover}
 use Rattle.line_world.specs.declared.replies.Answer.TheVariants.{Refused}
 use Rattle.line_world.specs.declared.replies.StepError.{StepError}
 use Rattle.line_world.specs.declared.replies.StepError.TheVariants.{NoSuchProcess, TapeFull, StateTooLong, ToSelf, LinkEmpty, BadPick}
 use Rattle.line_world.specs.Machine.{Machine, items_on}
-use Rattle.line_world.specs.Refusals.{has_stranger, is_stranger, is_full, is_long, refusal_of, IsRefused}
+use Rattle.line_world.specs.Refusals.{first_cause, link_causes, has_stranger, is_stranger, is_bad_pick, is_full, is_full_for, is_long, refusal_of, IsRefused}
 use Rattle.line_world.specs.Runs.{Takes}
 
 -- where no cause holds, the first one doesn't, nor does any other
@@ -32,6 +35,10 @@ are_processes machine from to none =
     let parts = or_parts (is_stranger machine from) (is_stranger machine to) none in
     record { from_within = leb-false (length machine.history) from parts.0; to_within = leb-false (length machine.history) to parts.1 }
 
+-- room for one event
+pub room_for : (machine : Machine) (p : ℕ) → is_full machine p 1 ≡ false → length (tape_at machine.history p) < MOST_EVENTS
+room_for machine p free = let few : length (tape_at machine.history p) + 1 ≤ MOST_EVENTS = ltb-false MOST_EVENTS (length (tape_at machine.history p) + 1) free in omega (arith, few)
+
 -- what a send may rely on
 pub record MaySend (machine : Machine) (from to : ℕ) : Type 0 where
   pub named : AreProcesses machine from to
@@ -41,33 +48,48 @@ pub may_send : (machine : Machine) (from to : ℕ) (body : List ℕ) → refusal
 may_send machine from to body none =
     let named = passed (is_stranger machine from || is_stranger machine to) NoSuchProcess _ none in
     let apart = passed (from == to) ToSelf _ named.1 in
-    let room = passed (is_full machine from) TapeFull _ apart.1 in
-    record { named = are_processes machine from to named.0; few = leb-false MOST_EVENTS (length (tape_at machine.history from)) room.0 }
+    let room = passed (is_full machine from 1) TapeFull _ apart.1 in
+    record { named = are_processes machine from to named.0; few = room_for machine from room.0 }
 
 -- what a delivery may rely on
 pub record MayDeliver (machine : Machine) (from to pick : ℕ) : Type 0 where
   pub named : AreProcesses machine from to
-  pub some : 0 < length (items_on machine from to)
-  pub first : pick ≡ 0
-  pub few : length (tape_at machine.history to) < MOST_EVENTS
+  pub first : machine.mode ≡ Fifo → pick ≡ 0
+  pub within : pick < length (items_on machine from to)
 
 above_zero : (n : ℕ) → (n == 0) ≡ false → 0 < n
 above_zero n e = let apart = eqb-false n 0 e in omega (arith, apart)
 
-pub may_deliver : (machine : Machine) (from to pick : ℕ) (state : List ℕ) → refusal_of machine (Deliver from to pick state) ≡ None → MayDeliver machine from to pick
+-- a pick that is not bad
+good_pick : (mode : Mode) (items : List Item) (pick : ℕ) → is_bad_pick mode items pick ≡ false → 0 < length items → (mode ≡ Fifo → pick ≡ 0) × (pick < length items)
+good_pick Fifo items pick good some = let first : pick ≡ 0 = eqb-true pick 0 (not-false (pick == 0) good) in (λ e. first, omega (arith, first, some))
+good_pick Unordered items pick good some = (λ e. absurd (cc), leb-false (length items) pick good)
+
+pub may_deliver : (machine : Machine) (from to pick : ℕ) (state : List ℕ) → first_cause (link_causes machine from to pick state) ≡ None → MayDeliver machine from to pick
 may_deliver machine from to pick state none =
     let named = passed (is_stranger machine from || is_stranger machine to) NoSuchProcess _ none in
     let apart = passed (from == to) ToSelf _ named.1 in
     let short = passed (is_long state) StateTooLong _ apart.1 in
     let some = passed (length (items_on machine from to) == 0) LinkEmpty _ short.1 in
-    let first = passed (not (pick == 0)) BadPick _ some.1 in
-    let room = passed (is_full machine to) TapeFull _ first.1 in
-    record {
-      named = are_processes machine from to named.0;
-      some = above_zero (length (items_on machine from to)) some.0;
-      first = eqb-true pick 0 (not-false (pick == 0) first.0);
-      few = leb-false MOST_EVENTS (length (tape_at machine.history to)) room.0;
-    }
+    let good = passed (is_bad_pick machine.mode (items_on machine from to) pick) BadPick _ some.1 in
+    let pick_is = good_pick machine.mode (items_on machine from to) pick good.0 (above_zero (length (items_on machine from to)) some.0) in
+    record { named = are_processes machine from to named.0; first = pick_is.0; within = pick_is.1 }
+
+-- a delivery that the link doesn't refuse is refused where the tape is full for its item
+pub link_passed : (machine : Machine) (from to pick : ℕ) (state : List ℕ) → first_cause (link_causes machine from to pick state) ≡ None
+    → refusal_of machine (Deliver from to pick state) ≡ cond (is_full_for machine to (slice_get (items_on machine from to) pick)) (Some TapeFull) None
+link_passed machine from to pick state none =
+    let named = passed (is_stranger machine from || is_stranger machine to) NoSuchProcess _ none in
+    let apart = passed (from == to) ToSelf _ named.1 in
+    let short = passed (is_long state) StateTooLong _ apart.1 in
+    let some = passed (length (items_on machine from to) == 0) LinkEmpty _ short.1 in
+    let good = passed (is_bad_pick machine.mode (items_on machine from to) pick) BadPick _ some.1 in
+    let full : Option StepError = cond (is_full_for machine to (slice_get (items_on machine from to) pick)) (Some TapeFull) None in
+    ap (λ b. cond b (Some NoSuchProcess) (cond (from == to) (Some ToSelf) (cond (is_long state) (Some StateTooLong) (cond (length (items_on machine from to) == 0) (Some LinkEmpty) (cond (is_bad_pick machine.mode (items_on machine from to) pick) (Some BadPick) full))))) named.0
+    ∙ ap (λ b. cond b (Some ToSelf) (cond (is_long state) (Some StateTooLong) (cond (length (items_on machine from to) == 0) (Some LinkEmpty) (cond (is_bad_pick machine.mode (items_on machine from to) pick) (Some BadPick) full)))) apart.0
+    ∙ ap (λ b. cond b (Some StateTooLong) (cond (length (items_on machine from to) == 0) (Some LinkEmpty) (cond (is_bad_pick machine.mode (items_on machine from to) pick) (Some BadPick) full))) short.0
+    ∙ ap (λ b. cond b (Some LinkEmpty) (cond (is_bad_pick machine.mode (items_on machine from to) pick) (Some BadPick) full)) some.0
+    ∙ ap (λ b. cond b (Some BadPick) full) good.0
 
 -- what a check may rely on
 pub record MayCheck (machine : Machine) (at : ℕ) (state : List ℕ) : Type 0 where
@@ -79,11 +101,11 @@ pub may_check : (machine : Machine) (at : ℕ) (state : List ℕ) → refusal_of
 may_check machine at state none =
     let named = passed (is_stranger machine at) NoSuchProcess _ none in
     let short = passed (is_long state) StateTooLong _ named.1 in
-    let room = passed (is_full machine at) TapeFull _ short.1 in
+    let room = passed (is_full machine at 1) TapeFull _ short.1 in
     record {
       within = leb-false (length machine.history) at named.0;
       short = ltb-false MOST_STATE (length state) short.0;
-      few = leb-false MOST_EVENTS (length (tape_at machine.history at)) room.0;
+      few = room_for machine at room.0;
     }
 
 -- a recovery that names only processes

@@ -1,5 +1,8 @@
+pub mod Queues
+pub mod Fates
 pub mod Machine
 pub mod Refusals
 pub mod Steps
 pub mod Runs
-pub mod Queues
+pub mod Marked
+pub mod Worlds

@@ -1,9 +1,8 @@
--- The queues that a world keeps for its links.
-use Rattle.std.specs.Prelude.{◌≡◌, ℕ, ◌<◌, List, [], length, All, slice_index_or, slice_set}
+-- Queues from each process to each.
+use Rattle.std.specs.Prelude.{◌≡◌, ℕ, ◌<◌, List, [], length, drop, slice_index_or, slice_set}
 use Rattle.line_tape.specs.declared.items.Item.{Item}
-use Rattle.line_tape.specs.declared.items.Item.TheVariants.{Message, Marker}
-use Rattle.line_tape.specs.Fit.{link, IsFitFifo}
-use Rattle.line_tape.specs.History.{Process}
+use Rattle.line_world.specs.declared.steps.Mode.{Mode}
+use Rattle.line_world.specs.declared.steps.Mode.TheVariants.{Fifo, Unordered}
 
 -- the queue from process p to q
 abbrev pub queue_at : List (List (List Item)) → ℕ → ℕ → List Item
@@ -13,19 +12,12 @@ queue_at queues p q = slice_index_or (slice_index_or queues p []) q []
 abbrev pub with_queue : List (List (List Item)) → ℕ → ℕ → List Item → List (List (List Item))
 with_queue queues p q items = slice_set queues p (slice_set (slice_index_or queues p []) q items)
 
+-- the queues once an item from process p to q is taken: off its queue, if it was the first there, and a copy stays
+abbrev pub taken_off : Mode → List (List (List Item)) → ℕ → ℕ → List (List (List Item))
+taken_off Fifo queues p q = with_queue queues p q (drop 1 (queue_at queues p q))
+taken_off Unordered queues p q = queues
+
 -- n rows of n queues
 pub record IsSquare (n : ℕ) (queues : List (List (List Item))) : Type 0 where
   pub rows : length queues ≡ n
   pub columns : (p : ℕ) → p < n → length (slice_index_or queues p []) ≡ n
-
--- the item is a message of process p
-abbrev pub IsMessageOf : ℕ → Item → Type 0
-IsMessageOf p (Message message) = message.from ≡ p
-IsMessageOf p (Marker round) = ⊥
-
--- what a world keeps true: the history fits, and each queue is what the link holds, which is messages of its sender
-pub record IsWorld (history : List Process) (queues : List (List (List Item))) : Type 0 where
-  pub fit : IsFitFifo history
-  pub shape : IsSquare (length history) queues
-  pub links : (p q : ℕ) → queue_at queues p q ≡ link history p q
-  pub messages : (p q : ℕ) → All (IsMessageOf p) (queue_at queues p q)

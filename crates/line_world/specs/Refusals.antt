@@ -1,19 +1,23 @@
 -- What refuses a step: the first cause that holds.
-use Rattle.std.specs.Prelude.{◌≡◌, ℕ, ◌-◌, Bool, true, false, not, ◌&&◌, ◌||◌, ◌==◌, nat_lt, nat_le, if◌then◌else◌, List, [], ◌∷◌, length, Option, Some, None, IsTrue}
+use Rattle.std.specs.Prelude.{◌≡◌, ℕ, ◌+◌, ◌-◌, Bool, false, not, ◌||◌, ◌==◌, nat_lt, nat_le, if◌then◌else◌, List, [], ◌∷◌, ◌++◌, length, slice_get, Option, Some, None}
 use Rattle.std.specs.List.{list_any, range_with_len}
 use Rattle.line_names.specs.declared.choices.Choice.{Choice}
-use Rattle.line_names.specs.declared.choices.Choice.TheVariants.{Check as AtCheck, Now}
 use Rattle.line_names.specs.declared.limits.TheConstants.{MOST_PROCESSES}
-use Rattle.line_names.specs.Lines.{choice_at}
 use Rattle.line_names.specs.Sets.{is_member}
+use Rattle.line_tape.specs.declared.items.Item.{Item}
+use Rattle.line_tape.specs.declared.items.Item.TheVariants.{Message, Marker}
 use Rattle.line_tape.specs.declared.limits.TheConstants.{MOST_EVENTS, MOST_STATE}
-use Rattle.line_tape.specs.History.{Process, tape_at, incarnation_at}
-use Rattle.line_tape.specs.Survival.{IsLatest}
-use Rattle.line_world.specs.declared.limits.TheConstants.{LAST_INCARNATION}
+use Rattle.line_tape.specs.Event.{checks}
+use Rattle.line_tape.specs.History.{tape_at}
+use Rattle.line_tape.specs.Restart.{HaveFurther}
+use Rattle.line_tape.specs.Survival.{is_damaged, IsLatest}
+use Rattle.line_world.specs.declared.steps.Mode.{Mode}
+use Rattle.line_world.specs.declared.steps.Mode.TheVariants.{Fifo, Unordered}
 use Rattle.line_world.specs.declared.steps.Step.{Step}
-use Rattle.line_world.specs.declared.steps.Step.TheVariants.{Send, Deliver, Check, Recover}
+use Rattle.line_world.specs.declared.steps.Step.TheVariants.{Send, Deliver, Check, Damage, Recover}
 use Rattle.line_world.specs.declared.replies.StepError.{StepError}
-use Rattle.line_world.specs.declared.replies.StepError.TheVariants.{NoSuchProcess, TapeFull, StateTooLong, ToSelf, LinkEmpty, BadPick, NoMoreIncarnations}
+use Rattle.line_world.specs.declared.replies.StepError.TheVariants.{NoSuchProcess, TapeFull, NoSuchCheck, StateTooLong, InitialDamage, AlreadyDamaged, ToSelf, LinkEmpty, BadPick, NoMoreIncarnations}
+use Rattle.line_world.specs.Fates.{fate_of, events_of}
 use Rattle.line_world.specs.Machine.{Machine, items_on}
 
 -- the first cause that holds
@@ -33,22 +37,30 @@ has_stranger machine set = list_any (is_member set) (range_with_len (length mach
 abbrev pub is_long : List ℕ → Bool
 is_long state = nat_lt MOST_STATE (length state)
 
--- the tape of process p has no room for an event
-abbrev pub is_full : Machine → ℕ → Bool
-is_full machine p = nat_le MOST_EVENTS (length (tape_at machine.history p))
+-- the tape of process p has no room for so many events
+abbrev pub is_full : Machine → ℕ → ℕ → Bool
+is_full machine p events = nat_lt MOST_EVENTS (length (tape_at machine.history p) + events)
 
--- a process that goes back
-abbrev pub goes_back : Choice → Bool
-goes_back (AtCheck c) = true
-goes_back Now = false
+-- in `Fifo` only the first item can be picked
+abbrev pub is_bad_pick : Mode → List Item → ℕ → Bool
+is_bad_pick Fifo items pick = not (pick == 0)
+is_bad_pick Unordered items pick = nat_le (length items) pick
 
--- at process p the line goes back, and there is no incarnation after the present one
-abbrev pub is_spent : List Process → List Choice → ℕ → Bool
-is_spent history line p = goes_back (choice_at line p) && (incarnation_at history p == LAST_INCARNATION)
+-- the tape of process p has no room for the events of the item that is picked
+abbrev pub is_full_for : Machine → ℕ → Option Item → Bool
+is_full_for machine p None = false
+is_full_for machine p (Some (Message message)) = is_full machine p (length (events_of (fate_of machine.mode machine.history p message) message))
+is_full_for machine p (Some (Marker round)) = false
 
--- a process that goes back has no further incarnation
-abbrev pub is_exhausted : List Process → List Choice → Bool
-is_exhausted history line = list_any (is_spent history line) (range_with_len 0 (length history))
+-- what refuses a delivery, whatever the item would have the process do
+abbrev pub link_causes : Machine → ℕ → ℕ → ℕ → List ℕ → List (Bool × StepError)
+link_causes machine from to pick state =
+    (is_stranger machine from || is_stranger machine to, NoSuchProcess)
+    ∷ (from == to, ToSelf)
+    ∷ (is_long state, StateTooLong)
+    ∷ (length (items_on machine from to) == 0, LinkEmpty)
+    ∷ (is_bad_pick machine.mode (items_on machine from to) pick, BadPick)
+    ∷ []
 
 -- the first cause to refuse a step that can be told without a plan
 abbrev pub refusal_of : Machine → Step → Option StepError
@@ -56,22 +68,22 @@ refusal_of machine (Send from to body) =
     first_cause (
     (is_stranger machine from || is_stranger machine to, NoSuchProcess)
     ∷ (from == to, ToSelf)
-    ∷ (is_full machine from, TapeFull)
+    ∷ (is_full machine from 1, TapeFull)
     ∷ [])
 refusal_of machine (Deliver from to pick state) =
-    first_cause (
-    (is_stranger machine from || is_stranger machine to, NoSuchProcess)
-    ∷ (from == to, ToSelf)
-    ∷ (is_long state, StateTooLong)
-    ∷ (length (items_on machine from to) == 0, LinkEmpty)
-    ∷ (not (pick == 0), BadPick)
-    ∷ (is_full machine to, TapeFull)
-    ∷ [])
+    first_cause (link_causes machine from to pick state ++ (is_full_for machine to (slice_get (items_on machine from to) pick), TapeFull) ∷ [])
 refusal_of machine (Check at state) =
     first_cause (
     (is_stranger machine at, NoSuchProcess)
     ∷ (is_long state, StateTooLong)
-    ∷ (is_full machine at, TapeFull)
+    ∷ (is_full machine at 1, TapeFull)
+    ∷ [])
+refusal_of machine (Damage at check) =
+    first_cause (
+    (is_stranger machine at, NoSuchProcess)
+    ∷ (check == 0, InitialDamage)
+    ∷ (nat_lt (checks (tape_at machine.history at)) check, NoSuchCheck)
+    ∷ (is_damaged machine.marks at check, AlreadyDamaged)
     ∷ [])
 refusal_of machine (Recover failed) = first_cause ((has_stranger machine failed, NoSuchProcess) ∷ [])
 
@@ -79,7 +91,7 @@ refusal_of machine (Recover failed) = first_cause ((has_stranger machine failed,
 pub record IsSpent (machine : Machine) (failed : List Bool) : Type 0 where
   pub line : List Choice
   pub latest : IsLatest machine.history machine.marks failed line
-  pub exhausted : IsTrue (is_exhausted machine.history line)
+  pub spent : HaveFurther machine.history line → ⊥
 
 -- why a Recover is refused that names only processes
 abbrev pub IsRecoverCause : Machine → List Bool → StepError → Type 0

@@ -3,15 +3,15 @@
 //! A `World` holds what each process did and answers steps; what it answers is what the machine of `specs/` may answer, which knows no queues: there a link holds what remains of what was sent after what was received.
 #![tactic(auto)]
 
-mod limits;
+mod fates;
 mod links;
 mod moves;
 mod replies;
+mod restarts;
 mod restores;
 mod steps;
 mod worlds;
 
-pub use limits::LAST_INCARNATION;
 pub use replies::{Answer, Reply, RunStopped, StepError};
 pub use steps::{Mode, Step};
 pub use worlds::World;

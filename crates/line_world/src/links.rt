@@ -23,6 +23,20 @@ impl Model for Queue {
     ghost view = { λ q. q.items.items };
 }
 
+impl Queue {
+    /// The same items in memory of their own.
+    fn copy(&self, alloc: Global) -> Result<Queue, AllocError>
+        ensures { IfOk result (λ queue. queue ≡ self.now) }
+    {
+        let (first, rest) = self.items.as_slices();
+        let mut items = Vec::from_slice(alloc, first)?;
+        items.extend_from_slice(rest)?;
+        Ok(Queue {
+            items: VecDeque::from_vec(items),
+        })
+    }
+}
+
 /// The links from one process.
 #[derive(Drop)]
 struct Row {
@@ -36,6 +50,19 @@ impl Model for Row {
     ghost Value = { List (List Item) };
 
     ghost view = { λ r. r.queues.items };
+}
+
+impl Row {
+    /// The same queues in memory of their own.
+    fn copy(&self, alloc: Global) -> Result<Row, AllocError>
+        ensures { IfOk result (λ row. row ≡ self.now) }
+    {
+        let mut queues = Vec::with_capacity(alloc, self.queues.len())?;
+        for queue in &self.queues {
+            queues.push(queue.copy(alloc)?)?;
+        }
+        Ok(Row { queues })
+    }
 }
 
 /// The links from each process to each.
@@ -74,6 +101,17 @@ impl Links {
         let mut rows = Vec::with_capacity(alloc, n as usize)?;
         for _p in 0..n {
             rows.push(fresh_row(alloc, n)?)?;
+        }
+        Ok(Links { rows })
+    }
+
+    /// The same links in memory of their own.
+    pub fn copy(&self, alloc: Global) -> Result<Links, AllocError>
+        ensures { IfOk result (λ links. links ≡ self.now) }
+    {
+        let mut rows = Vec::with_capacity(alloc, self.rows.len())?;
+        for row in &self.rows {
+            rows.push(row.copy(alloc)?)?;
         }
         Ok(Links { rows })
     }

@@ -1,10 +1,10 @@
 //! What the machine answers.
 ghost use Rattle.std.specs.Prelude.{◌≡◌, ◌↔◌, IsTrue};
 
-use crate::limits::LAST_INCARNATION;
+use line_catalogue::DamageError;
 use line_names::{MsgName, ProcId};
 use line_plan::{Plan, PlanError};
-use line_tape::{MOST_EVENTS, MOST_STATE, State};
+use line_tape::{LAST_INCARNATION, MOST_EVENTS, MOST_STATE, State};
 use std::alloc::AllocError;
 use std::error::Error;
 use std::fmt;
@@ -21,8 +21,21 @@ pub enum Reply {
         message: MsgName,
         forced: Option<u32>,
     },
+    /// The message of a copy whose send is on the sender's tape no more.
+    Stale {
+        message: MsgName,
+    },
+    /// The message of a copy that the process has received before.
+    Repeated {
+        message: MsgName,
+    },
     /// The index of the check taken.
     Checked {
+        at: ProcId,
+        check: u32,
+    },
+    /// The check that is marked now.
+    Damaged {
         at: ProcId,
         check: u32,
     },
@@ -61,7 +74,10 @@ pub enum StepError {
     OutOfMemory,
     NoSuchProcess,
     TapeFull,
+    NoSuchCheck,
     StateTooLong,
+    InitialDamage,
+    AlreadyDamaged,
     ToSelf,
     LinkEmpty,
     BadPick,
@@ -77,7 +93,10 @@ impl StepError {
             StepError::OutOfMemory => true,
             StepError::NoSuchProcess
             | StepError::TapeFull
+            | StepError::NoSuchCheck
             | StepError::StateTooLong
+            | StepError::InitialDamage
+            | StepError::AlreadyDamaged
             | StepError::ToSelf
             | StepError::LinkEmpty
             | StepError::BadPick
@@ -90,7 +109,10 @@ impl StepError {
         ensures memory { self ≡ StepError.OutOfMemory → result ≡ 0 }
         ensures process { self ≡ StepError.NoSuchProcess → result ≡ 1 }
         ensures full { self ≡ StepError.TapeFull → result ≡ 3 }
+        ensures check { self ≡ StepError.NoSuchCheck → result ≡ 4 }
         ensures long { self ≡ StepError.StateTooLong → result ≡ 5 }
+        ensures initial { self ≡ StepError.InitialDamage → result ≡ 7 }
+        ensures already { self ≡ StepError.AlreadyDamaged → result ≡ 8 }
         ensures itself { self ≡ StepError.ToSelf → result ≡ 17 }
         ensures empty { self ≡ StepError.LinkEmpty → result ≡ 18 }
         ensures pick { self ≡ StepError.BadPick → result ≡ 19 }
@@ -100,7 +122,10 @@ impl StepError {
             StepError::OutOfMemory => 0,
             StepError::NoSuchProcess => 1,
             StepError::TapeFull => 3,
+            StepError::NoSuchCheck => 4,
             StepError::StateTooLong => 5,
+            StepError::InitialDamage => 7,
+            StepError::AlreadyDamaged => 8,
             StepError::ToSelf => 17,
             StepError::LinkEmpty => 18,
             StepError::BadPick => 19,
@@ -118,6 +143,11 @@ impl fmt::Display for StepError {
             }
             StepError::TapeFull => write!(f, "the tape has no room under {MOST_EVENTS} events"),
             StepError::StateTooLong => write!(f, "the state is longer than {MOST_STATE} bytes"),
+            StepError::NoSuchCheck => f.write_str("the tape has no such check"),
+            StepError::InitialDamage => {
+                f.write_str("the initial state of a process cannot be damaged")
+            }
+            StepError::AlreadyDamaged => f.write_str("the check is marked already"),
             StepError::ToSelf => f.write_str("a process has no link to itself"),
             StepError::LinkEmpty => f.write_str("the link holds nothing"),
             StepError::BadPick => f.write_str("the link has nothing to take at that place"),
@@ -141,6 +171,22 @@ impl From<AllocError> for StepError {
 
     fn from(_refused: AllocError) -> StepError {
         StepError::OutOfMemory
+    }
+}
+
+impl From<DamageError> for StepError {
+    ghost use Rattle.std.specs.Prelude.{◌≡◌};
+    ghost use Rattle.line_world.specs.Marked.{damage_error};
+
+    ghost from_gives = { λ d e. e ≡ damage_error d };
+
+    fn from(error: DamageError) -> StepError {
+        match error {
+            DamageError::OutOfMemory => StepError::OutOfMemory,
+            DamageError::NoSuchCheck => StepError::NoSuchCheck,
+            DamageError::InitialDamage => StepError::InitialDamage,
+            DamageError::AlreadyDamaged => StepError::AlreadyDamaged,
+        }
     }
 }
 

@@ -1,42 +1,15 @@
 //! What a restart at a line would leave.
-ghost use Rattle.std.specs.Prelude.{◌≡◌, ◌<◌, false, length, IfOk};
+ghost use Rattle.std.specs.Prelude.{◌≡◌, ◌<◌, length, IfOk};
 ghost use Rattle.line_tape.specs.Front.{HasChoice};
-ghost use Rattle.line_tape.specs.History.{tape_at};
+ghost use Rattle.line_tape.specs.History.{process_at, tape_at, incarnation_at};
 ghost use Rattle.line_tape.specs.Line.{IsLine};
-ghost use Rattle.line_tape.specs.Restart.{restarted_incarnation};
-ghost use Rattle.line_tape.specs.History.{incarnation_at};
+ghost use Rattle.line_tape.specs.Restart.{restarted_incarnation, HasFurther, HaveFurther};
 ghost use Rattle.line_names.specs.Lines.{choice_at};
-ghost use Rattle.line_world.specs.Refusals.{is_spent, is_exhausted};
 ghost use Rattle.line_world.specs.Steps.{restored, restored_states, restarted_incarnations};
 
-use crate::limits::LAST_INCARNATION;
 use line_names::{Choice, Line, ProcId};
 use line_tape::{History, State};
 use std::alloc::{AllocError, Global};
-
-/// Whether the line takes the process back, and its incarnation is the last one.
-fn is_spent(history: &History, line: &Line, p: ProcId) -> bool
-    requires { p < length history.now.processes }
-    ensures { result ≡ is_spent history.now.processes line.now p }
-{
-    match line.at(p) {
-        Choice::Check(_) => history.incarnation(p) == LAST_INCARNATION,
-        Choice::Now => false,
-    }
-}
-
-/// Whether the line takes a process back whose incarnation is the last one.
-pub fn is_exhausted(history: &History, line: &Line) -> bool
-    ensures { result ≡ is_exhausted history.now.processes line.now }
-{
-    let n = history.n();
-    let mut exhausted = false;
-    for q in 0..n {
-        let p = ProcId::try_new(q, n).unwrap();
-        exhausted |= is_spent(history, line, p);
-    }
-    exhausted
-}
 
 /// The bytes that a process goes on from at its choice of a line.
 fn restored(
@@ -80,7 +53,7 @@ pub fn restored_states(
 /// The incarnation of a process after a restart at a line.
 fn restarted_incarnation(history: &History, line: &Line, p: ProcId) -> u16
     requires process { p < length history.now.processes }
-    requires unspent { is_spent history.now.processes line.now p ≡ false }
+    requires further { HasFurther (process_at history.now.processes p) (choice_at line.now p) }
     ensures { result ≡ restarted_incarnation (choice_at line.now p) (incarnation_at history.now.processes p) }
 {
     let inc = history.incarnation(p);
@@ -97,7 +70,7 @@ pub fn restarted_incarnations(
     line: &Line,
 ) -> Result<Vec<u16>, AllocError>
     requires line { length line.now ≡ length history.now.processes }
-    requires unspent { is_exhausted history.now.processes line.now ≡ false }
+    requires further { HaveFurther history.now.processes line.now }
     ensures { IfOk result (λ incarnations. incarnations.items ≡ restarted_incarnations history.now.processes line.now) }
 {
     let n = history.n();

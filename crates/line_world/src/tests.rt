@@ -1,7 +1,7 @@
 //! What worlds answer, with memory enough.
 use crate::tests::build::{Did, after, failed, message, process, step_of};
-use crate::{Answer, Mode, Reply, Step, World};
-use line_names::{Choice, ProcSet};
+use crate::{Answer, Mode, Reply, Step, StepError, World};
+use line_names::{Choice, ProcId, ProcSet};
 use line_tape::{CountError, Item};
 use std::test::Fail;
 
@@ -44,7 +44,7 @@ fn domino(rt: HostRuntime) -> Result<(), Fail> {
 
 #[test]
 fn recovery_of_the_domino(rt: HostRuntime) -> Result<(), Fail> {
-    let mut world = after(rt.alloc(), &DOMINO)?;
+    let mut world = after(rt.alloc(), Mode::Fifo, &DOMINO)?;
     let reply = world.step(
         rt.alloc(),
         &Step::Recover {
@@ -73,14 +73,21 @@ fn recovery_of_the_domino(rt: HostRuntime) -> Result<(), Fail> {
         }
         Reply::Sent { .. } => assert!(rt; false),
         Reply::Took { .. } => assert!(rt; false),
+        Reply::Stale { .. } => assert!(rt; false),
+        Reply::Repeated { .. } => assert!(rt; false),
         Reply::Checked { .. } => assert!(rt; false),
+        Reply::Damaged { .. } => assert!(rt; false),
     }
     Ok(())
 }
 
 #[test]
 fn links_in_order(rt: HostRuntime) -> Result<(), Fail> {
-    let world = after(rt.alloc(), &[Did::Sends(0, 1), Did::Sends(0, 1)])?;
+    let world = after(
+        rt.alloc(),
+        Mode::Fifo,
+        &[Did::Sends(0, 1), Did::Sends(0, 1)],
+    )?;
     let (from, to) = (process(0)?, process(1)?);
     assert_eq!(rt; world.history().n(), 2);
     assert_eq!(rt; world.link_len(from, to), 2);
@@ -91,6 +98,52 @@ fn links_in_order(rt: HostRuntime) -> Result<(), Fail> {
     );
     assert_eq!(rt; world.link_item(from, to, 2), None);
     assert_eq!(rt; world.incarnation(from), 0);
+    Ok(())
+}
+
+#[test]
+fn copies_in_any_order(rt: HostRuntime) -> Result<(), Fail> {
+    let sends = [Did::Sends(0, 1), Did::Sends(0, 1)];
+    let mut world = after(rt.alloc(), Mode::Unordered, &sends)?;
+    let (from, to) = (process(0)?, process(1)?);
+    let picks = [(1, "Took 0.0.1"), (1, "Repeated 0.0.1"), (0, "Took 0.0.0")];
+    for (pick, words) in picks {
+        let step = build::deliver(rt.alloc(), from, to, pick);
+        let reply = world.step(rt.alloc(), &step)?;
+        assert_eq!(rt; build::told(rt.alloc(), &reply)?.as_str(), words);
+    }
+    assert_eq!(rt; world.link_len(from, to), 2);
+    assert_eq!(rt; world.history().tape(to).len(), 2);
+    let step = build::deliver(rt.alloc(), from, to, 2);
+    assert_eq!(rt;
+        world.step(rt.alloc(), &step).err(),
+        Some(StepError::BadPick)
+    );
+    Ok(())
+}
+
+#[test]
+fn damage_refusals(rt: HostRuntime) -> Result<(), Fail> {
+    let mut world = after(rt.alloc(), Mode::Fifo, &[Did::Checks(1)])?;
+    let at = process(1)?;
+    let third = ProcId::try_new(2, 3)?;
+    let steps = [
+        (third, 0, Some(StepError::NoSuchProcess)),
+        (at, 0, Some(StepError::InitialDamage)),
+        (at, 2, Some(StepError::NoSuchCheck)),
+        (at, 1, None),
+        (at, 1, Some(StepError::AlreadyDamaged)),
+    ];
+    for (at, check, error) in steps {
+        let step = Step::Damage { at, check };
+        assert_eq!(rt; world.step(rt.alloc(), &step).err(), error);
+    }
+    assert!(rt; world.marks().has(at, 1));
+    let plan = world.plan_for(rt.alloc(), &failed(&[1])?)?;
+    assert_eq!(rt;
+        plan.line.choices(),
+        [Choice::Now, Choice::Check(0)].as_slice()
+    );
     Ok(())
 }
 

@@ -2,20 +2,24 @@
 ghost use Rattle.std.specs.Prelude.{◌≡◌, ◌≢◌, ◌<◌, ◌≤◌, ◌↔◌, ◌⊎◌, ℕ, List, length, take, slice_get, IfOk, IfErr, OnOk, IsErrOf, IsTrue};
 ghost use Rattle.line_tape.specs.History.{incarnation_at};
 ghost use Rattle.line_world.specs.declared.replies.Answer.TheVariants.{Done, Refused};
-ghost use Rattle.line_world.specs.declared.steps.Step.TheVariants.{Send, Deliver, Check, Recover};
+ghost use Rattle.line_world.specs.declared.steps.Step.TheVariants.{Send, Deliver, Check, Damage, Recover};
 ghost use Rattle.line_world.specs.Machine.{start, items_on, IsFit};
 ghost use Rattle.line_world.specs.Refusals.{refusal_of, has_stranger};
 ghost use Rattle.line_world.specs.Runs.{Takes, Run};
 ghost use Rattle.line_world.specs.Steps.{IsPlan};
 
+mod refusals;
+
+use crate::fates::{Fate, fate_of};
 use crate::links::Links;
-use crate::moves::{add_check, put_message, take_message};
+use crate::moves::{add_check, message_at, put_message, take_message};
 use crate::replies::{Answer, Reply, RunStopped, StepError};
-use crate::restores::{is_exhausted, restarted_incarnations, restored_states};
+use crate::restores::{restarted_incarnations, restored_states};
 use crate::steps::{Mode, Step};
+use line_catalogue::Catalogue;
 use line_names::{Body, MOST_PROCESSES, ProcId, ProcSet};
-use line_plan::{Plan, plan_history};
-use line_tape::{CountError, History, Item, MOST_EVENTS, MOST_STATE, Marks, State};
+use line_plan::Plan;
+use line_tape::{CountError, History, Item, Marks, State};
 use std::alloc::Global;
 use std::marker::Model;
 
@@ -25,8 +29,7 @@ use std::marker::Model;
 #[derive(Drop)]
 pub struct World {
     mode: Mode,
-    history: History,
-    marks: Marks,
+    catalogue: Catalogue,
     links: Links,
 }
 
@@ -35,11 +38,12 @@ impl Model for World {
 
     ghost Value = { Machine };
 
-    ghost use Rattle.line_world.specs.Queues.{IsWorld};
+    ghost use Rattle.line_world.specs.Machine.{copies_in};
+    ghost use Rattle.line_world.specs.Worlds.{IsWorld};
 
-    ghost view = { λ w. record { mode = w.mode; history = w.history.processes; marks = w.marks } };
+    ghost view = { λ w. record { mode = w.mode; history = w.catalogue.processes; marks = w.catalogue.marks; copies = copies_in w.mode w.links } };
 
-    ghost invariant = { λ w. IsWorld w.history.processes w.links };
+    ghost invariant = { λ w. IsWorld w.mode w.catalogue.processes w.links };
 }
 
 impl World {
@@ -50,13 +54,11 @@ impl World {
         ensures ok { IfOk result (λ world. world ≡ start n mode) }
         ensures count { IsErrOf result CountError.BadCount ↔ ((n ≡ 0) ⊎ (MOST_PROCESSES < n)) }
     {
-        let history = History::new(alloc, n)?;
-        let marks = Marks::new(alloc, n)?;
+        let catalogue = Catalogue::new(alloc, n)?;
         let links = Links::new(alloc, n)?;
         Ok(World {
             mode,
-            history,
-            marks,
+            catalogue,
             links,
         })
     }
@@ -66,7 +68,14 @@ impl World {
         ensures value { result.now.processes ≡ self.now.history }
         ensures fit { IsFit self.now }
     {
-        &self.history
+        self.catalogue.history()
+    }
+
+    /// Which checks are damaged.
+    pub fn marks(&self) -> &Marks
+        ensures { result.now ≡ self.now.marks }
+    {
+        self.catalogue.marks()
     }
 
     /// The incarnation of a process.
@@ -74,7 +83,7 @@ impl World {
         requires { p < length self.now.history }
         ensures { result ≡ incarnation_at self.now.history p }
     {
-        self.history.incarnation(p)
+        self.catalogue.history().incarnation(p)
     }
 
     /// How many items the link between two processes holds.
@@ -95,84 +104,6 @@ impl World {
         self.links.item(from, to, i)
     }
 
-    /// Why a process may not send to another now.
-    fn send_refusal(&self, from: ProcId, to: ProcId) -> Option<StepError>
-        ensures { (body : List ℕ) → result ≡ refusal_of self.now (Send from to body) }
-    {
-        let n = self.history.n();
-        if from.get() >= n || to.get() >= n {
-            return Some(StepError::NoSuchProcess);
-        }
-        if from == to {
-            return Some(StepError::ToSelf);
-        }
-        if self.history.tape(from).len() as usize >= MOST_EVENTS {
-            return Some(StepError::TapeFull);
-        }
-        None
-    }
-
-    /// Why a process may not take that item of a link now.
-    fn deliver_refusal(
-        &self,
-        from: ProcId,
-        to: ProcId,
-        pick: u64,
-        state: &State,
-    ) -> Option<StepError>
-        ensures { result ≡ refusal_of self.now (Deliver from to pick state.now) }
-    {
-        let n = self.history.n();
-        if from.get() >= n || to.get() >= n {
-            return Some(StepError::NoSuchProcess);
-        }
-        if from == to {
-            return Some(StepError::ToSelf);
-        }
-        if state.bytes().len() > MOST_STATE {
-            return Some(StepError::StateTooLong);
-        }
-        if self.links.len(from, to) == 0 {
-            return Some(StepError::LinkEmpty);
-        }
-        if pick != 0 {
-            return Some(StepError::BadPick);
-        }
-        if self.history.tape(to).len() as usize >= MOST_EVENTS {
-            return Some(StepError::TapeFull);
-        }
-        None
-    }
-
-    /// Why a process may not take a check now.
-    fn check_refusal(&self, at: ProcId, state: &State) -> Option<StepError>
-        ensures { result ≡ refusal_of self.now (Check at state.now) }
-    {
-        if at.get() >= self.history.n() {
-            return Some(StepError::NoSuchProcess);
-        }
-        if state.bytes().len() > MOST_STATE {
-            return Some(StepError::StateTooLong);
-        }
-        if self.history.tape(at).len() as usize >= MOST_EVENTS {
-            return Some(StepError::TapeFull);
-        }
-        None
-    }
-
-    /// Whether a member of the set is no process.
-    fn has_stranger(&self, failed: &ProcSet) -> bool
-        ensures { result ≡ has_stranger self.now failed.now }
-    {
-        let n = self.history.n();
-        let mut found = false;
-        for q in n..MOST_PROCESSES as u32 {
-            let p = ProcId::try_new(q, MOST_PROCESSES as u32).unwrap();
-            found |= failed.has(p);
-        }
-        found
-    }
-
     /// Sends a message.
     fn send(&mut self, from: ProcId, to: ProcId, body: &Body) -> Result<Reply, StepError>
         ensures done { IfOk result (λ reply. Takes self.old (Send from to body.now) (Done reply) self.new) }
@@ -182,11 +113,11 @@ impl World {
         if let Some(e) = self.send_refusal(from, to) {
             return Err(e);
         }
-        let message = put_message(&mut self.history, &mut self.links, from, to, body)?;
+        let message = put_message(&mut self.catalogue, &mut self.links, from, to, body)?;
         Ok(Reply::Sent { message })
     }
 
-    /// Delivers the message that is picked.
+    /// Delivers the message that is picked, or finds its copy stale or repeated.
     fn deliver(
         &mut self,
         from: ProcId,
@@ -199,14 +130,32 @@ impl World {
             → Takes self.old (Deliver from to pick state.now) (Refused e) self.new) }
         ensures memory { IsErrOf result StepError.OutOfMemory → self.new ≡ self.old }
     {
-        if let Some(e) = self.deliver_refusal(from, to, pick, state) {
+        if let Some(e) = self.link_refusal(from, to, pick, state) {
             return Err(e);
         }
-        let message = take_message(&mut self.history, &mut self.links, from, to)?;
-        Ok(Reply::Took {
-            message,
-            forced: None,
-        })
+        let _n = self.catalogue.n();
+        let message = message_at(&self.links, from, to, pick);
+        match fate_of(self.mode, self.catalogue.history(), to, &message) {
+            Fate::Taken => {
+                if self.is_full(to) {
+                    return Err(StepError::TapeFull);
+                }
+                take_message(
+                    self.mode,
+                    &mut self.catalogue,
+                    &mut self.links,
+                    from,
+                    to,
+                    &message,
+                )?;
+                Ok(Reply::Took {
+                    message,
+                    forced: None,
+                })
+            }
+            Fate::Stale => Ok(Reply::Stale { message }),
+            Fate::Repeated => Ok(Reply::Repeated { message }),
+        }
     }
 
     /// Takes a check.
@@ -219,8 +168,24 @@ impl World {
             return Err(e);
         }
         let state = state.copy(alloc)?;
-        let check = add_check(&mut self.history, at, state)?;
+        let check = add_check(&mut self.catalogue, at, state)?;
         Ok(Reply::Checked { at, check })
+    }
+
+    /// Marks a check as damaged.
+    fn damage(&mut self, at: ProcId, check: u32) -> Result<Reply, StepError>
+        ensures done { IfOk result (λ reply. Takes self.old (Damage at check) (Done reply) self.new) }
+        ensures refused { IfErr result (λ e. e ≢ StepError.OutOfMemory → Takes self.old (Damage at check) (Refused e) self.new) }
+        ensures memory { IsErrOf result StepError.OutOfMemory → self.new ≡ self.old }
+    {
+        if at.get() >= self.catalogue.n() {
+            return Err(StepError::NoSuchProcess);
+        }
+        if check == 0 {
+            return Err(StepError::InitialDamage);
+        }
+        self.catalogue.damage(at, check)?;
+        Ok(Reply::Damaged { at, check })
     }
 
     /// The latest line that the processes could go on from, if those of the set failed.
@@ -234,7 +199,7 @@ impl World {
         if self.has_stranger(failed) {
             return Err(StepError::NoSuchProcess);
         }
-        let plan = plan_history(alloc, &self.history, &self.marks, failed)?;
+        let plan = line_plan::plan(alloc, &self.catalogue, failed)?;
         Ok(plan)
     }
 
@@ -244,11 +209,12 @@ impl World {
         ensures refused { IfErr result (λ e. e ≢ StepError.OutOfMemory → Takes self.now (Recover failed.now) (Refused e) self.now) }
     {
         let plan = self.plan_for(alloc, failed)?;
-        if is_exhausted(&self.history, &plan.line) {
+        let history = self.catalogue.history();
+        if !history.has_further(&plan.line) {
             return Err(StepError::NoMoreIncarnations);
         }
-        let states = restored_states(alloc, &self.history, &plan.line)?;
-        let incarnations = restarted_incarnations(alloc, &self.history, &plan.line)?;
+        let states = restored_states(alloc, history, &plan.line)?;
+        let incarnations = restarted_incarnations(alloc, history, &plan.line)?;
         Ok(Reply::Recovered {
             plan,
             states,
@@ -273,6 +239,7 @@ impl World {
                 state,
             } => self.deliver(*from, *to, *pick, state),
             Step::Check { at, state } => self.check(alloc, *at, state),
+            Step::Damage { at, check } => self.damage(*at, *check),
             Step::Recover { failed } => self.recover(alloc, failed),
         }
     }

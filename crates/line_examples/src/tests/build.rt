@@ -1,6 +1,7 @@
 //! Histories of two processes, made from what was done.
 ghost use Rattle.std.specs.Prelude.{◌≡◌, ◌<◌, IfOk};
 
+use line_catalogue::Catalogue;
 use line_names::{Body, MsgName, ProcId, ProcSet};
 use line_tape::{Event, History, State};
 use std::alloc::Global;
@@ -33,12 +34,13 @@ pub fn failed(processes: &[u32]) -> Result<ProcSet, Fail> {
     Ok(set)
 }
 
-fn push(alloc: Global, history: &mut History, did: Did) -> Result<(), Fail> {
+/// The process that did this, and the event.
+fn event_of(alloc: Global, did: Did) -> Result<(ProcId, Event), Fail> {
     match did {
         Did::Sends(from, to) => {
             let to = process(to)?;
             let body = Body::try_new(b"a")?;
-            history.push(process(from)?, Event::Send { to, inc: 0, body })?;
+            Ok((process(from)?, Event::Send { to, inc: 0, body }))
         }
         Did::Receives(at, from, number) => {
             let from = process(from)?;
@@ -47,21 +49,31 @@ fn push(alloc: Global, history: &mut History, did: Did) -> Result<(), Fail> {
                 inc: 0,
                 number,
             };
-            history.push(process(at)?, Event::Recv { message })?;
+            Ok((process(at)?, Event::Recv { message }))
         }
         Did::Checks(at) => {
             let state = State::of(Vec::new(alloc));
-            history.push(process(at)?, Event::Check { state, round: None })?;
+            Ok((process(at)?, Event::Check { state, round: None }))
         }
     }
-    Ok(())
 }
 
 /// The history of two processes that did this.
 pub fn history_of(alloc: Global, all: &[Did]) -> Result<History, Fail> {
     let mut history = History::new(alloc, 2)?;
     for did in all {
-        push(alloc, &mut history, *did)?;
+        let (p, event) = event_of(alloc, *did)?;
+        history.push(p, event)?;
     }
     Ok(history)
+}
+
+/// The catalogue of two processes that did this, fed event by event.
+pub fn catalogue_of(alloc: Global, all: &[Did]) -> Result<Catalogue, Fail> {
+    let mut catalogue = Catalogue::new(alloc, 2)?;
+    for did in all {
+        let (p, event) = event_of(alloc, *did)?;
+        catalogue.add(p, event)?;
+    }
+    Ok(catalogue)
 }

@@ -66,8 +66,8 @@ pub fn step_of(alloc: Global, did: Did) -> Result<Step, Fail> {
 }
 
 /// The world of two processes that did this.
-pub fn after(alloc: Global, all: &[Did]) -> Result<World, Fail> {
-    let mut world = World::new(alloc, 2, Mode::Fifo)?;
+pub fn after(alloc: Global, mode: Mode, all: &[Did]) -> Result<World, Fail> {
+    let mut world = World::new(alloc, 2, mode)?;
     for did in all {
         let step = step_of(alloc, *did)?;
         let _reply = world.step(alloc, &step)?;
@@ -93,9 +93,16 @@ pub fn told(alloc: Global, reply: &Reply) -> Result<String, Fail> {
     match reply {
         Reply::Sent { message } => name(alloc, "Sent", message),
         Reply::Took { message, .. } => name(alloc, "Took", message),
+        Reply::Stale { message } => name(alloc, "Stale", message),
+        Reply::Repeated { message } => name(alloc, "Repeated", message),
         Reply::Checked { at, check } => {
             let mut text = String::new(alloc);
             write!(text, "Checked {}.{check}", at.get())?;
+            Ok(text)
+        }
+        Reply::Damaged { at, check } => {
+            let mut text = String::new(alloc);
+            write!(text, "Damaged {}.{check}", at.get())?;
             Ok(text)
         }
         Reply::Recovered { .. } => Ok(String::new(alloc)),
@@ -128,7 +135,7 @@ pub fn refused_steps(alloc: Global) -> Result<Vec<Step>, Fail> {
     Ok(steps)
 }
 
-fn deliver(alloc: Global, from: ProcId, to: ProcId, pick: u64) -> Step {
+pub fn deliver(alloc: Global, from: ProcId, to: ProcId, pick: u64) -> Step {
     Step::Deliver {
         from,
         to,

@@ -1,23 +1,26 @@
 -- The entry is right, and its process has a lower choice afterwards.
-use Rattle.std.proofs.Common.{◌≡◌, ◌<◌, ◌++◌, ◌∷◌, [], List, Bool, sym, subst}
+use Rattle.std.proofs.Common.{◌≡◌, ◌<◌, ◌++◌, ◌∷◌, [], List, Bool, set, sym, ap, ◌∙◌, subst}
 use Rattle.line_names.specs.declared.certificates.Passed.{Passed}
 use Rattle.line_names.specs.declared.choices.Choice.{Choice}
 use Rattle.line_names.specs.Lines.{choice_at}
-use Rattle.line_tape.specs.Chain.{first_ceilings, lowered}
+use Rattle.line_tape.specs.Chain.{first_ceilings, next_lower, lowered}
 use Rattle.line_tape.specs.History.{Process}
 use Rattle.line_tape.specs.Line.{IsLine}
 use Rattle.line_tape.specs.Views.{MarksView}
-use Rattle.line_plan.specs.Search.{IsLed, height}
-use Rattle.line_plan.proofs.LedLemmas.{LeadsTo-push, height-lowered, IsLine-led}
+use Rattle.line_tape.specs.Height.{IsLed, height}
+use Rattle.line_tape.proofs.LedLemmas.{LeadsTo-push, height-lowered, IsLine-led}
 use Rattle.line_plan.proofs.planner.pass_over.Goals as goal
 
-after : (c : goal.After-set) → c.set.new.self ≡ lowered c.args.history.now.processes c.args.marks.now c.args.failed.now c.args.line.now c.args.at
-after c = cc
+lower : (c : goal.After-set) → c.unwrap-next.result ≡ next_lower c.args.catalogue.now.processes c.args.catalogue.now.marks c.args.failed.now c.args.at (choice_at c.args.line.now c.args.at)
+lower c = (rw c.unwrap-next.ensures at c.next_lower.ensures.value).1 ∙ ap (next_lower c.args.catalogue.now.processes c.args.catalogue.now.marks c.args.failed.now c.args.at) c.at-choice.ensures
+
+after : (c : goal.After-set) → c.set.new.self ≡ lowered c.args.catalogue.now.processes c.args.catalogue.now.marks c.args.failed.now c.args.line.now c.args.at
+after c = c.set.ensures ∙ ap (set c.args.line.now c.args.at) (lower c)
 
 pub returns-clause-led : goal.returns-clause-led
 returns-clause-led c =
-    let history : List Process = c.args.history.now.processes in
-    let marks : MarksView = c.args.marks.now in
+    let history : List Process = c.args.catalogue.now.processes in
+    let marks : MarksView = c.args.catalogue.now.marks in
     let failed : List Bool = c.args.failed.now in
     let line : List Choice = c.args.line.now in
     let entries : List Passed = c.args.certificate.now.items in
@@ -29,7 +32,7 @@ returns-clause-led c =
 
 pub returns-clause-lower : goal.returns-clause-lower
 returns-clause-lower c =
-    let history : List Process = c.args.history.now.processes in
+    let history : List Process = c.args.catalogue.now.processes in
     let line : List Choice = c.args.line.now in
-    let is_line : IsLine history line = IsLine-led history c.args.marks.now c.args.failed.now c.args.certificate.now.items line c.requires.led in
-    subst (λ (xs : List Choice). height history xs < height history line) (sym (after c)) (height-lowered history c.args.marks.now c.args.failed.now line c.args.at c.args.message c.requires.process is_line.length_is c.requires.orphan)
+    let is_line : IsLine history line = IsLine-led history c.args.catalogue.now.marks c.args.failed.now c.args.certificate.now.items line c.requires.led in
+    subst (λ (xs : List Choice). height history xs < height history line) (sym (after c)) (height-lowered history c.args.catalogue.now.marks c.args.failed.now line c.args.at c.args.message c.requires.process is_line.length_is c.requires.orphan)

@@ -1,10 +1,11 @@
 use Rattle.std.proofs.Common.{◌≡◌, false, vec_len}
-use Rattle.line_plan.specs.Search.{IsLed, IsMoved, AreSentBelow}
+use Rattle.line_tape.specs.Height.{IsLed}
+use Rattle.line_plan.specs.Search.{IsMoved, AreSentBelow}
 use Rattle.line_plan.proofs.planner.sweep.Given as goal
 
 abbrev pub invariant-loop-q : goal.invariant-loop-q
 invariant-loop-q l = record {
-  led : IsLed l.history.processes l.marks l.failed l.certificate.items l.line;
-  moved : IsMoved l.history.processes l.initial.line (vec_len l.initial.certificate) l.lowered l.line (vec_len l.certificate);
-  none : l.lowered ≡ false → AreSentBelow l.history.processes l.line l.q;
+  led : IsLed l.catalogue.processes l.catalogue.marks l.failed l.certificate.items l.line;
+  moved : IsMoved l.catalogue.processes l.initial.line (vec_len l.initial.certificate) l.lowered l.line (vec_len l.certificate);
+  none : l.lowered ≡ false → AreSentBelow l.catalogue.processes l.line l.q;
 }

@@ -1,12 +1,13 @@
 use Rattle.std.proofs.Common.{vec_len}
-use Rattle.line_plan.specs.Search.{IsLed, IsMoved, height}
+use Rattle.line_tape.specs.Height.{IsLed, height}
+use Rattle.line_plan.specs.Search.{IsMoved}
 use Rattle.line_plan.proofs.planner.visit.Given as goal
 
 abbrev pub invariant-orphans : goal.invariant-orphans
 invariant-orphans l = record {
-  led : IsLed l.history.processes l.marks l.failed l.certificate.items l.line;
-  moved : IsMoved l.history.processes l.initial.line (vec_len l.initial.certificate) l.lowered l.line (vec_len l.certificate);
+  led : IsLed l.catalogue.processes l.catalogue.marks l.failed l.certificate.items l.line;
+  moved : IsMoved l.catalogue.processes l.initial.line (vec_len l.initial.certificate) l.lowered l.line (vec_len l.certificate);
 }
 
 abbrev pub decreases-orphans : goal.decreases-orphans
-decreases-orphans l = height l.history.processes l.line
+decreases-orphans l = height l.catalogue.processes l.line

@@ -1,19 +1,17 @@
 -- One process more has its incarnation.
-use Rattle.std.proofs.Common.{◌≡◌, ℕ, Bool, List, [], ◌∷◌, ◌++◌, map, length, sym, ap, ◌∙◌, arith}
+use Rattle.std.proofs.Common.{◌≡◌, ℕ, List, [], ◌∷◌, ◌++◌, map, length, sym, ap, ◌∙◌, arith}
 use Rattle.std.specs.List.{range_with_len}
 use Rattle.std.proofs.lemmas.List.FromFn.{map-range_with_len_more}
 use Rattle.line_names.specs.Lines.{choice_at}
 use Rattle.line_tape.specs.History.{incarnation_at}
 use Rattle.line_tape.specs.Restart.{restarted_incarnation}
-use Rattle.line_world.specs.Refusals.{is_spent}
-use Rattle.line_world.proofs.LineFacts.{none_at, incarnations-restarted}
+use Rattle.line_world.proofs.LineFacts.{incarnations-restarted}
 use Rattle.line_world.proofs.restores.restarted_incarnations.Goals as goal
 
-pub restarted_incarnation-requires-clause-unspent : goal.restarted_incarnation-requires-clause-unspent
-restarted_incarnation-requires-clause-unspent c =
-    let f : ℕ → Bool = is_spent c.args.history.now.processes c.args.line.now in
+pub restarted_incarnation-requires-clause-further : goal.restarted_incarnation-requires-clause-further
+restarted_incarnation-requires-clause-further c =
     let at : c.unwrap-p.result ≡ c.loop-q.q = (rw c.unwrap-p.ensures at c.try_new.ensures).1 in
-    ap f at ∙ none_at f (length c.args.history.now.processes) c.loop-q.q c.requires.unspent (omega (arith, c.loop-q-test.true, c.n-n.ensures.value))
+    c.requires.further c.unwrap-p.result (omega (arith, at, c.loop-q-test.true, c.n-n.ensures.value))
 
 pub loop-q-preserved : goal.loop-q-preserved
 loop-q-preserved c =

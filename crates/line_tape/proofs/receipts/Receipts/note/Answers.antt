@@ -7,6 +7,10 @@ use Rattle.line_tape.specs.Kept.{first_place}
 use Rattle.line_tape.proofs.ReceiptLemmas.{AreFirst-push, AreFirst-new, not_some, from_ok}
 use Rattle.line_tape.proofs.receipts.Receipts.note.Goals as goal
 
+pub unwrap-requires : goal.unwrap-requires
+unwrap-requires c =
+    c.insert-added.ensures.succeeds (c.requires c.in-Recv.message c.in-Recv.is (not_some _ (sym c.contains_key.ensures ∙ c.if-not-contains_key.true)))
+
 pub returns-then-not-contains_key-clause-first : goal.returns-then-not-contains_key-clause-first
 returns-then-not-contains_key-clause-first c =
     λ events at first. AreFirst-new events _ c.in-Recv.message _ _ c.args.place at c.in-Recv.is (not_some _ (sym c.contains_key.ensures ∙ c.if-not-contains_key.true)) (λ q. (from_ok _ _ c.unwrap.ensures c.insert-added.ensures.updates).0 q) first

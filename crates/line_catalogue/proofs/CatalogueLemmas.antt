@@ -1,0 +1,115 @@
+-- What a catalogue keeps, as its history grows and as its checks are marked.
+use Rattle.std.proofs.Common.{◌≡◌, ℕ, zero, suc, ◌<◌, ◌≤◌, List, [], ◌∷◌, ◌++◌, length, get_or, set, min, inl, inr, Option, refl, sym, ap, ◌∙◌, subst, arith}
+use Rattle.std.specs.List.{All}
+use Rattle.std.specs.Prelude.{replicate}
+use Rattle.std.proofs.lemmas.Bool.{cases_eq, cases_lt}
+use Rattle.std.proofs.lemmas.List.{length-set, length-replicate, get_or-set_same, get_or-set_other, get_or-replicate, get_or_past}
+use Rattle.std.proofs.lemmas.List.Elements.{All-nil, All-push, All-weaker}
+use Rattle.line_tape.specs.declared.events.Event.{Event}
+use Rattle.line_tape.specs.Event.{checks}
+use Rattle.line_tape.specs.History.{Process, tape_at, with_event}
+use Rattle.line_tape.specs.Views.{MarksView, with_mark}
+use Rattle.line_tape.proofs.RowLemmas.{checks-push}
+use Rattle.line_catalogue.specs.declared.rows.Row.{Row}
+use Rattle.line_catalogue.specs.Agreement.{AgreesNext}
+use Rattle.line_catalogue.specs.Damage.{damaged_at, AreOnChecks}
+use Rattle.line_catalogue.specs.Kept.{rows_at, IsCatalogue}
+use Rattle.line_catalogue.specs.Rows.{AreRows, IsRowAdded, with_row, with_damage}
+use Rattle.line_catalogue.specs.Views.{lesser_rooms}
+use Rattle.line_catalogue.proofs.AgreementLemmas.{tape-here, tape-other}
+use Rattle.line_catalogue.proofs.CheckLemmas.{AreRows-damage, AreRows-added}
+
+-- the lesser room at a process
+pub lesser_at : (rooms others : List ℕ) (p : ℕ) → get_or (lesser_rooms rooms others) p 0 ≡ min (get_or rooms p 0) (get_or others p 0)
+lesser_at [] others p = omega arith
+lesser_at (room ∷ rooms) [] p = omega arith
+lesser_at (room ∷ rooms) (other ∷ others) zero = refl
+lesser_at (room ∷ rooms) (other ∷ others) (suc p) = lesser_at rooms others p
+
+-- the histories' tapes have no fewer checks with one event more
+checks-more : (tape : List Event) (event : Event) → checks tape ≤ checks (tape ++ event ∷ [])
+checks-more tape event = omega (arith, checks-push tape event)
+
+-- marks stay on checks when an event is added
+pub AreOnChecks-event : (history : List Process) (marks : MarksView) (p : ℕ) (event : Event) → p < length history → AreOnChecks history marks → AreOnChecks (with_event history p event) marks
+AreOnChecks-event history marks p event within on = record {
+  each = λ q. elim (cases_eq q p) [
+    | inl here ↦ All-weaker (λ check. check ≤ checks (tape_at history q)) (λ check. check ≤ checks (tape_at (with_event history p event) q))
+        (λ check h. omega (arith, checks-more (tape_at history q) event, ap checks (tape-here history p event within q here))) (damaged_at marks q) (on.each q)
+    | inr apart ↦ subst (λ (tape : List Event). All (λ check. check ≤ checks tape) (damaged_at marks q)) (sym (tape-other history p event within q apart)) (on.each q)
+  ];
+}
+
+-- and when a check is marked
+pub AreOnChecks-mark : (history : List Process) (marks : MarksView) (p c : ℕ) → p < length marks.damaged → c ≤ checks (tape_at history p) → AreOnChecks history marks → AreOnChecks history (with_mark marks p c)
+AreOnChecks-mark history marks p c within there on = record {
+  each = λ q. elim (cases_eq q p) [
+    | inl here ↦ subst (λ (v : ℕ). All (λ check. check ≤ checks (tape_at history v)) (damaged_at (with_mark marks p c) v)) (sym here)
+        (subst (All (λ check. check ≤ checks (tape_at history p))) (sym (get_or-set_same marks.damaged p (damaged_at marks p ++ c ∷ []) [] within)) (All-push (λ check. check ≤ checks (tape_at history p)) (damaged_at marks p) c (on.each p) there))
+    | inr apart ↦ subst (All (λ check. check ≤ checks (tape_at history q))) (sym (get_or-set_other marks.damaged p q (damaged_at marks p ++ c ∷ []) [] apart)) (on.each q)
+  ];
+}
+
+-- no marks are on checks of whatever history
+pub AreOnChecks-none : (history : List Process) (marks : MarksView) (n : ℕ) → marks.damaged ≡ replicate n [] → AreOnChecks history marks
+AreOnChecks-none history marks n none = record {
+  each = λ q.
+      let empty : damaged_at marks q ≡ [] = ap (λ (xs : List (List ℕ)). get_or xs q []) none ∙ elim (cases_lt q n) [
+        | inl within ↦ get_or-replicate n q [] [] within
+        | inr past ↦ get_or_past (replicate n []) q [] (omega (arith, length-replicate {A = List ℕ} n []))
+      ] in
+      subst (All (λ check. check ≤ checks (tape_at history q))) (sym empty) (All-nil (λ check. check ≤ checks (tape_at history q)));
+}
+
+-- it is enough to look at the processes that there are
+pub AreOnChecks-below : (history : List Process) (marks : MarksView) → length marks.damaged ≡ length history → ((q : ℕ) → q < length history → All (λ check. check ≤ checks (tape_at history q)) (damaged_at marks q)) → AreOnChecks history marks
+AreOnChecks-below history marks count below = record {
+  each = λ q. elim (cases_lt q (length history)) [
+    | inl within ↦ below q within
+    | inr past ↦ subst (All (λ check. check ≤ checks (tape_at history q))) (sym (get_or_past marks.damaged q [] (omega arith))) (All-nil (λ check. check ≤ checks (tape_at history q)))
+  ];
+}
+
+module _ (history : List Process) (marks : MarksView) (rows : List (List Row)) (p : ℕ) (within : p < length history) where
+  -- an event that agrees, and the row that it adds
+  pub IsCatalogue-event : (event : Event) (row : Option Row) → AgreesNext history p event → IsRowAdded (tape_at history p) event row → IsCatalogue history marks rows → IsCatalogue (with_event history p event) marks (set rows p (with_row (rows_at rows p) row))
+  IsCatalogue-event event row next added is =
+      let same : length (with_event history p event) ≡ length history = length-set history p _ in
+      record {
+        agrees = next.agrees;
+        marked = AreOnChecks-event history marks p event within is.marked;
+        marks_count = is.marks_count ∙ sym same;
+        rows_count = length-set rows p (with_row (rows_at rows p) row) ∙ is.rows_count ∙ sym same;
+        shown = λ q h. elim (cases_eq q p) [
+          | inl here ↦
+              let read : rows_at (set rows p (with_row (rows_at rows p) row)) p ≡ with_row (rows_at rows p) row = get_or-set_same rows p (with_row (rows_at rows p) row) [] (omega (arith, is.rows_count)) in
+              let new : AreRows (tape_at history p ++ event ∷ []) (damaged_at marks p) (with_row (rows_at rows p) row) = AreRows-added (tape_at history p) event (damaged_at marks p) (rows_at rows p) row (is.marked.each p) added (is.shown p within) in
+              subst (λ (v : ℕ). AreRows (tape_at (with_event history p event) v) (damaged_at marks v) (rows_at (set rows p (with_row (rows_at rows p) row)) v)) (sym here)
+              (subst (λ (tape : List Event). AreRows tape (damaged_at marks p) (rows_at (set rows p (with_row (rows_at rows p) row)) p)) (sym (tape-here history p event within p refl))
+              (subst (AreRows (tape_at history p ++ event ∷ []) (damaged_at marks p)) (sym read) new))
+          | inr apart ↦
+              subst (λ (tape : List Event). AreRows tape (damaged_at marks q) (rows_at (set rows p (with_row (rows_at rows p) row)) q)) (sym (tape-other history p event within q apart))
+              (subst (AreRows (tape_at history q) (damaged_at marks q)) (sym (get_or-set_other rows p q (with_row (rows_at rows p) row) [] apart)) (is.shown q (omega arith)))
+        ];
+      }
+
+  -- a mark, and the row that it changes
+  pub IsCatalogue-mark : (c : ℕ) → c ≤ checks (tape_at history p) → IsCatalogue history marks rows → IsCatalogue history (with_mark marks p c) (set rows p (with_damage (rows_at rows p) c))
+  IsCatalogue-mark c there is = record {
+    agrees = is.agrees;
+    marked = AreOnChecks-mark history marks p c (omega (arith, is.marks_count)) there is.marked;
+    marks_count = length-set marks.damaged p (damaged_at marks p ++ c ∷ []) ∙ is.marks_count;
+    rows_count = length-set rows p (with_damage (rows_at rows p) c) ∙ is.rows_count;
+    shown = λ q h. elim (cases_eq q p) [
+      | inl here ↦
+          let read : rows_at (set rows p (with_damage (rows_at rows p) c)) p ≡ with_damage (rows_at rows p) c = get_or-set_same rows p (with_damage (rows_at rows p) c) [] (omega (arith, is.rows_count)) in
+          let marked : damaged_at (with_mark marks p c) p ≡ damaged_at marks p ++ c ∷ [] = get_or-set_same marks.damaged p (damaged_at marks p ++ c ∷ []) [] (omega (arith, is.marks_count)) in
+          let new : AreRows (tape_at history p) (damaged_at marks p ++ c ∷ []) (with_damage (rows_at rows p) c) = AreRows-damage (tape_at history p) (damaged_at marks p) (rows_at rows p) c there (is.shown p within) in
+          subst (λ (v : ℕ). AreRows (tape_at history v) (damaged_at (with_mark marks p c) v) (rows_at (set rows p (with_damage (rows_at rows p) c)) v)) (sym here)
+          (subst (λ (xs : List ℕ). AreRows (tape_at history p) xs (rows_at (set rows p (with_damage (rows_at rows p) c)) p)) (sym marked)
+          (subst (AreRows (tape_at history p) (damaged_at marks p ++ c ∷ [])) (sym read) new))
+      | inr apart ↦
+          subst (λ (xs : List ℕ). AreRows (tape_at history q) xs (rows_at (set rows p (with_damage (rows_at rows p) c)) q)) (sym (get_or-set_other marks.damaged p q (damaged_at marks p ++ c ∷ []) [] apart))
+          (subst (AreRows (tape_at history q) (damaged_at marks q)) (sym (get_or-set_other rows p q (with_damage (rows_at rows p) c) [] apart)) (is.shown q h))
+    ];
+  }

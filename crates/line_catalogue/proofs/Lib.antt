@@ -1,0 +1,5 @@
+pub mod AgreementLemmas
+pub mod CheckLemmas
+pub mod CatalogueLemmas
+pub mod RestartLemmas
+pub mod TableLemmas

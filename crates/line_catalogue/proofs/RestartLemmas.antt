@@ -1,0 +1,148 @@
+-- A catalogue whose processes went on from their choices of a consistent line.
+use Rattle.std.proofs.Common.{◌≡◌, ℕ, zero, suc, ◌+◌, ◌<◌, ◌≤◌, Bool, true, false, cond, List, [], ◌∷◌, length, take, get_or, filter, ◌⊎◌, inl, inr, Option, Some, refl, sym, ap, ◌∙◌, subst, arith}
+use Rattle.std.specs.List.{All, AllByRecursion, Contains, filter_map, slice_get}
+use Rattle.std.proofs.lemmas.Bool.{cases_lt, leb-true}
+use Rattle.std.proofs.lemmas.List.{take_all, get_or_past}
+use Rattle.std.proofs.lemmas.List.Elements.{All-filter, All-weaker, All-nil, All-contains_itself, All-from_recursion}
+use Rattle.line_names.specs.declared.choices.Choice.{Choice}
+use Rattle.line_names.specs.declared.choices.Choice.TheVariants.{Check as AtCheck, Now}
+use Rattle.line_names.specs.declared.messages.MsgName.{MsgName}
+use Rattle.line_names.specs.Lines.{choice_at}
+use Rattle.line_tape.specs.declared.events.Event.{Event}
+use Rattle.line_tape.specs.declared.events.Event.TheVariants.{Send, Recv, Check, Mark}
+use Rattle.line_tape.specs.Event.{is_check, checks, incarnations_sent, Holds}
+use Rattle.line_tape.specs.Front.{check_place, place, front, HasChoice}
+use Rattle.line_tape.specs.History.{Process, fresh, tape_at}
+use Rattle.line_tape.specs.Line.{events_before, IsLine, IsConsistent, IsSentBefore}
+use Rattle.line_tape.specs.Restart.{restarted, restarted_event, restarted_process, restarted_damage, restarted_marks, is_kept}
+use Rattle.line_tape.specs.Views.{MarksView}
+use Rattle.line_tape.proofs.CutLemmas.{checks_left, checks_take, received_left, sent_left}
+use Rattle.line_tape.proofs.EachLemmas.{each_at, length-each, restarted-each, damage-each, kept_damage}
+use Rattle.line_tape.proofs.LineLemmas.{front-empty, tape_at-past}
+use Rattle.line_catalogue.specs.declared.rows.Row.{Row}
+use Rattle.line_catalogue.specs.Agreement.{NameAgrees, EventAgrees, Agrees}
+use Rattle.line_catalogue.specs.Damage.{damaged_at, AreOnChecks}
+use Rattle.line_catalogue.specs.Kept.{rows_at, IsCatalogue}
+use Rattle.line_catalogue.specs.Rows.{AreRows}
+use Rattle.line_catalogue.proofs.AgreementLemmas.{Agrees-below}
+use Rattle.line_catalogue.proofs.CatalogueLemmas.{AreOnChecks-below}
+
+-- the front of a check has as many checks as its number says
+checks-front : (tape : List Event) (k : ℕ) → k ≤ checks tape → checks (take (check_place tape k) tape) ≡ k
+checks-front tape zero h = refl
+checks-front [] (suc k) h = absurd (omega arith)
+checks-front (x ∷ xs) (suc k) h =
+    elim (is_check x) as (λ v. suc k ≤ cond v (suc (checks xs)) (checks xs) → cond v (suc (checks (take (check_place xs (cond v k (suc k))) xs))) (checks (take (check_place xs (cond v k (suc k))) xs)) ≡ suc k) [
+      | true ↦ λ l. ap suc (checks-front xs k (omega arith))
+      | false ↦ λ l. checks-front xs (suc k) l
+    ] h
+
+-- a check that is kept is one of the front
+kept_within : (tape : List Event) (choice : Choice) (c : ℕ) → HasChoice tape choice → c ≤ checks tape → is_kept choice c ≡ true → c ≤ checks (front tape choice)
+kept_within tape (AtCheck k) c has within kept = omega (arith, leb-true c k kept, checks-front tape k has)
+kept_within tape Now c has within kept = omega (arith, ap checks (take_all (length tape) tape (omega arith)))
+
+-- what is filtered passes
+passes-at : (p : ℕ → Bool) (b : Bool) (x : ℕ) (ys : List ℕ) → p x ≡ b → AllByRecursion (λ c. p c ≡ true) ys → AllByRecursion (λ c. p c ≡ true) (cond b (x ∷ ys) ys)
+passes-at p true x ys e h = (e, h)
+passes-at p false x ys e h = h
+
+passes : (p : ℕ → Bool) (xs : List ℕ) → AllByRecursion (λ c. p c ≡ true) (filter p xs)
+passes p [] = tt
+passes p (x ∷ xs) = passes-at p (p x) x (filter p xs) refl (passes p xs)
+
+module _ (history : List Process) (line : List Choice) (is_line : IsLine history line) where
+  enough : length history ≤ length line
+  enough = omega (arith, is_line.length_is)
+
+  -- as many processes as there were
+  pub length-restarted : length (restarted history line) ≡ length history
+  length-restarted = ap (λ (xs : List Process). length xs) (restarted-each history line) ∙ length-each restarted_process history line enough
+
+  -- what is left of a tape
+  pub tape-restarted : (p : ℕ) → p < length history → tape_at (restarted history line) p ≡ filter_map restarted_event (events_before history line p)
+  tape-restarted p within =
+      ap (λ (xs : List Process). tape_at xs p) (restarted-each history line) ∙ ap (λ (process : Process). process.tape) (each_at restarted_process history line p fresh fresh (AtCheck 0) within enough)
+
+  -- nothing past the processes
+  past-empty : (p : ℕ) → length history ≤ p → events_before history line p ≡ []
+  past-empty p past = ap (λ (tape : List Event). front tape (choice_at line p)) (tape_at-past history p past) ∙ front-empty (choice_at line p)
+
+  -- what was sent before the line is sent still
+  sent-restarted : (p : ℕ) → incarnations_sent (tape_at (restarted history line) p) ≡ incarnations_sent (events_before history line p)
+  sent-restarted p = elim (cases_lt p (length history)) [
+    | inl within ↦ ap incarnations_sent (tape-restarted p within) ∙ sent_left (events_before history line p)
+    | inr past ↦ ap incarnations_sent (tape_at-past (restarted history line) p (omega (arith, length-restarted)) ∙ sym (past-empty p past))
+  ]
+
+  -- what is left agrees
+  EventAgrees-left : IsConsistent history line → (q : ℕ) (event : Event) → Contains (filter_map restarted_event (events_before history line q)) event → EventAgrees (restarted history line) event
+  EventAgrees-left consistent q (Send to inc body) among = tt
+  EventAgrees-left consistent q (Recv message) among =
+      let sent : IsSentBefore history line message = consistent q message (received_left (events_before history line q) message among) in
+      inl (subst (λ (xs : List ℕ). slice_get xs message.number ≡ Some message.inc) (sym (sent-restarted message.from)) sent)
+  EventAgrees-left consistent q (Check state round) among = tt
+  EventAgrees-left consistent q (Mark from round) among = tt
+
+  -- the history goes on to agree
+  pub Agrees-restarted : IsConsistent history line → Agrees (restarted history line)
+  Agrees-restarted consistent = Agrees-below (restarted history line) (λ q h.
+    let left : List Event = filter_map restarted_event (events_before history line q) in
+    let within : q < length history = omega (arith, length-restarted) in
+    subst (All (EventAgrees (restarted history line))) (sym (tape-restarted q within)) (All-weaker (Contains left) (EventAgrees (restarted history line)) (EventAgrees-left consistent q) left (All-contains_itself left)))
+
+  -- the checks of what is left
+  checks-restarted : (p : ℕ) → p < length history → checks (tape_at (restarted history line) p) ≡ checks (events_before history line p)
+  checks-restarted p within = ap checks (tape-restarted p within) ∙ checks_left (events_before history line p)
+
+  -- no more than there were
+  pub checks-fewer : (p : ℕ) → p < length history → checks (tape_at (restarted history line) p) ≤ checks (tape_at history p)
+  checks-fewer p within = omega (arith, checks-restarted p within, checks_take (tape_at history p) (place (tape_at history p) (choice_at line p)))
+
+  module _ (marks : MarksView) (count : length marks.damaged ≡ length history) where
+    -- as many processes as there were
+    pub length-marks : length (restarted_marks marks line).damaged ≡ length history
+    length-marks = ap (λ (xs : List (List ℕ)). length xs) (damage-each marks.damaged line) ∙ length-each kept_damage marks.damaged line (omega (arith, enough)) ∙ count
+
+    -- the marks that are left
+    marks-restarted : (p : ℕ) → p < length history → damaged_at (restarted_marks marks line) p ≡ filter (is_kept (choice_at line p)) (damaged_at marks p)
+    marks-restarted p within =
+        ap (λ (xs : List (List ℕ)). get_or xs p []) (damage-each marks.damaged line) ∙ each_at kept_damage marks.damaged line p [] [] (AtCheck 0) (omega arith) (omega (arith, enough))
+
+    -- they are on checks that are left
+    pub AreOnChecks-restarted : AreOnChecks history marks → AreOnChecks (restarted history line) (restarted_marks marks line)
+    AreOnChecks-restarted on = AreOnChecks-below (restarted history line) (restarted_marks marks line) (length-marks ∙ sym length-restarted) (λ p h.
+      let within : p < length history = omega (arith, length-restarted) in
+      let choice : Choice = choice_at line p in
+      let kept : List ℕ = filter (is_kept choice) (damaged_at marks p) in
+      let there : All (λ check. check ≤ checks (tape_at history p)) kept = All-filter (is_kept choice) (λ check. check ≤ checks (tape_at history p)) (damaged_at marks p) (on.each p) in
+      let pass : All (λ check. is_kept choice check ≡ true) kept = All-from_recursion (λ check. is_kept choice check ≡ true) kept (passes (is_kept choice) (damaged_at marks p)) in
+      let left : All (λ check. check ≤ checks (tape_at (restarted history line) p)) kept = λ k d l. omega (arith, checks-restarted p within, kept_within (tape_at history p) choice (get_or kept k d) (is_line.exist p) (there k d l) (pass k d l)) in
+      subst (All (λ check. check ≤ checks (tape_at (restarted history line) p))) (sym (marks-restarted p within)) left)
+
+module _ (history : List Process) (marks : MarksView) (rows : List (List Row)) (line : List Choice) (is : IsCatalogue history marks rows) (is_line : IsLine history line) where
+  -- what the rows are made anew from
+  pub marked-restarted : AreOnChecks (restarted history line) (restarted_marks marks line)
+  marked-restarted = AreOnChecks-restarted history line is_line marks is.marks_count is.marked
+
+  pub marks_count-restarted : length (restarted_marks marks line).damaged ≡ length (restarted history line)
+  marks_count-restarted = length-marks history line is_line marks is.marks_count ∙ sym (length-restarted history line is_line)
+
+  pub rows_count-restarted : length rows ≡ length (restarted history line)
+  rows_count-restarted = is.rows_count ∙ sym (length-restarted history line is_line)
+
+  -- the rows that there are leave room for those of fewer checks
+  pub enough-restarted : (p : ℕ) → p < length (restarted history line) → checks (tape_at (restarted history line) p) < length (rows_at rows p)
+  enough-restarted p h =
+      let within : p < length history = omega (arith, length-restarted history line is_line) in
+      omega (arith, checks-fewer history line is_line p within, (is.shown p within).count)
+
+  -- with them the catalogue is one again
+  pub IsCatalogue-restarted : (new : List (List Row)) → IsConsistent history line → length new ≡ length (restarted history line) → ((p : ℕ) → p < length (restarted history line) → AreRows (tape_at (restarted history line) p) (damaged_at (restarted_marks marks line) p) (rows_at new p)) → IsCatalogue (restarted history line) (restarted_marks marks line) new
+  IsCatalogue-restarted new consistent count shown = record {
+    agrees = Agrees-restarted history line is_line consistent;
+    marked = marked-restarted;
+    marks_count = marks_count-restarted;
+    rows_count = count;
+    shown = shown;
+  }

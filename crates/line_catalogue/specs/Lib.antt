@@ -1,0 +1,7 @@
+pub mod Agreement
+pub mod Damage
+pub mod Rows
+pub mod Views
+pub mod Kept
+pub mod Plain
+pub mod Refusals

@@ -1,0 +1,11 @@
+-- What the refusals of marks are called where a catalogue answers them.
+use Rattle.line_tape.specs.declared.marks.MarkError.{MarkError}
+use Rattle.line_tape.specs.declared.marks.MarkError.TheVariants.{OutOfMemory as mark_memory, InitialDamage as mark_initial, AlreadyDamaged as mark_already}
+use Rattle.line_catalogue.specs.declared.refusals.DamageError.{DamageError}
+use Rattle.line_catalogue.specs.declared.refusals.DamageError.TheVariants.{OutOfMemory, InitialDamage, AlreadyDamaged}
+
+-- the same word
+abbrev pub refusal_of : MarkError → DamageError
+refusal_of mark_memory = OutOfMemory
+refusal_of mark_initial = InitialDamage
+refusal_of mark_already = AlreadyDamaged

@@ -1,0 +1,90 @@
+//! Whether an event may come next, and the row that it adds.
+ghost use Rattle.std.specs.Prelude.{◌≡◌, ◌≢◌, ◌<◌, ◌≤◌, ◌↔◌, ◌⊎◌, IsTrue, IsErrOf, OnOk, length};
+ghost use Rattle.line_tape.specs.Event.{HasLongState, NamesBelow};
+ghost use Rattle.line_tape.specs.History.{tape_at};
+ghost use Rattle.line_catalogue.specs.Agreement.{Agrees, AgreesNext};
+ghost use Rattle.line_catalogue.specs.Rows.{IsRowAdded};
+
+use crate::agreement::name_agrees;
+use crate::refusals::AddError;
+use crate::rows::Row;
+use line_names::ProcId;
+use line_tape::{Event, History, MOST_EVENTS, MOST_STATE, Tape};
+
+/// Whether the event stores more than a tape takes.
+fn has_long_state(event: &Event) -> bool
+    ensures { IsTrue result ↔ HasLongState event.now }
+{
+    match event {
+        Event::Send { .. } => false,
+        Event::Recv { .. } => false,
+        Event::Check { state, .. } => state.bytes().len() > MOST_STATE,
+        Event::Mark { .. } => false,
+    }
+}
+
+/// Whether a history that agrees does so with the event at process p too, and a send has the present incarnation.
+fn agrees_next(history: &History, p: ProcId, event: &Event) -> bool
+    requires agrees { Agrees history.now.processes }
+    requires process { p < length history.now.processes }
+    requires named { NamesBelow (length history.now.processes) event.now }
+    ensures { IsTrue result ↔ AgreesNext history.now.processes p event.now }
+{
+    match event {
+        Event::Send { inc, .. } => *inc == history.incarnation(p),
+        Event::Recv { message } => name_agrees(history, message),
+        Event::Check { .. } => true,
+        Event::Mark { .. } => true,
+    }
+}
+
+/// Whether the event may be added to the tape of a process of an agreeing history; it asks in the order of the refusals.
+pub fn test_event(history: &History, p: ProcId, event: &Event) -> Result<(), AddError>
+    requires { Agrees history.now.processes }
+    ensures process { IsErrOf result AddError.NoSuchProcess
+        ↔ ((length history.now.processes ≤ p) ⊎ (NamesBelow (length history.now.processes) event.now → ⊥)) }
+    ensures long { IsErrOf result AddError.StateTooLong
+        ↔ ((p < length history.now.processes) × NamesBelow (length history.now.processes) event.now × HasLongState event.now) }
+    ensures full { IsErrOf result AddError.TapeFull
+        ↔ ((p < length history.now.processes) × NamesBelow (length history.now.processes) event.now
+        × (HasLongState event.now → ⊥) × (length (tape_at history.now.processes p) ≡ MOST_EVENTS)) }
+    ensures names { IsErrOf result AddError.NamesDisagree
+        ↔ ((p < length history.now.processes) × NamesBelow (length history.now.processes) event.now
+        × (HasLongState event.now → ⊥) × (length (tape_at history.now.processes p) ≢ MOST_EVENTS)
+        × (AgreesNext history.now.processes p event.now → ⊥)) }
+    ensures memory { IsErrOf result AddError.OutOfMemory → ⊥ }
+    ensures ok { OnOk result ((p < length history.now.processes) × NamesBelow (length history.now.processes) event.now
+        × (HasLongState event.now → ⊥) × (length (tape_at history.now.processes p) ≢ MOST_EVENTS)
+        × AgreesNext history.now.processes p event.now) }
+{
+    let n = history.n();
+    if p.get() >= n || !event.names_below(n) {
+        return Err(AddError::NoSuchProcess);
+    }
+    if has_long_state(event) {
+        return Err(AddError::StateTooLong);
+    }
+    if history.tape(p).len() as usize >= MOST_EVENTS {
+        return Err(AddError::TapeFull);
+    }
+    if !agrees_next(history, p, event) {
+        return Err(AddError::NamesDisagree);
+    }
+    Ok(())
+}
+
+/// The row that an event adds to those of its tape, where it is a check.
+pub fn row_added(tape: &Tape, event: &Event) -> Option<Row>
+    ensures { IsRowAdded tape.now.events event.now result }
+{
+    match event {
+        Event::Check { .. } => Some(Row {
+            place: tape.len() + 1,
+            sends: tape.sends(),
+            damaged: false,
+        }),
+        Event::Send { .. } => None,
+        Event::Recv { .. } => None,
+        Event::Mark { .. } => None,
+    }
+}

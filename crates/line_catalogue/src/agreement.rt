@@ -1,0 +1,90 @@
+//! Whether names of messages agree with their senders, and marks with the tapes.
+ghost use Rattle.std.specs.Prelude.{◌≡◌, ◌<◌, ◌≤◌, ◌↔◌, IsTrue, All, length};
+ghost use Rattle.line_tape.specs.Event.{NamesBelow};
+ghost use Rattle.line_tape.specs.History.{tape_at};
+ghost use Rattle.line_catalogue.specs.Agreement.{NameAgrees, EventAgrees, Agrees};
+ghost use Rattle.line_catalogue.specs.Damage.{AreOnChecks};
+
+use line_names::{Choice, MsgName, ProcId};
+use line_tape::{Event, History, Marks};
+
+/// Whether the sender gave the message this name, or would give it later under its present incarnation.
+pub fn name_agrees(history: &History, message: &MsgName) -> bool
+    requires { message.now.from < length history.now.processes }
+    ensures { IsTrue result ↔ NameAgrees history.now.processes message.now }
+{
+    let tape = history.tape(message.from);
+    if message.number < tape.sends() {
+        tape.sent_before(Choice::Now, message.inc, message.number)
+    } else {
+        message.inc == history.incarnation(message.from)
+    }
+}
+
+/// Whether the name of a message that the event receives agrees with its sender.
+pub fn event_agrees(history: &History, event: &Event) -> bool
+    requires { NamesBelow (length history.now.processes) event.now }
+    ensures { IsTrue result ↔ EventAgrees history.now.processes event.now }
+{
+    match event {
+        Event::Send { .. } => true,
+        Event::Recv { message } => name_agrees(history, message),
+        Event::Check { .. } => true,
+        Event::Mark { .. } => true,
+    }
+}
+
+/// Whether all names that a process received agree with their senders.
+fn tape_agrees(history: &History, p: ProcId) -> bool
+    requires { p < length history.now.processes }
+    ensures { IsTrue result ↔ All (EventAgrees history.now.processes) (tape_at history.now.processes p) }
+{
+    let events = history.tape(p).front(Choice::Now);
+    for event in events {
+        if !event_agrees(history, event) {
+            return false;
+        }
+    }
+    true
+}
+
+/// Whether the history agrees. It looks once at each event.
+pub fn agrees(history: &History) -> bool
+    ensures { IsTrue result ↔ Agrees history.now.processes }
+{
+    let n = history.n();
+    for q in 0..n {
+        let p = ProcId::try_new(q, n).unwrap();
+        if !tape_agrees(history, p) {
+            return false;
+        }
+    }
+    true
+}
+
+/// Whether none of the checks is above the last one.
+fn none_above(checks: &[u32], last: u32) -> bool
+    ensures { IsTrue result ↔ All (λ check. check ≤ last) checks.now }
+{
+    for check in checks {
+        if *check > last {
+            return false;
+        }
+    }
+    true
+}
+
+/// Whether each mark is on a check that its tape has. It looks once at each mark.
+pub fn are_on_checks(history: &History, marks: &Marks) -> bool
+    requires { length marks.now.damaged ≡ length history.now.processes }
+    ensures { IsTrue result ↔ AreOnChecks history.now.processes marks.now }
+{
+    let n = history.n();
+    for q in 0..n {
+        let p = ProcId::try_new(q, n).unwrap();
+        if !none_above(marks.checks(q as usize), history.tape(p).checks()) {
+            return false;
+        }
+    }
+    true
+}

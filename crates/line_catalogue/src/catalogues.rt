@@ -1,0 +1,282 @@
+//! A history that agrees, with its marks of damage.
+ghost use Rattle.std.specs.Prelude.{◌≡◌, ◌≢◌, ◌<◌, ◌≤◌, ◌+◌, ◌↔◌, ◌⊎◌, ℕ, [], length, replicate, IfOk, IsOk, OnOk, OnErr, IsErrOf, IsTrue, IfSome};
+ghost use Rattle.std.specs.Option.{SomeIff};
+ghost use Rattle.line_names.specs.declared.choices.Choice.{Choice};
+ghost use Rattle.line_names.specs.Order.{IsNoLater};
+ghost use Rattle.line_tape.specs.Chain.{latest_check, next_lower};
+ghost use Rattle.line_tape.specs.Event.{checks, HasLongState, NamesBelow};
+ghost use Rattle.line_tape.specs.History.{fresh, tape_at, with_event, IsHistory};
+ghost use Rattle.line_tape.specs.Line.{IsLine, IsConsistent};
+ghost use Rattle.line_tape.specs.Restart.{restarted, restarted_marks, HaveFurther};
+ghost use Rattle.line_tape.specs.Survival.{survives, is_damaged};
+ghost use Rattle.line_tape.specs.Views.{with_mark};
+ghost use Rattle.line_catalogue.specs.Agreement.{Agrees, AgreesNext};
+ghost use Rattle.line_catalogue.specs.Damage.{damaged_at, AreOnChecks};
+ghost use Rattle.line_catalogue.specs.Rows.{AreRows};
+ghost use Rattle.line_catalogue.specs.Views.{room_at};
+
+use crate::additions::{row_added, test_event};
+use crate::agreement::{agrees, are_on_checks};
+use crate::refusals::{AddError, CatalogueError, DamageError};
+use crate::rows::{Row, RowTable};
+use line_names::{Choice, Line, MOST_PROCESSES, ProcId, ProcSet};
+use line_tape::{CountError, Event, History, MOST_EVENTS, Marks};
+use std::alloc::{AllocError, Global};
+use std::marker::Model;
+
+/// A history that agrees, with marks of damage on its checks.
+///
+/// It answers what a planner asks of choices from rows that it keeps beside them, one for each check, and grows with its history event by event.
+#[derive(Drop)]
+pub struct Catalogue {
+    history: History,
+    marks: Marks,
+    rows: RowTable,
+}
+
+impl Model for Catalogue {
+    ghost use Rattle.line_catalogue.specs.Views.{CatalogueView, lesser_rooms};
+
+    ghost Value = { CatalogueView };
+
+    ghost use Rattle.line_catalogue.specs.Kept.{IsCatalogue};
+
+    ghost view = { λ c. record {
+      processes = c.history.processes;
+      marks = c.marks;
+      rooms = lesser_rooms c.history.rooms c.rows.rooms;
+    } };
+
+    ghost invariant = { λ c. IsCatalogue c.history.processes c.marks c.rows.rows };
+}
+
+impl Catalogue {
+    /// The catalogue of `n` processes that have done nothing yet.
+    pub fn new(alloc: Global, n: u32) -> Result<Catalogue, CountError>
+        ensures processes { IfOk result (λ catalogue. catalogue.processes ≡ replicate n fresh) }
+        ensures marks { IfOk result (λ catalogue. catalogue.marks.damaged ≡ replicate n []) }
+        ensures count { IsErrOf result CountError.BadCount ↔ ((n ≡ 0) ⊎ (MOST_PROCESSES < n)) }
+    {
+        let history = History::new(alloc, n)?;
+        let marks = Marks::new(alloc, n)?;
+        let rows = RowTable::of(alloc, &history, &marks)?;
+        Ok(Catalogue {
+            history,
+            marks,
+            rows,
+        })
+    }
+
+    /// The catalogue of a history and its marks, in memory of its own.
+    ///
+    /// It looks once at each event and at each mark.
+    pub fn of(alloc: Global, history: &History, marks: &Marks) -> Result<Catalogue, CatalogueError>
+        requires { length marks.now.damaged ≡ length history.now.processes }
+        ensures processes { IfOk result (λ catalogue. catalogue.processes ≡ history.now.processes) }
+        ensures marks { IfOk result (λ catalogue. catalogue.marks ≡ marks.now) }
+
+        // The refusals, in their order.
+        ensures check { IsErrOf result CatalogueError.NoSuchCheck ↔ (AreOnChecks history.now.processes marks.now → ⊥) }
+        ensures names { IsErrOf result CatalogueError.NamesDisagree
+            ↔ (AreOnChecks history.now.processes marks.now × (Agrees history.now.processes → ⊥)) }
+    {
+        if !are_on_checks(history, marks) {
+            return Err(CatalogueError::NoSuchCheck);
+        }
+        if !agrees(history) {
+            return Err(CatalogueError::NamesDisagree);
+        }
+        let rows = RowTable::of(alloc, history, marks)?;
+        let history = history.copy(alloc)?;
+        let marks = marks.copy(alloc)?;
+        Ok(Catalogue {
+            history,
+            marks,
+            rows,
+        })
+    }
+
+    /// How many processes it has.
+    pub fn n(&self) -> u32
+        ensures value { result ≡ length self.now.processes }
+        ensures limits { IsHistory self.now.processes }
+    {
+        self.history.n()
+    }
+
+    /// Its history.
+    pub fn history(&self) -> &History
+        ensures processes { result.now.processes ≡ self.now.processes }
+        ensures agrees { Agrees self.now.processes }
+    {
+        &self.history
+    }
+
+    /// Its marks of damage.
+    pub fn marks(&self) -> &Marks
+        ensures value { result.now ≡ self.now.marks }
+        ensures count { length self.now.marks.damaged ≡ length self.now.processes }
+        ensures exist { AreOnChecks self.now.processes self.now.marks }
+    {
+        &self.marks
+    }
+
+    /// What is known of each check of a process: first its initial state, then the checks in their order. It costs nothing.
+    pub fn rows(&self, p: ProcId) -> &[Row]
+        requires { p < length self.now.processes }
+        ensures { AreRows (tape_at self.now.processes p) (damaged_at self.now.marks p) result.now }
+    {
+        self.rows.at(p)
+    }
+
+    /// Whether a choice of a process survives: its initial state does, each check without a mark, and `Now` where it did not fail. It costs nothing.
+    pub fn survives(&self, p: ProcId, choice: Choice, failed: &ProcSet) -> bool
+        requires { p < length self.now.processes }
+        ensures { result ≡ survives self.now.processes self.now.marks failed.now p choice }
+    {
+        match choice {
+            Choice::Check(0) => true,
+            Choice::Check(c) => match self.rows.at(p).get(c as usize) {
+                Some(row) => !row.damaged,
+                None => false,
+            },
+            Choice::Now => !failed.has(p),
+        }
+    }
+
+    /// The latest surviving check up to check `last`; the initial state where none survives.
+    fn latest_check(&self, p: ProcId, last: u32, failed: &ProcSet) -> Choice
+        requires { p < length self.now.processes }
+        ensures { result ≡ latest_check (survives self.now.processes self.now.marks failed.now p) last }
+    {
+        let mut check = last;
+        while check > 0 {
+            if self.survives(p, Choice::Check(check), failed) {
+                return Choice::Check(check);
+            }
+            check -= 1;
+        }
+        Choice::Check(0)
+    }
+
+    /// The latest surviving choice of a process before a choice; none before the initial state. It looks at one check for each that does not survive.
+    pub fn next_lower(&self, p: ProcId, choice: Choice, failed: &ProcSet) -> Option<Choice>
+        requires { p < length self.now.processes }
+        ensures value { SomeIff result (choice ≢ Choice.Check 0)
+            (next_lower self.now.processes self.now.marks failed.now p choice) }
+        ensures survives { IfSome result (λ lower. IsTrue (survives self.now.processes self.now.marks failed.now p lower)) }
+        ensures latest { IfSome result (λ lower. (other : Choice)
+            → IsTrue (survives self.now.processes self.now.marks failed.now p other)
+            → IsNoLater other choice → other ≢ choice → IsNoLater other lower) }
+    {
+        match choice {
+            Choice::Check(0) => None,
+            Choice::Check(c) => Some(self.latest_check(p, c - 1, failed)),
+            Choice::Now => Some(self.latest_check(p, self.history.tape(p).checks(), failed)),
+        }
+    }
+
+    /// Makes room for so many further events of a process: its next `k` additions take no memory.
+    #[tactic(auto, using(crate::proofs::CatalogueLemmas::lesser_at))]
+    pub fn reserve(&mut self, p: ProcId, k: u32) -> Result<(), AllocError>
+        requires { p < length self.old.processes }
+        ensures processes { self.new.processes ≡ self.old.processes }
+        ensures marks { self.new.marks ≡ self.old.marks }
+        ensures ok { OnOk result (k ≤ room_at self.new p) }
+        ensures succeeds { k ≤ room_at self.old p → IsOk result }
+        ensures room { room_at self.old p ≤ room_at self.new p }
+        ensures others { (q : ℕ) → q ≢ p → room_at self.new q ≡ room_at self.old q }
+    {
+        self.history.reserve(p, k)?;
+        self.rows.reserve(p, k)
+    }
+
+    /// Adds an event that may come next, in room that was made for it.
+    #[tactic(auto, using(crate::proofs::CatalogueLemmas::lesser_at))]
+    fn append(&mut self, p: ProcId, event: Event)
+        requires process { p < length self.old.processes }
+        requires named { NamesBelow (length self.old.processes) event }
+        requires short { HasLongState event → ⊥ }
+        requires few { length (tape_at self.old.processes p) ≢ MOST_EVENTS }
+        requires agrees { AgreesNext self.old.processes p event }
+        requires room { 0 < room_at self.old p }
+        ensures processes { self.new.processes ≡ with_event self.old.processes p event }
+        ensures marks { self.new.marks ≡ self.old.marks }
+        ensures spent { room_at self.old p ≤ room_at self.new p + 1 }
+        ensures others { (q : ℕ) → q ≢ p → room_at self.new q ≡ room_at self.old q }
+    {
+        let row = row_added(self.history.tape(p), &event);
+        self.history.push(p, event).unwrap();
+        self.rows.append(p, row);
+    }
+
+    /// Adds an event at the end of the tape of a process. Its cost is constant.
+    pub fn add(&mut self, p: ProcId, event: Event) -> Result<(), AddError>
+        ensures ok { OnOk result (self.new.processes ≡ with_event self.old.processes p event) }
+        ensures err { OnErr result (self.new.processes ≡ self.old.processes) }
+        ensures marks { self.new.marks ≡ self.old.marks }
+        ensures kept { OnErr result (room_at self.old p ≤ room_at self.new p) }
+
+        // The refusals, in their order: p and the processes that the event names are asked first.
+        ensures process { IsErrOf result AddError.NoSuchProcess
+            ↔ ((length self.old.processes ≤ p) ⊎ (NamesBelow (length self.old.processes) event → ⊥)) }
+        ensures long { IsErrOf result AddError.StateTooLong
+            ↔ ((p < length self.old.processes) × NamesBelow (length self.old.processes) event × HasLongState event) }
+        ensures full { IsErrOf result AddError.TapeFull
+            ↔ ((p < length self.old.processes) × NamesBelow (length self.old.processes) event
+            × (HasLongState event → ⊥) × (length (tape_at self.old.processes p) ≡ MOST_EVENTS)) }
+        ensures names { IsErrOf result AddError.NamesDisagree
+            ↔ ((p < length self.old.processes) × NamesBelow (length self.old.processes) event
+            × (HasLongState event → ⊥) × (length (tape_at self.old.processes p) ≢ MOST_EVENTS)
+            × (AgreesNext self.old.processes p event → ⊥)) }
+
+        // With room there is no want of memory, and one event takes room for one at most.
+        ensures room { 0 < room_at self.old p → result ≢ Err AddError.OutOfMemory }
+        ensures spent { room_at self.old p ≤ room_at self.new p + 1 }
+        ensures others { (q : ℕ) → q ≢ p → room_at self.new q ≡ room_at self.old q }
+    {
+        test_event(self.history(), p, &event)?;
+        self.reserve(p, 1)?;
+        self.append(p, event);
+        Ok(())
+    }
+
+    /// Marks a check as damaged. It looks at each mark of the process.
+    pub fn damage(&mut self, p: ProcId, check: u32) -> Result<(), DamageError>
+        requires { p < length self.old.processes }
+        ensures ok { OnOk result (self.new.marks ≡ with_mark self.old.marks p check) }
+        ensures err { OnErr result (self.new.marks ≡ self.old.marks) }
+        ensures processes { self.new.processes ≡ self.old.processes }
+        ensures rooms { self.new.rooms ≡ self.old.rooms }
+
+        // The refusals, in their order.
+        ensures check { IsErrOf result DamageError.NoSuchCheck ↔ (checks (tape_at self.old.processes p) < check) }
+        ensures initial { IsErrOf result DamageError.InitialDamage ↔ (check ≡ 0) }
+        ensures already { IsErrOf result DamageError.AlreadyDamaged
+            ↔ ((check ≤ checks (tape_at self.old.processes p)) × (check ≢ 0) × IsTrue (is_damaged self.old.marks p check)) }
+    {
+        if check as usize >= self.rows.at(p).len() {
+            return Err(DamageError::NoSuchCheck);
+        }
+        self.marks.mark(p, check)?;
+        self.rows.damage(p, check);
+        Ok(())
+    }
+
+    /// Has each process go on from its choice of a consistent line, as `History::restart` does, and takes the marks off the checks that it cuts off. It takes no memory and cannot fail.
+    ///
+    /// Each message that is received before a consistent line is sent before it, so the history goes on to agree.
+    #[tactic(auto, using(crate::proofs::CatalogueLemmas::lesser_at))]
+    pub fn restart(&mut self, line: &Line)
+        requires line { IsLine self.old.processes line.now }
+        requires consistent { IsConsistent self.old.processes line.now }
+        requires further { HaveFurther self.old.processes line.now }
+        ensures processes { self.new.processes ≡ restarted self.old.processes line.now }
+        ensures marks { self.new.marks ≡ restarted_marks self.old.marks line.now }
+        ensures room { (p : ℕ) → room_at self.old p ≤ room_at self.new p }
+    {
+        self.history.restart(line);
+        self.marks.restart(line);
+        self.rows.restart(&self.history, &self.marks);
+    }
+}

@@ -1,0 +1,159 @@
+//! Catalogues: what they take, refuse and show.
+use crate::tests::build::{catalogue_of, failed, history_of, process};
+use crate::tests::{DOMINO, ROUND};
+use line_catalogue::{AddError, Catalogue, CatalogueError, DamageError, Row};
+use line_names::{Body, Choice, MsgName};
+use line_plan::plan;
+use line_tape::{CountError, Event, History, Marks};
+use std::alloc::Global;
+use std::test::Fail;
+
+/// The receipt of a message of the first process.
+fn receipt(inc: u16, number: u32) -> Result<Event, Fail> {
+    let from = process(0)?;
+    let message = MsgName { from, inc, number };
+    Ok(Event::Recv { message })
+}
+
+/// A send to the second process.
+fn send(inc: u16) -> Result<Event, Fail> {
+    let to = process(1)?;
+    let body = Body::try_new(b"a")?;
+    Ok(Event::Send { to, inc, body })
+}
+
+#[test]
+fn limits_of_catalogues(rt: HostRuntime) -> Result<(), Fail> {
+    assert_eq!(rt; Catalogue::new(rt.alloc(), 64)?.n(), 64);
+    for n in [0, 65] {
+        assert_eq!(rt;
+            Catalogue::new(rt.alloc(), n).err(),
+            Some(CountError::BadCount),
+            "at {n}"
+        );
+    }
+    Ok(())
+}
+
+/// The rows of a process, row by row.
+fn rows_of(alloc: Global, catalogue: &Catalogue, p: u32) -> Result<Vec<Row>, Fail> {
+    let p = process(p)?;
+    if p.get() < catalogue.n() {
+        return Ok(Vec::from_slice(alloc, catalogue.rows(p))?);
+    }
+    Ok(Vec::new(alloc))
+}
+
+#[test]
+fn fed_event_by_event(rt: HostRuntime) -> Result<(), Fail> {
+    let history = history_of(rt.alloc(), &ROUND)?;
+    let marks = Marks::new(rt.alloc(), 2)?;
+    assert_eq!(rt; history.n(), 2);
+    let at_once = Catalogue::of(rt.alloc(), &history, &marks)?;
+    let fed = catalogue_of(rt.alloc(), &ROUND)?;
+    for p in 0..2 {
+        let rows = rows_of(rt.alloc(), &fed, p)?;
+        assert_eq!(rt;
+            rows.as_slice(),
+            rows_of(rt.alloc(), &at_once, p)?.as_slice()
+        );
+    }
+    Ok(())
+}
+
+#[test]
+fn plans_of_both_are_the_same(rt: HostRuntime) -> Result<(), Fail> {
+    let history = history_of(rt.alloc(), &DOMINO)?;
+    let marks = Marks::new(rt.alloc(), 2)?;
+    assert_eq!(rt; history.n(), 2);
+    let at_once = Catalogue::of(rt.alloc(), &history, &marks)?;
+    let plan = plan(rt.alloc(), &at_once, &failed(&[0])?)?;
+    assert_eq!(rt;
+        plan.line.choices(),
+        [Choice::Check(0), Choice::Check(0)].as_slice()
+    );
+    assert_eq!(rt; (plan.certificate.len(), plan.sweeps), (4, 3));
+    Ok(())
+}
+
+#[test]
+fn names_that_disagree(rt: HostRuntime) -> Result<(), Fail> {
+    let mut catalogue = Catalogue::new(rt.alloc(), 2)?;
+    let (first, second) = (process(0)?, process(1)?);
+    assert_eq!(rt;
+        catalogue.add(first, send(1)?),
+        Err(AddError::NamesDisagree)
+    );
+    catalogue.add(first, send(0)?)?;
+    assert_eq!(rt;
+        catalogue.add(second, receipt(1, 0)?),
+        Err(AddError::NamesDisagree)
+    );
+    assert_eq!(rt;
+        catalogue.add(second, receipt(1, 7)?),
+        Err(AddError::NamesDisagree)
+    );
+    catalogue.add(second, receipt(0, 7)?)?;
+    Ok(())
+}
+
+#[test]
+fn a_history_that_disagrees(rt: HostRuntime) -> Result<(), Fail> {
+    let mut history = History::new(rt.alloc(), 2)?;
+    history.push(process(0)?, send(0)?)?;
+    history.push(process(1)?, receipt(1, 0)?)?;
+    assert_eq!(rt; history.n(), 2);
+    let mut marks = Marks::new(rt.alloc(), 2)?;
+    assert_eq!(rt;
+        Catalogue::of(rt.alloc(), &history, &marks).err(),
+        Some(CatalogueError::NamesDisagree)
+    );
+    marks.mark(process(0)?, 1)?;
+    assert_eq!(rt;
+        Catalogue::of(rt.alloc(), &history, &marks).err(),
+        Some(CatalogueError::NoSuchCheck)
+    );
+    Ok(())
+}
+
+#[test]
+fn refusals_of_damage(rt: HostRuntime) -> Result<(), Fail> {
+    let mut catalogue = catalogue_of(rt.alloc(), &DOMINO)?;
+    let first = process(0)?;
+    assert_eq!(rt; catalogue.n(), 2);
+    assert_eq!(rt; catalogue.damage(first, 2), Err(DamageError::NoSuchCheck));
+    assert_eq!(rt; catalogue.damage(first, 0), Err(DamageError::InitialDamage));
+    catalogue.damage(first, 1)?;
+    assert_eq!(rt;
+        catalogue.damage(first, 1),
+        Err(DamageError::AlreadyDamaged)
+    );
+    Ok(())
+}
+
+#[test]
+fn rows_and_lower_choices(rt: HostRuntime) -> Result<(), Fail> {
+    let mut catalogue = catalogue_of(rt.alloc(), &DOMINO)?;
+    let first = process(0)?;
+    assert_eq!(rt; catalogue.n(), 2);
+    catalogue.reserve(first, 3)?;
+    let lost = failed(&[0])?;
+    assert_eq!(rt;
+        catalogue.next_lower(first, Choice::Now, &lost),
+        Some(Choice::Check(1))
+    );
+    catalogue.damage(first, 1)?;
+    assert_eq!(rt;
+        catalogue.next_lower(first, Choice::Now, &lost),
+        Some(Choice::Check(0))
+    );
+    assert_eq!(rt; catalogue.next_lower(first, Choice::Check(0), &lost), None);
+    assert_eq!(rt; catalogue.survives(first, Choice::Check(1), &lost), false);
+    let check = Row {
+        place: 3,
+        sends: 1,
+        damaged: true,
+    };
+    assert_eq!(rt; catalogue.rows(first).last(), Some(&check));
+    Ok(())
+}

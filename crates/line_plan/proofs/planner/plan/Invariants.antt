@@ -1,0 +1,14 @@
+use Rattle.std.proofs.Common.{◌≤◌, ◌+◌, vec_len}
+use Rattle.line_tape.specs.Chain.{first_ceilings}
+use Rattle.line_tape.specs.Height.{IsLed, height}
+use Rattle.line_plan.proofs.planner.plan.Given as goal
+
+abbrev pub invariant-sweeps : goal.invariant-sweeps
+invariant-sweeps l = record {
+  led : IsLed l.catalogue.processes l.catalogue.marks l.failed l.certificate.items l.line;
+  few : l.sweeps ≤ vec_len l.certificate;
+  paid : vec_len l.certificate + height l.catalogue.processes l.line ≤ height l.catalogue.processes (first_ceilings l.catalogue.processes l.catalogue.marks l.failed);
+}
+
+abbrev pub decreases-sweeps : goal.decreases-sweeps
+decreases-sweeps l = height l.catalogue.processes l.line

@@ -1,0 +1,8 @@
+use Rattle.std.proofs.Common.{◌≡◌, map}
+use Rattle.std.specs.List.{flat_map, range_with_len}
+use Rattle.line_tape.specs.Transit.{Letter, open_letters}
+use Rattle.line_tape.proofs.histories.History.transit.Given as goal
+
+abbrev pub invariant-loop-q : goal.invariant-loop-q
+invariant-loop-q l =
+    l.messages.items ≡ flat_map (λ p. map (λ (letter : Letter). letter.message) (open_letters l.self.processes l.line p)) (range_with_len 0 l.q)

@@ -1,0 +1,67 @@
+//! A restart of a whole history at a line.
+ghost use Rattle.std.specs.Prelude.{◌≡◌, ◌≤◌, ◌↔◌, ℕ, IsTrue};
+ghost use Rattle.line_tape.specs.Front.{HasChoice};
+ghost use Rattle.line_tape.specs.History.{Process};
+ghost use Rattle.line_tape.specs.Line.{IsLine};
+ghost use Rattle.line_tape.specs.Plain.{plain, room_of};
+ghost use Rattle.line_tape.specs.Restart.{restarted, restarted_process, HasFurther, HaveFurther};
+ghost use Rattle.line_tape.specs.Views.{room_at};
+
+use super::{History, ProcessTape};
+use crate::limits::LAST_INCARNATION;
+use line_names::{Choice, Line, ProcId};
+
+/// Has a process go on from a choice.
+fn restart_process(process: &mut ProcessTape, choice: Choice)
+    requires choice { HasChoice process.old.tape.events choice }
+    requires further { HasFurther (plain process.old) choice }
+    ensures process { plain process.new ≡ restarted_process (plain process.old) choice }
+    ensures room { room_of process.old ≤ room_of process.new }
+{
+    match choice {
+        Choice::Check(_) => process.incarnation += 1,
+        Choice::Now => {}
+    }
+    process.tape.restart(choice);
+}
+
+/// Whether a process with this incarnation can go on from a choice.
+fn has_further(incarnation: u16, choice: Choice) -> bool
+    ensures { (process : Process) → process.incarnation ≡ incarnation → IsTrue result ↔ HasFurther process choice }
+{
+    match choice {
+        Choice::Check(_) => incarnation != LAST_INCARNATION,
+        Choice::Now => true,
+    }
+}
+
+impl History {
+    /// Whether each process that goes back at the line has a further incarnation, so that a restart there can be.
+    pub fn has_further(&self, line: &Line) -> bool
+        ensures { IsTrue result ↔ HaveFurther self.now.processes line.now }
+    {
+        let n = self.n();
+        for q in 0..n {
+            let p = ProcId::try_new(q, n).unwrap();
+            if !has_further(self.incarnation(p), line.at(p)) {
+                return false;
+            }
+        }
+        true
+    }
+
+    /// Has each process go on from its choice of the line: what came after the line goes from the tapes, all marks and round numbers go, and a process that goes back does so under its next incarnation. It takes no memory and cannot fail.
+    ///
+    /// What is in transit at the line (`transit`) is to be asked before. It looks at each event of the tapes twice at most.
+    pub fn restart(&mut self, line: &Line)
+        requires line { IsLine self.old.processes line.now }
+        requires further { HaveFurther self.old.processes line.now }
+        ensures processes { self.new.processes ≡ restarted self.old.processes line.now }
+        ensures rooms { (p : ℕ) → room_at self.old p ≤ room_at self.new p }
+    {
+        let choices = line.choices();
+        for p in 0..self.processes.len() {
+            restart_process(&mut self.processes[p], choices[p]);
+        }
+    }
+}

@@ -1,0 +1,5 @@
+use Rattle.std.proofs.Common.{◌≡◌, take}
+use Rattle.line_world.proofs.links.Row.copy.Given as goal
+
+abbrev pub invariant-loop-queue : goal.invariant-loop-queue
+invariant-loop-queue l = l.queues.items ≡ take l.queue-index l.self

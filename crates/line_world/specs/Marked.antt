@@ -1,0 +1,12 @@
+-- What the refusals of marks are called where a world answers them.
+use Rattle.line_catalogue.specs.declared.refusals.DamageError.{DamageError}
+use Rattle.line_catalogue.specs.declared.refusals.DamageError.TheVariants.{OutOfMemory as mark_memory, NoSuchCheck as mark_check, InitialDamage as mark_initial, AlreadyDamaged as mark_already}
+use Rattle.line_world.specs.declared.replies.StepError.{StepError}
+use Rattle.line_world.specs.declared.replies.StepError.TheVariants.{OutOfMemory, NoSuchCheck, InitialDamage, AlreadyDamaged}
+
+-- the same word
+abbrev pub damage_error : DamageError → StepError
+damage_error mark_memory = OutOfMemory
+damage_error mark_check = NoSuchCheck
+damage_error mark_initial = InitialDamage
+damage_error mark_already = AlreadyDamaged

@@ -1,0 +1,108 @@
+//! What refuses a step of a world.
+ghost use Rattle.std.specs.Prelude.{◌≡◌, ◌<◌, ℕ, List, length};
+ghost use Rattle.line_world.specs.declared.steps.Step.TheVariants.{Send, Check};
+ghost use Rattle.line_world.specs.Refusals.{first_cause, link_causes, refusal_of, has_stranger, is_bad_pick, is_full};
+ghost use Rattle.line_world.specs.Machine.{items_on};
+
+use super::World;
+use crate::replies::StepError;
+use crate::steps::Mode;
+use line_names::{MOST_PROCESSES, ProcId, ProcSet};
+use line_tape::{MOST_EVENTS, MOST_STATE, State};
+
+impl World {
+    /// Whether the tape of a process has no room for an event.
+    pub(super) fn is_full(&self, p: ProcId) -> bool
+        requires { p < length self.now.history }
+        ensures { result ≡ is_full self.now p 1 }
+    {
+        self.catalogue.history().tape(p).len() as usize >= MOST_EVENTS
+    }
+
+    /// Why a process may not send to another now.
+    pub(super) fn send_refusal(&self, from: ProcId, to: ProcId) -> Option<StepError>
+        ensures { (body : List ℕ) → result ≡ refusal_of self.now (Send from to body) }
+    {
+        let n = self.catalogue.n();
+        if from.get() >= n || to.get() >= n {
+            return Some(StepError::NoSuchProcess);
+        }
+        if from == to {
+            return Some(StepError::ToSelf);
+        }
+        if self.is_full(from) {
+            return Some(StepError::TapeFull);
+        }
+        None
+    }
+
+    /// Whether the link between two processes has nothing to take at a place.
+    fn is_bad_pick(&self, from: ProcId, to: ProcId, pick: u64) -> bool
+        requires from { from < length self.now.history }
+        requires to { to < length self.now.history }
+        ensures { result ≡ is_bad_pick self.now.mode (items_on self.now from to) pick }
+    {
+        match self.mode {
+            Mode::Fifo => pick != 0,
+            Mode::Unordered => pick >= self.links.len(from, to) as u64,
+        }
+    }
+
+    /// Why a process may not take or look at that item of a link now, whatever the item is.
+    pub(super) fn link_refusal(
+        &self,
+        from: ProcId,
+        to: ProcId,
+        pick: u64,
+        state: &State,
+    ) -> Option<StepError>
+        ensures { result ≡ first_cause (link_causes self.now from to pick state.now) }
+    {
+        let n = self.catalogue.n();
+        if from.get() >= n || to.get() >= n {
+            return Some(StepError::NoSuchProcess);
+        }
+        if from == to {
+            return Some(StepError::ToSelf);
+        }
+        if state.bytes().len() > MOST_STATE {
+            return Some(StepError::StateTooLong);
+        }
+        if self.link_len(from, to) == 0 {
+            return Some(StepError::LinkEmpty);
+        }
+        if self.is_bad_pick(from, to, pick) {
+            return Some(StepError::BadPick);
+        }
+        None
+    }
+
+    /// Why a process may not take a check now.
+    pub(super) fn check_refusal(&self, at: ProcId, state: &State) -> Option<StepError>
+        ensures { result ≡ refusal_of self.now (Check at state.now) }
+    {
+        if at.get() >= self.catalogue.n() {
+            return Some(StepError::NoSuchProcess);
+        }
+        if state.bytes().len() > MOST_STATE {
+            return Some(StepError::StateTooLong);
+        }
+        if self.is_full(at) {
+            return Some(StepError::TapeFull);
+        }
+        None
+    }
+
+    /// Whether a member of the set is no process.
+    pub(super) fn has_stranger(&self, failed: &ProcSet) -> bool
+        ensures { result ≡ has_stranger self.now failed.now }
+    {
+        let n = self.catalogue.n();
+        let mut found = false;
+        for q in n..MOST_PROCESSES as u32 {
+            let p = ProcId::try_new(q, MOST_PROCESSES as u32).unwrap();
+            found |= failed.has(p);
+        }
+        found
+    }
+}
