@@ -1,3 +1,5 @@
+ghost use Rattle.std.specs.Prelude.{◌<◌};
+
 use super::*;
 use line_devices::{MemSink, MemSource, Sink, Source};
 use line_fields::{Draft, RecordWriter};
