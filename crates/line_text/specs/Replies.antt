@@ -1,6 +1,7 @@
 -- The records that are written for what the machine answers.
-use Rattle.std.specs.Prelude.{ℕ, List, [], ◌∷◌, length, map, Option, Some, None, codes, decimal, slice_index_or}
+use Rattle.std.specs.Prelude.{ℕ, List, [], ◌∷◌, ◌++◌, length, map, Option, Some, None, codes, decimal, slice_index_or}
 use Rattle.std.specs.List.{range_with_len}
+use Rattle.line_names.specs.declared.certificates.Passed.{Passed}
 use Rattle.line_names.specs.declared.choices.Choice.{Choice}
 use Rattle.line_names.specs.declared.choices.Choice.TheVariants.{Check, Now}
 use Rattle.line_names.specs.declared.messages.MsgName.{MsgName}
@@ -36,9 +37,9 @@ took m forced = codes "took" ∷ decimal m.from ∷ decimal m.inc ∷ decimal m.
 abbrev pub checked : ℕ → ℕ → Record
 checked p check = codes "checked" ∷ decimal p ∷ decimal check ∷ []
 
--- recovered,SWEEPS,ENTRIES,REPLAYS, where entries and replays aren't counted yet
-abbrev pub recovered : ℕ → Record
-recovered sweeps = codes "recovered" ∷ decimal sweeps ∷ decimal 0 ∷ decimal 0 ∷ []
+-- recovered,SWEEPS,ENTRIES,REPLAYS, where replays aren't counted yet
+abbrev pub recovered : ℕ → ℕ → Record
+recovered sweeps entries = codes "recovered" ∷ decimal sweeps ∷ decimal entries ∷ decimal 0 ∷ []
 
 -- a choice: the number of a check, or now
 abbrev pub choice_text : Choice → List ℕ
@@ -62,9 +63,17 @@ line_of choices incarnations states p = line p (choice_at choices p) (slice_inde
 abbrev pub lines : List Choice → List ℕ → List (Option (List ℕ)) → List Record
 lines choices incarnations states = map (line_of choices incarnations states) (range_with_len 0 (length choices))
 
+-- pass,P,CHOICE,FROM,INC,NUMBER
+abbrev pub pass : Passed → Record
+pass entry = codes "pass" ∷ decimal entry.at ∷ choice_text entry.choice ∷ decimal entry.message.from ∷ decimal entry.message.inc ∷ decimal entry.message.number ∷ []
+
+-- the records of a certificate, in its order
+abbrev pub passes : List Passed → List Record
+passes entries = map pass entries
+
 -- the records of a recovery
-abbrev pub recovery : ℕ → List Choice → List ℕ → List (Option (List ℕ)) → List Record
-recovery sweeps choices incarnations states = recovered sweeps ∷ lines choices incarnations states
+abbrev pub recovery : ℕ → List Passed → List Choice → List ℕ → List (Option (List ℕ)) → List Record
+recovery sweeps entries choices incarnations states = recovered sweeps (length entries) ∷ (lines choices incarnations states ++ passes entries)
 
 -- refused,CODE,NAME
 abbrev pub refused : ℕ → Record
@@ -75,7 +84,7 @@ abbrev pub reply_records : Reply → List Record
 reply_records (Sent message) = sent message ∷ []
 reply_records (Took message forced) = took message forced ∷ []
 reply_records (Checked at check) = checked at check ∷ []
-reply_records (Recovered plan states incarnations) = recovery plan.sweeps plan.line incarnations.items states.items
+reply_records (Recovered plan states incarnations) = recovery plan.sweeps plan.certificate.items plan.line incarnations.items states.items
 
 -- the number of a refused step
 abbrev pub refusal_code : StepError → ℕ

@@ -7,10 +7,19 @@ ghost use Rattle.line_text.specs.Replies as spec;
 
 use crate::faults::name_of;
 use line_fields::{Draft, RecordWriter};
-use line_names::{Choice, MsgName, ProcId};
+use line_names::{Choice, MsgName, Passed, ProcId};
 use line_tape::State;
 use line_world::{Answer, Reply, StepError};
 use std::alloc::{AllocError, Global};
+
+// Adds the name of a message.
+fn add_message(draft: &mut Draft, message: MsgName) -> Result<(), AllocError>
+    ensures { OnOk result (draft.new ≡ draft.old ++ decimal message.from ∷ decimal message.inc ∷ decimal message.number ∷ []) }
+{
+    draft.number(u64::from(message.from.get()))?;
+    draft.number(u64::from(message.inc))?;
+    draft.number(u64::from(message.number))
+}
 
 // Begins a record with its name and the name of a message.
 fn begin(draft: &mut Draft, word: &[u8], message: MsgName) -> Result<(), AllocError>
@@ -19,9 +28,7 @@ fn begin(draft: &mut Draft, word: &[u8], message: MsgName) -> Result<(), AllocEr
 {
     draft.clear();
     draft.word(word)?;
-    draft.number(u64::from(message.from.get()))?;
-    draft.number(u64::from(message.inc))?;
-    draft.number(u64::from(message.number))
+    add_message(draft, message)
 }
 
 // Writes `sent,FROM,INC,NUMBER`.
@@ -79,19 +86,20 @@ fn put_checked(
     writer.put(draft)
 }
 
-// Writes `recovered,SWEEPS,0,0`.
+// Writes `recovered,SWEEPS,ENTRIES,0`.
 fn put_recovered(
     writer: &mut RecordWriter,
     draft: &mut Draft,
     sweeps: u32,
+    entries: usize,
 ) -> Result<(), AllocError>
-    ensures ok { OnOk result (writer.new ≡ writer.old ++ record_text (spec.recovered sweeps)) }
+    ensures ok { OnOk result (writer.new ≡ writer.old ++ record_text (spec.recovered sweeps entries)) }
     ensures err { OnErr result (writer.new ≡ writer.old) }
 {
     draft.clear();
     draft.word(b"recovered")?;
     draft.number(u64::from(sweeps))?;
-    draft.number(0)?;
+    draft.number(entries as u64)?;
     draft.number(0)?;
     writer.put(draft)
 }
@@ -166,20 +174,54 @@ fn put_lines(
     Ok(())
 }
 
+// Writes `pass,P,CHOICE,FROM,INC,NUMBER`.
+fn put_pass(
+    writer: &mut RecordWriter,
+    draft: &mut Draft,
+    entry: Passed,
+) -> Result<(), AllocError>
+    ensures ok { OnOk result (writer.new ≡ writer.old ++ record_text (spec.pass entry)) }
+    ensures err { OnErr result (writer.new ≡ writer.old) }
+{
+    draft.clear();
+    draft.word(b"pass")?;
+    draft.number(u64::from(entry.at.get()))?;
+    add_choice(draft, entry.choice)?;
+    add_message(draft, entry.message)?;
+    writer.put(draft)
+}
+
+// Writes the pass records of a certificate, or a front of them where a growth is refused.
+fn put_passes(
+    writer: &mut RecordWriter,
+    draft: &mut Draft,
+    entries: &[Passed],
+) -> Result<(), AllocError>
+    ensures ok { OnOk result (writer.new ≡ writer.old ++ records_text (spec.passes entries.now)) }
+    ensures err { OnErr result (PutsFront (Some writer.old) (Some writer.new) (records_text (spec.passes entries.now))) }
+{
+    for i in 0..entries.len() {
+        put_pass(writer, draft, entries[i])?;
+    }
+    Ok(())
+}
+
 // Writes the records of a recovery, or a front of them where a growth is refused.
 fn put_recovery(
     writer: &mut RecordWriter,
     draft: &mut Draft,
     sweeps: u32,
+    entries: &[Passed],
     choices: &[Choice],
     incarnations: &[u16],
     states: &[Option<State>],
 ) -> Result<(), AllocError>
-    ensures ok { OnOk result (writer.new ≡ writer.old ++ records_text (spec.recovery sweeps choices.now incarnations.now states.now)) }
-    ensures err { OnErr result (PutsFront (Some writer.old) (Some writer.new) (records_text (spec.recovery sweeps choices.now incarnations.now states.now))) }
+    ensures ok { OnOk result (writer.new ≡ writer.old ++ records_text (spec.recovery sweeps entries.now choices.now incarnations.now states.now)) }
+    ensures err { OnErr result (PutsFront (Some writer.old) (Some writer.new) (records_text (spec.recovery sweeps entries.now choices.now incarnations.now states.now))) }
 {
-    put_recovered(writer, draft, sweeps)?;
-    put_lines(writer, draft, choices, incarnations, states)
+    put_recovered(writer, draft, sweeps, entries.len())?;
+    put_lines(writer, draft, choices, incarnations, states)?;
+    put_passes(writer, draft, entries)
 }
 
 /// Writes the records of a reply behind those that were written before.
@@ -206,6 +248,7 @@ pub fn put_reply(
             writer,
             draft,
             plan.sweeps,
+            plan.certificate.as_slice(),
             plan.line.choices(),
             incarnations.as_slice(),
             states.as_slice(),
@@ -230,8 +273,8 @@ pub fn put_refusal(
     writer.put(draft)
 }
 
-// The number of a refused step.
-fn refusal_code(error: StepError) -> u32
+/// The number of a refused step.
+pub(crate) fn refusal_code(error: StepError) -> u32
     ensures { result ≡ spec.refusal_code error }
 {
     error.code()
