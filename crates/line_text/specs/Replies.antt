@@ -9,7 +9,7 @@ use Rattle.line_names.specs.Lines.{choice_at}
 use Rattle.line_fields.specs.Records.{Record}
 use Rattle.line_fields.specs.Texts.{hex_text}
 use Rattle.line_world.specs.declared.replies.Reply.{Reply}
-use Rattle.line_world.specs.declared.replies.Reply.TheVariants.{Sent, Took, Checked, Recovered}
+use Rattle.line_world.specs.declared.replies.Reply.TheVariants.{Sent, Took, Stale, Repeated, Checked, Damaged, Recovered}
 use Rattle.line_world.specs.declared.replies.StepError.{StepError}
 use Rattle.line_world.specs.declared.replies.StepError.TheVariants as errors
 use Rattle.line_world.specs.declared.replies.Answer.{Answer}
@@ -24,6 +24,14 @@ none_text = codes "-"
 abbrev pub sent : MsgName → Record
 sent m = codes "sent" ∷ decimal m.from ∷ decimal m.inc ∷ decimal m.number ∷ []
 
+-- stale,FROM,INC,NUMBER
+abbrev pub stale : MsgName → Record
+stale m = codes "stale" ∷ decimal m.from ∷ decimal m.inc ∷ decimal m.number ∷ []
+
+-- repeated,FROM,INC,NUMBER
+abbrev pub repeated : MsgName → Record
+repeated m = codes "repeated" ∷ decimal m.from ∷ decimal m.inc ∷ decimal m.number ∷ []
+
 -- the round of a forced check, where one was taken
 abbrev pub round_text : Option ℕ → List ℕ
 round_text None = none_text
@@ -37,9 +45,13 @@ took m forced = codes "took" ∷ decimal m.from ∷ decimal m.inc ∷ decimal m.
 abbrev pub checked : ℕ → ℕ → Record
 checked p check = codes "checked" ∷ decimal p ∷ decimal check ∷ []
 
--- recovered,SWEEPS,ENTRIES,REPLAYS, where replays aren't counted yet
-abbrev pub recovered : ℕ → ℕ → Record
-recovered sweeps entries = codes "recovered" ∷ decimal sweeps ∷ decimal entries ∷ decimal 0 ∷ []
+-- damaged,P,C
+abbrev pub damaged : ℕ → ℕ → Record
+damaged p check = codes "damaged" ∷ decimal p ∷ decimal check ∷ []
+
+-- recovered,SWEEPS,ENTRIES,REPLAYS
+abbrev pub recovered : ℕ → ℕ → ℕ → Record
+recovered sweeps entries replays = codes "recovered" ∷ decimal sweeps ∷ decimal entries ∷ decimal replays ∷ []
 
 -- a choice: the number of a check, or now
 abbrev pub choice_text : Choice → List ℕ
@@ -71,9 +83,18 @@ pass entry = codes "pass" ∷ decimal entry.at ∷ choice_text entry.choice ∷ 
 abbrev pub passes : List Passed → List Record
 passes entries = map pass entries
 
+-- replay,FROM,INC,NUMBER
+abbrev pub replay : MsgName → Record
+replay m = codes "replay" ∷ decimal m.from ∷ decimal m.inc ∷ decimal m.number ∷ []
+
+-- the records of the messages that are replayed, in their order
+abbrev pub replays_of : List MsgName → List Record
+replays_of replays = map replay replays
+
 -- the records of a recovery
-abbrev pub recovery : ℕ → List Passed → List Choice → List ℕ → List (Option (List ℕ)) → List Record
-recovery sweeps entries choices incarnations states = recovered sweeps (length entries) ∷ (lines choices incarnations states ++ passes entries)
+abbrev pub recovery : ℕ → List Passed → List MsgName → List Choice → List ℕ → List (Option (List ℕ)) → List Record
+recovery sweeps entries replays choices incarnations states =
+    recovered sweeps (length entries) (length replays) ∷ (lines choices incarnations states ++ (passes entries ++ replays_of replays))
 
 -- refused,CODE,NAME
 abbrev pub refused : ℕ → Record
@@ -83,15 +104,21 @@ refused code = codes "refused" ∷ decimal code ∷ name_of code ∷ []
 abbrev pub reply_records : Reply → List Record
 reply_records (Sent message) = sent message ∷ []
 reply_records (Took message forced) = took message forced ∷ []
+reply_records (Stale message) = stale message ∷ []
+reply_records (Repeated message) = repeated message ∷ []
 reply_records (Checked at check) = checked at check ∷ []
-reply_records (Recovered plan states incarnations) = recovery plan.sweeps plan.certificate.items plan.line incarnations.items states.items
+reply_records (Damaged at check) = damaged at check ∷ []
+reply_records (Recovered plan states incarnations) = recovery plan.sweeps plan.certificate.items plan.replays.items plan.line incarnations.items states.items
 
 -- the number of a refused step
 abbrev pub refusal_code : StepError → ℕ
 refusal_code errors.OutOfMemory = 0
 refusal_code errors.NoSuchProcess = 1
 refusal_code errors.TapeFull = 3
+refusal_code errors.NoSuchCheck = 4
 refusal_code errors.StateTooLong = 5
+refusal_code errors.InitialDamage = 7
+refusal_code errors.AlreadyDamaged = 8
 refusal_code errors.ToSelf = 17
 refusal_code errors.LinkEmpty = 18
 refusal_code errors.BadPick = 19

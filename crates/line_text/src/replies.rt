@@ -8,6 +8,7 @@ ghost use Rattle.line_text.specs.Replies as spec;
 use crate::faults::name_of;
 use line_fields::{Draft, RecordWriter};
 use line_names::{Choice, MsgName, Passed, ProcId};
+use line_plan::Plan;
 use line_tape::State;
 use line_world::{Answer, Reply, StepError};
 use std::alloc::{AllocError, Global};
@@ -44,6 +45,32 @@ fn put_sent(
     writer.put(draft)
 }
 
+// Writes `stale,FROM,INC,NUMBER`.
+fn put_stale(
+    writer: &mut RecordWriter,
+    draft: &mut Draft,
+    message: MsgName,
+) -> Result<(), AllocError>
+    ensures ok { OnOk result (writer.new ≡ writer.old ++ record_text (spec.stale message)) }
+    ensures err { OnErr result (writer.new ≡ writer.old) }
+{
+    begin(draft, b"stale", message)?;
+    writer.put(draft)
+}
+
+// Writes `repeated,FROM,INC,NUMBER`.
+fn put_repeated(
+    writer: &mut RecordWriter,
+    draft: &mut Draft,
+    message: MsgName,
+) -> Result<(), AllocError>
+    ensures ok { OnOk result (writer.new ≡ writer.old ++ record_text (spec.repeated message)) }
+    ensures err { OnErr result (writer.new ≡ writer.old) }
+{
+    begin(draft, b"repeated", message)?;
+    writer.put(draft)
+}
+
 // Adds the round of a forced check, or `-`.
 fn add_round(draft: &mut Draft, forced: Option<u32>) -> Result<(), AllocError>
     ensures { OnOk result (draft.new ≡ draft.old ++ spec.round_text forced ∷ []) }
@@ -69,6 +96,14 @@ fn put_took(
     writer.put(draft)
 }
 
+// Adds a process and a check of it.
+fn add_check(draft: &mut Draft, at: ProcId, check: u32) -> Result<(), AllocError>
+    ensures { OnOk result (draft.new ≡ draft.old ++ decimal at ∷ decimal check ∷ []) }
+{
+    draft.number(u64::from(at.get()))?;
+    draft.number(u64::from(check))
+}
+
 // Writes `checked,P,C`.
 fn put_checked(
     writer: &mut RecordWriter,
@@ -81,26 +116,42 @@ fn put_checked(
 {
     draft.clear();
     draft.word(b"checked")?;
-    draft.number(u64::from(at.get()))?;
-    draft.number(u64::from(check))?;
+    add_check(draft, at, check)?;
     writer.put(draft)
 }
 
-// Writes `recovered,SWEEPS,ENTRIES,0`.
+// Writes `damaged,P,C`.
+fn put_damaged(
+    writer: &mut RecordWriter,
+    draft: &mut Draft,
+    at: ProcId,
+    check: u32,
+) -> Result<(), AllocError>
+    ensures ok { OnOk result (writer.new ≡ writer.old ++ record_text (spec.damaged at check)) }
+    ensures err { OnErr result (writer.new ≡ writer.old) }
+{
+    draft.clear();
+    draft.word(b"damaged")?;
+    add_check(draft, at, check)?;
+    writer.put(draft)
+}
+
+// Writes `recovered,SWEEPS,ENTRIES,REPLAYS`.
 fn put_recovered(
     writer: &mut RecordWriter,
     draft: &mut Draft,
     sweeps: u32,
     entries: usize,
+    replays: usize,
 ) -> Result<(), AllocError>
-    ensures ok { OnOk result (writer.new ≡ writer.old ++ record_text (spec.recovered sweeps entries)) }
+    ensures ok { OnOk result (writer.new ≡ writer.old ++ record_text (spec.recovered sweeps entries replays)) }
     ensures err { OnErr result (writer.new ≡ writer.old) }
 {
     draft.clear();
     draft.word(b"recovered")?;
     draft.number(u64::from(sweeps))?;
     draft.number(entries as u64)?;
-    draft.number(0)?;
+    draft.number(replays as u64)?;
     writer.put(draft)
 }
 
@@ -206,22 +257,64 @@ fn put_passes(
     Ok(())
 }
 
+// Writes `replay,FROM,INC,NUMBER`.
+fn put_replay(
+    writer: &mut RecordWriter,
+    draft: &mut Draft,
+    message: MsgName,
+) -> Result<(), AllocError>
+    ensures ok { OnOk result (writer.new ≡ writer.old ++ record_text (spec.replay message)) }
+    ensures err { OnErr result (writer.new ≡ writer.old) }
+{
+    begin(draft, b"replay", message)?;
+    writer.put(draft)
+}
+
+// Writes the records of the messages that are replayed, or a front of them where a growth is refused.
+fn put_replays(
+    writer: &mut RecordWriter,
+    draft: &mut Draft,
+    replays: &[MsgName],
+) -> Result<(), AllocError>
+    ensures ok { OnOk result (writer.new ≡ writer.old ++ records_text (spec.replays_of replays.now)) }
+    ensures err { OnErr result (PutsFront (Some writer.old) (Some writer.new) (records_text (spec.replays_of replays.now))) }
+{
+    for i in 0..replays.len() {
+        put_replay(writer, draft, replays[i])?;
+    }
+    Ok(())
+}
+
+// Writes a certificate and replays, or a front of them where a growth is refused.
+fn put_rest(
+    writer: &mut RecordWriter,
+    draft: &mut Draft,
+    entries: &[Passed],
+    replays: &[MsgName],
+) -> Result<(), AllocError>
+    ensures ok { OnOk result (writer.new ≡ writer.old ++ records_text (spec.passes entries.now ++ spec.replays_of replays.now)) }
+    ensures err { OnErr result (PutsFront (Some writer.old) (Some writer.new) (records_text (spec.passes entries.now ++ spec.replays_of replays.now))) }
+{
+    put_passes(writer, draft, entries)?;
+    put_replays(writer, draft, replays)
+}
+
 // Writes the records of a recovery, or a front of them where a growth is refused.
 fn put_recovery(
     writer: &mut RecordWriter,
     draft: &mut Draft,
-    sweeps: u32,
-    entries: &[Passed],
-    choices: &[Choice],
+    plan: &Plan,
     incarnations: &[u16],
     states: &[Option<State>],
 ) -> Result<(), AllocError>
-    ensures ok { OnOk result (writer.new ≡ writer.old ++ records_text (spec.recovery sweeps entries.now choices.now incarnations.now states.now)) }
-    ensures err { OnErr result (PutsFront (Some writer.old) (Some writer.new) (records_text (spec.recovery sweeps entries.now choices.now incarnations.now states.now))) }
+    ensures ok { OnOk result (writer.new ≡ writer.old ++ records_text (spec.recovery plan.now.sweeps plan.now.certificate.items plan.now.replays.items plan.now.line incarnations.now states.now)) }
+    ensures err { OnErr result (PutsFront (Some writer.old) (Some writer.new) (records_text (spec.recovery plan.now.sweeps plan.now.certificate.items plan.now.replays.items plan.now.line incarnations.now states.now))) }
 {
-    put_recovered(writer, draft, sweeps, entries.len())?;
-    put_lines(writer, draft, choices, incarnations, states)?;
-    put_passes(writer, draft, entries)
+    let entries = plan.certificate.as_slice();
+    let replays = plan.replays.as_slice();
+    put_recovered(writer, draft, plan.sweeps, entries.len(), replays.len())?;
+    put_lines(writer, draft, plan.line.choices(), incarnations, states)?;
+    put_rest(writer, draft, entries, replays)
 }
 
 /// Writes the records of a reply behind those that were written before.
@@ -239,7 +332,10 @@ pub fn put_reply(
     match reply {
         Reply::Sent { message } => put_sent(writer, draft, *message),
         Reply::Took { message, forced } => put_took(writer, draft, *message, *forced),
+        Reply::Stale { message } => put_stale(writer, draft, *message),
+        Reply::Repeated { message } => put_repeated(writer, draft, *message),
         Reply::Checked { at, check } => put_checked(writer, draft, *at, *check),
+        Reply::Damaged { at, check } => put_damaged(writer, draft, *at, *check),
         Reply::Recovered {
             plan,
             states,
@@ -247,9 +343,7 @@ pub fn put_reply(
         } => put_recovery(
             writer,
             draft,
-            plan.sweeps,
-            plan.certificate.as_slice(),
-            plan.line.choices(),
+            plan,
             incarnations.as_slice(),
             states.as_slice(),
         ),

@@ -52,7 +52,7 @@ fn finds_the_first_fault(rt: HostRuntime) {
         (b"world,1,0,fifo", Some((1, 6))),
         (b"world,1,65,lifo", Some((1, 6))),
         (b"world,1,2,lifo", Some((1, 32))),
-        (b"world,1,2,unordered", Some((1, 32))),
+        (b"world,1,2,unordered", None),
     ] {
         assert_eq!(rt; fault_of(rt.alloc(), text), want, "at {text:?}");
     }
@@ -77,6 +77,8 @@ fn finds_the_first_fault_of_a_command(rt: HostRuntime) {
         ),
         (b"world,1,2,fifo\ncheck,0\n", Some((2, 32))),
         (b"world,1,2,fifo\ncheck,-1,\n", Some((2, 33))),
+        (b"world,1,2,fifo\ndamage,0\n", Some((2, 32))),
+        (b"world,1,2,fifo\ndamage,0,\n", Some((2, 33))),
         (b"world,1,2,fifo\nrecover,\n", Some((2, 33))),
         (b"world,1,2,fifo\nrecover,0,x\n", Some((2, 33))),
         (b"world,1,2,fifo\nworld,1,2,fifo\n", Some((2, 32))),
@@ -123,6 +125,7 @@ fn show(out: &mut String, command: &Command) -> Result<(), AllocError> {
         Command::Do(Step::Check { at, state }) => {
             write!(out, "check {} {:?};", at.get(), state.bytes())?
         }
+        Command::Do(Step::Damage { at, check }) => write!(out, "damage {} {check};", at.get())?,
         Command::Do(Step::Recover { failed }) => show_set(out, failed)?,
     }
     Ok(())
@@ -265,6 +268,10 @@ fn recovered(alloc: Global) -> Result<Reply, AllocError> {
     let stored = State::of(Vec::from_slice(alloc, b"\xa1\x0f")?);
     let states = vec![in alloc; Some(stored), None]?;
     let incarnations = Vec::from_slice(alloc, &[1u16, 0])?;
+    let mut replays = Vec::new(alloc);
+    if let Some(message) = name(5) {
+        replays.push(message)?;
+    }
     let mut certificate: Certificate = Vec::new(alloc);
     if let Some(message) = name(7) {
         certificate.push(Passed {
@@ -278,6 +285,7 @@ fn recovered(alloc: Global) -> Result<Reply, AllocError> {
             line,
             certificate,
             sweeps: 3,
+            replays,
         },
         states,
         incarnations,
@@ -290,7 +298,7 @@ fn writes_a_line(rt: HostRuntime) -> Result<(), Fail> {
     let text = write_reply(rt.alloc(), &reply)?;
     assert_eq!(rt;
         text.as_slice(),
-        b"recovered,3,1,0\nline,0,1,1,a10f\nline,1,now,0,-\npass,1,now,1,65535,7\n".as_slice()
+        b"recovered,3,1,1\nline,0,1,1,a10f\nline,1,now,0,-\npass,1,now,1,65535,7\nreplay,1,65535,5\n".as_slice()
     );
     Ok(())
 }
@@ -391,6 +399,21 @@ fn runs_scripts(rt: HostRuntime) -> Result<(), Fail> {
         (ONE_PROCESS, 0, ONE_PROCESS_TOLD),
         (THREE_CHECKS, 0, THREE_CHECKS_TOLD),
         (DOMINO, 0, DOMINO_TOLD),
+        (
+            b"world,1,1,fifo\ncheck,0,a1\ndamage,0,0\ndamage,0,1\ndamage,0,1\ndamage,0,2\nrecover,0\n",
+            3,
+            b"checked,0,1\nrefused,7,InitialDamage\ndamaged,0,1\nrefused,8,AlreadyDamaged\nrefused,4,NoSuchCheck\nrecovered,1,0,0\nline,0,0,1,\n",
+        ),
+        (
+            b"world,1,2,fifo\nsend,0,1,61\ncheck,0,a1\nrecover,0,1\n",
+            0,
+            b"sent,0,0,0\nchecked,0,1\nrecovered,1,0,1\nline,0,1,1,a1\nline,1,0,1,\nreplay,0,0,0\n",
+        ),
+        (
+            b"world,1,2,unordered\nsend,0,1,61\ndeliver,0,1,0,\ndeliver,0,1,0,\n",
+            0,
+            b"sent,0,0,0\ntook,0,0,0,-\nrepeated,0,0,0\n",
+        ),
         (
             b"world,1,2,fifo\nsend,0,0,61\nsend,2,0,61\ndeliver,0,1,0,\nsend,0,1,61\ndeliver,0,1,1,\n",
             4,
