@@ -48,6 +48,16 @@ fn writer_over(alloc: Global) -> Writer<Vec<u8>>
         .from_writer(Vec::new(alloc))
 }
 
+// Another writer in place of one. It stands apart, and seldom runs: what calls it has no room of a
+// writer's size among its own variables.
+#[cold]
+#[inline(never)]
+fn renew(alloc: Global, writer: &mut Writer<Vec<u8>>)
+    ensures { IsWriting writer.new }
+{
+    *writer = writer_over(alloc);
+}
+
 // Writes a record whose fields need no quotes, and lets it out.
 fn write(writer: &mut Writer<Vec<u8>>, row: &ByteRecord) -> Result<(), Error>
     requires writing { IsWriting writer.old }
@@ -83,7 +93,7 @@ fn write_behind(
     match write(writer, row) {
         Ok(()) => out.extend_from_slice(&writer.get_ref()[start..]),
         Err(error) => {
-            *writer = writer_over(alloc);
+            renew(alloc, writer);
             Err(let_go(error))
         }
     }
@@ -110,7 +120,7 @@ impl RecordWriter {
         ensures err { OnErr result (self.new ≡ self.old) }
     {
         if self.writer.get_ref().len() > MOST_WRITTEN {
-            self.writer = writer_over(self.alloc);
+            renew(self.alloc, &mut self.writer);
         }
         write_behind(self.alloc, &mut self.writer, &mut self.text, &draft.record)
     }

@@ -9,8 +9,14 @@ use Rattle.line_devices.specs.Devices.{Puts, PutsFront}
 use Rattle.line_fields.specs.Texts.{record_text, records_text}
 use Rattle.line_world.specs.Machine.{Machine}
 use Rattle.line_text.specs.declared.commands.Command.{Command}
-use Rattle.line_text.specs.declared.engines.Told.{Told}
-use Rattle.line_text.specs.Runs.{told_records, is_refused, Tells, TellsAll, text_of, refusals, IsRunTo, PutsButEnd, Runs, RunsFront, RunsText, RunsTextFront, StopsAt, StopsText, Writes, WritesFront, first_of}
+use Rattle.line_text.specs.declared.commands.Command.TheVariants as commands
+use Rattle.line_world.specs.declared.steps.Step.{Step}
+use Rattle.line_world.specs.declared.replies.Reply.{Reply}
+use Rattle.line_world.specs.declared.replies.StepError.{StepError}
+use Rattle.line_world.specs.declared.replies.Answer.TheVariants as answers
+use Rattle.line_world.specs.Runs.{Takes}
+use Rattle.line_text.specs.Replies.{refusal_code, reply_records, refused as refused_record}
+use Rattle.line_text.specs.Runs.{Told, Answered, Refused, told_records, is_refused, Tells, TellsAll, text_of, refusals, IsRunTo, PutsButEnd, Runs, RunsFront, RunsText, RunsTextFront, StopsAt, StopsText, Writes, WritesFront, first_of}
 use Rattle.line_text.specs.Scripts.{Script, script_of_text}
 use Rattle.line_devices.proofs.PutLemmas.{puts_both, front_then}
 use Rattle.std.proofs.Math.Seq.{take-add}
@@ -80,12 +86,37 @@ tells_nothing old command text later same = record {
 }
 
 -- a command that was told something, of which a front was written
-pub tells_front : (old new : Machine) (command : Command) (one : Told) (text later : List ℕ) → Tells old command one new → PutsFront (Some text) (Some later) (records_text (told_records one)) → WritesFront old command text later
+tells_front : (old new : Machine) (command : Command) (one : Told) (text later : List ℕ) → Tells old command one new → PutsFront (Some text) (Some later) (records_text (told_records one)) → WritesFront old command text later
 tells_front old new command one text later tells (front, rest, parts, written) = record {
   own = front;
   next = record { told = one ∷ []; end = new; rest = rest; one = omega arith; run = (new, tells, refl); text = text_of-one one ∙ parts };
   written = written;
 }
+
+-- a step that was done, and its reply was written
+pub reply_written : (old new : Machine) (step : Step) (reply : Reply) (text later : List ℕ) (refused : ℕ) → Takes old step (answers.Done reply) new → later ≡ text ++ records_text (reply_records reply)
+    → Writes old (commands.Do step) new text refused later refused
+reply_written old new step reply text later refused takes written = record { told = Answered (answers.Done reply); tells = takes; written = written; counted = omega arith }
+
+pub reply_front : (old new : Machine) (step : Step) (reply : Reply) (text later : List ℕ) → Takes old step (answers.Done reply) new → PutsFront (Some text) (Some later) (records_text (reply_records reply))
+    → WritesFront old (commands.Do step) text later
+reply_front old new step reply text later takes front = tells_front old new (commands.Do step) (Answered (answers.Done reply)) text later takes front
+
+-- a refusal that was written
+refusal_text : (code : ℕ) (text later : List ℕ) → later ≡ text ++ record_text (refused_record code) → later ≡ text ++ records_text (refused_record code ∷ [])
+refusal_text code text later h = h ∙ ap (λ (t : List ℕ). text ++ t) (sym (append-nil (record_text (refused_record code))))
+
+pub refusal_written : (old new : Machine) (step : Step) (error : StepError) (code : ℕ) (text later : List ℕ) (refused count : ℕ) → Takes old step (answers.Refused error) new → code ≡ refusal_code error
+    → (later ≡ text ++ record_text (refused_record code)) × (count ≡ refused + 1) → Writes old (commands.Do step) new text refused later count
+refusal_written old new step error code text later refused count takes same (written, counted) = record {
+  told = Answered (answers.Refused error);
+  tells = takes;
+  written = subst (λ (i : ℕ). later ≡ text ++ records_text (refused_record i ∷ [])) same (refusal_text code text later written);
+  counted = counted;
+}
+
+pub told_written : (old : Machine) (code : ℕ) (text later : List ℕ) (refused count : ℕ) → (later ≡ text ++ record_text (refused_record code)) × (count ≡ refused + 1) → Writes old (commands.Refused code) old text refused later count
+told_written old code text later refused count (written, counted) = record { told = Refused code; tells = (refl, refl); written = refusal_text code text later written; counted = counted }
 
 -- where nothing was put, all is held
 pub holds_all : (taken : Option (List ℕ)) (held : List ℕ) → PutsButEnd taken taken held held

@@ -1,6 +1,7 @@
 -- The records that are written for what the machine answers.
-use Rattle.std.specs.Prelude.{ℕ, List, [], ◌∷◌, length, map, Option, Some, None, codes, decimal, slice_index_or}
+use Rattle.std.specs.Prelude.{ℕ, List, [], ◌∷◌, ◌++◌, length, map, Option, Some, None, codes, decimal, slice_index_or}
 use Rattle.std.specs.List.{range_with_len}
+use Rattle.line_names.specs.declared.certificates.Passed.{Passed}
 use Rattle.line_names.specs.declared.choices.Choice.{Choice}
 use Rattle.line_names.specs.declared.choices.Choice.TheVariants.{Check, Now}
 use Rattle.line_names.specs.declared.messages.MsgName.{MsgName}
@@ -8,7 +9,7 @@ use Rattle.line_names.specs.Lines.{choice_at}
 use Rattle.line_fields.specs.Records.{Record}
 use Rattle.line_fields.specs.Texts.{hex_text}
 use Rattle.line_world.specs.declared.replies.Reply.{Reply}
-use Rattle.line_world.specs.declared.replies.Reply.TheVariants.{Sent, Took, Checked, Recovered}
+use Rattle.line_world.specs.declared.replies.Reply.TheVariants.{Sent, Took, Stale, Repeated, Checked, Damaged, Recovered}
 use Rattle.line_world.specs.declared.replies.StepError.{StepError}
 use Rattle.line_world.specs.declared.replies.StepError.TheVariants as errors
 use Rattle.line_world.specs.declared.replies.Answer.{Answer}
@@ -23,6 +24,14 @@ none_text = codes "-"
 abbrev pub sent : MsgName → Record
 sent m = codes "sent" ∷ decimal m.from ∷ decimal m.inc ∷ decimal m.number ∷ []
 
+-- stale,FROM,INC,NUMBER
+abbrev pub stale : MsgName → Record
+stale m = codes "stale" ∷ decimal m.from ∷ decimal m.inc ∷ decimal m.number ∷ []
+
+-- repeated,FROM,INC,NUMBER
+abbrev pub repeated : MsgName → Record
+repeated m = codes "repeated" ∷ decimal m.from ∷ decimal m.inc ∷ decimal m.number ∷ []
+
 -- the round of a forced check, where one was taken
 abbrev pub round_text : Option ℕ → List ℕ
 round_text None = none_text
@@ -36,9 +45,13 @@ took m forced = codes "took" ∷ decimal m.from ∷ decimal m.inc ∷ decimal m.
 abbrev pub checked : ℕ → ℕ → Record
 checked p check = codes "checked" ∷ decimal p ∷ decimal check ∷ []
 
--- recovered,SWEEPS,ENTRIES,REPLAYS, where entries and replays aren't counted yet
-abbrev pub recovered : ℕ → Record
-recovered sweeps = codes "recovered" ∷ decimal sweeps ∷ decimal 0 ∷ decimal 0 ∷ []
+-- damaged,P,C
+abbrev pub damaged : ℕ → ℕ → Record
+damaged p check = codes "damaged" ∷ decimal p ∷ decimal check ∷ []
+
+-- recovered,SWEEPS,ENTRIES,REPLAYS
+abbrev pub recovered : ℕ → ℕ → ℕ → Record
+recovered sweeps entries replays = codes "recovered" ∷ decimal sweeps ∷ decimal entries ∷ decimal replays ∷ []
 
 -- a choice: the number of a check, or now
 abbrev pub choice_text : Choice → List ℕ
@@ -62,9 +75,26 @@ line_of choices incarnations states p = line p (choice_at choices p) (slice_inde
 abbrev pub lines : List Choice → List ℕ → List (Option (List ℕ)) → List Record
 lines choices incarnations states = map (line_of choices incarnations states) (range_with_len 0 (length choices))
 
+-- pass,P,CHOICE,FROM,INC,NUMBER
+abbrev pub pass : Passed → Record
+pass entry = codes "pass" ∷ decimal entry.at ∷ choice_text entry.choice ∷ decimal entry.message.from ∷ decimal entry.message.inc ∷ decimal entry.message.number ∷ []
+
+-- the records of a certificate, in its order
+abbrev pub passes : List Passed → List Record
+passes entries = map pass entries
+
+-- replay,FROM,INC,NUMBER
+abbrev pub replay : MsgName → Record
+replay m = codes "replay" ∷ decimal m.from ∷ decimal m.inc ∷ decimal m.number ∷ []
+
+-- the records of the messages that are replayed, in their order
+abbrev pub replays_of : List MsgName → List Record
+replays_of replays = map replay replays
+
 -- the records of a recovery
-abbrev pub recovery : ℕ → List Choice → List ℕ → List (Option (List ℕ)) → List Record
-recovery sweeps choices incarnations states = recovered sweeps ∷ lines choices incarnations states
+abbrev pub recovery : ℕ → List Passed → List MsgName → List Choice → List ℕ → List (Option (List ℕ)) → List Record
+recovery sweeps entries replays choices incarnations states =
+    recovered sweeps (length entries) (length replays) ∷ (lines choices incarnations states ++ (passes entries ++ replays_of replays))
 
 -- refused,CODE,NAME
 abbrev pub refused : ℕ → Record
@@ -74,15 +104,21 @@ refused code = codes "refused" ∷ decimal code ∷ name_of code ∷ []
 abbrev pub reply_records : Reply → List Record
 reply_records (Sent message) = sent message ∷ []
 reply_records (Took message forced) = took message forced ∷ []
+reply_records (Stale message) = stale message ∷ []
+reply_records (Repeated message) = repeated message ∷ []
 reply_records (Checked at check) = checked at check ∷ []
-reply_records (Recovered plan states incarnations) = recovery plan.sweeps plan.line incarnations.items states.items
+reply_records (Damaged at check) = damaged at check ∷ []
+reply_records (Recovered plan states incarnations) = recovery plan.sweeps plan.certificate.items plan.replays.items plan.line incarnations.items states.items
 
 -- the number of a refused step
 abbrev pub refusal_code : StepError → ℕ
 refusal_code errors.OutOfMemory = 0
 refusal_code errors.NoSuchProcess = 1
 refusal_code errors.TapeFull = 3
+refusal_code errors.NoSuchCheck = 4
 refusal_code errors.StateTooLong = 5
+refusal_code errors.InitialDamage = 7
+refusal_code errors.AlreadyDamaged = 8
 refusal_code errors.ToSelf = 17
 refusal_code errors.LinkEmpty = 18
 refusal_code errors.BadPick = 19

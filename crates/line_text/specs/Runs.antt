@@ -12,28 +12,32 @@ use Rattle.line_text.specs.declared.commands.Command.{Command}
 use Rattle.line_text.specs.declared.commands.Command.TheVariants as commands
 use Rattle.line_text.specs.declared.engines.Stop.{Stop}
 use Rattle.line_text.specs.declared.engines.Stop.TheVariants as stops
-use Rattle.line_text.specs.declared.engines.Told.{Told}
-use Rattle.line_text.specs.declared.engines.Told.TheVariants as told
+use Rattle.line_world.specs.declared.replies.Answer.{Answer}
 use Rattle.line_text.specs.Replies.{answer_records, refused}
 use Rattle.line_text.specs.Scripts.{Script, script_of_text}
 
+-- what a command is told: the machine's answer, or the number of its refusal before any step
+pub data Told : Type 0 where
+  Answered : Answer → Told
+  Refused : ℕ → Told
+
 -- the records of what a command is told
 abbrev pub told_records : Told → List Record
-told_records (told.Answered answer) = answer_records answer
-told_records (told.Refused code) = refused code ∷ []
+told_records (Answered answer) = answer_records answer
+told_records (Refused code) = refused code ∷ []
 
 -- a command was refused, by the machine or before any step
 abbrev pub is_refused : Told → Bool
-is_refused (told.Answered (answers.Done reply)) = false
-is_refused (told.Answered (answers.Refused error)) = true
-is_refused (told.Refused code) = true
+is_refused (Answered (answers.Done reply)) = false
+is_refused (Answered (answers.Refused error)) = true
+is_refused (Refused code) = true
 
 -- from old, a command may be told this, and leaves new
 abbrev pub Tells : Machine → Command → Told → Machine → Type 0
-Tells old (commands.Do step) (told.Answered answer) new = Takes old step answer new
-Tells old (commands.Do step) (told.Refused code) new = ⊥
-Tells old (commands.Refused code) (told.Answered answer) new = ⊥
-Tells old (commands.Refused code) (told.Refused shown) new = (shown ≡ code) × (new ≡ old)
+Tells old (commands.Do step) (Answered answer) new = Takes old step answer new
+Tells old (commands.Do step) (Refused code) new = ⊥
+Tells old (commands.Refused code) (Answered answer) new = ⊥
+Tells old (commands.Refused code) (Refused shown) new = (shown ≡ code) × (new ≡ old)
 
 -- from old, commands may be told these, one after another
 abbrev pub TellsAll : Machine → List Command → List Told → Machine → Type 0

@@ -11,8 +11,8 @@ use Rattle.line_fields.specs.Faults.{code_of}
 use Rattle.line_fields.specs.Fields.{◌>>=◌, want, num, hex}
 use Rattle.line_fields.specs.Records.{Record, field, records_of_text}
 use Rattle.line_world.specs.declared.steps.Mode.{Mode}
-use Rattle.line_world.specs.declared.steps.Mode.TheVariants.{Fifo}
-use Rattle.line_world.specs.declared.steps.Step.TheVariants.{Send, Deliver, Check, Recover}
+use Rattle.line_world.specs.declared.steps.Mode.TheVariants.{Fifo, Unordered}
+use Rattle.line_world.specs.declared.steps.Step.TheVariants.{Send, Deliver, Check, Damage, Recover}
 use Rattle.line_text.specs.declared.commands.Command.{Command}
 use Rattle.line_text.specs.declared.commands.Command.TheVariants.{Do, Refused}
 use Rattle.line_text.specs.declared.commands.Kind.{Kind}
@@ -29,7 +29,10 @@ place text = num 0 18446744073709551615 text
 
 -- how links deliver
 abbrev pub mode_named : List ℕ → Result Mode Fault
-mode_named text = if bytes_eq text (codes "fifo") then Ok Fifo else Err faults.BadRecord
+mode_named text =
+    if bytes_eq text (codes "fifo") then Ok Fifo
+    else if bytes_eq text (codes "unordered") then Ok Unordered
+    else Err faults.BadRecord
 
 -- world,1,N,MODE
 unfoldable pub world_of : Record → Result World Fault
@@ -79,6 +82,13 @@ check_of n r = do
   state ← hex (field r 2)
   Ok (below n (at ∷ []) (Do (Check at state)))
 
+-- damage,P,C
+unfoldable pub damage_of : ℕ → Record → Result Command Fault
+damage_of n r = do
+  at ← plain (field r 1)
+  check ← plain (field r 2)
+  Ok (below n (at ∷ []) (Do (Damage at check)))
+
 -- the numbers of fields, from left to right
 unfoldable pub numbers : Record → Result (List ℕ) Fault
 numbers [] = Ok []
@@ -99,6 +109,7 @@ kind_named first =
     if bytes_eq first (codes "send") then Ok kinds.Send
     else if bytes_eq first (codes "deliver") then Ok kinds.Deliver
     else if bytes_eq first (codes "check") then Ok kinds.Check
+    else if bytes_eq first (codes "damage") then Ok kinds.Damage
     else if bytes_eq first (codes "recover") then Ok kinds.Recover
     else Err faults.BadRecord
 
@@ -107,6 +118,7 @@ abbrev pub has_width : Kind → ℕ → Bool
 has_width kinds.Send width = width == 4
 has_width kinds.Deliver width = width == 5
 has_width kinds.Check width = width == 3
+has_width kinds.Damage width = width == 3
 has_width kinds.Recover width = true
 
 -- the command of a record of that kind
@@ -114,6 +126,7 @@ abbrev pub of_kind : Kind → ℕ → Record → Result Command Fault
 of_kind kinds.Send n r = send_of n r
 of_kind kinds.Deliver n r = deliver_of n r
 of_kind kinds.Check n r = check_of n r
+of_kind kinds.Damage n r = damage_of n r
 of_kind kinds.Recover n r = recover_of n r
 
 -- the command that a record spells, among n processes

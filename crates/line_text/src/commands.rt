@@ -36,6 +36,7 @@ pub(crate) enum Kind {
     Send,
     Deliver,
     Check,
+    Damage,
     Recover,
 }
 
@@ -68,6 +69,8 @@ fn mode_named(text: &[u8]) -> Result<Mode, Fault>
 {
     if text == b"fifo".as_slice() {
         Ok(Mode::Fifo)
+    } else if text == b"unordered".as_slice() {
+        Ok(Mode::Unordered)
     } else {
         Err(Fault::BadRecord)
     }
@@ -98,6 +101,8 @@ fn kind_named(first: &[u8]) -> Result<Kind, Fault>
         Ok(Kind::Deliver)
     } else if first == b"check".as_slice() {
         Ok(Kind::Check)
+    } else if first == b"damage".as_slice() {
+        Ok(Kind::Damage)
     } else if first == b"recover".as_slice() {
         Ok(Kind::Recover)
     } else {
@@ -112,6 +117,7 @@ fn has_width(kind: Kind, width: usize) -> bool
         Kind::Send => width == 4,
         Kind::Deliver => width == 5,
         Kind::Check => width == 3,
+        Kind::Damage => width == 3,
         Kind::Recover => true,
     }
 }
@@ -174,6 +180,19 @@ fn check_of(alloc: Global, n: u32, row: &Row) -> Result<Command, ReadError>
     Ok(Command::Do(Step::Check { at, state }))
 }
 
+#[tactic(auto, unfolding(crate::specs::Scripts::damage_of))]
+fn damage_of(n: u32, row: &Row) -> Result<Command, Fault>
+    requires { n ≤ MOST_PROCESSES }
+    ensures { result ≡ spec.damage_of n row.now }
+{
+    let at = plain(row, 1)?;
+    let check = plain(row, 2)?;
+    let Ok(at) = ProcId::try_new(at, n) else {
+        return Ok(refused(Fault::NoSuchProcess));
+    };
+    Ok(Command::Do(Step::Damage { at, check }))
+}
+
 fn recover_of(n: u32, row: &Row) -> Result<Command, Fault>
     requires { n ≤ MOST_PROCESSES }
     ensures { result ≡ spec.recover_of n row.now }
@@ -205,6 +224,7 @@ fn command_of(alloc: Global, n: u32, row: &Row) -> Result<Command, ReadError>
         Kind::Send => send_of(alloc, n, row),
         Kind::Deliver => deliver_of(alloc, n, row),
         Kind::Check => check_of(alloc, n, row),
+        Kind::Damage => Ok(damage_of(n, row)?),
         Kind::Recover => Ok(recover_of(n, row)?),
     }
 }

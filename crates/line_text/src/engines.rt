@@ -2,30 +2,22 @@
 
 ghost use Rattle.std.specs.Prelude.{◌≡◌, ◌≢◌, ◌<◌, ◌≤◌, ◌++◌, ◌+◌, ◌^◌, ◌⊎◌, ℕ, List, [], Err, Some, length, IfOk, IfErr, OnErr, OnOk};
 ghost use Rattle.line_devices.specs.Devices.{Puts, PutsFront, one_more};
-ghost use Rattle.line_fields.specs.Texts.{records_text};
+ghost use Rattle.line_fields.specs.Texts.{record_text};
 ghost use Rattle.line_names.specs.declared.limits.TheConstants.{MOST_PROCESSES};
 ghost use Rattle.line_text.specs.Reads.{IsOfText, no_memory, seen};
+ghost use Rattle.line_text.specs.Replies.{refused as refused_record};
 ghost use Rattle.line_text.specs.Runs as spec;
 ghost use Rattle.line_text.specs.Scripts.{script_of_text};
 
 use crate::commands::Command;
 use crate::faults::TextFault;
-use crate::replies::{put_answer, put_refusal};
+use crate::replies::{put_refusal, put_reply, refusal_code};
 use crate::scripts::{Script, read_script};
 use line_devices::{DeviceFault, ReadRefused, Sink, Source, put_all, read_all};
 use line_fields::{Draft, RecordWriter};
 use line_tape::CountError;
-use line_world::{Answer, World};
+use line_world::World;
 use std::alloc::{AllocError, Global};
-
-// What a command is told.
-#[derive(Drop)]
-enum Told {
-    // What the machine answered.
-    Answered(Answer),
-    // The number of its refusal, before any step.
-    Refused(u32),
-}
 
 // Why commands were not done to their end.
 #[derive(Clone, Copy)]
@@ -60,44 +52,20 @@ fn fault_of(code: u32) -> TextFault
     }
 }
 
-// Whether a command was refused.
-fn is_refused(told: &Told) -> bool
-    ensures { result ≡ spec.is_refused told.now }
+// Writes a refusal, and counts it.
+fn refuse(
+    writer: &mut RecordWriter,
+    draft: &mut Draft,
+    refused: &mut u64,
+    code: u32,
+) -> Result<(), AllocError>
+    requires { refused.old < 18446744073709551615 }
+    ensures ok { OnOk result ((writer.new ≡ writer.old ++ record_text (refused_record code)) × (refused.new ≡ refused.old + 1)) }
+    ensures err { OnErr result (writer.new ≡ writer.old) }
 {
-    match told {
-        Told::Answered(Answer::Done(_)) => false,
-        Told::Answered(Answer::Refused(_)) => true,
-        Told::Refused(_) => true,
-    }
-}
-
-// Asks the machine, where the command is a step.
-fn tell(alloc: Global, world: &mut World, command: &Command) -> Result<Told, AllocError>
-    ensures { IfOk result (λ told. spec.Tells world.old command.now told world.new) }
-{
-    match command {
-        Command::Refused(code) => Ok(Told::Refused(*code)),
-        Command::Do(step) => match world.step(alloc, step) {
-            Ok(reply) => Ok(Told::Answered(Answer::Done(reply))),
-            Err(error) => {
-                if error.is_out_of_memory() {
-                    return Err(AllocError);
-                }
-                Ok(Told::Answered(Answer::Refused(error)))
-            }
-        },
-    }
-}
-
-// Writes what a command is told, or a front of it where a growth is refused.
-fn write_told(writer: &mut RecordWriter, draft: &mut Draft, told: &Told) -> Result<(), AllocError>
-    ensures ok { OnOk result (writer.new ≡ writer.old ++ records_text (spec.told_records told.now)) }
-    ensures err { OnErr result (PutsFront (Some writer.old) (Some writer.new) (records_text (spec.told_records told.now))) }
-{
-    match told {
-        Told::Answered(answer) => put_answer(writer, draft, answer),
-        Told::Refused(code) => put_refusal(writer, draft, *code),
-    }
+    put_refusal(writer, draft, code)?;
+    *refused += 1;
+    Ok(())
 }
 
 // Does a command, and writes what it is told, or a front of it where memory does not suffice.
@@ -113,10 +81,18 @@ fn do_command(
     ensures ok { OnOk result (spec.Writes world.old command.now world.new writer.old refused.old writer.new refused.new) }
     ensures err { OnErr result (spec.WritesFront world.old command.now writer.old writer.new) }
 {
-    let told = tell(alloc, world, command)?;
-    write_told(writer, draft, &told)?;
-    *refused += u64::from(is_refused(&told));
-    Ok(())
+    match command {
+        Command::Refused(code) => refuse(writer, draft, refused, *code),
+        Command::Do(step) => match world.step(alloc, step) {
+            Ok(reply) => put_reply(writer, draft, &reply),
+            Err(error) => {
+                if error.is_out_of_memory() {
+                    return Err(AllocError);
+                }
+                refuse(writer, draft, refused, refusal_code(error))
+            }
+        },
+    }
 }
 
 // Puts the replies that were gathered, where they are many.

@@ -7,10 +7,20 @@ ghost use Rattle.line_text.specs.Replies as spec;
 
 use crate::faults::name_of;
 use line_fields::{Draft, RecordWriter};
-use line_names::{Choice, MsgName, ProcId};
+use line_names::{Choice, MsgName, Passed, ProcId};
+use line_plan::Plan;
 use line_tape::State;
 use line_world::{Answer, Reply, StepError};
 use std::alloc::{AllocError, Global};
+
+// Adds the name of a message.
+fn add_message(draft: &mut Draft, message: MsgName) -> Result<(), AllocError>
+    ensures { OnOk result (draft.new ≡ draft.old ++ decimal message.from ∷ decimal message.inc ∷ decimal message.number ∷ []) }
+{
+    draft.number(u64::from(message.from.get()))?;
+    draft.number(u64::from(message.inc))?;
+    draft.number(u64::from(message.number))
+}
 
 // Begins a record with its name and the name of a message.
 fn begin(draft: &mut Draft, word: &[u8], message: MsgName) -> Result<(), AllocError>
@@ -19,9 +29,7 @@ fn begin(draft: &mut Draft, word: &[u8], message: MsgName) -> Result<(), AllocEr
 {
     draft.clear();
     draft.word(word)?;
-    draft.number(u64::from(message.from.get()))?;
-    draft.number(u64::from(message.inc))?;
-    draft.number(u64::from(message.number))
+    add_message(draft, message)
 }
 
 // Writes `sent,FROM,INC,NUMBER`.
@@ -34,6 +42,32 @@ fn put_sent(
     ensures err { OnErr result (writer.new ≡ writer.old) }
 {
     begin(draft, b"sent", message)?;
+    writer.put(draft)
+}
+
+// Writes `stale,FROM,INC,NUMBER`.
+fn put_stale(
+    writer: &mut RecordWriter,
+    draft: &mut Draft,
+    message: MsgName,
+) -> Result<(), AllocError>
+    ensures ok { OnOk result (writer.new ≡ writer.old ++ record_text (spec.stale message)) }
+    ensures err { OnErr result (writer.new ≡ writer.old) }
+{
+    begin(draft, b"stale", message)?;
+    writer.put(draft)
+}
+
+// Writes `repeated,FROM,INC,NUMBER`.
+fn put_repeated(
+    writer: &mut RecordWriter,
+    draft: &mut Draft,
+    message: MsgName,
+) -> Result<(), AllocError>
+    ensures ok { OnOk result (writer.new ≡ writer.old ++ record_text (spec.repeated message)) }
+    ensures err { OnErr result (writer.new ≡ writer.old) }
+{
+    begin(draft, b"repeated", message)?;
     writer.put(draft)
 }
 
@@ -62,6 +96,14 @@ fn put_took(
     writer.put(draft)
 }
 
+// Adds a process and a check of it.
+fn add_check(draft: &mut Draft, at: ProcId, check: u32) -> Result<(), AllocError>
+    ensures { OnOk result (draft.new ≡ draft.old ++ decimal at ∷ decimal check ∷ []) }
+{
+    draft.number(u64::from(at.get()))?;
+    draft.number(u64::from(check))
+}
+
 // Writes `checked,P,C`.
 fn put_checked(
     writer: &mut RecordWriter,
@@ -74,25 +116,42 @@ fn put_checked(
 {
     draft.clear();
     draft.word(b"checked")?;
-    draft.number(u64::from(at.get()))?;
-    draft.number(u64::from(check))?;
+    add_check(draft, at, check)?;
     writer.put(draft)
 }
 
-// Writes `recovered,SWEEPS,0,0`.
+// Writes `damaged,P,C`.
+fn put_damaged(
+    writer: &mut RecordWriter,
+    draft: &mut Draft,
+    at: ProcId,
+    check: u32,
+) -> Result<(), AllocError>
+    ensures ok { OnOk result (writer.new ≡ writer.old ++ record_text (spec.damaged at check)) }
+    ensures err { OnErr result (writer.new ≡ writer.old) }
+{
+    draft.clear();
+    draft.word(b"damaged")?;
+    add_check(draft, at, check)?;
+    writer.put(draft)
+}
+
+// Writes `recovered,SWEEPS,ENTRIES,REPLAYS`.
 fn put_recovered(
     writer: &mut RecordWriter,
     draft: &mut Draft,
     sweeps: u32,
+    entries: usize,
+    replays: usize,
 ) -> Result<(), AllocError>
-    ensures ok { OnOk result (writer.new ≡ writer.old ++ record_text (spec.recovered sweeps)) }
+    ensures ok { OnOk result (writer.new ≡ writer.old ++ record_text (spec.recovered sweeps entries replays)) }
     ensures err { OnErr result (writer.new ≡ writer.old) }
 {
     draft.clear();
     draft.word(b"recovered")?;
     draft.number(u64::from(sweeps))?;
-    draft.number(0)?;
-    draft.number(0)?;
+    draft.number(entries as u64)?;
+    draft.number(replays as u64)?;
     writer.put(draft)
 }
 
@@ -166,20 +225,96 @@ fn put_lines(
     Ok(())
 }
 
+// Writes `pass,P,CHOICE,FROM,INC,NUMBER`.
+fn put_pass(
+    writer: &mut RecordWriter,
+    draft: &mut Draft,
+    entry: Passed,
+) -> Result<(), AllocError>
+    ensures ok { OnOk result (writer.new ≡ writer.old ++ record_text (spec.pass entry)) }
+    ensures err { OnErr result (writer.new ≡ writer.old) }
+{
+    draft.clear();
+    draft.word(b"pass")?;
+    draft.number(u64::from(entry.at.get()))?;
+    add_choice(draft, entry.choice)?;
+    add_message(draft, entry.message)?;
+    writer.put(draft)
+}
+
+// Writes the pass records of a certificate, or a front of them where a growth is refused.
+fn put_passes(
+    writer: &mut RecordWriter,
+    draft: &mut Draft,
+    entries: &[Passed],
+) -> Result<(), AllocError>
+    ensures ok { OnOk result (writer.new ≡ writer.old ++ records_text (spec.passes entries.now)) }
+    ensures err { OnErr result (PutsFront (Some writer.old) (Some writer.new) (records_text (spec.passes entries.now))) }
+{
+    for i in 0..entries.len() {
+        put_pass(writer, draft, entries[i])?;
+    }
+    Ok(())
+}
+
+// Writes `replay,FROM,INC,NUMBER`.
+fn put_replay(
+    writer: &mut RecordWriter,
+    draft: &mut Draft,
+    message: MsgName,
+) -> Result<(), AllocError>
+    ensures ok { OnOk result (writer.new ≡ writer.old ++ record_text (spec.replay message)) }
+    ensures err { OnErr result (writer.new ≡ writer.old) }
+{
+    begin(draft, b"replay", message)?;
+    writer.put(draft)
+}
+
+// Writes the records of the messages that are replayed, or a front of them where a growth is refused.
+fn put_replays(
+    writer: &mut RecordWriter,
+    draft: &mut Draft,
+    replays: &[MsgName],
+) -> Result<(), AllocError>
+    ensures ok { OnOk result (writer.new ≡ writer.old ++ records_text (spec.replays_of replays.now)) }
+    ensures err { OnErr result (PutsFront (Some writer.old) (Some writer.new) (records_text (spec.replays_of replays.now))) }
+{
+    for i in 0..replays.len() {
+        put_replay(writer, draft, replays[i])?;
+    }
+    Ok(())
+}
+
+// Writes a certificate and replays, or a front of them where a growth is refused.
+fn put_rest(
+    writer: &mut RecordWriter,
+    draft: &mut Draft,
+    entries: &[Passed],
+    replays: &[MsgName],
+) -> Result<(), AllocError>
+    ensures ok { OnOk result (writer.new ≡ writer.old ++ records_text (spec.passes entries.now ++ spec.replays_of replays.now)) }
+    ensures err { OnErr result (PutsFront (Some writer.old) (Some writer.new) (records_text (spec.passes entries.now ++ spec.replays_of replays.now))) }
+{
+    put_passes(writer, draft, entries)?;
+    put_replays(writer, draft, replays)
+}
+
 // Writes the records of a recovery, or a front of them where a growth is refused.
 fn put_recovery(
     writer: &mut RecordWriter,
     draft: &mut Draft,
-    sweeps: u32,
-    choices: &[Choice],
+    plan: &Plan,
     incarnations: &[u16],
     states: &[Option<State>],
 ) -> Result<(), AllocError>
-    ensures ok { OnOk result (writer.new ≡ writer.old ++ records_text (spec.recovery sweeps choices.now incarnations.now states.now)) }
-    ensures err { OnErr result (PutsFront (Some writer.old) (Some writer.new) (records_text (spec.recovery sweeps choices.now incarnations.now states.now))) }
+    ensures ok { OnOk result (writer.new ≡ writer.old ++ records_text (spec.recovery plan.now.sweeps plan.now.certificate.items plan.now.replays.items plan.now.line incarnations.now states.now)) }
+    ensures err { OnErr result (PutsFront (Some writer.old) (Some writer.new) (records_text (spec.recovery plan.now.sweeps plan.now.certificate.items plan.now.replays.items plan.now.line incarnations.now states.now))) }
 {
-    put_recovered(writer, draft, sweeps)?;
-    put_lines(writer, draft, choices, incarnations, states)
+    let entries = plan.certificate.as_slice();
+    let replays = plan.replays.as_slice();
+    put_recovered(writer, draft, plan.sweeps, entries.len(), replays.len())?;
+    put_lines(writer, draft, plan.line.choices(), incarnations, states)?;
+    put_rest(writer, draft, entries, replays)
 }
 
 /// Writes the records of a reply behind those that were written before.
@@ -197,7 +332,10 @@ pub fn put_reply(
     match reply {
         Reply::Sent { message } => put_sent(writer, draft, *message),
         Reply::Took { message, forced } => put_took(writer, draft, *message, *forced),
+        Reply::Stale { message } => put_stale(writer, draft, *message),
+        Reply::Repeated { message } => put_repeated(writer, draft, *message),
         Reply::Checked { at, check } => put_checked(writer, draft, *at, *check),
+        Reply::Damaged { at, check } => put_damaged(writer, draft, *at, *check),
         Reply::Recovered {
             plan,
             states,
@@ -205,8 +343,7 @@ pub fn put_reply(
         } => put_recovery(
             writer,
             draft,
-            plan.sweeps,
-            plan.line.choices(),
+            plan,
             incarnations.as_slice(),
             states.as_slice(),
         ),
@@ -230,8 +367,8 @@ pub fn put_refusal(
     writer.put(draft)
 }
 
-// The number of a refused step.
-fn refusal_code(error: StepError) -> u32
+/// The number of a refused step.
+pub(crate) fn refusal_code(error: StepError) -> u32
     ensures { result ≡ spec.refusal_code error }
 {
     error.code()

@@ -1,6 +1,9 @@
+ghost use Rattle.std.specs.Prelude.{◌<◌};
+
 use super::*;
+use line_devices::{MemSink, MemSource, Sink, Source};
 use line_fields::{Draft, RecordWriter};
-use line_names::{Certificate, Choice, Line, MsgName, ProcId, ProcSet};
+use line_names::{Certificate, Choice, Line, MsgName, Passed, ProcId, ProcSet};
 use line_plan::Plan;
 use line_tape::State;
 use line_world::{Answer, Mode, Reply, Step, StepError};
@@ -49,7 +52,7 @@ fn finds_the_first_fault(rt: HostRuntime) {
         (b"world,1,0,fifo", Some((1, 6))),
         (b"world,1,65,lifo", Some((1, 6))),
         (b"world,1,2,lifo", Some((1, 32))),
-        (b"world,1,2,unordered", Some((1, 32))),
+        (b"world,1,2,unordered", None),
     ] {
         assert_eq!(rt; fault_of(rt.alloc(), text), want, "at {text:?}");
     }
@@ -74,6 +77,8 @@ fn finds_the_first_fault_of_a_command(rt: HostRuntime) {
         ),
         (b"world,1,2,fifo\ncheck,0\n", Some((2, 32))),
         (b"world,1,2,fifo\ncheck,-1,\n", Some((2, 33))),
+        (b"world,1,2,fifo\ndamage,0\n", Some((2, 32))),
+        (b"world,1,2,fifo\ndamage,0,\n", Some((2, 33))),
         (b"world,1,2,fifo\nrecover,\n", Some((2, 33))),
         (b"world,1,2,fifo\nrecover,0,x\n", Some((2, 33))),
         (b"world,1,2,fifo\nworld,1,2,fifo\n", Some((2, 32))),
@@ -120,6 +125,7 @@ fn show(out: &mut String, command: &Command) -> Result<(), AllocError> {
         Command::Do(Step::Check { at, state }) => {
             write!(out, "check {} {:?};", at.get(), state.bytes())?
         }
+        Command::Do(Step::Damage { at, check }) => write!(out, "damage {} {check};", at.get())?,
         Command::Do(Step::Recover { failed }) => show_set(out, failed)?,
     }
     Ok(())
@@ -262,12 +268,24 @@ fn recovered(alloc: Global) -> Result<Reply, AllocError> {
     let stored = State::of(Vec::from_slice(alloc, b"\xa1\x0f")?);
     let states = vec![in alloc; Some(stored), None]?;
     let incarnations = Vec::from_slice(alloc, &[1u16, 0])?;
-    let certificate: Certificate = Vec::new(alloc);
+    let mut replays = Vec::new(alloc);
+    if let Some(message) = name(5) {
+        replays.push(message)?;
+    }
+    let mut certificate: Certificate = Vec::new(alloc);
+    if let Some(message) = name(7) {
+        certificate.push(Passed {
+            at: message.from,
+            choice: Choice::Now,
+            message,
+        })?;
+    }
     Ok(Reply::Recovered {
         plan: Plan {
             line,
             certificate,
             sweeps: 3,
+            replays,
         },
         states,
         incarnations,
@@ -280,7 +298,7 @@ fn writes_a_line(rt: HostRuntime) -> Result<(), Fail> {
     let text = write_reply(rt.alloc(), &reply)?;
     assert_eq!(rt;
         text.as_slice(),
-        b"recovered,3,0,0\nline,0,1,1,a10f\nline,1,now,0,-\n".as_slice()
+        b"recovered,3,1,1\nline,0,1,1,a10f\nline,1,now,0,-\npass,1,now,1,65535,7\nreplay,1,65535,5\n".as_slice()
     );
     Ok(())
 }
@@ -327,5 +345,168 @@ fn shows_faults(rt: HostRuntime) -> Result<(), Fail> {
         };
         assert_eq!(rt; format!(in rt.alloc(); "{fault}")?.as_str(), want);
     }
+    Ok(())
+}
+
+const ONE_PROCESS: &[u8] = b"world,1,1,fifo\nrecover\nrecover,0\n";
+
+const ONE_PROCESS_TOLD: &[u8] = b"recovered,1,0,0\nline,0,now,0,-\nrecovered,1,0,0\nline,0,0,1,\n";
+
+const THREE_CHECKS_TOLD: &[u8] =
+    b"sent,0,0,0\ntook,0,0,0,-\nchecked,1,1\nsent,1,0,0\ntook,1,0,0,-\nchecked,0,1\nsent,0,0,1\ntook,0,0,1,-\nchecked,1,2\nrecovered,1,0,0\nline,0,now,0,-\nline,1,2,1,b2\n";
+
+// The same with the failure of process 0.
+const DOMINO: &[u8] =
+    b"world,1,2,fifo\nsend,0,1,61\ndeliver,0,1,0,\ncheck,1,b1\nsend,1,0,62\ndeliver,1,0,0,\ncheck,0,a1\nsend,0,1,63\ndeliver,0,1,0,\ncheck,1,b2\nrecover,0\n";
+
+const DOMINO_TOLD: &[u8] =
+    b"sent,0,0,0\ntook,0,0,0,-\nchecked,1,1\nsent,1,0,0\ntook,1,0,0,-\nchecked,0,1\nsent,0,0,1\ntook,0,0,1,-\nchecked,1,2\nrecovered,3,4,0\nline,0,0,1,\nline,1,0,1,\npass,1,now,0,0,1\npass,1,2,0,0,1\npass,0,1,1,0,0\npass,1,1,0,0,0\n";
+
+// What a run came to, and how often its devices failed.
+#[derive(Drop)]
+struct Ran {
+    answer: Result<Done, TextFault>,
+    put: Vec<u8>,
+    read_failures: u64,
+    write_failures: u64,
+}
+
+// Runs a text over memory, in steps of so many bytes, where these calls fail.
+fn run(
+    alloc: Global,
+    text: &[u8],
+    step: usize,
+    read_fails: Option<u64>,
+    write_fails: Option<u64>,
+) -> Result<Ran, AllocError>
+    requires { 0 < step }
+{
+    let mut source = MemSource::new(Vec::from_slice(alloc, text)?, step, read_fails);
+    let mut sink = MemSink::new(alloc, step, write_fails);
+    let answer = run_text(alloc, &mut source, &mut sink);
+    Ok(Ran {
+        answer,
+        put: Vec::from_slice(alloc, sink.bytes())?,
+        read_failures: source.failures(),
+        write_failures: sink.failures(),
+    })
+}
+
+#[test]
+fn runs_scripts(rt: HostRuntime) -> Result<(), Fail> {
+    for (text, refused, want) in [
+        (b"world,1,3,fifo\n".as_slice(), 0u64, b"".as_slice()),
+        (ONE_PROCESS, 0, ONE_PROCESS_TOLD),
+        (THREE_CHECKS, 0, THREE_CHECKS_TOLD),
+        (DOMINO, 0, DOMINO_TOLD),
+        (
+            b"world,1,1,fifo\ncheck,0,a1\ndamage,0,0\ndamage,0,1\ndamage,0,1\ndamage,0,2\nrecover,0\n",
+            3,
+            b"checked,0,1\nrefused,7,InitialDamage\ndamaged,0,1\nrefused,8,AlreadyDamaged\nrefused,4,NoSuchCheck\nrecovered,1,0,0\nline,0,0,1,\n",
+        ),
+        (
+            b"world,1,2,fifo\nsend,0,1,61\ncheck,0,a1\nrecover,0,1\n",
+            0,
+            b"sent,0,0,0\nchecked,0,1\nrecovered,1,0,1\nline,0,1,1,a1\nline,1,0,1,\nreplay,0,0,0\n",
+        ),
+        (
+            b"world,1,2,unordered\nsend,0,1,61\ndeliver,0,1,0,\ndeliver,0,1,0,\n",
+            0,
+            b"sent,0,0,0\ntook,0,0,0,-\nrepeated,0,0,0\n",
+        ),
+        (
+            b"world,1,2,fifo\nsend,0,0,61\nsend,2,0,61\ndeliver,0,1,0,\nsend,0,1,61\ndeliver,0,1,1,\n",
+            4,
+            b"refused,17,ToSelf\nrefused,1,NoSuchProcess\nrefused,18,LinkEmpty\nsent,0,0,0\nrefused,19,BadPick\n",
+        ),
+    ] {
+        // One byte at a time changes nothing.
+        for step in [1usize, 7, 4096] {
+            if step > 0 {
+                let ran = run(rt.alloc(), text, step, None, None)?;
+                assert_eq!(rt; ran.answer, Ok(Done { refused }), "in steps of {step}");
+                assert_eq!(rt; ran.put.as_slice(), want, "in steps of {step}");
+            }
+        }
+    }
+    Ok(())
+}
+
+#[test]
+fn runs_nothing_after_a_fault(rt: HostRuntime) -> Result<(), Fail> {
+    for (text, record_number, code) in [
+        (b"".as_slice(), 1u64, 34u32),
+        (b"world,1,2,fifo\nsend,0,1,\"61\"\n", 0, 32),
+        (b"world,1,2,fifo\nsend,0,1,61\n\xff", 0, 32),
+        (b"world,1,2,fifo\nsend,0,1,61\r", 0, 32),
+        (b"world,2,2,fifo\n", 1, 35),
+        (b"world,1,65,fifo\n", 1, 6),
+        (b"world,1,65,lifo\n", 1, 6),
+        (b"world,9,x,fifo\n", 1, 33),
+        (b"world,1,2,fifo\nsend,0,1\n", 2, 32),
+        (b"world,1,2,fifo\nsend,0,x,61\n", 2, 33),
+        (b"world,1,2,fifo\nsend,0,1,6\n", 2, 33),
+        (b"world,1,2,fifo\nsend,0,1,61\ncheck,0,a1\nsend,0,1\n", 4, 32),
+    ] {
+        let ran = run(rt.alloc(), text, 3, None, None)?;
+        let fault = TextFault {
+            record_number,
+            code,
+        };
+        assert_eq!(rt; ran.answer, Err(fault), "at {text:?}");
+        assert_eq!(rt; ran.put.len(), 0, "at {text:?}");
+    }
+    Ok(())
+}
+
+#[test]
+fn tells_that_the_source_failed(rt: HostRuntime) -> Result<(), Fail> {
+    for fail_at in [1u64, 2, 5] {
+        let ran = run(rt.alloc(), THREE_CHECKS, 16, Some(fail_at), None)?;
+        let fault = TextFault {
+            record_number: 0,
+            code: 36,
+        };
+        assert_eq!(rt; ran.answer, Err(fault), "at call {fail_at}");
+        assert_eq!(rt; ran.put.len(), 0, "at call {fail_at}");
+        assert_eq!(rt; ran.read_failures, 1, "at call {fail_at}");
+    }
+    Ok(())
+}
+
+#[test]
+fn tells_that_the_sink_failed(rt: HostRuntime) -> Result<(), Fail> {
+    // The last call lets out what was taken.
+    for (fail_at, taken) in [(1u64, 0usize), (2, 64), (3, 128), (4, 153)] {
+        let ran = run(rt.alloc(), THREE_CHECKS, 64, None, Some(fail_at))?;
+        let fault = TextFault {
+            record_number: 0,
+            code: 37,
+        };
+        assert_eq!(rt; ran.answer, Err(fault), "at call {fail_at}");
+        assert_eq!(rt; ran.put.len(), taken, "at call {fail_at}");
+        assert!(rt; THREE_CHECKS_TOLD.starts_with(&ran.put), "at call {fail_at}");
+        assert_eq!(rt; ran.write_failures, 1, "at call {fail_at}");
+    }
+    Ok(())
+}
+
+// More replies than are put at a time.
+#[test]
+fn puts_long_replies_in_pieces(rt: HostRuntime) -> Result<(), Fail> {
+    let mut text = Vec::from_slice(rt.alloc(), b"world,1,2,fifo\n")?;
+    let mut want = Vec::new(rt.alloc());
+    for _ in 0..5000 {
+        text.extend_from_slice(b"send,0,0,\n")?;
+        want.extend_from_slice(b"refused,17,ToSelf\n")?;
+    }
+    let ran = run(rt.alloc(), &text, 4096, None, None)?;
+    assert_eq!(rt; ran.answer, Ok(Done { refused: 5000 }));
+    assert_eq!(rt; ran.put.as_slice(), want.as_slice());
+    // The second piece fails after the first is put.
+    let ran = run(rt.alloc(), &text, 100_000, None, Some(2))?;
+    assert_eq!(rt; ran.write_failures, 1);
+    assert_eq!(rt; ran.put.len(), 65_538);
+    assert!(rt; want.as_slice().starts_with(&ran.put));
     Ok(())
 }

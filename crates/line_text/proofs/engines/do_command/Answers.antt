@@ -1,8 +1,28 @@
-use Rattle.std.proofs.lemmas.Result.{err_from_is_err_and}
-use Rattle.line_text.proofs.RunLemmas.{tells_front}
+use Rattle.std.proofs.Common.{rules, ◌≢◌, refl}
+use Rattle.std.proofs.lemmas.Result.{on_ok_weaker, on_err_weaker}
+use Rattle.line_world.specs.declared.replies.StepError.TheVariants as errors
+use Rattle.line_text.proofs.RunLemmas.{refusal_written, reply_front, reply_written, tells_nothing, told_written}
 use Rattle.line_text.proofs.engines.do_command.Goals as goal
 
-pub returns-in_err-write_told-clause-err : goal.returns-in_err-write_told-clause-err
-returns-in_err-write_told-clause-err c =
-    let passed_on = err_from_is_err_and c.from_residual-in_err-write_told.result c.from_residual-in_err-write_told.ensures.1 in
-    rw passed_on.1 (tells_front _ _ _ _ _ _ c.in_ok-told.ensures c.in_err-write_told.ensures.err)
+pub returns-in-Refused-clause-ok : goal.returns-in-Refused-clause-ok
+returns-in-Refused-clause-ok c = on_ok_weaker c.refuse.result (λ told. rw c.in-Refused.is (told_written _ _ _ _ _ _ told)) c.refuse.ensures.ok
+
+pub returns-in-Refused-clause-err : goal.returns-in-Refused-clause-err
+returns-in-Refused-clause-err c = on_err_weaker c.refuse.result (tells_nothing _ _ _ _) c.refuse.ensures.err
+
+pub returns-in-Ok-clause-ok : goal.returns-in-Ok-clause-ok
+returns-in-Ok-clause-ok c = on_ok_weaker c.put_reply.result (λ told. rw c.in-Do.is (reply_written _ _ _ _ _ _ _ c.in-Ok.ensures.done told)) c.put_reply.ensures.ok
+
+pub returns-in-Ok-clause-err : goal.returns-in-Ok-clause-err
+returns-in-Ok-clause-err c = on_err_weaker c.put_reply.result (λ front. rw c.in-Do.is (reply_front _ _ _ _ _ _ c.in-Ok.ensures.done front)) c.put_reply.ensures.err
+
+pub returns-then-is_out_of_memory-clause-err : goal.returns-then-is_out_of_memory-clause-err
+returns-then-is_out_of_memory-clause-err c = tells_nothing _ _ _ _ refl
+
+pub returns-else-is_out_of_memory-clause-ok : goal.returns-else-is_out_of_memory-clause-ok
+returns-else-is_out_of_memory-clause-ok c =
+    let differs : c.in-Err.error ≢ errors.OutOfMemory = search rules in
+    on_ok_weaker c.refuse-in-Err.result (λ told. rw c.in-Do.is (refusal_written _ _ _ _ _ _ _ _ _ (c.in-Err.ensures.refused differs) c.refusal_code.ensures told)) c.refuse-in-Err.ensures.ok
+
+pub returns-else-is_out_of_memory-clause-err : goal.returns-else-is_out_of_memory-clause-err
+returns-else-is_out_of_memory-clause-err c = on_err_weaker c.refuse-in-Err.result (tells_nothing _ _ _ _) c.refuse-in-Err.ensures.err

@@ -1,8 +1,19 @@
-use Rattle.std.proofs.lemmas.Result.{on_err_weaker}
-use Rattle.line_text.specs.Replies.{recovered}
-use Rattle.line_text.proofs.ReplyLemmas.{front_behind}
+use Rattle.std.proofs.Common.{length}
+use Rattle.std.proofs.Common.{◌++◌}
+use Rattle.std.proofs.lemmas.Result.{err_from_is_err_and, on_err_weaker, on_ok_weaker}
+use Rattle.line_text.specs.Replies.{lines, passes, recovered, replays_of}
+use Rattle.line_text.proofs.ReplyLemmas.{front_of_lines, front_of_passes, recovery_text}
 use Rattle.line_text.proofs.replies.put_recovery.Goals as goal
+
+pub returns-in_err-put_lines-clause-err : goal.returns-in_err-put_lines-clause-err
+returns-in_err-put_lines-clause-err c =
+    let passed_on = err_from_is_err_and c.from_residual-in_err-put_lines.result c.from_residual-in_err-put_lines.ensures.1 in
+    rw passed_on.1 (front_of_lines _ _ _ (recovered c.args.sweeps (length c.args.entries.now)) (lines c.args.plan.now.line c.args.incarnations.now c.args.states.now) (passes c.args.plan.now.certificate.items ++ replays_of c.args.plan.now.replays.items) c.in_ok-put_recovered.ensures.ok c.in_err-put_lines.ensures.err)
+
+pub returns-clause-ok : goal.returns-clause-ok
+returns-clause-ok c =
+    on_ok_weaker c.put_rest.result (recovery_text _ _ _ _ (recovered c.args.sweeps (length c.args.entries.now)) (lines c.args.plan.now.line c.args.incarnations.now c.args.states.now) (passes c.args.plan.now.certificate.items ++ replays_of c.args.plan.now.replays.items) c.in_ok-put_recovered.ensures.ok c.in_ok-put_lines.ensures.ok) c.put_rest.ensures.ok
 
 pub returns-clause-err : goal.returns-clause-err
 returns-clause-err c =
-    on_err_weaker c.put_lines.result (front_behind _ _ _ (recovered c.args.sweeps) _ c.in_ok-put_recovered.ensures.ok) c.put_lines.ensures.err
+    on_err_weaker c.put_rest.result (front_of_passes _ _ _ _ (recovered c.args.sweeps (length c.args.entries.now)) (lines c.args.plan.now.line c.args.incarnations.now c.args.states.now) (passes c.args.plan.now.certificate.items ++ replays_of c.args.plan.now.replays.items) c.in_ok-put_recovered.ensures.ok c.in_ok-put_lines.ensures.ok) c.put_rest.ensures.err
