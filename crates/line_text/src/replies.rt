@@ -226,11 +226,7 @@ fn put_lines(
 }
 
 // Writes `pass,P,CHOICE,FROM,INC,NUMBER`.
-fn put_pass(
-    writer: &mut RecordWriter,
-    draft: &mut Draft,
-    entry: Passed,
-) -> Result<(), AllocError>
+fn put_pass(writer: &mut RecordWriter, draft: &mut Draft, entry: Passed) -> Result<(), AllocError>
     ensures ok { OnOk result (writer.new ≡ writer.old ++ record_text (spec.pass entry)) }
     ensures err { OnErr result (writer.new ≡ writer.old) }
 {

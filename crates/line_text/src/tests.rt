@@ -446,7 +446,11 @@ fn runs_nothing_after_a_fault(rt: HostRuntime) -> Result<(), Fail> {
         (b"world,1,2,fifo\nsend,0,1\n", 2, 32),
         (b"world,1,2,fifo\nsend,0,x,61\n", 2, 33),
         (b"world,1,2,fifo\nsend,0,1,6\n", 2, 33),
-        (b"world,1,2,fifo\nsend,0,1,61\ncheck,0,a1\nsend,0,1\n", 4, 32),
+        (
+            b"world,1,2,fifo\nsend,0,1,61\ncheck,0,a1\nsend,0,1\n",
+            4,
+            32,
+        ),
     ] {
         let ran = run(rt.alloc(), text, 3, None, None)?;
         let fault = TextFault {
@@ -485,7 +489,10 @@ fn tells_that_the_sink_failed(rt: HostRuntime) -> Result<(), Fail> {
         };
         assert_eq!(rt; ran.answer, Err(fault), "at call {fail_at}");
         assert_eq!(rt; ran.put.len(), taken, "at call {fail_at}");
-        assert!(rt; THREE_CHECKS_TOLD.starts_with(&ran.put), "at call {fail_at}");
+        assert!(rt;
+            THREE_CHECKS_TOLD.starts_with(&ran.put),
+            "at call {fail_at}"
+        );
         assert_eq!(rt; ran.write_failures, 1, "at call {fail_at}");
     }
     Ok(())
