@@ -8,4 +8,5 @@ pub mod AgreeLemmas
 pub mod LineFacts
 pub mod StepLemmas
 pub mod DeliverLemmas
+pub mod NameFacts
 pub mod RunLemmas

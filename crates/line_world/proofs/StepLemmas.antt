@@ -91,6 +91,10 @@ link_passed machine from to pick state none =
     ∙ ap (λ b. cond b (Some LinkEmpty) (cond (is_bad_pick machine.mode (items_on machine from to) pick) (Some BadPick) full)) some.0
     ∙ ap (λ b. cond b (Some BadPick) full) good.0
 
+-- a delivery that nothing refuses is one to a process
+pub may_deliver_at : (machine : Machine) (from to pick : ℕ) (state : List ℕ) → refusal_of machine (Deliver from to pick state) ≡ None → to < length machine.history
+may_deliver_at machine from to pick state none = (are_processes machine from to (passed (is_stranger machine from || is_stranger machine to) NoSuchProcess _ none).0).to_within
+
 -- what a check may rely on
 pub record MayCheck (machine : Machine) (at : ℕ) (state : List ℕ) : Type 0 where
   pub within : at < length machine.history

@@ -1,8 +1,12 @@
 -- Steps with their answers, and runs.
-use Rattle.std.specs.Prelude.{◌≡◌, List, [], ◌∷◌, None}
+use Rattle.std.specs.Prelude.{◌≡◌, ◌≢◌, List, [], ◌∷◌, AllPairs, Option, Some, None}
+use Rattle.std.specs.List.{filter_map}
+use Rattle.line_names.specs.declared.messages.MsgName.{MsgName}
 use Rattle.line_world.specs.declared.steps.Step.{Step}
 use Rattle.line_world.specs.declared.replies.Answer.{Answer}
 use Rattle.line_world.specs.declared.replies.Answer.TheVariants.{Done, Refused}
+use Rattle.line_world.specs.declared.replies.Reply.{Reply}
+use Rattle.line_world.specs.declared.replies.Reply.TheVariants.{Sent, Took, Stale, Repeated, Checked, Damaged, Recovered}
 use Rattle.line_world.specs.Machine.{Machine}
 use Rattle.line_world.specs.Refusals.{refusal_of, IsRefused}
 use Rattle.line_world.specs.Steps.{Does}
@@ -18,3 +22,21 @@ Run old [] [] new = new ≡ old
 Run old (step ∷ steps) (answer ∷ answers) new = (mid : Machine) × Takes old step answer mid × Run mid steps answers new
 Run old [] (answer ∷ answers) new = ⊥
 Run old (step ∷ steps) [] new = ⊥
+
+-- the name that a reply tells of a message sent
+abbrev pub reply_name : Reply → Option MsgName
+reply_name (Sent message) = Some message
+reply_name (Took message forced) = None
+reply_name (Stale message) = None
+reply_name (Repeated message) = None
+reply_name (Checked at check) = None
+reply_name (Damaged at check) = None
+reply_name (Recovered plan states incarnations) = None
+
+abbrev pub answer_name : Answer → Option MsgName
+answer_name (Done reply) = reply_name reply
+answer_name (Refused e) = None
+
+-- no two messages sent have one name
+abbrev pub AreNamedApart : List Answer → Type 0
+AreNamedApart answers = AllPairs (λ a b. a ≢ b) (filter_map answer_name answers)

@@ -4,6 +4,7 @@
 #![tactic(auto)]
 
 mod fates;
+mod laws;
 mod links;
 mod moves;
 mod replies;
@@ -12,6 +13,7 @@ mod restores;
 mod steps;
 mod worlds;
 
+pub use laws::runs_name_apart;
 pub use replies::{Answer, Reply, RunStopped, StepError};
 pub use steps::{Mode, Step};
 pub use worlds::World;

@@ -25,12 +25,7 @@ fn is_open(history: &History, line: &Line, to: ProcId, message: &MsgName) -> boo
 }
 
 /// Puts the messages of one sender that are in transit at the ends of their links, by number.
-fn put_open(
-    history: &History,
-    line: &Line,
-    p: ProcId,
-    links: &mut Links,
-) -> Result<(), AllocError>
+fn put_open(history: &History, line: &Line, p: ProcId, links: &mut Links) -> Result<(), AllocError>
     requires line { IsLine history.now.processes line.now }
     requires process { p < length history.now.processes }
     requires queued { AreQueues history.now.processes links.old }

@@ -22,7 +22,6 @@ const DOMINO: [Did; 9] = [
 
 #[test]
 fn domino(rt: HostRuntime) -> Result<(), Fail> {
-    let mut world = World::new(rt.alloc(), 2, Mode::Fifo)?;
     let told = [
         "Sent 0.0.0",
         "Took 0.0.0",
@@ -34,11 +33,56 @@ fn domino(rt: HostRuntime) -> Result<(), Fail> {
         "Took 0.0.1",
         "Checked 1.2",
     ];
+    let mut world = World::new(rt.alloc(), 2, Mode::Fifo)?;
     for (did, words) in DOMINO.iter().zip(told) {
         let step = step_of(rt.alloc(), *did)?;
         let reply = world.step(rt.alloc(), &step)?;
         assert_eq!(rt; build::told(rt.alloc(), &reply)?.as_str(), words);
     }
+    Ok(())
+}
+
+/// 1 receives, fails without a check, and receives the same message again.
+const REPLAY: [(Did, &str); 4] = [
+    (Did::Sends(0, 1), "Sent 0.0.0"),
+    (Did::Delivers(0, 1), "Took 0.0.0"),
+    (Did::Fails(1), "Recovered with 1 to replay, under 0 1"),
+    (Did::Delivers(0, 1), "Took 0.0.0"),
+];
+
+#[test]
+fn replay(rt: HostRuntime) -> Result<(), Fail> {
+    let mut world = World::new(rt.alloc(), 2, Mode::Fifo)?;
+    for (did, words) in REPLAY {
+        let step = step_of(rt.alloc(), did)?;
+        let reply = world.step(rt.alloc(), &step)?;
+        assert_eq!(rt; build::told(rt.alloc(), &reply)?.as_str(), words);
+    }
+    assert_eq!(rt; world.link_len(process(0)?, process(1)?), 0);
+    Ok(())
+}
+
+/// A send is undone, and another takes its place: the first copy is stale. Then 1 fails, and finds the second message twice on the link.
+const STALE_AND_REPEATED: [(Did, &str); 8] = [
+    (Did::Sends(0, 1), "Sent 0.0.0"),
+    (Did::Fails(0), "Recovered with 0 to replay, under 1 0"),
+    (Did::Picks(0, 1, 0), "Stale 0.0.0"),
+    (Did::Sends(0, 1), "Sent 0.1.0"),
+    (Did::Picks(0, 1, 1), "Took 0.1.0"),
+    (Did::Fails(1), "Recovered with 1 to replay, under 1 1"),
+    (Did::Picks(0, 1, 2), "Took 0.1.0"),
+    (Did::Picks(0, 1, 1), "Repeated 0.1.0"),
+];
+
+#[test]
+fn stale_and_repeated(rt: HostRuntime) -> Result<(), Fail> {
+    let mut world = World::new(rt.alloc(), 2, Mode::Unordered)?;
+    for (did, words) in STALE_AND_REPEATED {
+        let step = step_of(rt.alloc(), did)?;
+        let reply = world.step(rt.alloc(), &step)?;
+        assert_eq!(rt; build::told(rt.alloc(), &reply)?.as_str(), words);
+    }
+    assert_eq!(rt; world.link_len(process(0)?, process(1)?), 3);
     Ok(())
 }
 

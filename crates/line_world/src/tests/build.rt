@@ -12,7 +12,9 @@ use std::test::Fail;
 pub enum Did {
     Sends(u32, u32),
     Delivers(u32, u32),
+    Picks(u32, u32, u64),
     Checks(u32),
+    Fails(u32),
 }
 
 /// One of two processes.
@@ -54,6 +56,10 @@ pub fn step_of(alloc: Global, did: Did) -> Result<Step, Fail> {
             to: process(to)?,
             pick: 0,
             state: State::of(Vec::new(alloc)),
+        }),
+        Did::Picks(from, to, pick) => { Ok(deliver(alloc, process(from)?, process(to)?, pick)) }
+        Did::Fails(p) => Ok(Step::Recover {
+            failed: failed(&[p])?,
         }),
         Did::Checks(at) => {
             let bytes = Vec::from_slice(alloc, &[0xa1])?;
@@ -105,7 +111,22 @@ pub fn told(alloc: Global, reply: &Reply) -> Result<String, Fail> {
             write!(text, "Damaged {}.{check}", at.get())?;
             Ok(text)
         }
-        Reply::Recovered { .. } => Ok(String::new(alloc)),
+        Reply::Recovered {
+            plan,
+            incarnations,
+            ..
+        } => {
+            let mut text = String::new(alloc);
+            write!(
+                text,
+                "Recovered with {} to replay, under",
+                plan.replays.len()
+            )?;
+            for incarnation in incarnations {
+                write!(text, " {incarnation}")?;
+            }
+            Ok(text)
+        }
     }
 }
 

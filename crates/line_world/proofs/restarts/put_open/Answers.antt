@@ -31,13 +31,19 @@ loop-event-preserved c =
     let named = subst (λ (es : List Event). All (NamesBelow (length history)) es) (sym c.tape.ensures.events) c.tape.ensures.limits.named in
     elim c.match-event.branch [
       | in-Send w ↦ elim w.if-is_open.branch [
-        | then-is_open+in_ok-push-in-Send w' ↦ (put-more history line p c.requires.process events old i number queues item within is before c.match-event.number c.match-event.links w.in-Send.to w.in-Send.inc w.in-Send.body
-            (named-send (length history) tape (place tape c.at.result) events i item w.in-Send.to w.in-Send.inc w.in-Send.body named c.front-events.ensures within is w.in-Send.is)
-            (w.links-is ∙ w'.links-is ∙ w'.in_ok-push-in-Send.ensures.ok) w.number-is w.in-Send.is
-            (sym (w.is_open.ensures (letter_of p w.in-Send.inc number w.in-Send.to) refl refl) ∙ w'.if-is_open.true), omega (arith, w.number-is, c.loop-event.invariant.1))
-        | else-is_open w' ↦ (put-closed history line p c.requires.process events old i number queues item within is before c.match-event.number c.match-event.links w.in-Send.to w.in-Send.inc w.in-Send.body
-            (w.links-is ∙ w'.links-is) w.number-is w.in-Send.is
-            (sym (w.is_open.ensures (letter_of p w.in-Send.inc number w.in-Send.to) refl refl) ∙ w'.if-is_open.false), omega (arith, w.number-is, c.loop-event.invariant.1))
+        | then-is_open+in_ok-push-in-Send w' ↦ (
+          put-more history line p c.requires.process events old i number queues item within is before c.match-event.number c.match-event.links w.in-Send.to w.in-Send.inc w.in-Send.body
+              (named-send (length history) tape (place tape c.at.result) events i item w.in-Send.to w.in-Send.inc w.in-Send.body named c.front-events.ensures within is w.in-Send.is)
+              (w.links-is ∙ w'.links-is ∙ w'.in_ok-push-in-Send.ensures.ok) w.number-is w.in-Send.is
+              (sym (w.is_open.ensures (letter_of p w.in-Send.inc number w.in-Send.to) refl refl) ∙ w'.if-is_open.true),
+          omega (arith, w.number-is, c.loop-event.invariant.1),
+        )
+        | else-is_open w' ↦ (
+          put-closed history line p c.requires.process events old i number queues item within is before c.match-event.number c.match-event.links w.in-Send.to w.in-Send.inc w.in-Send.body
+              (w.links-is ∙ w'.links-is) w.number-is w.in-Send.is
+              (sym (w.is_open.ensures (letter_of p w.in-Send.inc number w.in-Send.to) refl refl) ∙ w'.if-is_open.false),
+          omega (arith, w.number-is, c.loop-event.invariant.1),
+        )
       ]
       | in-Recv w ↦ (put-other history line p c.requires.process events old i number queues item within is before c.match-event.number c.match-event.links w.links-is w.number-is (ap incarnation_of w.in-Recv.is), omega (arith, w.number-is, c.loop-event.invariant.1))
       | in-Check w ↦ (put-other history line p c.requires.process events old i number queues item within is before c.match-event.number c.match-event.links w.links-is w.number-is (ap incarnation_of w.in-Check.is), omega (arith, w.number-is, c.loop-event.invariant.1))

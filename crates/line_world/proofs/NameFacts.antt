@@ -1,0 +1,134 @@
+-- The names of the messages that a run sends.
+use Rattle.std.proofs.Common.{◌≡◌, ◌≢◌, ℕ, zero, suc, ◌<◌, ◌≤◌, List, [], ◌∷◌, length, get_or, Option, Some, None, refl, sym, ap, ◌∙◌, subst, arith}
+use Rattle.std.specs.List.{All, AllPairs, filter_map, cons_option}
+use Rattle.std.proofs.lemmas.List.Kept.{AllPairs-cons}
+use Rattle.line_names.specs.declared.choices.Choice.{Choice}
+use Rattle.line_names.specs.declared.messages.MsgName.{MsgName}
+use Rattle.line_tape.specs.declared.events.Event.{Event}
+use Rattle.line_tape.specs.declared.events.Event.TheVariants.{Send as SendEvent, Recv as RecvEvent, Check as CheckEvent}
+use Rattle.line_tape.specs.Event.{incarnation_of}
+use Rattle.line_tape.specs.History.{Process, incarnation_at, with_event}
+use Rattle.line_tape.specs.Restart.{restarted}
+use Rattle.line_tape.specs.Spent.{next_name, IsSpentName, HasNoLaterSend}
+use Rattle.line_tape.proofs.SpentLemmas.{next_unspent, sent_spent, spent_event, spent_restarted, no_later_event, no_later_restarted}
+use Rattle.line_world.specs.declared.fates.Fate.{Fate}
+use Rattle.line_world.specs.declared.fates.Fate.TheVariants.{Taken, Stale as IsStale, Repeated as IsRepeated}
+use Rattle.line_world.specs.declared.replies.Answer.{Answer}
+use Rattle.line_world.specs.declared.replies.Answer.TheVariants.{Done, Refused}
+use Rattle.line_world.specs.declared.replies.Reply.{Reply}
+use Rattle.line_world.specs.declared.replies.Reply.TheVariants.{Sent, Took, Stale, Repeated, Checked, Damaged, Recovered}
+use Rattle.line_world.specs.declared.steps.Step.{Step}
+use Rattle.line_world.specs.declared.steps.Step.TheVariants.{Send, Deliver, Check, Damage, Recover}
+use Rattle.line_world.specs.Fates.{fate_of, events_of, reply_of}
+use Rattle.line_world.specs.Machine.{Machine, with_events}
+use Rattle.line_world.specs.Refusals.{refusal_of}
+use Rattle.line_world.specs.Runs.{Takes, Run, reply_name, answer_name}
+use Rattle.line_world.specs.Steps.{Does, RecoversWith}
+use Rattle.line_world.proofs.StepLemmas.{may_send, may_deliver_at, may_check}
+
+-- what a change of the history leaves of names: those that were sent stay so, and no tape is ahead of its process
+pub record KeepsNames (old new : List Process) : Type 0 where
+  pub sends : HasNoLaterSend new
+  pub stays : (message : MsgName) → IsSpentName old message → IsSpentName new message
+
+-- the name that is told is new, and sent from then on
+pub record IsNamed (old new : List Process) (name : Option MsgName) : Type 0 where
+  pub fresh : (message : MsgName) → name ≡ Some message → IsSpentName old message → ⊥
+  pub spent : (message : MsgName) → name ≡ Some message → IsSpentName new message
+
+unnamed : (old new : List Process) (name : Option MsgName) → name ≡ None → IsNamed old new name
+unnamed old new name none = record { fresh = λ message e. absurd (cc (e, none)); spent = λ message e. absurd (cc (e, none)) }
+
+KeepsNames-same : (history : List Process) → HasNoLaterSend history → KeepsNames history history
+KeepsNames-same history sends = record { sends = sends; stays = λ message is. is }
+
+KeepsNames-event : (history : List Process) (at : ℕ) (event : Event) → HasNoLaterSend history → at < length history → ((inc : ℕ) → incarnation_of event ≡ Some inc → inc ≤ incarnation_at history at) → KeepsNames history (with_event history at event)
+KeepsNames-event history at event sends within own = record {
+  sends = no_later_event history at event sends within own;
+  stays = λ message is. spent_event history at event message within is;
+}
+
+-- each step that is done
+names-done : (old new : Machine) (step : Step) (reply : Reply) → HasNoLaterSend old.history → refusal_of old step ≡ None → Does old step reply new → KeepsNames old.history new.history × IsNamed old.history new.history (reply_name reply)
+names-done old new (Send from to body) reply sends none does =
+    let within : from < length old.history = (may_send old from to body none).named.from_within in
+    let after : new.history ≡ with_event old.history from (SendEvent to (incarnation_at old.history from) body) = ap (λ (m : Machine). m.history) does.new_is in
+    let name : reply_name reply ≡ Some (next_name old.history from) = ap reply_name does.reply_is in (
+      subst (KeepsNames old.history) (sym after) (KeepsNames-event old.history from (SendEvent to (incarnation_at old.history from) body) sends within (λ inc e. let same : incarnation_at old.history from ≡ inc = cc in omega (arith, same))),
+      record {
+        fresh = λ message e is. let same : message ≡ next_name old.history from = cc (e, name) in next_unspent old.history from (subst (IsSpentName old.history) same is);
+        spent = λ message e.
+            let same : next_name old.history from ≡ message = cc (e, name) in
+            subst (λ (h : List Process). IsSpentName h message) (sym after) (subst (IsSpentName (with_event old.history from (SendEvent to (incarnation_at old.history from) body))) same (sent_spent old.history from to body within));
+      },
+    )
+names-done old new (Deliver from to pick state) reply sends none does =
+    let within : to < length old.history = may_deliver_at old from to pick state none in
+    let fate : Fate = fate_of old.mode old.history to does.message in
+    let after : new.history ≡ with_events old.history to (events_of fate does.message) = ap (λ (m : Machine). m.history) does.new_is in
+    (subst (KeepsNames old.history) (sym after) (taken fate does.message within), unnamed old.history new.history (reply_name reply) (ap reply_name does.reply_is ∙ told fate does.message))
+  where
+    taken : (fate : Fate) (message : MsgName) → to < length old.history → KeepsNames old.history (with_events old.history to (events_of fate message))
+    taken Taken message within = KeepsNames-event old.history to (RecvEvent message) sends within (λ inc e. absurd (cc))
+    taken IsStale message within = KeepsNames-same old.history sends
+    taken IsRepeated message within = KeepsNames-same old.history sends
+
+    told : (fate : Fate) (message : MsgName) → reply_name (reply_of fate message) ≡ None
+    told Taken message = refl
+    told IsStale message = refl
+    told IsRepeated message = refl
+names-done old new (Check at state) reply sends none does =
+    let after : new.history ≡ with_event old.history at (CheckEvent state None) = ap (λ (m : Machine). m.history) does.new_is in (
+      subst (KeepsNames old.history) (sym after) (KeepsNames-event old.history at (CheckEvent state None) sends (may_check old at state none).within (λ inc e. absurd (cc))),
+      unnamed old.history new.history (reply_name reply) (ap reply_name does.reply_is),
+    )
+names-done old new (Damage at check) reply sends none does =
+    let after : new.history ≡ old.history = ap (λ (m : Machine). m.history) does.new_is in
+    (subst (KeepsNames old.history) (sym after) (KeepsNames-same old.history sends), unnamed old.history new.history (reply_name reply) (ap reply_name does.reply_is))
+names-done old new (Recover failed) reply sends none does = recovered reply does where
+  recovered : (r : Reply) → RecoversWith old failed r new → KeepsNames old.history new.history × IsNamed old.history new.history (reply_name r)
+  recovered (Recovered plan states incarnations) is =
+      let line : List Choice = plan.line in
+      let size : length line ≡ length old.history = is.plan_is.latest.recoverable.length_is in
+      let after : new.history ≡ restarted old.history line = ap (λ (m : Machine). m.history) is.new_is in (
+        subst (KeepsNames old.history) (sym after) (record {
+          sends = no_later_restarted old.history line sends size;
+          stays = λ message spent. spent_restarted old.history line message sends size spent;
+        }),
+        unnamed old.history new.history None refl,
+      )
+  recovered (Sent message) is = absurd is
+  recovered (Took message forced) is = absurd is
+  recovered (Stale message) is = absurd is
+  recovered (Repeated message) is = absurd is
+  recovered (Checked at check) is = absurd is
+  recovered (Damaged at check) is = absurd is
+
+names-taken : (old new : Machine) (step : Step) (answer : Answer) → HasNoLaterSend old.history → Takes old step answer new → KeepsNames old.history new.history × IsNamed old.history new.history (answer_name answer)
+names-taken old new step (Done reply) sends takes = names-done old new step reply sends takes.0 takes.1
+names-taken old new step (Refused e) sends takes =
+    (subst (λ (m : Machine). KeepsNames old.history m.history) (sym takes.1) (KeepsNames-same old.history sends), unnamed old.history new.history None refl)
+
+-- the names that a run tells are apart, and none of them was sent before
+pub record AreNewNames (history : List Process) (names : List MsgName) : Type 0 where
+  pub apart : AllPairs (λ (a b : MsgName). a ≢ b) names
+  pub fresh : All (λ message. IsSpentName history message → ⊥) names
+
+AreNewNames-cons : (old new : List Process) (name : Option MsgName) (names : List MsgName) → KeepsNames old new → IsNamed old new name → AreNewNames new names → AreNewNames old (cons_option name names)
+AreNewNames-cons old new None names keeps named is = record { apart = is.apart; fresh = λ k d within spent. is.fresh k d within (keeps.stays (get_or names k d) spent) }
+AreNewNames-cons old new (Some message) names keeps named is = record {
+  apart = AllPairs-cons (λ (a b : MsgName). a ≢ b) message names (λ k d within same. is.fresh k d within (subst (IsSpentName new) same (named.spent message refl))) is.apart;
+  fresh = first;
+}
+  where
+    first : All (λ m. IsSpentName old m → ⊥) (message ∷ names)
+    first zero d within spent = named.fresh message refl spent
+    first (suc k) d within spent = is.fresh k d (omega (arith, within)) (keeps.stays (get_or names k d) spent)
+
+pub Run-names : (old new : Machine) (steps : List Step) (answers : List Answer) → HasNoLaterSend old.history → Run old steps answers new → AreNewNames old.history (filter_map answer_name answers)
+Run-names old new [] [] sends run = record { apart = λ i j d near far. absurd (omega (arith, far)); fresh = λ k d within. absurd (omega (arith, within)) }
+Run-names old new [] (answer ∷ answers) sends run = absurd run
+Run-names old new (step ∷ steps) [] sends run = absurd run
+Run-names old new (step ∷ steps) (answer ∷ answers) sends (mid, takes, run) =
+    let kept = names-taken old mid step answer sends takes in
+    AreNewNames-cons old.history mid.history (answer_name answer) (filter_map answer_name answers) kept.0 kept.1 (Run-names mid new steps answers kept.0.sends run)
