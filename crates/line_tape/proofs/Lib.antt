@@ -13,3 +13,6 @@ pub mod LetterLemmas
 pub mod SpentLemmas
 pub mod CopyLemmas
 pub mod OrderLemmas
+pub mod RoundLemmas
+pub mod RoundLines
+pub mod SnapshotLemmas

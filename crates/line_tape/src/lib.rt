@@ -15,6 +15,7 @@ mod lines;
 mod links;
 mod marks;
 mod receipts;
+mod rounds;
 mod survival;
 mod tapes;
 
@@ -29,5 +30,6 @@ pub use limits::{MOST_EVENTS, MOST_STATE};
 pub use lines::{is_consistent, is_line, is_sent_before, orphan_at};
 pub use links::{kept_checks, ordered_fits, restart_fits, transit_parts};
 pub use marks::{MarkError, Marks};
+pub use rounds::{latest_reaches, marker_round_holds, snapshots_stay};
 pub use survival::{first_ceilings, latest_choice, next_lower, survives};
 pub use tapes::{Tape, TapeError};

@@ -1,0 +1,46 @@
+//! Laws of the rounds of markers, and of snapshots.
+ghost use Rattle.std.specs.Prelude.{IsTrue, slice_index_or, ◌≡◌, ◌<◌, ℕ, List, Bool, length};
+ghost use Rattle.line_names.specs.declared.choices.Choice.{Choice};
+ghost use Rattle.line_names.specs.declared.choices.Choice.TheVariants.{Check};
+ghost use Rattle.line_names.specs.declared.messages.MsgName.{MsgName};
+ghost use Rattle.line_names.specs.Lines.{choice_at, IsNowhereLater};
+ghost use Rattle.line_tape.specs.declared.events.Event.{Event};
+ghost use Rattle.line_tape.specs.Fit.{IsFitFifo};
+ghost use Rattle.line_tape.specs.History.{Process, with_event};
+ghost use Rattle.line_tape.specs.Line.{IsLine, IsConsistent};
+ghost use Rattle.line_tape.specs.Restart.{is_kept, restarted};
+ghost use Rattle.line_tape.specs.Rounds.{channel_fifo, check_line, checks_of, is_checked, is_completed_fifo, round_line, IsSnapshot};
+ghost use Rattle.line_tape.specs.Survival.{survives, IsLatest};
+ghost use Rattle.line_tape.specs.Views.{MarksView};
+
+/// On links that keep their order, the checks of a round make a consistent line as soon as every tape has its own; and once each marker is in too, the round is a snapshot: its channels are what is in transit at its line, in order.
+///
+/// The algorithm of Chandy and Lamport, ACM TOCS 3(1), 1985. The call does nothing: its contract is the law.
+pub fn marker_round_holds()
+    ensures checked { (history : List Process) (r : ℕ) → IsTrue (is_completed_fifo history r) → IsTrue (is_checked history r) }
+    ensures line { (history : List Process) (r : ℕ) → IsTrue (is_checked history r) → IsLine history (round_line history r) }
+    ensures consistent { (history : List Process) (r : ℕ) → IsFitFifo history → IsTrue (is_checked history r) → IsConsistent history (round_line history r) }
+    ensures snapshot { (history : List Process) (r : ℕ) → IsFitFifo history → IsTrue (is_completed_fifo history r)
+        → IsSnapshot history (checks_of history r) (channel_fifo history r) }
+{}
+
+/// A snapshot stays one by every event, and by every restart that keeps its checks.
+///
+/// So the checks and channels of a round, once written down, need not be looked at again until one of the checks is cut. The call does nothing: its contract is the law.
+pub fn snapshots_stay()
+    ensures event { (history : List Process) (at : ℕ) (event : Event) (indices : List ℕ) (channels : ℕ → ℕ → List MsgName)
+        → at < length history → IsSnapshot history indices channels → IsSnapshot (with_event history at event) indices channels }
+    ensures restart { (history : List Process) (line : List Choice) (indices : List ℕ) (channels : ℕ → ℕ → List MsgName)
+        → length line ≡ length history → ((p : ℕ) → IsTrue (is_kept (choice_at line p) (slice_index_or indices p 0)))
+        → IsSnapshot history indices channels → IsSnapshot (restarted history line) indices channels }
+{}
+
+/// Where the checks of a snapshot all survive, the latest line is at every process that check or later.
+///
+/// The call does nothing: its contract is the law.
+pub fn latest_reaches()
+    ensures { (history : List Process) (marks : MarksView) (failed : List Bool) (line : List Choice) (indices : List ℕ) (channels : ℕ → ℕ → List MsgName)
+        → IsLatest history marks failed line → IsSnapshot history indices channels
+        → ((p : ℕ) → p < length history → IsTrue (survives history marks failed p (Check (slice_index_or indices p 0))))
+        → IsNowhereLater (check_line indices) line }
+{}
