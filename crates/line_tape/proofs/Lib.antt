@@ -16,3 +16,5 @@ pub mod OrderLemmas
 pub mod RoundLemmas
 pub mod RoundLines
 pub mod SnapshotLemmas
+pub mod ColourLemmas
+pub mod ColourRounds

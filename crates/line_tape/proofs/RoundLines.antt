@@ -28,7 +28,7 @@ use Rattle.line_tape.proofs.OrderLemmas.{receipt_in}
 pub in_range : (f : ℕ → Bool) (a n p : ℕ) → list_all f (range_with_len a n) ≡ true → a ≤ p → p < a + n → f p ≡ true
 in_range f a zero p t l h = absurd (omega arith)
 in_range f a (suc n) p t l h =
-    let x = and_parts _ _ t in
+    let x = and_parts (f a) (list_all f (range_with_len (a + 1) n)) t in
     elim (cases_lt p (a + 1)) [
       | inl k ↦ let same : a ≡ p = omega arith in subst (λ (v : ℕ). f v ≡ true) same x.0
       | inr k ↦ in_range f (a + 1) n p x.1 k (omega arith)
@@ -97,8 +97,9 @@ closed_has_check history r q t h = (and_parts _ _ (in_range (is_closed_at histor
 
 pub closed_has_mark : (history : List Process) (r p q : ℕ) → is_completed_fifo history r ≡ true → p < length history → q < length history → (p ≡ q → ⊥) → list_any (is_mark_of p r) (after_check r (tape_at history q)) ≡ true
 closed_has_mark history r p q t hp hq other =
-    let all = (and_parts _ _ (in_range (is_closed_at history r) 0 (length history) q t (omega arith) (omega arith))).1 in
-    elim (or_cases _ _ (in_range (λ v. (v == q) || list_any (is_mark_of v r) (after_check r (tape_at history q))) 0 (length history) p all (omega arith) (omega arith))) [
+    let marked : ℕ → Bool = λ v. (v == q) || list_any (is_mark_of v r) (after_check r (tape_at history q)) in
+    let all : list_all marked (range_with_len 0 (length history)) ≡ true = (and_parts _ _ (in_range (is_closed_at history r) 0 (length history) q t (omega arith) (omega arith))).1 in
+    elim (or_cases _ _ (in_range marked 0 (length history) p all (omega arith) (omega arith))) [
       | inl e ↦ absurd (other (eqb-true p q e))
       | inr m ↦ m
     ]

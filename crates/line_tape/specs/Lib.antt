@@ -14,3 +14,4 @@ pub mod Plain
 pub mod Refusals
 pub mod Spent
 pub mod Copies
+pub mod Colours

@@ -3,6 +3,7 @@
 //! A history has one tape of events for each process. A choice of a process is its initial state, one of its checks or where it stands now; a line picks one choice for each process. What is consistent, which line is the latest, what is in transit and what a restart leaves is defined in `specs/`, over plain lists of events.
 #![tactic(auto)]
 
+mod colours;
 mod copies;
 mod events;
 mod fits;
@@ -19,6 +20,7 @@ mod rounds;
 mod survival;
 mod tapes;
 
+pub use colours::{colour_round_holds, colours_change, colours_hold};
 pub use copies::copies_hold;
 pub use events::{Event, State};
 pub use fits::event_fits;
