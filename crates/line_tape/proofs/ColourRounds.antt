@@ -8,15 +8,14 @@ use Rattle.std.proofs.lemmas.Option.{slice_get_within, get_or_from_slice_get}
 use Rattle.line_names.specs.declared.choices.Choice.{Choice}
 use Rattle.line_names.specs.declared.choices.Choice.TheVariants.{Check as AtCheck}
 use Rattle.line_names.specs.declared.messages.MsgName.{MsgName}
-use Rattle.line_names.specs.Lines.{choice_at}
 use Rattle.line_tape.specs.declared.events.Event.{Event}
 use Rattle.line_tape.specs.declared.events.Event.TheVariants.{Send, Recv, Check, Mark}
 use Rattle.line_tape.specs.Colours.{colour, colour_at, send_place, message_colour, ColoursRise, AreColoured, IsNextColoured, is_completed_unordered, channel_unordered}
 use Rattle.line_tape.specs.Event.{incarnation_of, incarnations_sent, Holds}
-use Rattle.line_tape.specs.Fit.{IsFitUnordered, IsNextUnordered, IsSentTo}
+use Rattle.line_tape.specs.Fit.{IsFitUnordered, IsNextUnordered}
 use Rattle.line_tape.specs.Front.{front}
 use Rattle.line_tape.specs.History.{Process, fresh, tape_at, with_event}
-use Rattle.line_tape.specs.Line.{events_before, IsSentBefore, IsConsistent}
+use Rattle.line_tape.specs.Line.{events_before, IsConsistent}
 use Rattle.line_tape.specs.Restart.{restarted, restarted_event}
 use Rattle.line_tape.specs.Rounds.{is_check_of, has_check_of, check_of, after_check, is_checked, checks_of, round_line, IsSnapshot}
 use Rattle.line_tape.proofs.ColourLemmas.{colour-append, colour-take, colour-last, before_later_send, message_colour_event, message_colour_below, colour_restarted}

@@ -4,7 +4,7 @@ use Rattle.std.specs.Prelude.{◌==◌, ◌||◌}
 use Rattle.std.specs.List.{filter_map, list_any, list_all, Contains, slice_get, before_first, range_with_len}
 use Rattle.std.proofs.lemmas.List.{append_assoc, append-nil, get_or_past, get_or-map, length-map}
 use Rattle.std.proofs.lemmas.List.FromFn.{length-range_with_len}
-use Rattle.std.proofs.lemmas.List.Elements.{filter_map-append, }
+use Rattle.std.proofs.lemmas.List.Elements.{filter_map-append}
 use Rattle.std.proofs.lemmas.Bool.{eqb-true, and_parts, and_from, or_cases, cases_lt}
 use Rattle.line_names.specs.declared.messages.MsgName.{MsgName}
 use Rattle.line_names.specs.declared.choices.Choice.{Choice}
@@ -171,7 +171,7 @@ marker_snapshot history r fit done = record {
   line = round_is_line history r (completed_checked history r done);
   consistent = round_consistent history r fit (completed_checked history r done);
   transit = λ p q lp lq other. sym (transit_is history (round_line history r) p q (channel_fifo history r p q)
-  (ap (λ (v : Choice). messages (items_sent p q 0 (front (tape_at history p) v))) (round_choice history r p lp)
-  ∙ channel_follows history fit r p q (closed_has_check history r p done lp) (closed_has_check history r q done lq) (closed_has_mark history r p q done lp lq other)
-  ∙ ap (λ (v : Choice). messages (filter_map (item_received p) (front (tape_at history q) v)) ++ channel_fifo history r p q) (sym (round_choice history r q lq))));
+      (ap (λ (v : Choice). messages (items_sent p q 0 (front (tape_at history p) v))) (round_choice history r p lp)
+      ∙ channel_follows history fit r p q (closed_has_check history r p done lp) (closed_has_check history r q done lq) (closed_has_mark history r p q done lp lq other)
+      ∙ ap (λ (v : Choice). messages (filter_map (item_received p) (front (tape_at history q) v)) ++ channel_fifo history r p q) (sym (round_choice history r q lq))));
 }

@@ -1,5 +1,5 @@
 -- A snapshot stays one by events and by restarts that keep its checks, and the latest line is nowhere before it.
-use Rattle.std.proofs.Common.{◌≡◌, ℕ, zero, suc, ◌+◌, ◌<◌, ◌≤◌, Bool, true, false, cond, not, List, [], ◌∷◌, ◌++◌, length, take, map, get_or, Some, refl, sym, ap, ◌∙◌, subst, arith, inl, inr}
+use Rattle.std.proofs.Common.{◌≡◌, ℕ, zero, suc, ◌+◌, ◌<◌, ◌≤◌, Bool, true, false, cond, not, List, [], ◌∷◌, ◌++◌, length, take, map, get_or, refl, sym, ap, ◌∙◌, subst, arith, inl, inr}
 use Rattle.std.specs.Prelude.{◌==◌, IsTrue}
 use Rattle.std.specs.List.{filter_map, filter, slice_get, Contains}
 use Rattle.std.proofs.lemmas.Bool.{leb-true, cases_lt}
@@ -68,6 +68,11 @@ module _ (history : List Process) (at : ℕ) (e : Event) (h : at < length histor
         let count : checks (tape_at (with_event history at e) p) ≡ checks (tape_at history p) + checks grows.0 = ap checks grows.1 ∙ checks-append (tape_at history p) grows.0 in
         subst (HasChoice (tape_at (with_event history at e) p)) (sym (choice_of_checks indices p)) (omega (arith, count, check_there history indices is p));
   }
+
+-- what is in transit there is the same after an event
+pub event_transit : (history : List Process) (at : ℕ) (e : Event) (indices : List ℕ) → at < length history → IsLine history (check_line indices) → (p q : ℕ)
+    → in_transit_between (with_event history at e) (check_line indices) p q ≡ in_transit_between history (check_line indices) p q
+event_transit history at e indices h is = transit_same history (with_event history at e) (check_line indices) (event_fronts history at e h indices is)
 
 -- a snapshot stays one by an event
 pub snapshot_event : (history : List Process) (at : ℕ) (e : Event) (indices : List ℕ) (channels : ℕ → ℕ → List MsgName) → at < length history → IsSnapshot history indices channels → IsSnapshot (with_event history at e) indices channels

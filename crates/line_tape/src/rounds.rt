@@ -11,6 +11,7 @@ ghost use Rattle.line_tape.specs.Line.{IsLine, IsConsistent};
 ghost use Rattle.line_tape.specs.Restart.{is_kept, restarted};
 ghost use Rattle.line_tape.specs.Rounds.{channel_fifo, check_line, checks_of, is_checked, is_completed_fifo, round_line, IsSnapshot};
 ghost use Rattle.line_tape.specs.Survival.{survives, IsLatest};
+ghost use Rattle.line_tape.specs.Transit.{in_transit_between};
 ghost use Rattle.line_tape.specs.Views.{MarksView};
 
 /// On links that keep their order, the checks of a round make a consistent line as soon as every tape has its own; and once each marker is in too, the round is a snapshot: its channels are what is in transit at its line, in order.
@@ -24,10 +25,12 @@ pub fn marker_round_holds()
         → IsSnapshot history (checks_of history r) (channel_fifo history r) }
 {}
 
-/// A snapshot stays one by every event, and by every restart that keeps its checks.
+/// What is in transit at checks of a history is the same after every event; and a snapshot stays one by every event, and by every restart that keeps its checks.
 ///
 /// So the checks and channels of a round, once written down, need not be looked at again until one of the checks is cut. The call does nothing: its contract is the law.
 pub fn snapshots_stay()
+    ensures transit { (history : List Process) (at : ℕ) (event : Event) (indices : List ℕ) → at < length history → IsLine history (check_line indices) → (p q : ℕ)
+        → in_transit_between (with_event history at event) (check_line indices) p q ≡ in_transit_between history (check_line indices) p q }
     ensures event { (history : List Process) (at : ℕ) (event : Event) (indices : List ℕ) (channels : ℕ → ℕ → List MsgName)
         → at < length history → IsSnapshot history indices channels → IsSnapshot (with_event history at event) indices channels }
     ensures restart { (history : List Process) (line : List Choice) (indices : List ℕ) (channels : ℕ → ℕ → List MsgName)
