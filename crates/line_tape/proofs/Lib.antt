@@ -16,5 +16,6 @@ pub mod OrderLemmas
 pub mod RoundLemmas
 pub mod RoundLines
 pub mod SnapshotLemmas
+pub mod GrowthLemmas
 pub mod ColourLemmas
 pub mod ColourRounds

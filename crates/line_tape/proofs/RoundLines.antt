@@ -51,7 +51,7 @@ round_choice history r p h =
 pub checked_has : (history : List Process) (r q : ℕ) → is_checked history r ≡ true → q < length history → has_check_of r (tape_at history q) ≡ true
 checked_has history r q t h = in_range (λ v. has_check_of r (tape_at history v)) 0 (length history) q t (omega arith) (omega arith)
 
-all_weaker : (f g : ℕ → Bool) (a n : ℕ) → ((v : ℕ) → f v ≡ true → g v ≡ true) → list_all f (range_with_len a n) ≡ true → list_all g (range_with_len a n) ≡ true
+pub all_weaker : (f g : ℕ → Bool) (a n : ℕ) → ((v : ℕ) → f v ≡ true → g v ≡ true) → list_all f (range_with_len a n) ≡ true → list_all g (range_with_len a n) ≡ true
 all_weaker f g a zero w t = refl
 all_weaker f g a (suc n) w t = let x = and_parts _ _ t in and_from _ _ (w a x.0) (all_weaker f g (a + 1) n w x.1)
 
@@ -98,7 +98,7 @@ closed_has_check history r q t h = (and_parts _ _ (in_range (is_closed_at histor
 pub closed_has_mark : (history : List Process) (r p q : ℕ) → is_completed_fifo history r ≡ true → p < length history → q < length history → (p ≡ q → ⊥) → list_any (is_mark_of p r) (after_check r (tape_at history q)) ≡ true
 closed_has_mark history r p q t hp hq other =
     let marked : ℕ → Bool = λ v. (v == q) || list_any (is_mark_of v r) (after_check r (tape_at history q)) in
-    let all : list_all marked (range_with_len 0 (length history)) ≡ true = (and_parts _ _ (in_range (is_closed_at history r) 0 (length history) q t (omega arith) (omega arith))).1 in
+    let all : list_all marked (range_with_len 0 (length history)) ≡ true = (and_parts (has_check_of r (tape_at history q)) (list_all marked (range_with_len 0 (length history))) (in_range (is_closed_at history r) 0 (length history) q t (omega arith) (omega arith))).1 in
     elim (or_cases _ _ (in_range marked 0 (length history) p all (omega arith) (omega arith))) [
       | inl e ↦ absurd (other (eqb-true p q e))
       | inr m ↦ m

@@ -65,11 +65,15 @@ check_line indices = map (λ c. AtCheck c) indices
 abbrev pub round_line : List Process → ℕ → List Choice
 round_line history r = check_line (checks_of history r)
 
+-- after its check of round r the tape has the marker of r from process p
+abbrev pub has_mark_of : ℕ → ℕ → List Event → Bool
+has_mark_of p r tape = list_any (is_mark_of p r) (after_check r tape)
+
 -- the tape of process q has its check of round r and, after it, a marker of r from each other process
 abbrev pub is_closed_at : List Process → ℕ → ℕ → Bool
 is_closed_at history r q =
     has_check_of r (tape_at history q)
-    && list_all (λ p. (p == q) || list_any (is_mark_of p r) (after_check r (tape_at history q))) (range_with_len 0 (length history))
+    && list_all (λ p. (p == q) || has_mark_of p r (tape_at history q)) (range_with_len 0 (length history))
 
 -- round r of markers is completed: every tape has its check and all its markers
 abbrev pub is_completed_fifo : List Process → ℕ → Bool
@@ -79,10 +83,13 @@ is_completed_fifo history r = list_all (is_closed_at history r) (range_with_len 
 abbrev pub names_from : ℕ → List MsgName → List MsgName
 names_from p messages = filter (λ (message : MsgName). message.from == p) messages
 
--- the channel from process p to q in round r of markers: what q received from p after its check and before p's marker
+-- the channel from process p on a tape, in round r of markers: what it received from p after its check and before p's marker
+abbrev pub channel_on : ℕ → ℕ → List Event → List MsgName
+channel_on p r tape = names_from p (names_received (before_first (is_mark_of p r) (after_check r tape)))
+
+-- the channel from process p to q in round r of markers
 abbrev pub channel_fifo : List Process → ℕ → ℕ → ℕ → List MsgName
-channel_fifo history r p q =
-    names_from p (names_received (before_first (is_mark_of p r) (after_check r (tape_at history q))))
+channel_fifo history r p q = channel_on p r (tape_at history q)
 
 -- a snapshot of the history: checks that make a consistent line, and for each two processes the messages in transit there
 pub record IsSnapshot (history : List Process) (indices : List ℕ) (channels : ℕ → ℕ → List MsgName) : Type 0 where

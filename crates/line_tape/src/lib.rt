@@ -32,6 +32,6 @@ pub use limits::{MOST_EVENTS, MOST_STATE};
 pub use lines::{is_consistent, is_line, is_sent_before, orphan_at};
 pub use links::{kept_checks, ordered_fits, restart_fits, transit_parts};
 pub use marks::{MarkError, Marks};
-pub use rounds::{latest_reaches, marker_round_holds, snapshots_stay};
+pub use rounds::{channels_grow, latest_reaches, marker_round_holds, rounds_stay, snapshots_stay};
 pub use survival::{first_ceilings, latest_choice, next_lower, survives};
 pub use tapes::{Tape, TapeError};

@@ -1,5 +1,5 @@
 //! Laws of the rounds of markers, and of snapshots.
-ghost use Rattle.std.specs.Prelude.{IsTrue, slice_index_or, ◌≡◌, ◌<◌, ℕ, List, Bool, length};
+ghost use Rattle.std.specs.Prelude.{IsTrue, slice_index_or, if◌then◌else◌, ◌≡◌, ◌++◌, ◌||◌, ◌<◌, ℕ, List, [], ◌∷◌, Bool, false, length};
 ghost use Rattle.line_names.specs.declared.choices.Choice.{Choice};
 ghost use Rattle.line_names.specs.declared.choices.Choice.TheVariants.{Check};
 ghost use Rattle.line_names.specs.declared.messages.MsgName.{MsgName};
@@ -9,9 +9,9 @@ ghost use Rattle.line_tape.specs.Fit.{IsFitFifo};
 ghost use Rattle.line_tape.specs.History.{Process, with_event};
 ghost use Rattle.line_tape.specs.Line.{IsLine, IsConsistent};
 ghost use Rattle.line_tape.specs.Restart.{is_kept, restarted};
-ghost use Rattle.line_tape.specs.Rounds.{channel_fifo, check_line, checks_of, is_checked, is_completed_fifo, round_line, IsSnapshot};
+ghost use Rattle.line_tape.specs.Rounds.{channel_fifo, channel_on, check_line, checks_of, has_check_of, has_mark_of, is_check_of, is_checked, is_completed_fifo, is_mark_of, names_from, round_line, IsSnapshot};
 ghost use Rattle.line_tape.specs.Survival.{survives, IsLatest};
-ghost use Rattle.line_tape.specs.Transit.{in_transit_between};
+ghost use Rattle.line_tape.specs.Transit.{in_transit_between, names_received};
 ghost use Rattle.line_tape.specs.Views.{MarksView};
 
 /// On links that keep their order, the checks of a round make a consistent line as soon as every tape has its own; and once each marker is in too, the round is a snapshot: its channels are what is in transit at its line, in order.
@@ -36,6 +36,29 @@ pub fn snapshots_stay()
     ensures restart { (history : List Process) (line : List Choice) (indices : List ℕ) (channels : ℕ → ℕ → List MsgName)
         → length line ≡ length history → ((p : ℕ) → IsTrue (is_kept (choice_at line p) (slice_index_or indices p 0)))
         → IsSnapshot history indices channels → IsSnapshot (restarted history line) indices channels }
+{}
+
+/// How one more event changes what its tape has of a round of markers: its check opens each channel, what comes of a message is on its sender's channel until that process's marker is in, and then the channel stays as it is.
+///
+/// The call does nothing: its contract is the law.
+pub fn channels_grow()
+    ensures check { (tape : List Event) (event : Event) (r : ℕ) → has_check_of r (tape ++ event ∷ []) ≡ (has_check_of r tape || is_check_of r event) }
+    ensures opened { (tape : List Event) (event : Event) (p r : ℕ) → has_check_of r tape ≡ false → IsTrue (is_check_of r event)
+        → (channel_on p r (tape ++ event ∷ []) ≡ []) × (has_mark_of p r (tape ++ event ∷ []) ≡ false) }
+    ensures mark { (tape : List Event) (event : Event) (p r : ℕ) → IsTrue (has_check_of r tape)
+        → has_mark_of p r (tape ++ event ∷ []) ≡ (has_mark_of p r tape || is_mark_of p r event) }
+    ensures channel { (tape : List Event) (event : Event) (p r : ℕ) → IsTrue (has_check_of r tape)
+        → channel_on p r (tape ++ event ∷ []) ≡ channel_on p r tape ++ (if has_mark_of p r tape then [] else names_from p (names_received (event ∷ []))) }
+{}
+
+/// A round that is on every tape stays so by every event, and a completed one stays completed.
+///
+/// The call does nothing: its contract is the law.
+pub fn rounds_stay()
+    ensures checked { (history : List Process) (at : ℕ) (event : Event) (r : ℕ) → at < length history → IsTrue (is_checked history r)
+        → IsTrue (is_checked (with_event history at event) r) }
+    ensures completed { (history : List Process) (at : ℕ) (event : Event) (r : ℕ) → at < length history → IsTrue (is_completed_fifo history r)
+        → IsTrue (is_completed_fifo (with_event history at event) r) }
 {}
 
 /// Where the checks of a snapshot all survive, the latest line is at every process that check or later.
