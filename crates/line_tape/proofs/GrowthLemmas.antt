@@ -9,7 +9,6 @@ use Rattle.std.proofs.lemmas.List.Folds.{Any-from_list_any, list_any-append, pos
 use Rattle.std.proofs.lemmas.List.Sums.{fails_before_first, passes_at_first, prefix_len-le-length}
 use Rattle.line_names.specs.declared.messages.MsgName.{MsgName}
 use Rattle.line_tape.specs.declared.events.Event.{Event}
-use Rattle.line_tape.specs.declared.events.Event.TheVariants.{Mark}
 use Rattle.line_tape.specs.History.{Process, tape_at, with_event}
 use Rattle.line_tape.specs.Rounds.{is_check_of, is_mark_of, has_check_of, has_mark_of, after_check, is_checked, is_completed_fifo, names_from, channel_on}
 use Rattle.line_tape.specs.Transit.{received_name, names_received}
