@@ -38,7 +38,7 @@ pub fn snapshots_stay()
         → IsSnapshot history indices channels → IsSnapshot (restarted history line) indices channels }
 {}
 
-/// How one more event changes what its tape has of a round of markers: its check opens each channel, what comes of a message is on its sender's channel until that process's marker is in, and then the channel stays as it is.
+/// How one more event changes what its tape has of a round of markers: its check opens each channel, a message that it receives goes on its sender's channel until that process's marker is in, and from then on the channel stays as it is.
 ///
 /// The call does nothing: its contract is the law.
 pub fn channels_grow()
