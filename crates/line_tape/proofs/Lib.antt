@@ -19,3 +19,9 @@ pub mod RoomLemmas
 pub mod EachLemmas
 pub mod HistoryCuts
 pub mod TransitLemmas
+pub mod RoundLemmas
+pub mod RoundLines
+pub mod SnapshotLemmas
+pub mod GrowthLemmas
+pub mod ColourLemmas
+pub mod ColourRounds

@@ -15,3 +15,4 @@ pub mod Plain
 pub mod Refusals
 pub mod Spent
 pub mod Copies
+pub mod Colours

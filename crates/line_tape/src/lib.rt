@@ -3,6 +3,7 @@
 //! A history has one tape of events for each process. A choice of a process is its initial state, one of its checks or where it stands now; a line picks one choice for each process. What is consistent, which line is the latest, what is in transit and what a restart leaves is defined in `specs/`, over plain lists of events.
 #![tactic(auto)]
 
+mod colours;
 mod copies;
 mod events;
 mod fits;
@@ -15,10 +16,12 @@ mod lines;
 mod links;
 mod marks;
 mod receipts;
+mod rounds;
 mod survival;
 mod tapes;
 mod transits;
 
+pub use colours::{colour_round_holds, colours_change, colours_hold};
 pub use copies::copies_hold;
 pub use events::{Event, State};
 pub use fits::event_fits;
@@ -30,5 +33,6 @@ pub use limits::{LAST_INCARNATION, MOST_EVENTS, MOST_STATE};
 pub use lines::{is_consistent, is_line, is_sent_before, orphan_at};
 pub use links::{kept_checks, ordered_fits, restart_fits, transit_parts};
 pub use marks::{MarkError, Marks};
+pub use rounds::{channels_grow, latest_reaches, marker_round_holds, rounds_stay, snapshots_stay};
 pub use survival::{first_ceilings, latest_choice, next_lower, survives};
 pub use tapes::{Tape, TapeError};
