@@ -9,7 +9,7 @@ use Rattle.line_fields.specs.Fields.{◌>>=◌}
 use Rattle.line_fields.specs.Records.{Record, records_of_text}
 use Rattle.line_text.specs.declared.faults.TextFault.{TextFault}
 use Rattle.line_text.specs.Reads.{IsOfText}
-use Rattle.line_text.specs.Scripts.{Script, command_in, commands_from, is_last, numbered, script_of, script_of_text, world_of}
+use Rattle.line_text.specs.Scripts.{Script, command_of, commands_from, numbered, script_of, script_of_text, world_of}
 
 -- each fault that is read is one of the text
 abbrev OnlyOfText : {A : Type 0} → Result A TextFault → Type 0
@@ -37,19 +37,19 @@ both_faults : {A B : Type 0} (read : Result A TextFault) (next : A → Result B 
 both_faults (Ok x) next h k = k x
 both_faults (Err fault) next h k = h
 
-commands_faults : (n : ℕ) (ended : Bool) (i : ℕ) (rows : List Record) → OnlyOfText (commands_from n ended i rows)
+commands_faults : (n : ℕ) (i : ℕ) (rows : List Record) → OnlyOfText (commands_from n i rows)
 unfolding commands_from
-commands_faults n ended i [] = tt
-commands_faults n ended i (r ∷ rest) =
-    both_faults (numbered i (command_in n ended r)) _ (numbered_faults i (command_in n ended r))
-    (λ command. both_faults (commands_from n (is_last r) (i + 1) rest) _ (commands_faults n (is_last r) (i + 1) rest) (λ others. tt))
+commands_faults n i [] = tt
+commands_faults n i (r ∷ rest) =
+    both_faults (numbered i (command_of n r)) _ (numbered_faults i (command_of n r))
+    (λ command. both_faults (commands_from n (i + 1) rest) _ (commands_faults n (i + 1) rest) (λ others. tt))
 
 records_faults : (rows : List Record) → OnlyOfText (script_of rows)
 unfolding script_of
 records_faults [] = code_is_of_text 1 faults.NoWorld
 records_faults (first ∷ rest) =
     both_faults (numbered 1 (world_of first)) _ (numbered_faults 1 (world_of first))
-    (λ world. both_faults (commands_from world.n false 2 rest) _ (commands_faults world.n false 2 rest) (λ commands. tt))
+    (λ world. both_faults (commands_from world.n 2 rest) _ (commands_faults world.n 2 rest) (λ commands. tt))
 
 pub script_faults : (text : List ℕ) → OnlyOfText (script_of_text text)
 unfolding script_of_text

@@ -136,27 +136,17 @@ command_of n r = do
   long ← want (has_width kind (length r)) faults.BadRecord
   of_kind kind n r
 
--- a recover that names failed processes ends the script, for now
-abbrev pub is_last : Record → Bool
-is_last r = bytes_eq (field r 0) (codes "recover") && not (length r == 1)
-
--- the command of a record that stands in its place
-unfoldable pub command_in : ℕ → Bool → Record → Result Command Fault
-command_in n ended r = do
-  going ← want (not ended) faults.BadRecord
-  command_of n r
-
 -- what a record reads, where a fault has the record's number
 abbrev pub numbered : {A : Type 0} → ℕ → Result A Fault → Result A TextFault
 numbered i (Ok x) = Ok x
 numbered i (Err fault) = Err (record { record_number = i; code = code_of fault })
 
--- the commands of the records from the i-th on, where the script may have ended before them
-unfoldable pub commands_from : ℕ → Bool → ℕ → List Record → Result (List Command) TextFault
-commands_from n ended i [] = Ok []
-commands_from n ended i (r ∷ rest) = do
-  command ← numbered i (command_in n ended r)
-  others ← commands_from n (is_last r) (i + 1) rest
+-- the commands of the records from the i-th on
+unfoldable pub commands_from : ℕ → ℕ → List Record → Result (List Command) TextFault
+commands_from n i [] = Ok []
+commands_from n i (r ∷ rest) = do
+  command ← numbered i (command_of n r)
+  others ← commands_from n (i + 1) rest
   Ok (command ∷ others)
 
 -- the number of processes, how links deliver, and the commands in their order
@@ -170,7 +160,7 @@ unfoldable pub script_of : List Record → Result Script TextFault
 script_of [] = Err (record { record_number = 1; code = code_of faults.NoWorld })
 script_of (first ∷ rest) = do
   world ← numbered 1 (world_of first)
-  commands ← commands_from world.n false 2 rest
+  commands ← commands_from world.n 2 rest
   Ok (record { n = world.n; mode = world.mode; commands = commands })
 
 -- the script that a text spells

@@ -214,7 +214,7 @@ fn recover_of(n: u32, row: &Row) -> Result<Command, Fault>
 
 /// The command that a record after the first spells, or its first fault.
 #[tactic(auto, unfolding(crate::specs::Scripts::command_of))]
-fn command_of(alloc: Global, n: u32, row: &Row) -> Result<Command, ReadError>
+pub(crate) fn command_of(alloc: Global, n: u32, row: &Row) -> Result<Command, ReadError>
     requires { n ≤ MOST_PROCESSES }
     ensures { Gives (λ command. command) result (spec.command_of n row.now) }
 {
@@ -227,26 +227,4 @@ fn command_of(alloc: Global, n: u32, row: &Row) -> Result<Command, ReadError>
         Kind::Damage => Ok(damage_of(n, row)?),
         Kind::Recover => Ok(recover_of(n, row)?),
     }
-}
-
-/// The same of a record that the script may have ended before.
-#[tactic(auto, unfolding(crate::specs::Scripts::command_in))]
-pub(crate) fn command_in(
-    alloc: Global,
-    n: u32,
-    ended: bool,
-    row: &Row,
-) -> Result<Command, ReadError>
-    requires { n ≤ MOST_PROCESSES }
-    ensures { Gives (λ command. command) result (spec.command_in n ended row.now) }
-{
-    want(!ended, Fault::BadRecord)?;
-    command_of(alloc, n, row)
-}
-
-/// Whether no record may follow this one.
-pub(crate) fn is_last(row: &Row) -> bool
-    ensures { result ≡ spec.is_last row.now }
-{
-    row.field(0) == b"recover".as_slice() && row.len() != 1
 }

@@ -5,7 +5,7 @@ ghost use Rattle.line_names.specs.declared.limits.TheConstants.{MOST_PROCESSES};
 ghost use Rattle.line_text.specs.Scripts as spec;
 ghost use Rattle.line_text.specs.Reads.{IsOfText, Reads, Yields, YieldsScript, no_memory};
 
-use crate::commands::{Command, World, command_in, is_last, world_of};
+use crate::commands::{Command, World, command_of, world_of};
 use crate::faults::{TextError, TextFault, error_at, fault_at};
 use line_fields::{Fault, RecordReader, Row, is_plain};
 use line_world::Mode;
@@ -37,14 +37,13 @@ fn world_at(row: &Row) -> Result<World, TextError>
 fn command_at(
     alloc: Global,
     n: u32,
-    ended: bool,
     record_number: u64,
     row: &Row,
 ) -> Result<Command, TextError>
     requires { n ≤ MOST_PROCESSES }
-    ensures { Yields result (spec.numbered record_number (spec.command_in n ended row.now)) }
+    ensures { Yields result (spec.numbered record_number (spec.command_of n row.now)) }
 {
-    match command_in(alloc, n, ended, row) {
+    match command_of(alloc, n, row) {
         Ok(command) => Ok(command),
         Err(error) => Err(error_at(record_number, error)),
     }
@@ -66,7 +65,6 @@ fn read(alloc: Global, text: &[u8]) -> Result<Script, TextError>
     }
     let world = world_at(&row)?;
     let mut commands = Vec::new(alloc);
-    let mut ended = false;
     let mut record_number = 2u64;
     'records: loop {
         if !records.next_row(&mut row)? {
@@ -76,9 +74,8 @@ fn read(alloc: Global, text: &[u8]) -> Result<Script, TextError>
                 commands,
             });
         }
-        let command = command_at(alloc, world.n, ended, record_number, &row)?;
+        let command = command_at(alloc, world.n, record_number, &row)?;
         commands.push(command)?;
-        ended = is_last(&row);
         record_number += 1;
     }
 }

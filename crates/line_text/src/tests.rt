@@ -91,11 +91,10 @@ fn finds_the_first_fault_of_a_command(rt: HostRuntime) {
             Some((3, 32)),
         ),
         (b"world,1,2,fifo\n \ncheck,0\n", Some((2, 32))),
-        // Nothing follows a recover with failed processes.
+        // Anything may follow a recover.
         (b"world,1,2,fifo\nrecover\ncheck,0,a1\n", None),
-        (b"world,1,2,fifo\nrecover,0\n\n", None),
-        (b"world,1,2,fifo\nrecover,0\ncheck,0,a1\n", Some((3, 32))),
-        (b"world,1,2,fifo\nrecover,0\ncheck,0,x\n", Some((3, 32))),
+        (b"world,1,2,fifo\nrecover,0\ncheck,0,a1\n", None),
+        (b"world,1,2,fifo\nrecover,0\ncheck,0,x\n", Some((3, 33))),
     ] {
         assert_eq!(rt; fault_of(rt.alloc(), text), want, "at {text:?}");
     }

@@ -31,13 +31,13 @@ records-init c =
 pub returns-then-not-branch-2-clause-exact : goal.returns-then-not-branch-2-clause-exact
 returns-then-not-branch-2-clause-exact c =
     let none = rw c.if-not-branch-2.true at c.in_ok-next_row-2.ensures.ok in
-    ended_at _ _ _ _ _ _ none.0 c.records.invariant.so_far
+    ended_at _ _ _ _ _ none.0 c.records.invariant.so_far
 
 pub returns-in_err-command-clause-exact : goal.returns-in_err-command-clause-exact
 returns-in_err-command-clause-exact c =
     let p = err_from_is_err_and c.from_residual-in_err-command.result c.from_residual-in_err-command.ensures.1 in
     let row = rw c.if-not-branch-2.false at c.in_ok-next_row-2.ensures.ok in
-    rw (p.1, p.2) (stopped _ _ _ _ _ _ _ _ _ row c.in_err-command.ensures c.records.invariant.so_far)
+    rw (p.1, p.2) (stopped _ _ _ _ _ _ _ _ row c.in_err-command.ensures c.records.invariant.so_far)
 
 pub records-preserved : goal.records-preserved
 records-preserved c =
@@ -47,5 +47,5 @@ records-preserved c =
     record {
       counts = omega (arith, c.records.invariant.counts, ap length c.in_ok-push.ensures.items, length-append c.records.commands.items (c.in_ok-command.command ∷ []));
       room = omega (arith, one, room);
-      so_far = rw (c.in_ok-push.ensures.items, c.is_last-ended.ensures) (read_more _ _ _ _ _ _ _ _ _ row c.in_ok-command.ensures c.records.invariant.so_far);
+      so_far = rw c.in_ok-push.ensures.items (read_more _ _ _ _ _ _ _ _ row c.in_ok-command.ensures c.records.invariant.so_far);
     }

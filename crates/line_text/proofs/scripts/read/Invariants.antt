@@ -7,7 +7,7 @@ abbrev pub invariant-records : goal.invariant-records
 invariant-records l = record {
   counts : (l.record_number ≡ length l.commands.items + 2);
   room : (l.record_number + length l.records < 2 ^ 64);
-  so_far : (script_of_text l.text ≡ with_front l.world l.commands.items (commands_from l.world.n l.ended l.record_number l.records));
+  so_far : (script_of_text l.text ≡ with_front l.world l.commands.items (commands_from l.world.n l.record_number l.records));
 }
 
 abbrev pub decreases-records : goal.decreases-records
