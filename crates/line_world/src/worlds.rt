@@ -26,7 +26,7 @@ use std::marker::Model;
 
 /// Processes with a link from each to each.
 ///
-/// It keeps a queue for each link beside the tapes, so that sending, delivering and taking a check cost the same however much was done before. A step that is refused changes nothing.
+/// It keeps a queue for each link beside a catalogue of the tapes, so that sending, delivering and taking a check cost the same however much was done before. A step that is refused, or that memory does not suffice for, changes nothing.
 #[derive(Drop)]
 pub struct World {
     mode: Mode,
