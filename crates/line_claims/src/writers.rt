@@ -185,5 +185,5 @@ pub fn write_history(alloc: Global, history: &History) -> Result<Vec<u8>, AllocE
     let mut draft = Draft::new(alloc);
     let mut writer = RecordWriter::new(alloc);
     put_history(&mut writer, &mut draft, history)?;
-    writer.into_bytes()
+    Vec::from_slice(alloc, writer.text())
 }
