@@ -8,12 +8,17 @@ use Rattle.line_text.proofs.replies.put_recovery.Goals as goal
 pub returns-in_err-put_lines-clause-err : goal.returns-in_err-put_lines-clause-err
 returns-in_err-put_lines-clause-err c =
     let passed_on = err_from_is_err_and c.from_residual-in_err-put_lines.result c.from_residual-in_err-put_lines.ensures.1 in
-    rw passed_on.1 (front_of_lines _ _ _ (recovered c.args.sweeps (length c.args.entries.now)) (lines c.args.plan.now.line c.args.incarnations.now c.args.states.now) (passes c.args.plan.now.certificate.items ++ replays_of c.args.plan.now.replays.items) c.in_ok-put_recovered.ensures.ok c.in_err-put_lines.ensures.err)
+    let told = rw (c.as_slice-entries.ensures.value, c.as_slice-replays.ensures.value) at c.in_ok-put_recovered.ensures.ok in
+    rw passed_on.1 (front_of_lines _ _ _ (recovered c.args.plan.now.sweeps (length c.args.plan.now.certificate.items) (length c.args.plan.now.replays.items)) (lines c.args.plan.now.line c.args.incarnations.now c.args.states.now) (passes c.args.plan.now.certificate.items ++ replays_of c.args.plan.now.replays.items) told (rw c.choices.ensures.value at c.in_err-put_lines.ensures.err))
 
 pub returns-clause-ok : goal.returns-clause-ok
 returns-clause-ok c =
-    on_ok_weaker c.put_rest.result (recovery_text _ _ _ _ (recovered c.args.sweeps (length c.args.entries.now)) (lines c.args.plan.now.line c.args.incarnations.now c.args.states.now) (passes c.args.plan.now.certificate.items ++ replays_of c.args.plan.now.replays.items) c.in_ok-put_recovered.ensures.ok c.in_ok-put_lines.ensures.ok) c.put_rest.ensures.ok
+    let told = rw (c.as_slice-entries.ensures.value, c.as_slice-replays.ensures.value) at c.in_ok-put_recovered.ensures.ok in
+    let rest = rw (c.as_slice-entries.ensures.value, c.as_slice-replays.ensures.value) at c.put_rest.ensures.ok in
+    on_ok_weaker c.put_rest.result (recovery_text _ _ _ _ (recovered c.args.plan.now.sweeps (length c.args.plan.now.certificate.items) (length c.args.plan.now.replays.items)) (lines c.args.plan.now.line c.args.incarnations.now c.args.states.now) (passes c.args.plan.now.certificate.items ++ replays_of c.args.plan.now.replays.items) told (rw c.choices.ensures.value at c.in_ok-put_lines.ensures.ok)) rest
 
 pub returns-clause-err : goal.returns-clause-err
 returns-clause-err c =
-    on_err_weaker c.put_rest.result (front_of_passes _ _ _ _ (recovered c.args.sweeps (length c.args.entries.now)) (lines c.args.plan.now.line c.args.incarnations.now c.args.states.now) (passes c.args.plan.now.certificate.items ++ replays_of c.args.plan.now.replays.items) c.in_ok-put_recovered.ensures.ok c.in_ok-put_lines.ensures.ok) c.put_rest.ensures.err
+    let told = rw (c.as_slice-entries.ensures.value, c.as_slice-replays.ensures.value) at c.in_ok-put_recovered.ensures.ok in
+    let rest = rw (c.as_slice-entries.ensures.value, c.as_slice-replays.ensures.value) at c.put_rest.ensures.err in
+    on_err_weaker c.put_rest.result (front_of_passes _ _ _ _ (recovered c.args.plan.now.sweeps (length c.args.plan.now.certificate.items) (length c.args.plan.now.replays.items)) (lines c.args.plan.now.line c.args.incarnations.now c.args.states.now) (passes c.args.plan.now.certificate.items ++ replays_of c.args.plan.now.replays.items) told (rw c.choices.ensures.value at c.in_ok-put_lines.ensures.ok)) rest
