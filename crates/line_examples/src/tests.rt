@@ -12,10 +12,10 @@ use std::process::Abort;
 use std::test::Fail;
 
 mod build;
-mod restarts;
 mod catalogues;
 mod claims;
 mod limits;
+mod restarts;
 mod search;
 
 /// a, b and c as in the picture of the README.

@@ -71,9 +71,12 @@ front_of_first before later ls ps (front, rest, parts, k) =
 
 -- the first part, and a front of the second
 pub front_of_second : (before first later : List ℕ) (ls ps : List Record) → first ≡ before ++ records_text ls → PutsFront (Some first) (Some later) (records_text ps) → PutsFront (Some before) (Some later) (records_text (ls ++ ps))
-front_of_second before first later ls ps h (front, rest, parts, k) =
-    (records_text ls ++ front, rest, flat_map-append record_text ls ps ∙ ap (λ (t : List ℕ). records_text ls ++ t) parts ∙ sym (append_assoc (records_text ls) front rest),
-    k ∙ ap (λ (t : List ℕ). t ++ front) h ∙ append_assoc before (records_text ls) front)
+front_of_second before first later ls ps h (front, rest, parts, k) = (
+  records_text ls ++ front,
+  rest,
+  flat_map-append record_text ls ps ∙ ap (λ (t : List ℕ). records_text ls ++ t) parts ∙ sym (append_assoc (records_text ls) front rest),
+  k ∙ ap (λ (t : List ℕ). t ++ front) h ∙ append_assoc before (records_text ls) front,
+)
 
 -- the text of a recovery, part by part
 pub recovery_text : (before first second later : List ℕ) (record' : Record) (ls ps : List Record) → first ≡ before ++ record_text record' → second ≡ first ++ records_text ls

@@ -34,12 +34,7 @@ fn world_at(row: &Row) -> Result<World, TextError>
 }
 
 // What the record with that number asks for.
-fn command_at(
-    alloc: Global,
-    n: u32,
-    record_number: u64,
-    row: &Row,
-) -> Result<Command, TextError>
+fn command_at(alloc: Global, n: u32, record_number: u64, row: &Row) -> Result<Command, TextError>
     requires { n ≤ MOST_PROCESSES }
     ensures { Yields result (spec.numbered record_number (spec.command_of n row.now)) }
 {
