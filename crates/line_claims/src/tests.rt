@@ -178,7 +178,6 @@ fn writes_what_was_read(rt: HostRuntime) {
         read.claim.certificate.as_slice(),
     )
     .expect(&rt, "memory");
-    let text = writer.into_bytes().expect(&rt, "memory");
-    assert_eq!(rt; text.as_slice(), WHOLE);
+    assert_eq!(rt; writer.text(), WHOLE);
     let_check_go(read);
 }
