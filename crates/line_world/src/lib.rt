@@ -17,6 +17,3 @@ pub use laws::runs_name_apart;
 pub use replies::{Answer, Reply, RunStopped, StepError};
 pub use steps::{Mode, Step};
 pub use worlds::World;
-
-#[cfg(test)]
-mod tests;
