@@ -31,10 +31,5 @@ fn a_process_goes_back_for_each_incarnation(rt: HostRuntime) -> Result<(), Fail>
     }
     let refused = world.step(rt.alloc(), &step).err();
     assert_eq!(rt; refused, Some(StepError::NoMoreIncarnations));
-    // A process that stays where it stands needs no further one.
-    let stays = Step::Recover {
-        failed: ProcSet::empty(),
-    };
-    let _reply = world.step(rt.alloc(), &stays)?;
     Ok(())
 }
