@@ -123,8 +123,9 @@ fn certificate_faults(rt: HostRuntime) -> Result<(), Fail> {
         Some((None, 14))
     );
     let orphaned = [Choice::Check(1), Choice::Now];
+    let nothing: &[Passed] = &[];
     assert_eq!(rt;
-        verdict_on_domino(rt.alloc(), &orphaned, &[])?,
+        verdict_on_domino(rt.alloc(), &orphaned, nothing)?,
         Some((None, 15))
     );
     Ok(())
