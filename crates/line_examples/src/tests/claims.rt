@@ -111,7 +111,7 @@ fn certificate_faults(rt: HostRuntime) -> Result<(), Fail> {
         verdict_on_domino(rt.alloc(), &BACK, &skipping)?,
         Some((Some(0), 11))
     );
-    let mut renamed = entries;
+    let mut renamed = domino_entries()?;
     renamed[0].message.inc = 1;
     assert_eq!(rt;
         verdict_on_domino(rt.alloc(), &BACK, &renamed)?,
@@ -119,7 +119,7 @@ fn certificate_faults(rt: HostRuntime) -> Result<(), Fail> {
     );
     let higher = [Choice::Check(0), Choice::Check(1)];
     assert_eq!(rt;
-        verdict_on_domino(rt.alloc(), &higher, &entries)?,
+        verdict_on_domino(rt.alloc(), &higher, &domino_entries()?)?,
         Some((None, 14))
     );
     let orphaned = [Choice::Check(1), Choice::Now];
