@@ -16,14 +16,14 @@ use Rattle.line_tape.proofs.NextLemmas.{tape_same, tape_other}
 use Rattle.line_tape.proofs.RoundLemmas.{mark_is}
 use Rattle.line_tape.proofs.RoundLines.{all_weaker}
 
-or-false : (b : Bool) → (b || false) ≡ b
+pub or-false : (b : Bool) → (b || false) ≡ b
 or-false true = refl
 or-false false = refl
 
-any_push : {X : Type 0} (f : X → Bool) (xs : List X) (y : X) → list_any f (xs ++ y ∷ []) ≡ (list_any f xs || f y)
+pub any_push : {X : Type 0} (f : X → Bool) (xs : List X) (y : X) → list_any f (xs ++ y ∷ []) ≡ (list_any f xs || f y)
 any_push f xs y = list_any-append f xs (y ∷ []) ∙ ap (λ b. list_any f xs || b) (or-false (f y))
 
-any_at : {X : Type 0} (f : X → Bool) (xs : List X) (i : ℕ) (d : X) → i < length xs → f (get_or xs i d) ≡ true → list_any f xs ≡ true
+pub any_at : {X : Type 0} (f : X → Bool) (xs : List X) (i : ℕ) (d : X) → i < length xs → f (get_or xs i d) ≡ true → list_any f xs ≡ true
 any_at f [] i d l t = absurd (omega arith)
 any_at f (x ∷ xs) zero d l t = or_left (f x) (list_any f xs) t
 any_at f (x ∷ xs) (suc i) d l t = or_right (f x) (list_any f xs) (any_at f xs i d (omega arith) t)
@@ -54,10 +54,10 @@ module _ {X : Type 0} (f : X → Bool) (xs : List X) (y : X) where
       ∙ ap (λ b. cond b (length xs + cond (f y) 0 1) (position_or_len f xs)) (eq-eqb (position_or_len f xs) (length xs) (position_out t))
 
   -- one that passes was there before: what stands before it stays, and what stands after it grows
-  before_push_in : list_any f xs ≡ true → before_first f (xs ++ y ∷ []) ≡ before_first f xs
+  pub before_push_in : list_any f xs ≡ true → before_first f (xs ++ y ∷ []) ≡ before_first f xs
   before_push_in t = ap (λ n. take n (xs ++ y ∷ [])) (position_push_in t) ∙ take-append-le (position_or_len f xs) xs (y ∷ []) (omega (arith, position_in t))
 
-  after_push_in : list_any f xs ≡ true → after_first f (xs ++ y ∷ []) ≡ after_first f xs ++ y ∷ []
+  pub after_push_in : list_any f xs ≡ true → after_first f (xs ++ y ∷ []) ≡ after_first f xs ++ y ∷ []
   after_push_in t = ap (λ n. drop (n + 1) (xs ++ y ∷ [])) (position_push_in t) ∙ drop-append-le (position_or_len f xs + 1) xs (y ∷ []) (omega (arith, position_in t))
 
   -- none passed: all stands before
@@ -65,11 +65,11 @@ module _ {X : Type 0} (f : X → Bool) (xs : List X) (y : X) where
   before_out t = ap (λ n. take n xs) (position_out t) ∙ take_all (length xs) xs (omega arith)
 
   -- and the new one may be the first
-  before_push_at : list_any f xs ≡ false → f y ≡ true → before_first f (xs ++ y ∷ []) ≡ xs
+  pub before_push_at : list_any f xs ≡ false → f y ≡ true → before_first f (xs ++ y ∷ []) ≡ xs
   before_push_at t at =
       ap (λ n. take n (xs ++ y ∷ [])) (position_push_out t ∙ ap (λ b. length xs + cond b 0 1) at) ∙ take_at xs (y ∷ []) (length xs + 0) (omega arith)
 
-  after_push_at : list_any f xs ≡ false → f y ≡ true → after_first f (xs ++ y ∷ []) ≡ []
+  pub after_push_at : list_any f xs ≡ false → f y ≡ true → after_first f (xs ++ y ∷ []) ≡ []
   after_push_at t at =
       ap (λ n. drop (n + 1) (xs ++ y ∷ [])) (position_push_out t ∙ ap (λ b. length xs + cond b 0 1) at) ∙ drop_all (length xs + 0 + 1) (xs ++ y ∷ []) (omega (arith, length_push xs y))
 
@@ -119,7 +119,7 @@ channel_push tape e p r t =
     ] refl
 
 -- the tape of process q has its check of round r and the markers of n processes
-abbrev is_closed : ℕ → ℕ → ℕ → List Event → Bool
+abbrev pub is_closed : ℕ → ℕ → ℕ → List Event → Bool
 is_closed n r q tape = has_check_of r tape && list_all (λ p. (p == q) || has_mark_of p r tape) (range_with_len 0 n)
 
 closed_push : (n r q : ℕ) (tape : List Event) (e : Event) → is_closed n r q tape ≡ true → is_closed n r q (tape ++ e ∷ []) ≡ true

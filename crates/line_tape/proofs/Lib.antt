@@ -25,3 +25,8 @@ pub mod SnapshotLemmas
 pub mod GrowthLemmas
 pub mod ColourLemmas
 pub mod ColourRounds
+pub mod CompletionLemmas
+pub mod GreatestLemmas
+pub mod RoundTransit
+pub mod TurnLemmas
+pub mod ForcedLemmas

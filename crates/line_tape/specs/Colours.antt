@@ -1,5 +1,6 @@
 -- Colours of processes and messages, and rounds without markers (Lai and Yang, Information Processing Letters 25(3), 1987), with round numbers for white and red.
-use Rattle.std.specs.Prelude.{◌≡◌, ℕ, zero, suc, ◌<◌, ◌≤◌, Bool, List, [], ◌∷◌, max, take, slice_get, Some, None}
+use Rattle.std.specs.Prelude.{◌≡◌, ℕ, zero, suc, ◌<◌, ◌≤◌, Bool, List, [], ◌∷◌, length, map, max, take, slice_get, Some, None}
+use Rattle.std.specs.List.{range_with_len}
 use Rattle.line_names.specs.declared.messages.MsgName.{MsgName}
 use Rattle.line_tape.specs.declared.events.Event.{Event}
 use Rattle.line_tape.specs.declared.events.Event.TheVariants.{Send, Recv, Check, Mark}
@@ -15,6 +16,10 @@ greatest (number ∷ rest) = max number (greatest rest)
 -- the colour of a process after these events: the greatest round of its checks, or 0
 abbrev pub colour : List Event → ℕ
 colour events = greatest (rounds_checked events)
+
+-- the greatest round that is on a tape; 0 where none is
+abbrev pub greatest_round : List Process → ℕ
+greatest_round history = greatest (map (λ q. colour (tape_at history q)) (range_with_len 0 (length history)))
 
 -- the colour at a place of a tape
 abbrev pub colour_at : List Event → ℕ → ℕ

@@ -16,3 +16,4 @@ pub mod Refusals
 pub mod Spent
 pub mod Copies
 pub mod Colours
+pub mod Turns

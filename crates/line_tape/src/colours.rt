@@ -1,16 +1,17 @@
 //! Laws of colours, and of the rounds without markers.
-ghost use Rattle.std.specs.Prelude.{IsTrue, ◌≡◌, ◌≢◌, ◌++◌, ◌<◌, ◌≤◌, ℕ, List, [], ◌∷◌, AllPairs, length, replicate, Some, None};
+ghost use Rattle.std.specs.Prelude.{IsTrue, nat_le, if◌then◌else◌, slice_index_or, ◌≡◌, ◌≢◌, ◌++◌, ◌<◌, ◌≤◌, ℕ, List, [], ◌∷◌, AllPairs, Bool, false, length, replicate, Option, Some, None};
 ghost use Rattle.line_names.specs.declared.choices.Choice.{Choice};
 ghost use Rattle.line_names.specs.declared.messages.MsgName.{MsgName};
 ghost use Rattle.line_tape.specs.declared.events.Event.{Event};
-ghost use Rattle.line_tape.specs.declared.events.Event.TheVariants.{Send, Check};
-ghost use Rattle.line_tape.specs.Colours.{channel_unordered, colour, is_completed_unordered, message_colour, AreColoured, IsNextColoured};
-ghost use Rattle.line_tape.specs.Event.{Holds};
+ghost use Rattle.line_tape.specs.declared.events.Event.TheVariants.{Send, Recv, Check};
+ghost use Rattle.line_tape.specs.Colours.{channel_unordered, colour, greatest, greatest_round, is_completed_unordered, message_colour, AreColoured, IsNextColoured};
+ghost use Rattle.line_tape.specs.Event.{sends, Holds};
 ghost use Rattle.line_tape.specs.Fit.{IsFitUnordered, IsNextUnordered};
 ghost use Rattle.line_tape.specs.History.{Process, fresh, tape_at, with_event};
 ghost use Rattle.line_tape.specs.Restart.{restarted};
-ghost use Rattle.line_tape.specs.Rounds.{checked_round, checks_of, has_check_of, rounds_checked, IsSnapshot};
+ghost use Rattle.line_tape.specs.Rounds.{checked_round, checks_of, has_check_of, is_checked, rounds_checked, IsSnapshot};
 ghost use Rattle.line_tape.specs.Spent.{next_name};
+ghost use Rattle.line_tape.specs.Turns.{colour_by, rounds_of, turns_of, Turn};
 
 /// On links that may lose, repeat and overtake, a round is a snapshot as soon as every tape has its check, where no process receives a message of a greater colour than its own.
 ///
@@ -46,4 +47,59 @@ pub fn colours_change()
     ensures below { (history : List Process) (message : MsgName) → message_colour history message ≤ colour (tape_at history message.from) }
     ensures at_least { (tape : List Event) (r : ℕ) → IsTrue (has_check_of r tape) → r ≤ colour tape }
     ensures reached { (tape : List Event) → colour tape ≢ 0 → IsTrue (has_check_of (colour tape) tape) }
+{}
+
+/// What the greatest round on the tapes is: it is on a tape, and no other there is greater; and it is 0 where no round is.
+///
+/// It stays by every event that is no check of a round, and by a check of a round that is no smaller it is that round. The call does nothing: its contract is the law.
+pub fn greatest_rounds()
+    ensures least { (history : List Process) (q r : ℕ) → IsTrue (has_check_of r (tape_at history q)) → r ≤ greatest_round history }
+    ensures reached { (history : List Process) → greatest_round history ≢ 0
+        → (q : ℕ) × (q < length history) × IsTrue (has_check_of (greatest_round history) (tape_at history q)) }
+    ensures greatest { (history : List Process) (r q : ℕ) → IsTrue (has_check_of r (tape_at history q))
+        → ((p s : ℕ) → IsTrue (has_check_of s (tape_at history p)) → s ≤ r) → greatest_round history ≡ r }
+    ensures none { (history : List Process) → ((q r : ℕ) → has_check_of r (tape_at history q) ≡ false) → greatest_round history ≡ 0 }
+    ensures other { (history : List Process) (at : ℕ) (event : Event) → at < length history → checked_round event ≡ None
+        → greatest_round (with_event history at event) ≡ greatest_round history }
+    ensures check { (history : List Process) (at : ℕ) (state : List ℕ) (round : ℕ) → at < length history → greatest_round history ≤ round
+        → greatest_round (with_event history at (Check state (Some round))) ≡ round }
+    ensures restart { (history : List Process) (line : List Choice) → length line ≡ length history → greatest_round (restarted history line) ≡ 0 }
+{}
+
+/// The turns of a tape, its checks of rounds each with the count of the sends before it, say its colour and that of each message that it sent.
+///
+/// The colour of a message is the round of the last turn with no more sends before it than the message's number. The call does nothing: its contract is the law.
+pub fn turns_tell()
+    ensures colour { (tape : List Event) → greatest (rounds_of (turns_of tape)) ≡ colour tape }
+    ensures message { (history : List Process) (message : MsgName) → Holds (tape_at history message.from) message.inc message.number
+        → message_colour history message ≡ colour_by (turns_of (tape_at history message.from)) message.number }
+    ensures check { (tape : List Event) (state : List ℕ) (round : ℕ)
+        → turns_of (tape ++ Check state (Some round) ∷ []) ≡ turns_of tape ++ record { round = round; sends = sends tape } ∷ [] }
+    ensures other { (tape : List Event) (event : Event) → checked_round event ≡ None → turns_of (tape ++ event ∷ []) ≡ turns_of tape }
+    ensures restart { (history : List Process) (line : List Choice) (p : ℕ) → length line ≡ length history → turns_of (tape_at (restarted history line) p) ≡ [] }
+    ensures sends { (tape : List Event) → AllPairs (λ (s t : Turn). s.sends ≤ t.sends) (turns_of tape) }
+    ensures rounds { (tape : List Event) → AllPairs (λ r s. r < s) (rounds_checked tape) → AllPairs (λ (s t : Turn). s.round < t.round) (turns_of tape) }
+    ensures found { (turns : List Turn) (i number : ℕ) (d : Turn) → i < length turns → AllPairs (λ (s t : Turn). s.round < t.round) turns
+        → AllPairs (λ (s t : Turn). s.sends ≤ t.sends) turns → (slice_index_or turns i d).sends ≤ number
+        → ((j : ℕ) → i < j → j < length turns → number < (slice_index_or turns j d).sends) → colour_by turns number ≡ (slice_index_or turns i d).round }
+    ensures last { (turns : List Turn) (turn : Turn) → AllPairs (λ (s t : Turn). s.round < t.round) (turns ++ turn ∷ [])
+        → greatest (rounds_of (turns ++ turn ∷ [])) ≡ turn.round }
+    ensures push { (turns : List Turn) (turn : Turn) (number : ℕ) → greatest (rounds_of turns) ≤ turn.round
+        → colour_by (turns ++ turn ∷ []) number ≡ (if nat_le turn.sends number then turn.round else colour_by turns number) }
+{}
+
+/// Why a message of a greater colour forces a check, and why one check is enough: where every round on a tape but one is on every tape, the message is of that one, its receiver has no check of it, and by that check the message is of no greater colour and may be received as before.
+///
+/// The call does nothing: its contract is the law.
+pub fn forced_checks_suffice()
+    ensures open { (history : List Process) (q : ℕ) (message : MsgName) (r : ℕ) → colour (tape_at history q) < message_colour history message → q < length history
+        → ((p s : ℕ) → IsTrue (has_check_of s (tape_at history p)) → s ≢ r → IsTrue (is_checked history s)) → message_colour history message ≡ r }
+    ensures new { (history : List Process) (q : ℕ) (message : MsgName) → colour (tape_at history q) < message_colour history message
+        → has_check_of (message_colour history message) (tape_at history q) ≡ false }
+    ensures next { (history : List Process) (q : ℕ) (message : MsgName) (state : List ℕ) → colour (tape_at history q) < message_colour history message
+        → q < length history → Holds (tape_at history message.from) message.inc message.number
+        → IsNextColoured (with_event history q (Check state (Some (message_colour history message)))) q (Recv message) }
+    ensures received { (history : List Process) (at : ℕ) (state : List ℕ) (round : Option ℕ) (message : MsgName) → at < length history
+        → IsNextUnordered history at (Recv message) → IsNextUnordered (with_event history at (Check state round)) at (Recv message) }
+    ensures less { (tape : List Event) (r : ℕ) → 1 ≤ r → ((s : ℕ) → IsTrue (has_check_of s tape) → s ≤ r) → has_check_of r tape ≡ false → colour tape < r }
 {}

@@ -21,7 +21,10 @@ mod survival;
 mod tapes;
 mod transits;
 
-pub use colours::{colour_round_holds, colours_change, colours_hold};
+pub use colours::{
+    colour_round_holds, colours_change, colours_hold, forced_checks_suffice, greatest_rounds,
+    turns_tell,
+};
 pub use copies::copies_hold;
 pub use events::{Event, State};
 pub use fits::event_fits;
@@ -31,8 +34,11 @@ pub use items::Item;
 pub use laws::chain_makes_latest;
 pub use limits::{LAST_INCARNATION, MOST_EVENTS, MOST_STATE};
 pub use lines::{is_consistent, is_line, is_sent_before, orphan_at};
-pub use links::{kept_checks, ordered_fits, restart_fits, transit_parts};
+pub use links::{fronts_decide_transit, kept_checks, ordered_fits, restart_fits, transit_parts};
 pub use marks::{MarkError, Marks};
-pub use rounds::{channels_grow, latest_reaches, marker_round_holds, rounds_stay, snapshots_stay};
+pub use rounds::{
+    channels_grow, latest_reaches, marker_round_holds, markers_follow_checks, rounds_complete,
+    rounds_pass, rounds_stay, snapshots_stay,
+};
 pub use survival::{first_ceilings, latest_choice, next_lower, survives};
 pub use tapes::{Tape, TapeError};

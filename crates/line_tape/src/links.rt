@@ -1,16 +1,17 @@
 //! Laws of links that keep their order, and of what is in transit on them.
-ghost use Rattle.std.specs.Prelude.{IsTrue, slice_index_or, ◌≡◌, ℕ, List, map, filter, length, Contains};
+ghost use Rattle.std.specs.Prelude.{IsTrue, slice_index_or, ◌≡◌, ◌≢◌, ◌<◌, ℕ, List, Bool, false, map, filter, length, Contains, Some};
 ghost use Rattle.line_names.specs.declared.choices.Choice.{Choice};
-ghost use Rattle.line_names.specs.declared.choices.Choice.TheVariants.{Check};
+ghost use Rattle.line_names.specs.declared.choices.Choice.TheVariants.{Check, Now};
 ghost use Rattle.line_names.specs.declared.messages.MsgName.{MsgName};
 ghost use Rattle.line_names.specs.Lines.{choice_at};
-ghost use Rattle.line_tape.specs.declared.events.Event.TheVariants.{Recv};
+ghost use Rattle.line_tape.specs.declared.events.Event.TheVariants.{Recv, Check as CheckEvent};
 ghost use Rattle.line_tape.specs.declared.items.Item.TheVariants.{Message};
 ghost use Rattle.line_tape.specs.Event.{Holds};
 ghost use Rattle.line_tape.specs.Fit.{IsFitFifo, IsFitUnordered, IsSentTo, link};
-ghost use Rattle.line_tape.specs.History.{Process, tape_at};
-ghost use Rattle.line_tape.specs.Line.{IsConsistent};
+ghost use Rattle.line_tape.specs.History.{Process, tape_at, with_event};
+ghost use Rattle.line_tape.specs.Line.{events_before, IsConsistent};
 ghost use Rattle.line_tape.specs.Restart.{is_kept, restarted};
+ghost use Rattle.line_tape.specs.Rounds.{check_of, has_check_of, round_line};
 ghost use Rattle.line_tape.specs.Transit.{goes_between, in_transit, in_transit_between};
 
 /// What links that keep their order can lead to, links without an order can lead to as well: what a process received was sent to it, and it received nothing twice.
@@ -51,4 +52,17 @@ pub fn transit_parts()
         → filter (goes_between (restarted history line) p q) (in_transit history line) ≡ in_transit_between history line p q }
     ensures held { (history : List Process) (line : List Choice) → length line ≡ length history → (message : MsgName) → Contains (in_transit history line) message
         → (q : ℕ) × IsSentTo (restarted history line) q message }
+{}
+
+/// What is in transit from one process to another at a line depends on what stands before it at these two alone; so once every other process has its check of a round, the check of the last leaves in transit at the round's line what was in transit there with the last standing where it was.
+///
+/// The call does nothing: its contract is the law.
+pub fn fronts_decide_transit()
+    ensures fronts { (a b : List Process) (line other : List Choice) (p q : ℕ) → events_before a line p ≡ events_before b other p
+        → events_before a line q ≡ events_before b other q → in_transit_between a line p q ≡ in_transit_between b other p q }
+    ensures check { (history : List Process) (at : ℕ) (state : List ℕ) (r : ℕ) (line : List Choice) → at < length history
+        → has_check_of r (tape_at history at) ≡ false → choice_at line at ≡ Now
+        → ((q : ℕ) → q < length history → q ≢ at → choice_at line q ≡ Check (check_of r (tape_at history q)))
+        → (p q : ℕ) → p < length history → q < length history
+        → in_transit_between (with_event history at (CheckEvent state (Some r))) (round_line (with_event history at (CheckEvent state (Some r))) r) p q ≡ in_transit_between history line p q }
 {}

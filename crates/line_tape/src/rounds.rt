@@ -1,15 +1,18 @@
 //! Laws of the rounds of markers, and of snapshots.
-ghost use Rattle.std.specs.Prelude.{IsTrue, slice_index_or, if◌then◌else◌, ◌≡◌, ◌++◌, ◌||◌, ◌<◌, ℕ, List, [], ◌∷◌, Bool, false, length};
+ghost use Rattle.std.specs.Prelude.{IsTrue, slice_index_or, if◌then◌else◌, ◌≡◌, ◌≢◌, ◌↔◌, ◌++◌, ◌||◌, ◌<◌, ◌≤◌, ℕ, suc, List, [], ◌∷◌, Bool, false, filter, length, Contains};
+ghost use Rattle.std.specs.List.{range_with_len};
 ghost use Rattle.line_names.specs.declared.choices.Choice.{Choice};
 ghost use Rattle.line_names.specs.declared.choices.Choice.TheVariants.{Check};
 ghost use Rattle.line_names.specs.declared.messages.MsgName.{MsgName};
 ghost use Rattle.line_names.specs.Lines.{choice_at, IsNowhereLater};
 ghost use Rattle.line_tape.specs.declared.events.Event.{Event};
-ghost use Rattle.line_tape.specs.Fit.{IsFitFifo};
-ghost use Rattle.line_tape.specs.History.{Process, with_event};
+ghost use Rattle.line_tape.specs.declared.items.Item.TheVariants.{Marker};
+ghost use Rattle.line_tape.specs.Event.{checks};
+ghost use Rattle.line_tape.specs.Fit.{IsFitFifo, link};
+ghost use Rattle.line_tape.specs.History.{Process, tape_at, with_event};
 ghost use Rattle.line_tape.specs.Line.{IsLine, IsConsistent};
 ghost use Rattle.line_tape.specs.Restart.{is_kept, restarted};
-ghost use Rattle.line_tape.specs.Rounds.{channel_fifo, channel_on, check_line, checks_of, has_check_of, has_mark_of, is_check_of, is_checked, is_completed_fifo, is_mark_of, names_from, round_line, IsSnapshot};
+ghost use Rattle.line_tape.specs.Rounds.{channel_fifo, channel_on, check_line, check_of, checks_of, has_check_of, has_mark_of, is_check_of, is_checked, is_closed_at, is_completed_fifo, is_mark_of, names_from, round_line, rounds_checked, IsSnapshot};
 ghost use Rattle.line_tape.specs.Survival.{survives, IsLatest};
 ghost use Rattle.line_tape.specs.Transit.{in_transit_between, names_received};
 ghost use Rattle.line_tape.specs.Views.{MarksView};
@@ -69,4 +72,48 @@ pub fn latest_reaches()
         → IsLatest history marks failed line → IsSnapshot history indices channels
         → ((p : ℕ) → p < length history → IsTrue (survives history marks failed p (Check (slice_index_or indices p 0))))
         → IsNowhereLater (check_line indices) line }
+{}
+
+/// When a round is on every tape, and when a round of markers is completed: as soon as each tape has its check and, after it, the marker of each other process. An event that is no check of the round leaves the first as it is, and one that is no marker of it either, the second.
+///
+/// The call does nothing: its contract is the law.
+pub fn rounds_complete()
+    ensures checked { (history : List Process) (r : ℕ) → IsTrue (is_checked history r) ↔ ((q : ℕ) → q < length history → IsTrue (has_check_of r (tape_at history q))) }
+    ensures closed { (history : List Process) (r q : ℕ) → IsTrue (is_closed_at history r q)
+        ↔ (IsTrue (has_check_of r (tape_at history q)) × ((p : ℕ) → p < length history → p ≢ q → IsTrue (has_mark_of p r (tape_at history q)))) }
+    ensures completed { (history : List Process) (r : ℕ) → IsTrue (is_completed_fifo history r) ↔ ((q : ℕ) → q < length history → IsTrue (is_closed_at history r q)) }
+    ensures idle_checked { (history : List Process) (at : ℕ) (event : Event) (r : ℕ) → at < length history → is_check_of r event ≡ false
+        → is_checked (with_event history at event) r ≡ is_checked history r }
+    ensures last { (history : List Process) (at : ℕ) (event : Event) (r : ℕ) → at < length history → IsTrue (is_check_of r event)
+        → ((q : ℕ) → q < length history → q ≢ at → IsTrue (has_check_of r (tape_at history q))) → IsTrue (is_checked (with_event history at event) r) }
+    ensures lacking { (history : List Process) (at : ℕ) (event : Event) (r : ℕ) → at < length history
+        → (q : ℕ) → q < length history → q ≢ at → has_check_of r (tape_at history q) ≡ false → is_checked (with_event history at event) r ≡ false }
+    ensures idle_completed { (history : List Process) (at : ℕ) (event : Event) (r : ℕ) → at < length history → is_check_of r event ≡ false
+        → ((p : ℕ) → is_mark_of p r event ≡ false) → is_completed_fifo (with_event history at event) r ≡ is_completed_fifo history r }
+{}
+
+/// The checks of a round on tapes, and its markers on links: a marker there is of a round that its sender has checked; a new check of a round has the next index, and keeps it by every event; and a restart leaves neither checks of rounds nor markers.
+///
+/// The call does nothing: its contract is the law.
+pub fn markers_follow_checks()
+    ensures marker { (history : List Process) (p q r : ℕ) → Contains (link history p q) (Marker r) → IsTrue (has_check_of r (tape_at history p)) }
+    ensures round { (tape : List Event) (r : ℕ) → Contains (rounds_checked tape) r ↔ IsTrue (has_check_of r tape) }
+    ensures new { (tape : List Event) (event : Event) (r : ℕ) → has_check_of r tape ≡ false → IsTrue (is_check_of r event)
+        → check_of r (tape ++ event ∷ []) ≡ suc (checks tape) }
+    ensures kept { (tape : List Event) (event : Event) (r : ℕ) → IsTrue (has_check_of r tape) → check_of r (tape ++ event ∷ []) ≡ check_of r tape }
+    ensures restart_checks { (history : List Process) (line : List Choice) (r p : ℕ) → length line ≡ length history
+        → has_check_of r (tape_at (restarted history line) p) ≡ false }
+    ensures restart_rounds { (history : List Process) (line : List Choice) (p : ℕ) → length line ≡ length history
+        → rounds_checked (tape_at (restarted history line) p) ≡ [] }
+    ensures restart_markers { (history : List Process) (line : List Choice) (p q r : ℕ) → length line ≡ length history
+        → Contains (link (restarted history line) p q) (Marker r) → ⊥ }
+{}
+
+/// Of the rounds up to a last one, those of which a test is true: none where it is false of each, and one alone where it is true of that one alone.
+///
+/// The call does nothing: its contract is the law.
+pub fn rounds_pass()
+    ensures none { (test : ℕ → Bool) (last : ℕ) → ((v : ℕ) → 1 ≤ v → v ≤ last → test v ≡ false) → filter test (range_with_len 1 last) ≡ [] }
+    ensures one { (test : ℕ → Bool) (last r : ℕ) → 1 ≤ r → r ≤ last → IsTrue (test r) → ((v : ℕ) → 1 ≤ v → v ≤ last → v ≢ r → test v ≡ false)
+        → filter test (range_with_len 1 last) ≡ r ∷ [] }
 {}
