@@ -1,5 +1,5 @@
 -- How recorded rounds are kept: the messages from each process once, and for each round where its channels begin and end among them.
-use Rattle.std.specs.Prelude.{ℕ, ◌-◌, ◌<◌, ◌≤◌, min, Bool, true, false, List, [], ◌∷◌, length, map, take, drop}
+use Rattle.std.specs.Prelude.{◌≡◌, ℕ, zero, suc, ◌-◌, ◌<◌, ◌≤◌, min, Bool, true, false, List, [], ◌∷◌, length, map, take, drop, slice_index_or}
 use Rattle.line_names.specs.declared.messages.MsgName.{MsgName}
 use Rattle.line_marker.specs.declared.spans.Span.{Span}
 use Rattle.line_marker.specs.declared.spans.Span.TheVariants.{Open, Closed}
@@ -75,3 +75,14 @@ AllWithin names (round ∷ rounds) = AreWithin names round.spans × AllWithin na
 pub record AreKept (names : List (List MsgName)) (floor : ℕ) (rounds : List RoundView) : Type 0 where
   pub ascending : IsAscending floor rounds
   pub within : AllWithin names rounds
+
+-- there are so many rounds, and in each of the first k the channel from process p is closed
+abbrev pub AreOver : ℕ → ℕ → List RoundView → Type 0
+AreOver p zero rounds = Unit {0}
+AreOver p (suc k) [] = ⊥
+AreOver p (suc k) (round ∷ rounds) = (is_over (slice_index_or round.spans p (Open 0)) ≡ true) × AreOver p k rounds
+
+-- for each of n processes, in how many of the first rounds its channel is known to be closed
+pub record ArePassed (passed : List ℕ) (n : ℕ) (rounds : List RoundView) : Type 0 where
+  pub count : length passed ≡ n
+  pub each : (p : ℕ) → p < n → AreOver p (slice_index_or passed p 0) rounds

@@ -1,7 +1,7 @@
 //! What one process has recorded.
 ghost use Rattle.std.specs.Prelude.{◌≡◌, ◌≢◌, ℕ, ◌<◌, ◌≤◌, ◌↔◌, List, [], length, map, slice_index_or, slice_set, Some, None, MatchOption, IfOk, OnOk, OnErr, IsErrOf, IsOk, IsTrue};
 ghost use Rattle.line_marker.specs.Recording.{channel_at, effect_of, latest, messages_by, noted, round_of, rounds_after, with_channel, with_marker, with_round, IsOver, IsRepeated, IsSameProcess, Recorded};
-ghost use Rattle.line_marker.specs.Spans.{is_over};
+ghost use Rattle.line_marker.specs.Spans.{is_over, AreOver, RoundView};
 ghost use Rattle.line_marker.specs.declared.spans.Span.{Span};
 
 use crate::errors::{BeginError, MarkerError};
@@ -25,7 +25,7 @@ pub enum Effect {
 
 /// What one process has recorded of rounds, and of each channel to it.
 ///
-/// The messages from one process are kept once for all rounds, and each round keeps where its channels begin and end among them. So a message costs one push, whatever the number of rounds, open or over, and nothing where no round is recorded; recording a round costs its processes once; a marker, `channel` and `is_closed` look for their round from the newest on. What is kept only grows, also behind rounds that are over: when they are not asked for any more, make a new `Marker` with `latest()` as its floor.
+/// The messages from one process are kept once for all rounds, and each round keeps where its channels begin and end among them. So a message costs one push, whatever the number of rounds, and is not kept where the channel from its sender is closed in each of them; recording a round costs its processes once; a marker, `channel` and `is_closed` look for their round from the newest on, and a marker passes over the rounds in which its channel is closed, over each once. What is kept stays, also behind rounds that are over: when they are not asked for any more, make a new `Marker` with `latest()` as its floor.
 #[derive(Drop)]
 pub struct Marker {
     alloc: Global,
@@ -33,6 +33,8 @@ pub struct Marker {
     floor: u32,
     logs: Logs,
     rounds: Vec<Round>,
+    /// For each process, in how many rounds from the first on its channel is closed.
+    passed: Vec<usize>,
     /// Empty: room for the channels of the next round.
     row: Vec<Span>,
 }
@@ -40,7 +42,7 @@ pub struct Marker {
 impl Model for Marker {
     ghost use Rattle.std.specs.Prelude.{◌≡◌, ◌+◌, ◌-◌, [], length, map, min, vec_len, vec_capacity};
     ghost use Rattle.line_marker.specs.Recording.{MarkerView};
-    ghost use Rattle.line_marker.specs.Spans.{names_of, room_of, recorded_of, AreKept};
+    ghost use Rattle.line_marker.specs.Spans.{names_of, room_of, recorded_of, AreKept, ArePassed};
 
     ghost Value = { MarkerView };
 
@@ -52,7 +54,7 @@ impl Model for Marker {
       room = min (room_of m.logs) (min (vec_capacity m.rounds - vec_len m.rounds) (vec_capacity m.row + 1 - length m.logs));
     } };
 
-    ghost invariant = { λ m. (m.row.items ≡ []) × AreKept (names_of m.logs) m.floor m.rounds.items };
+    ghost invariant = { λ m. (m.row.items ≡ []) × AreKept (names_of m.logs) m.floor m.rounds.items × ArePassed m.passed.items (length m.logs) m.rounds.items };
 }
 
 /// Whether the marker has come on the channel from each process but this one.
@@ -68,6 +70,24 @@ fn are_closed(spans: &[Span], me: ProcId) -> bool
     true
 }
 
+/// In how many rounds from the first on the channel from a process is closed, where it is in the first `known`. It looks at each further one.
+fn further(rounds: &[Round], p: usize, known: usize) -> usize
+    requires over { AreOver p known rounds.now }
+    requires spans { (i : ℕ) (d : RoundView) → i < length rounds.now → p < length (slice_index_or rounds.now i d).spans }
+    ensures { AreOver p result rounds.now }
+{
+    let mut k = known;
+    'further: while k < rounds.len() {
+        let round = &rounds[k];
+        let span = round.spans[p];
+        if !span.is_closed() {
+            return k;
+        }
+        k += 1;
+    }
+    k
+}
+
 impl Marker {
     /// What process `me` of `n` has recorded before it has done anything; rounds up to `floor` are old.
     pub fn new(alloc: Global, n: u32, me: ProcId, floor: u32) -> Result<Marker, AllocError>
@@ -78,12 +98,14 @@ impl Marker {
         ensures rounds { IfOk result (λ marker. marker.rounds ≡ []) }
     {
         let logs = Logs::new(alloc, n)?;
+        let passed = vec![in alloc; 0; n as usize]?;
         Ok(Marker {
             alloc,
             me,
             floor,
             logs,
             rounds: Vec::new(alloc),
+            passed,
             row: Vec::new(alloc),
         })
     }
@@ -140,6 +162,9 @@ impl Marker {
         let round = &mut self.rounds[i];
         let p = from.get() as usize;
         round.spans[p] = round.spans[p].closed(end);
+        let known = self.passed[p];
+        let over = further(&self.rounds, p, known);
+        self.passed[p] = over;
     }
 
     /// Records a round with all channels open and empty, and tells where it stands.
@@ -216,7 +241,7 @@ impl Marker {
 
     /// A message has come from another process. Each recorded round whose channel from its sender is not closed has it from now on.
     ///
-    /// Its cost is one push, whatever the number of rounds, and nothing where no round is recorded.
+    /// Its cost is one push, whatever the number of rounds. Where the channel from its sender is closed in each recorded round, nothing is kept.
     pub fn note(&mut self, message: MsgName) -> Result<(), AllocError>
         requires process { message.from < self.old.n }
         requires other { message.from ≢ self.old.me }
@@ -225,7 +250,8 @@ impl Marker {
         ensures same { IsSameProcess self.old self.new }
         ensures room { 0 < self.old.room → IsOk result }
     {
-        if self.rounds.is_empty() {
+        let over = self.passed[message.from.get() as usize];
+        if over == self.rounds.len() {
             return Ok(());
         }
         self.logs.push(message)

@@ -1,12 +1,13 @@
 -- One span of one round ends where the messages of its sender end.
 use Rattle.std.proofs.Common.{◌≡◌, ℕ, ◌<◌, [], List, length, map, get_or, set, sym, ap, ◌∙◌, subst, arith}
-use Rattle.std.proofs.lemmas.List.{length-map, get_or-map}
+use Rattle.std.proofs.lemmas.List.{length-map, get_or-map, get_or_default}
 use Rattle.line_names.specs.declared.messages.MsgName.{MsgName}
 use Rattle.line_marker.specs.declared.spans.Span.{Span}
 use Rattle.line_marker.specs.Recording.{MarkerView, Recorded, with_marker}
-use Rattle.line_marker.specs.Spans.{LogView, RoundView, names_of, recorded_of, closed, AreWithin}
+use Rattle.line_marker.specs.Spans.{LogView, RoundView, names_of, recorded_of, closed, AreWithin, AreKept, AreOver}
 use Rattle.line_marker.proofs.SpanLemmas.{AreWithin-length}
 use Rattle.line_marker.proofs.KeptLemmas.{within-at, AreKept-close, rounds-close}
+use Rattle.line_marker.proofs.PassedLemmas.{ArePassed-close, AreOver-set}
 use Rattle.line_marker.proofs.markers.Marker.close.Goals as goal
 
 pub index-requires : goal.index-requires
@@ -58,7 +59,11 @@ invariant_of-self c =
     let len : end ≡ length (get_or logs p []) = ap (λ (names : List MsgName). length names) c.names-end.ensures ∙ ap (λ (k : ℕ). length (get_or logs k [])) (sym at) in
     let number : new.number ≡ old.number = ap (λ (r : RoundView). r.number) c.round.view_is in
     let written : new.spans ≡ set old.spans p (closed end span) = ap (λ (ss : List Span). set ss p c.closed.result) spans ∙ ap (λ (s : Span). set old.spans p s) c.closed.ensures in
-    (c.self.invariant.0, AreKept-close logs c.self.inside.floor rounds c.args.i p end old new span c.self.invariant.1 within below c.index_mut-round.ensures.value here len number written)
+    let passed : List ℕ = c.self.inside.passed.items in
+    let n' : ℕ = length c.self.inside.logs in
+    let held : c.deref.result.now ≡ set rounds c.args.i new = c.deref.ensures.value in
+    let over : AreOver p c.further-over.result (set rounds c.args.i new) = subst (λ (rs : List RoundView). AreOver p c.further-over.result rs) held c.further-over.ensures in
+    (c.self.invariant.0, AreKept-close logs c.self.inside.floor rounds c.args.i p end old new span c.self.invariant.1 within below c.index_mut-round.ensures.value here len number written, ArePassed-close passed n' rounds c.args.i p end c.further-over.result old new span c.self.invariant.2 c.index_mut-round.ensures.value written over)
 
 pub returns-clause-rounds : goal.returns-clause-rounds
 returns-clause-rounds c = λ k named.
@@ -87,3 +92,57 @@ returns-clause-rounds c = λ k named.
     rounds-close logs c.self.inside.floor rounds c.args.i p end k old new span c.self.invariant.1 within below c.index_mut-round.ensures.value here len number written is
     ∙ ap (λ (q : ℕ). with_marker (map (recorded_of logs) rounds) q k) at
     ∙ ap (λ (rs : List Recorded). with_marker rs c.args.from k) seen
+
+pub further-over-requires-clause-over : goal.further-over-requires-clause-over
+further-over-requires-clause-over c =
+    let logs : List (List MsgName) = names_of c.self.inside.logs in
+    let rounds : List RoundView = c.self.inside.rounds.items in
+    let old : RoundView = c.index_mut-round.result.now in
+    let p : ℕ = c.get-p.result in
+    let at : p ≡ c.args.from = c.get-p.ensures.value in
+    let n : length c.self.inside.logs ≡ c.args.self.now.n = ap (λ (m : MarkerView). m.n) c.self.view_is in
+    let seen : map (recorded_of logs) rounds ≡ c.args.self.now.rounds = ap (λ (m : MarkerView). m.rounds) c.self.view_is in
+    let within : c.args.i < length rounds = omega (arith, c.requires.round, ap (λ (rs : List Recorded). length rs) seen, length-map rounds (recorded_of logs)) in
+    let below : p < length logs = omega (arith, c.requires.process, length-map c.self.inside.logs (λ (log : LogView). log.names)) in
+    let spans : c.round.inside.spans.items ≡ old.spans = ap (λ (r : RoundView). r.spans) c.round.view_is in
+    let span : Span = c.index.result.now in
+    let end : ℕ = length c.names-end.result.now in
+    let new : RoundView = record { number = c.round.inside.number; spans = set c.round.inside.spans.items p c.closed.result } in
+    let here : span ≡ get_or old.spans p span = subst (λ (ss : List Span). span ≡ get_or ss p span) spans c.index.ensures in
+    let len : end ≡ length (get_or logs p []) = ap (λ (names : List MsgName). length names) c.names-end.ensures ∙ ap (λ (k : ℕ). length (get_or logs k [])) (sym at) in
+    let number : new.number ≡ old.number = ap (λ (r : RoundView). r.number) c.round.view_is in
+    let written : new.spans ≡ set old.spans p (closed end span) = ap (λ (ss : List Span). set ss p c.closed.result) spans ∙ ap (λ (s : Span). set old.spans p s) c.closed.ensures in
+    let passed : List ℕ = c.self.inside.passed.items in
+    let known : ℕ = c.index-known.result.now in
+    let held : c.deref.result.now ≡ set rounds c.args.i new = c.deref.ensures.value in
+    let there : p < length c.self.inside.logs = omega (arith, c.requires.process) in
+    let inside : p < length passed = omega (arith, c.self.invariant.2.count) in
+    let read : get_or passed p 0 ≡ known = get_or_default passed p 0 known inside ∙ sym c.index-known.ensures in
+    let before : AreOver p known rounds = subst (λ (k : ℕ). AreOver p k rounds) read (c.self.invariant.2.each p there) in
+    subst (λ (rs : List RoundView). AreOver p known rs) (sym held) (AreOver-set p known rounds c.args.i p end old new span before c.index_mut-round.ensures.value written)
+
+pub further-over-requires-clause-spans : goal.further-over-requires-clause-spans
+further-over-requires-clause-spans c = λ j d h.
+    let logs : List (List MsgName) = names_of c.self.inside.logs in
+    let rounds : List RoundView = c.self.inside.rounds.items in
+    let old : RoundView = c.index_mut-round.result.now in
+    let p : ℕ = c.get-p.result in
+    let at : p ≡ c.args.from = c.get-p.ensures.value in
+    let n : length c.self.inside.logs ≡ c.args.self.now.n = ap (λ (m : MarkerView). m.n) c.self.view_is in
+    let seen : map (recorded_of logs) rounds ≡ c.args.self.now.rounds = ap (λ (m : MarkerView). m.rounds) c.self.view_is in
+    let within : c.args.i < length rounds = omega (arith, c.requires.round, ap (λ (rs : List Recorded). length rs) seen, length-map rounds (recorded_of logs)) in
+    let below : p < length logs = omega (arith, c.requires.process, length-map c.self.inside.logs (λ (log : LogView). log.names)) in
+    let spans : c.round.inside.spans.items ≡ old.spans = ap (λ (r : RoundView). r.spans) c.round.view_is in
+    let span : Span = c.index.result.now in
+    let end : ℕ = length c.names-end.result.now in
+    let new : RoundView = record { number = c.round.inside.number; spans = set c.round.inside.spans.items p c.closed.result } in
+    let here : span ≡ get_or old.spans p span = subst (λ (ss : List Span). span ≡ get_or ss p span) spans c.index.ensures in
+    let len : end ≡ length (get_or logs p []) = ap (λ (names : List MsgName). length names) c.names-end.ensures ∙ ap (λ (k : ℕ). length (get_or logs k [])) (sym at) in
+    let number : new.number ≡ old.number = ap (λ (r : RoundView). r.number) c.round.view_is in
+    let written : new.spans ≡ set old.spans p (closed end span) = ap (λ (ss : List Span). set ss p c.closed.result) spans ∙ ap (λ (s : Span). set old.spans p s) c.closed.ensures in
+    let held : c.deref.result.now ≡ set rounds c.args.i new = c.deref.ensures.value in
+    let kept : AreKept logs c.self.inside.floor (set rounds c.args.i new) = AreKept-close logs c.self.inside.floor rounds c.args.i p end old new span c.self.invariant.1 within below c.index_mut-round.ensures.value here len number written in
+    let shown : j < length (set rounds c.args.i new) = subst (λ (rs : List RoundView). j < length rs) held h in
+    let each : AreWithin logs (get_or (set rounds c.args.i new) j d).spans = within-at logs (set rounds c.args.i new) j d kept.within shown in
+    let long : p < length (get_or (set rounds c.args.i new) j d).spans = omega (arith, AreWithin-length logs (get_or (set rounds c.args.i new) j d).spans each) in
+    subst (λ (rs : List RoundView). p < length (get_or rs j d).spans) (sym held) long

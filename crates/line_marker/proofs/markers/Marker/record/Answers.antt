@@ -3,9 +3,10 @@ use Rattle.std.proofs.Common.{◌≡◌, ℕ, ◌++◌, ◌∷◌, [], List, len
 use Rattle.std.proofs.lemmas.List.{length-map}
 use Rattle.line_names.specs.declared.messages.MsgName.{MsgName}
 use Rattle.line_marker.specs.Recording.{MarkerView, latest, with_round}
-use Rattle.line_marker.specs.Spans.{LogView, RoundView, names_of, recorded_of, opened, AreKept}
+use Rattle.line_marker.specs.Spans.{LogView, RoundView, names_of, recorded_of, opened, AreKept, ArePassed}
 use Rattle.line_marker.proofs.RoundLemmas.{last_number, latest-last}
 use Rattle.line_marker.proofs.KeptLemmas.{rounds-record, AreKept-record}
+use Rattle.line_marker.proofs.PassedLemmas.{ArePassed-push}
 use Rattle.line_marker.proofs.markers.Marker.record.Goals as goal
 
 pub invariant_of-self-2 : goal.invariant_of-self-2
@@ -19,7 +20,10 @@ invariant_of-self-2 c =
     sym (ap (λ (m : MarkerView). latest m.floor m.rounds) c.self.view_is) ∙ latest-last floor logs rounds c.self.invariant.1.ascending in
     let kept : AreKept logs floor (rounds ++ new ∷ []) = AreKept-record logs floor rounds new c.self.invariant.1 (omega (arith, c.requires)) spans in
     let pushed : c.push_reserved.new.self.items ≡ rounds ++ new ∷ [] = c.push_reserved.ensures.items ∙ ap (λ (rs : List RoundView). rs ++ new ∷ []) c.reserve-2.ensures.items in
-    (rw c.replace-spans.ensures.after c.new.ensures.items, subst (λ (rs : List RoundView). AreKept logs floor rs) (sym pushed) kept)
+    let passed : List ℕ = c.self.inside.passed.items in
+    let n : ℕ = length c.self.inside.logs in
+    let over : ArePassed passed n (rounds ++ new ∷ []) = ArePassed-push passed n rounds new c.self.invariant.2 in
+    (rw c.replace-spans.ensures.after c.new.ensures.items, subst (λ (rs : List RoundView). AreKept logs floor rs) (sym pushed) kept, subst (λ (rs : List RoundView). ArePassed passed n rs) (sym pushed) over)
 
 pub returns-clause-ok : goal.returns-clause-ok
 returns-clause-ok c =
