@@ -4,7 +4,9 @@ pub mod ClaimLemmas
 pub mod ClaimWrittenLemmas
 pub mod EntryAgainLemmas
 pub mod EntryLemmas
+pub mod FaultLemmas
 pub mod FrontLemmas
+pub mod PartLemmas
 pub mod SpellLemmas
 pub mod WriteLemmas
 pub mod WrittenLemmas

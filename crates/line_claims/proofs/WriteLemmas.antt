@@ -1,17 +1,15 @@
 -- Writing one record after another.
-use Rattle.std.proofs.Common.{◌≡◌, ◌≤◌, ◌<◌, ℕ, ◌+◌, List, [], ◌∷◌, ◌++◌, get_or, length, take, drop, refl, sym, ap, ◌∙◌, append_assoc, arith}
+use Rattle.std.proofs.Common.{◌≡◌, ◌<◌, ℕ, ◌+◌, List, [], ◌∷◌, ◌++◌, get_or, length, take, refl, sym, ap, ◌∙◌, arith}
 use Rattle.std.specs.Prelude.{Bool, true, false, codes, decimal, filter, map}
 use Rattle.std.specs.List.{range_with_len}
 use Rattle.std.proofs.lemmas.List.Elements.{filter-append}
 use Rattle.std.proofs.lemmas.List.FromFn.{map-range_with_len_more}
 use Rattle.line_names.specs.declared.choices.Choice.{Choice}
 use Rattle.line_names.specs.Sets.{is_member}
-use Rattle.std.proofs.lemmas.Grind.{flat_map-append}
-use Rattle.std.proofs.lemmas.List.{append-nil, drop_more, drop_all, flat_map_more, map-append, take_more}
+use Rattle.std.proofs.lemmas.List.{append-nil, flat_map_more, map-append, take_more}
 use Rattle.line_fields.specs.Records.{Record}
 use Rattle.line_fields.specs.Texts.{record_text, records_text}
-use Rattle.line_tape.specs.History.{Process, fresh, process_at}
-use Rattle.line_claims.specs.Records.{choice_text, failed_record, history_records, history_record, line_record, members, tape_records, tapes_records}
+use Rattle.line_claims.specs.Records.{choice_text, failed_record, line_record, members}
 
 -- one record more of a list, each the record of a value
 pub one_more : {A : Type 0} → (f : A → Record) (before now later : List ℕ) (xs : List A) (i : ℕ) (x : A) → i < length xs → take (i + 1) xs ≡ take i xs ++ x ∷ []
@@ -20,29 +18,6 @@ one_more f before now later xs i x lt e h k =
     let more : map f (take (i + 1) xs) ≡ map f (take i xs) ++ f x ∷ [] = ap (map f) e ∙ map-append f (take i xs) (x ∷ []) in
     k ∙ ap (λ (text : List ℕ). text ++ record_text (f x)) h ∙ flat_map_more record_text before (map f (take i xs)) (f x)
     ∙ ap (λ (records : List Record). before ++ records_text records) (sym more)
-
--- the first record of a history is written
-pub count_written : (before now : List ℕ) (history : List Process) → now ≡ before ++ record_text (history_record (length history))
-    → now ++ records_text (tapes_records 0 history) ≡ before ++ records_text (history_records history)
-count_written before now history h =
-    ap (λ (text : List ℕ). text ++ records_text (tapes_records 0 history)) h ∙ append_assoc before (record_text (history_record (length history))) (records_text (tapes_records 0 history))
-
--- one tape more is written
-pub tape_written : (now later total : List ℕ) (history : List Process) (p : ℕ) → p < length history
-    → now ++ records_text (tapes_records p (drop p history)) ≡ total → later ≡ now ++ records_text (tape_records p (process_at history p))
-    → later ++ records_text (tapes_records (p + 1) (drop (p + 1) history)) ≡ total
-tape_written now later total history p lt h k =
-    let process : Process = process_at history p in
-    let others : List Record = tapes_records (p + 1) (drop (p + 1) history) in
-    let split : records_text (tapes_records p (drop p history)) ≡ records_text (tape_records p process) ++ records_text others
-    = ap (λ (rest : List Process). records_text (tapes_records p rest)) (drop_more history p fresh lt) ∙ flat_map-append record_text (tape_records p process) others in
-    ap (λ (text : List ℕ). text ++ records_text others) k ∙ append_assoc now (records_text (tape_records p process)) (records_text others)
-    ∙ ap (λ (text : List ℕ). now ++ text) (sym split) ∙ h
-
--- all tapes are written
-pub all_written : (now total : List ℕ) (history : List Process) (p : ℕ) → length history ≤ p → now ++ records_text (tapes_records p (drop p history)) ≡ total → now ≡ total
-all_written now total history p le h =
-    sym (append-nil now) ∙ ap (λ (rest : List Process). now ++ records_text (tapes_records p rest)) (sym (drop_all p history le)) ∙ h
 
 map_same : (xs : List ℕ) → map (λ x. x) xs ≡ xs
 map_same [] = refl

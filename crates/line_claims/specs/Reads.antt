@@ -1,5 +1,5 @@
 -- What a call that reads answers, and at which record.
-use Rattle.std.specs.Prelude.{◌≡◌, ◌⊎◌, ℕ, Result, Ok, Err}
+use Rattle.std.specs.Prelude.{◌≡◌, ◌<◌, ◌⊎◌, ℕ, Result, Ok, Err}
 use Rattle.line_fields.specs.declared.faults.Fault.{Fault}
 use Rattle.line_fields.specs.declared.faults.ReadError.{ReadError}
 use Rattle.line_fields.specs.declared.faults.ReadError.TheVariants as memory
@@ -51,3 +51,7 @@ told (errors.Fault fault) = fault
 abbrev pub Reads : {A B : Type 0} → (A → B) → Result A TextFault → Result B TextFault → Type 0
 Reads seen (Ok x) read = read ≡ Ok (seen x)
 Reads seen (Err fault) read = (fault ≡ no_memory) ⊎ (read ≡ Err fault)
+
+-- the fault is one of the text, by its number
+abbrev pub IsOfText : TextFault → Type 0
+IsOfText fault = (0 < fault.code) × (fault.code < 36)

@@ -9,7 +9,10 @@ use Rattle.line_fields.specs.Records.{Record}
 use Rattle.line_fields.specs.Texts.{hex_text}
 use Rattle.line_tape.specs.declared.events.Event.{Event}
 use Rattle.line_tape.specs.declared.events.Event.TheVariants.{Send, Recv, Check, Mark}
-use Rattle.line_tape.specs.History.{Process}
+use Rattle.line_tape.specs.Event.{checks}
+use Rattle.line_tape.specs.History.{Process, tape_at}
+use Rattle.line_tape.specs.Survival.{is_damaged}
+use Rattle.line_tape.specs.Views.{MarksView}
 use Rattle.line_claims.specs.Claims.{Claim}
 use Rattle.line_claims.specs.Numbers.{none_text, now_text}
 
@@ -88,3 +91,20 @@ judged_records n failed line certificate = failed_record n failed ∷ line_recor
 -- a claim
 abbrev pub claim_records : Claim → List Record
 claim_records claim = damages_records 0 claim.marks.damaged ++ judged_records (length claim.marks.damaged) claim.failed claim.line claim.certificate
+
+-- the damaged checks of process p, of its checks up to the last one, in order
+abbrev pub damaged_checks : MarksView → ℕ → ℕ → List ℕ
+damaged_checks marks p last = filter (λ check. is_damaged marks p check) (range_with_len 1 last)
+
+-- the damaged checks of process p of a history, in order
+abbrev pub damaged_of : List Process → MarksView → ℕ → List ℕ
+damaged_of history marks p = damaged_checks marks p (checks (tape_at history p))
+
+-- the marks on a history's checks, by process and then check
+abbrev pub in_order : List Process → MarksView → MarksView
+in_order history marks = record { damaged = map (damaged_of history marks) (range_with_len 0 (length history)) }
+
+-- a history, and a claim on it
+abbrev pub check_records : List Process → Claim → List Record
+check_records history claim =
+    history_records history ++ (damages_records 0 claim.marks.damaged ++ judged_records (length history) claim.failed claim.line claim.certificate)

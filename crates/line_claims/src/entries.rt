@@ -29,8 +29,9 @@ pub(crate) fn damage_of(marks: &mut Marks, n: u32, row: &Row) -> Result<(), Read
     }
 }
 
-/// The processes of `failed` or `failed,P,..`.
-pub(crate) fn failed_of(n: u32, row: &Row) -> Result<ProcSet, Fault>
+/// The processes of a record such as `failed` or `failed,P,..`: those of the fields behind the first, a process
+/// that is not below `n` being a fault once all fields are numbers.
+pub fn failed_of(n: u32, row: &Row) -> Result<ProcSet, Fault>
     requires { n ≤ MOST_PROCESSES }
     ensures { result ≡ spec.failed_of n row.now }
 {

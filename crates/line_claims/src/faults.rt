@@ -26,6 +26,14 @@ pub fn name_of(code: u32) -> &'static str
         6 => "BadCount",
         7 => "InitialDamage",
         8 => "AlreadyDamaged",
+        9 => "RoundNotNew",
+        10 => "MarkerRepeated",
+        11 => "NotTop",
+        12 => "NotReceived",
+        13 => "NotOrphan",
+        14 => "LineDiffers",
+        15 => "NotConsistent",
+        16 => "BadShape",
         17 => "ToSelf",
         18 => "LinkEmpty",
         19 => "BadPick",
@@ -40,6 +48,7 @@ pub fn name_of(code: u32) -> &'static str
         35 => "BadVersion",
         36 => "ReadFault",
         37 => "WriteFault",
+        38 => "NamesDisagree",
         _ => "",
     }
 }

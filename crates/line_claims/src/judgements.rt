@@ -1,31 +1,76 @@
 //! Claims, written record by record.
 
-ghost use Rattle.std.specs.Prelude.{◌≡◌, ◌≤◌, ◌++◌, ◌∷◌, [], OnOk, codes, map};
+ghost use Rattle.std.specs.Prelude.{◌≡◌, ◌≤◌, ◌++◌, ◌∷◌, [], Some, OnErr, OnOk, codes, length, map};
+ghost use Rattle.line_devices.specs.Devices.{PutsFront};
 ghost use Rattle.line_names.specs.declared.limits.TheConstants.{MOST_PROCESSES};
 ghost use Rattle.line_fields.specs.Texts.{record_text, records_text};
 ghost use Rattle.line_claims.specs.Records as spec;
 
+use crate::writers::put_history;
 use line_fields::{Draft, RecordWriter};
 use line_names::{Choice, Line, MOST_PROCESSES, Passed, ProcId, ProcSet};
+use line_tape::{History, Marks};
 use std::alloc::AllocError;
 
 /// Writes `damage,P,C` behind the records that were written before.
 ///
 /// In a check text these come first, by process and then check, so that the same marks make the same
-/// text. Where a growth is refused, the records that were written before are lost too.
+/// text. Where a growth is refused, the text stays as it was.
 pub fn put_damage(
     writer: &mut RecordWriter,
     draft: &mut Draft,
     p: ProcId,
     check: u32,
 ) -> Result<(), AllocError>
-    ensures { OnOk result (writer.new ≡ writer.old ++ record_text (spec.damage_record p check)) }
+    ensures ok { OnOk result (writer.new ≡ writer.old ++ record_text (spec.damage_record p check)) }
+    ensures err { OnErr result (writer.new ≡ writer.old) }
 {
     draft.clear();
     draft.word(b"damage")?;
     draft.number(u64::from(p.get()))?;
     draft.number(u64::from(check))?;
     writer.put(draft)
+}
+
+// Writes `damage,P,C` for each damaged check of a process, in order, of its checks up to the last one.
+fn put_damages_of(
+    writer: &mut RecordWriter,
+    draft: &mut Draft,
+    marks: &Marks,
+    p: ProcId,
+    last: u32,
+) -> Result<(), AllocError>
+    ensures ok { OnOk result (writer.new ≡ writer.old ++ records_text (map (spec.damage_record p) (spec.damaged_checks marks.now p last))) }
+    ensures err { OnErr result (PutsFront (Some writer.old) (Some writer.new) (records_text (map (spec.damage_record p) (spec.damaged_checks marks.now p last)))) }
+{
+    for before in 0..last {
+        let check = before + 1;
+        if marks.has(p, check) {
+            put_damage(writer, draft, p, check)?;
+        }
+    }
+    Ok(())
+}
+
+// Writes `damage,P,C` for each damaged check of a history, by process and then check.
+fn put_damages(
+    writer: &mut RecordWriter,
+    draft: &mut Draft,
+    history: &History,
+    marks: &Marks,
+) -> Result<(), AllocError>
+    ensures ok { OnOk result (writer.new ≡ writer.old ++ records_text (spec.damages_records 0 (spec.in_order history.now.processes marks.now).damaged)) }
+    ensures err { OnErr result (PutsFront (Some writer.old) (Some writer.new) (records_text (spec.damages_records 0 (spec.in_order history.now.processes marks.now).damaged))) }
+{
+    let n = history.n();
+    for value in 0..n {
+        let Ok(p) = ProcId::try_new(value, n) else {
+            unreachable!()
+        };
+        let last = history.tape(p).checks();
+        put_damages_of(writer, draft, marks, p, last)?;
+    }
+    Ok(())
 }
 
 // Begins a record with the processes of a set, of the first `n`.
@@ -54,7 +99,8 @@ fn put_failed(
     failed: &ProcSet,
 ) -> Result<(), AllocError>
     requires { n ≤ MOST_PROCESSES }
-    ensures { OnOk result (writer.new ≡ writer.old ++ record_text (spec.failed_record n failed.now)) }
+    ensures ok { OnOk result (writer.new ≡ writer.old ++ record_text (spec.failed_record n failed.now)) }
+    ensures err { OnErr result (writer.new ≡ writer.old) }
 {
     add_members(draft, n, failed)?;
     writer.put(draft)
@@ -84,7 +130,8 @@ fn add_choices(draft: &mut Draft, choices: &[Choice]) -> Result<(), AllocError>
 
 // Writes `line,CHOICE,..`.
 fn put_line(writer: &mut RecordWriter, draft: &mut Draft, line: &Line) -> Result<(), AllocError>
-    ensures { OnOk result (writer.new ≡ writer.old ++ record_text (spec.line_record line.now)) }
+    ensures ok { OnOk result (writer.new ≡ writer.old ++ record_text (spec.line_record line.now)) }
+    ensures err { OnErr result (writer.new ≡ writer.old) }
 {
     add_choices(draft, line.choices())?;
     writer.put(draft)
@@ -92,13 +139,14 @@ fn put_line(writer: &mut RecordWriter, draft: &mut Draft, line: &Line) -> Result
 
 /// Writes `pass,P,CHOICE,FROM,INC,NUMBER` behind the records that were written before.
 ///
-/// Where a growth is refused, the records that were written before are lost too.
+/// Where a growth is refused, the text stays as it was.
 pub fn put_pass(
     writer: &mut RecordWriter,
     draft: &mut Draft,
     entry: &Passed,
 ) -> Result<(), AllocError>
-    ensures { OnOk result (writer.new ≡ writer.old ++ record_text (spec.pass_record entry.now)) }
+    ensures ok { OnOk result (writer.new ≡ writer.old ++ record_text (spec.pass_record entry.now)) }
+    ensures err { OnErr result (writer.new ≡ writer.old) }
 {
     draft.clear();
     draft.word(b"pass")?;
@@ -116,7 +164,8 @@ fn put_passes(
     draft: &mut Draft,
     entries: &[Passed],
 ) -> Result<(), AllocError>
-    ensures { OnOk result (writer.new ≡ writer.old ++ records_text (map spec.pass_record entries.now)) }
+    ensures ok { OnOk result (writer.new ≡ writer.old ++ records_text (map spec.pass_record entries.now)) }
+    ensures err { OnErr result (PutsFront (Some writer.old) (Some writer.new) (records_text (map spec.pass_record entries.now))) }
 {
     for entry in entries {
         put_pass(writer, draft, entry)?;
@@ -126,18 +175,46 @@ fn put_passes(
 
 // Writes `end`.
 fn put_end(writer: &mut RecordWriter, draft: &mut Draft) -> Result<(), AllocError>
-    ensures { OnOk result (writer.new ≡ writer.old ++ record_text spec.end_record) }
+    ensures ok { OnOk result (writer.new ≡ writer.old ++ record_text spec.end_record) }
+    ensures err { OnErr result (writer.new ≡ writer.old) }
 {
     draft.clear();
     draft.word(b"end")?;
     writer.put(draft)
 }
 
+// Writes the entries of a certificate, and `end`.
+fn put_entries(
+    writer: &mut RecordWriter,
+    draft: &mut Draft,
+    certificate: &[Passed],
+) -> Result<(), AllocError>
+    ensures ok { OnOk result (writer.new ≡ writer.old ++ records_text (map spec.pass_record certificate.now ++ spec.end_record ∷ [])) }
+    ensures err { OnErr result (PutsFront (Some writer.old) (Some writer.new) (records_text (map spec.pass_record certificate.now ++ spec.end_record ∷ []))) }
+{
+    put_passes(writer, draft, certificate)?;
+    put_end(writer, draft)
+}
+
+// Writes a line, the entries of its certificate, and `end`.
+fn put_chain(
+    writer: &mut RecordWriter,
+    draft: &mut Draft,
+    line: &Line,
+    certificate: &[Passed],
+) -> Result<(), AllocError>
+    ensures ok { OnOk result (writer.new ≡ writer.old ++ records_text (spec.line_record line.now ∷ (map spec.pass_record certificate.now ++ spec.end_record ∷ []))) }
+    ensures err { OnErr result (PutsFront (Some writer.old) (Some writer.new) (records_text (spec.line_record line.now ∷ (map spec.pass_record certificate.now ++ spec.end_record ∷ [])))) }
+{
+    put_line(writer, draft, line)?;
+    put_entries(writer, draft, certificate)
+}
+
 /// Writes what stands behind the marks of a claim on a history of `n` processes: the failed processes in
 /// order, the line, the entries of its certificate, and the end.
 ///
-/// Where a growth is refused, the records that were written before are lost too. The draft holds the
-/// last record afterwards, and may be used again.
+/// Where a growth is refused, a front of them may be written. The draft holds the last record afterwards,
+/// and may be used again.
 pub fn put_judged(
     writer: &mut RecordWriter,
     draft: &mut Draft,
@@ -147,10 +224,47 @@ pub fn put_judged(
     certificate: &[Passed],
 ) -> Result<(), AllocError>
     requires { n ≤ MOST_PROCESSES }
-    ensures { OnOk result (writer.new ≡ writer.old ++ records_text (spec.judged_records n failed.now line.now certificate.now)) }
+    ensures ok { OnOk result (writer.new ≡ writer.old ++ records_text (spec.judged_records n failed.now line.now certificate.now)) }
+    ensures err { OnErr result (PutsFront (Some writer.old) (Some writer.new) (records_text (spec.judged_records n failed.now line.now certificate.now))) }
 {
     put_failed(writer, draft, n, failed)?;
-    put_line(writer, draft, line)?;
-    put_passes(writer, draft, certificate)?;
-    put_end(writer, draft)
+    put_chain(writer, draft, line, certificate)
+}
+
+// Writes what stands behind the history in a check text.
+fn put_claim(
+    writer: &mut RecordWriter,
+    draft: &mut Draft,
+    history: &History,
+    marks: &Marks,
+    failed: &ProcSet,
+    line: &Line,
+    certificate: &[Passed],
+) -> Result<(), AllocError>
+    ensures ok { OnOk result (writer.new ≡ writer.old ++ records_text (spec.damages_records 0 (spec.in_order history.now.processes marks.now).damaged ++ spec.judged_records (length history.now.processes) failed.now line.now certificate.now)) }
+    ensures err { OnErr result (PutsFront (Some writer.old) (Some writer.new) (records_text (spec.damages_records 0 (spec.in_order history.now.processes marks.now).damaged ++ spec.judged_records (length history.now.processes) failed.now line.now certificate.now))) }
+{
+    put_damages(writer, draft, history, marks)?;
+    put_judged(writer, draft, history.n(), failed, line, certificate)
+}
+
+/// Writes a check text behind the records that were written before: a history, and the claim on it that
+/// these of its checks are damaged, these processes failed, and this is the line with its certificate.
+///
+/// Where a growth is refused, a front of them may be written. It looks at each mark of a process once for
+/// each of its checks. The draft holds the last record afterwards, and may be used again.
+pub fn put_check_text(
+    writer: &mut RecordWriter,
+    draft: &mut Draft,
+    history: &History,
+    marks: &Marks,
+    failed: &ProcSet,
+    line: &Line,
+    certificate: &[Passed],
+) -> Result<(), AllocError>
+    ensures ok { OnOk result (writer.new ≡ writer.old ++ records_text (spec.check_records history.now.processes (record { marks = spec.in_order history.now.processes marks.now; failed = failed.now; line = line.now; certificate = certificate.now }))) }
+    ensures err { OnErr result (PutsFront (Some writer.old) (Some writer.new) (records_text (spec.check_records history.now.processes (record { marks = spec.in_order history.now.processes marks.now; failed = failed.now; line = line.now; certificate = certificate.now })))) }
+{
+    put_history(writer, draft, history)?;
+    put_claim(writer, draft, history, marks, failed, line, certificate)
 }

@@ -17,9 +17,11 @@ mod texts;
 mod writers;
 
 pub use claims::Claim;
+pub use entries::failed_of;
 pub use faults::{TextError, TextFault, error_at, fault_at, name_of, told};
-pub use judgements::{put_damage, put_judged, put_pass};
+pub use judgements::{put_check_text, put_damage, put_judged, put_pass};
 pub use laws::{claims_are_read_again, histories_are_read_again};
+pub use numbers::{plain, want};
 pub use texts::{CheckText, read_certificate, read_check_text, read_history};
 pub use writers::{put_history, write_history};
 

@@ -14,14 +14,14 @@ const MOST_NUMBER: u64 = 4_294_967_295;
 const MOST_SMALL: u64 = 65_535;
 
 /// A fault unless a test holds.
-pub(crate) fn want(holds: bool, fault: Fault) -> Result<(), Fault>
+pub fn want(holds: bool, fault: Fault) -> Result<(), Fault>
     ensures { result ≡ fields.want holds fault }
 {
     if holds { Ok(()) } else { Err(fault) }
 }
 
-/// The number in a field.
-pub(crate) fn plain(row: &Row, place: usize) -> Result<u32, Fault>
+/// The number in a field: from 0 to 4,294,967,295.
+pub fn plain(row: &Row, place: usize) -> Result<u32, Fault>
     ensures { result ≡ spec.plain (records.field row.now place) }
 {
     let value = number(row.field(place), 0, MOST_NUMBER)?;

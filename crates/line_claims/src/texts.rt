@@ -1,10 +1,10 @@
 //! Texts: a history, a claim, or both.
 
-ghost use Rattle.std.specs.Prelude.{◌≡◌, ◌≢◌, ◌≤◌, ◌∷◌, [], true, false, drop, IfOk, MatchOption};
+ghost use Rattle.std.specs.Prelude.{◌≡◌, ◌≢◌, ◌≤◌, ◌⊎◌, ◌∷◌, [], true, false, drop, IfErr, IfOk, MatchOption};
 ghost use Rattle.line_names.specs.declared.limits.TheConstants.{MOST_PROCESSES};
 ghost use Rattle.line_claims.specs.Claims as claims;
 ghost use Rattle.line_claims.specs.Histories.{Leaves, begins_claim, count_in, ends_front, front_from, front_of, no_tapes};
-ghost use Rattle.line_claims.specs.Reads.{Reads, Yields};
+ghost use Rattle.line_claims.specs.Reads.{IsOfText, Reads, Yields, no_memory};
 ghost use Rattle.line_claims.specs.Texts as spec;
 
 use crate::claims::{Claim, read_claim};
@@ -135,7 +135,8 @@ fn check_in(alloc: Global, text: &[u8]) -> Result<CheckText, TextError>
 /// record that stands in its place, or of the one that would. Want of memory, at any time, is the fault 0
 /// of record 0. It takes time and memory in proportion to the text.
 pub fn read_history(alloc: Global, text: &[u8]) -> Result<History, TextFault>
-    ensures { Reads (λ history. history.processes) result (spec.history_of_text text.now) }
+    ensures exact { Reads (λ history. history.processes) result (spec.history_of_text text.now) }
+    ensures codes { IfErr result (λ fault. (fault ≡ no_memory) ⊎ IsOfText fault) }
 {
     match history_in(alloc, text) {
         Ok(history) => Ok(history),
@@ -154,7 +155,8 @@ pub fn read_history(alloc: Global, text: &[u8]) -> Result<History, TextFault>
 /// it of its process.
 pub fn read_certificate(alloc: Global, text: &[u8], n: u32) -> Result<Claim, TextFault>
     requires { n ≤ MOST_PROCESSES }
-    ensures { Reads claims.seen result (spec.certificate_of_text n text.now) }
+    ensures exact { Reads claims.seen result (spec.certificate_of_text n text.now) }
+    ensures codes { IfErr result (λ fault. (fault ≡ no_memory) ⊎ IsOfText fault) }
 {
     match certificate_in(alloc, text, n) {
         Ok(claim) => Ok(claim),
@@ -166,7 +168,8 @@ pub fn read_certificate(alloc: Global, text: &[u8], n: u32) -> Result<Claim, Tex
 ///
 /// Refused as a history and a claim are, the records numbered through. The text is read once.
 pub fn read_check_text(alloc: Global, text: &[u8]) -> Result<CheckText, TextFault>
-    ensures { Reads spec.seen_check result (spec.check_of_text text.now) }
+    ensures exact { Reads spec.seen_check result (spec.check_of_text text.now) }
+    ensures codes { IfErr result (λ fault. (fault ≡ no_memory) ⊎ IsOfText fault) }
 {
     match check_in(alloc, text) {
         Ok(check) => Ok(check),

@@ -1,6 +1,7 @@
 //! Histories, written record by record.
 
-ghost use Rattle.std.specs.Prelude.{◌≡◌, ◌<◌, ◌++◌, ◌∷◌, [], IfOk, OnOk, length, map};
+ghost use Rattle.std.specs.Prelude.{◌≡◌, ◌<◌, ◌++◌, ◌∷◌, [], Some, IfOk, OnErr, OnOk, length, map};
+ghost use Rattle.line_devices.specs.Devices.{PutsFront};
 ghost use Rattle.line_fields.specs.Texts.{record_text, records_text};
 ghost use Rattle.line_tape.specs.History.{process_at};
 ghost use Rattle.line_claims.specs.Records as spec;
@@ -18,7 +19,8 @@ fn put_send(
     inc: u16,
     body: &Body,
 ) -> Result<(), AllocError>
-    ensures { OnOk result (writer.new ≡ writer.old ++ record_text (spec.event_record (Event.Send to inc body.now))) }
+    ensures ok { OnOk result (writer.new ≡ writer.old ++ record_text (spec.event_record (Event.Send to inc body.now))) }
+    ensures err { OnErr result (writer.new ≡ writer.old) }
 {
     draft.clear();
     draft.word(b"send")?;
@@ -34,7 +36,8 @@ fn put_recv(
     draft: &mut Draft,
     message: MsgName,
 ) -> Result<(), AllocError>
-    ensures { OnOk result (writer.new ≡ writer.old ++ record_text (spec.event_record (Event.Recv message))) }
+    ensures ok { OnOk result (writer.new ≡ writer.old ++ record_text (spec.event_record (Event.Recv message))) }
+    ensures err { OnErr result (writer.new ≡ writer.old) }
 {
     draft.clear();
     draft.word(b"recv")?;
@@ -61,7 +64,8 @@ fn put_check(
     state: &State,
     round: Option<u32>,
 ) -> Result<(), AllocError>
-    ensures { OnOk result (writer.new ≡ writer.old ++ record_text (spec.event_record (Event.Check state.now round))) }
+    ensures ok { OnOk result (writer.new ≡ writer.old ++ record_text (spec.event_record (Event.Check state.now round))) }
+    ensures err { OnErr result (writer.new ≡ writer.old) }
 {
     draft.clear();
     draft.word(b"check")?;
@@ -77,7 +81,8 @@ fn put_mark(
     from: ProcId,
     round: u32,
 ) -> Result<(), AllocError>
-    ensures { OnOk result (writer.new ≡ writer.old ++ record_text (spec.event_record (Event.Mark from round))) }
+    ensures ok { OnOk result (writer.new ≡ writer.old ++ record_text (spec.event_record (Event.Mark from round))) }
+    ensures err { OnErr result (writer.new ≡ writer.old) }
 {
     draft.clear();
     draft.word(b"mark")?;
@@ -88,7 +93,8 @@ fn put_mark(
 
 // Writes the record of an event.
 fn put_event(writer: &mut RecordWriter, draft: &mut Draft, event: &Event) -> Result<(), AllocError>
-    ensures { OnOk result (writer.new ≡ writer.old ++ record_text (spec.event_record event.now)) }
+    ensures ok { OnOk result (writer.new ≡ writer.old ++ record_text (spec.event_record event.now)) }
+    ensures err { OnErr result (writer.new ≡ writer.old) }
 {
     match event {
         Event::Send { to, inc, body } => put_send(writer, draft, *to, *inc, body),
@@ -104,12 +110,30 @@ fn put_events(
     draft: &mut Draft,
     events: &[Event],
 ) -> Result<(), AllocError>
-    ensures { OnOk result (writer.new ≡ writer.old ++ records_text (map spec.event_record events.now)) }
+    ensures ok { OnOk result (writer.new ≡ writer.old ++ records_text (map spec.event_record events.now)) }
+    ensures err { OnErr result (PutsFront (Some writer.old) (Some writer.new) (records_text (map spec.event_record events.now))) }
 {
     for event in events {
         put_event(writer, draft, event)?;
     }
     Ok(())
+}
+
+// Writes `tape,P,INC`.
+fn put_tape_head(
+    writer: &mut RecordWriter,
+    draft: &mut Draft,
+    p: ProcId,
+    inc: u16,
+) -> Result<(), AllocError>
+    ensures ok { OnOk result (writer.new ≡ writer.old ++ record_text (spec.tape_record p inc)) }
+    ensures err { OnErr result (writer.new ≡ writer.old) }
+{
+    draft.clear();
+    draft.word(b"tape")?;
+    draft.number(u64::from(p.get()))?;
+    draft.number(u64::from(inc))?;
+    writer.put(draft)
 }
 
 // Writes `tape,P,INC` and the records of its events.
@@ -120,13 +144,10 @@ fn put_tape(
     inc: u16,
     events: &[Event],
 ) -> Result<(), AllocError>
-    ensures { OnOk result (writer.new ≡ writer.old ++ records_text (spec.tape_records p (record { incarnation = inc; tape = events.now }))) }
+    ensures ok { OnOk result (writer.new ≡ writer.old ++ records_text (spec.tape_records p (record { incarnation = inc; tape = events.now }))) }
+    ensures err { OnErr result (PutsFront (Some writer.old) (Some writer.new) (records_text (spec.tape_records p (record { incarnation = inc; tape = events.now })))) }
 {
-    draft.clear();
-    draft.word(b"tape")?;
-    draft.number(u64::from(p.get()))?;
-    draft.number(u64::from(inc))?;
-    writer.put(draft)?;
+    put_tape_head(writer, draft, p, inc)?;
     put_events(writer, draft, events)
 }
 
@@ -138,7 +159,8 @@ fn put_tape_of(
     p: ProcId,
 ) -> Result<(), AllocError>
     requires { p < length history.now.processes }
-    ensures { OnOk result (writer.new ≡ writer.old ++ records_text (spec.tape_records p (process_at history.now.processes p))) }
+    ensures ok { OnOk result (writer.new ≡ writer.old ++ records_text (spec.tape_records p (process_at history.now.processes p))) }
+    ensures err { OnErr result (PutsFront (Some writer.old) (Some writer.new) (records_text (spec.tape_records p (process_at history.now.processes p)))) }
 {
     let inc = history.incarnation(p);
     let events = history.tape(p).front(Choice::Now);
@@ -147,7 +169,8 @@ fn put_tape_of(
 
 // Writes `history,1,N`.
 fn put_count(writer: &mut RecordWriter, draft: &mut Draft, n: u32) -> Result<(), AllocError>
-    ensures { OnOk result (writer.new ≡ writer.old ++ record_text (spec.history_record n)) }
+    ensures ok { OnOk result (writer.new ≡ writer.old ++ record_text (spec.history_record n)) }
+    ensures err { OnErr result (writer.new ≡ writer.old) }
 {
     draft.clear();
     draft.word(b"history")?;
@@ -158,14 +181,15 @@ fn put_count(writer: &mut RecordWriter, draft: &mut Draft, n: u32) -> Result<(),
 
 /// Writes the records of a history behind those that were written before.
 ///
-/// Where a growth is refused, the records that were written before are lost too. The draft holds the
+/// Where a growth is refused, a front of them may be written. The draft holds the
 /// last record afterwards, and may be used again.
 pub fn put_history(
     writer: &mut RecordWriter,
     draft: &mut Draft,
     history: &History,
 ) -> Result<(), AllocError>
-    ensures { OnOk result (writer.new ≡ writer.old ++ records_text (spec.history_records history.now.processes)) }
+    ensures ok { OnOk result (writer.new ≡ writer.old ++ records_text (spec.history_records history.now.processes)) }
+    ensures err { OnErr result (PutsFront (Some writer.old) (Some writer.new) (records_text (spec.history_records history.now.processes))) }
 {
     let n = history.n();
     put_count(writer, draft, n)?;
