@@ -1,6 +1,6 @@
 //! The program `recline`.
 //!
-//! It ends with status 0 where all was done, 1 where a step was refused, 2 for bad input or a bad command line, and 3 for want of memory or a device that failed. A fault has one line on standard error.
+//! It ends with status 0 where all was done, 1 where a step was refused or a claim is not valid, 2 for bad input or a bad command line, and 3 for want of memory or a device that failed. A fault has one line on standard error.
 #![tactic(auto)]
 
 mod standard;
@@ -10,7 +10,7 @@ mod words;
 use crate::standard::{ReadSource, WriteSink};
 use crate::statuses::status_of_fault;
 use crate::words::{Job, LineFault, command_of};
-use line_text::run_text;
+use line_text::{check_text, run_text};
 use std::alloc::Global;
 use std::process::ExitCode;
 use std::{env, io};
@@ -28,10 +28,24 @@ fn run(rt: &(impl Input + Print + Eprint), alloc: Global) -> io::Result<u8> {
     }
 }
 
+/// Judges the claim on standard input, and says how that went.
+fn check(rt: &(impl Input + Print + Eprint), alloc: Global) -> io::Result<u8> {
+    let mut source = ReadSource::new(rt.reader());
+    let mut sink = WriteSink::new(io::writer(rt));
+    match check_text(alloc, &mut source, &mut sink) {
+        Ok(verdict) => Ok(if verdict.is_none() { 0 } else { 1 }),
+        Err(fault) => {
+            eprintln!(rt; "recline: {fault}")?;
+            Ok(status_of_fault(fault.code))
+        }
+    }
+}
+
 /// Does what the words ask for, the program's name first, and says how that went.
 fn done(rt: &(impl Input + Print + Eprint), alloc: Global, words: &[&str]) -> io::Result<u8> {
     match command_of(alloc, words) {
         Ok(Job::Run) => run(rt, alloc),
+        Ok(Job::Check) => check(rt, alloc),
         Err(LineFault::Help(text)) => {
             print!(rt; "{text}")?;
             Ok(0)

@@ -12,6 +12,8 @@ use std::alloc::Global;
 pub enum Job {
     /// Runs a script.
     Run,
+    /// Judges a claim.
+    Check,
 }
 
 /// Why there is no job.
@@ -33,9 +35,13 @@ fn matches_of_words<'a>(alloc: Global, words: &'a [&'a str]) -> Result<ArgMatche
     let run = Command::new(alloc, "run").about(
         "Reads a script on standard input and writes the replies on standard output",
     );
-    let recline = Command::new(alloc, "recline")
+    let check = Command::new(alloc, "check").about(
+        "Reads a history and a claim on it on standard input and writes the verdict on standard output",
+    );
+    let with_run = Command::new(alloc, "recline")
         .about("Plans where the processes of a failed computation go back to, and proves it")
         .subcommand(run)?;
+    let recline = with_run.subcommand(check)?;
     recline.try_get_matches_from(words)
 }
 
@@ -58,6 +64,7 @@ pub fn command_of<'a>(alloc: Global, words: &'a [&'a str]) -> Result<Job, LineFa
     match matches_of_words(alloc, words) {
         Ok(matches) => match matches.subcommand_name() {
             Some("run") => Ok(Job::Run),
+            Some("check") => Ok(Job::Check),
             _ => Err(LineFault::Bad),
         },
         Err(error) => Err(fault_of(alloc, &error)),
@@ -73,6 +80,8 @@ mod tests {
     fn words_ask_for_a_job(rt: HostRuntime) -> Result<(), Fail> {
         let run = ["recline", "run"];
         assert!(rt; matches!(command_of(rt.alloc(), &run), Ok(Job::Run)));
+        let check = ["recline", "check"];
+        assert!(rt; matches!(command_of(rt.alloc(), &check), Ok(Job::Check)));
         let unknown = ["recline", "walk"];
         assert!(rt; matches!(command_of(rt.alloc(), &unknown), Err(LineFault::Bad)));
         let help = ["recline", "--help"];

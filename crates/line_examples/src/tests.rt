@@ -16,6 +16,7 @@ mod catalogues;
 mod claims;
 mod limits;
 mod restarts;
+mod runs;
 mod search;
 
 /// a, b and c as in the picture of the README.

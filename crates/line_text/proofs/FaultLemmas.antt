@@ -1,41 +1,11 @@
 -- A fault of a script is one of the text.
-use Rattle.std.proofs.Common.{cond, ◌≡◌, ℕ, ◌+◌, Bool, List, [], ◌∷◌, Result, Ok, Err, true, false, subst, arith}
-use Rattle.std.specs.Prelude.{IfErr}
-use Rattle.line_fields.specs.declared.faults.Fault.{Fault}
+use Rattle.std.proofs.Common.{cond, ℕ, ◌+◌, List, [], ◌∷◌, Err, true, false}
 use Rattle.line_fields.specs.declared.faults.Fault.TheVariants as faults
 use Rattle.line_fields.specs.Bytes.{is_input_text}
-use Rattle.line_fields.specs.Faults.{code_of}
-use Rattle.line_fields.specs.Fields.{◌>>=◌}
 use Rattle.line_fields.specs.Records.{Record, records_of_text}
-use Rattle.line_text.specs.declared.faults.TextFault.{TextFault}
-use Rattle.line_text.specs.Reads.{IsOfText}
-use Rattle.line_text.specs.Scripts.{Script, command_of, commands_from, numbered, script_of, script_of_text, world_of}
-
--- each fault that is read is one of the text
-abbrev OnlyOfText : {A : Type 0} → Result A TextFault → Type 0
-OnlyOfText read = IfErr read IsOfText
-
-code_is_of_text : (i : ℕ) (fault : Fault) → IsOfText (record { record_number = i; code = code_of fault })
-code_is_of_text i faults.NoSuchProcess = (omega arith, omega arith)
-code_is_of_text i faults.BodyTooLong = (omega arith, omega arith)
-code_is_of_text i faults.TapeFull = (omega arith, omega arith)
-code_is_of_text i faults.StateTooLong = (omega arith, omega arith)
-code_is_of_text i faults.BadCount = (omega arith, omega arith)
-code_is_of_text i faults.InitialDamage = (omega arith, omega arith)
-code_is_of_text i faults.AlreadyDamaged = (omega arith, omega arith)
-code_is_of_text i faults.BadRecord = (omega arith, omega arith)
-code_is_of_text i faults.BadNumber = (omega arith, omega arith)
-code_is_of_text i faults.NoWorld = (omega arith, omega arith)
-code_is_of_text i faults.BadVersion = (omega arith, omega arith)
-
-numbered_faults : {A : Type 0} (i : ℕ) (read : Result A Fault) → OnlyOfText (numbered i read)
-numbered_faults i (Ok x) = tt
-numbered_faults i (Err fault) = code_is_of_text i fault
-
--- one read after another
-both_faults : {A B : Type 0} (read : Result A TextFault) (next : A → Result B TextFault) → OnlyOfText read → ((x : A) → OnlyOfText (next x)) → OnlyOfText (read >>= next)
-both_faults (Ok x) next h k = k x
-both_faults (Err fault) next h k = h
+use Rattle.line_claims.specs.Reads.{fault_at, numbered}
+use Rattle.line_claims.proofs.FaultLemmas.{OnlyOfText, both_faults, code_is_of_text, numbered_faults}
+use Rattle.line_text.specs.Scripts.{command_of, commands_from, script_of, script_of_text, world_of}
 
 commands_faults : (n : ℕ) (i : ℕ) (rows : List Record) → OnlyOfText (commands_from n i rows)
 unfolding commands_from
@@ -53,11 +23,7 @@ records_faults (first ∷ rest) =
 
 pub script_faults : (text : List ℕ) → OnlyOfText (script_of_text text)
 unfolding script_of_text
-script_faults text = elim (is_input_text text) as (λ b. OnlyOfText (cond b (script_of (records_of_text text)) (Err (record { record_number = 0; code = code_of faults.BadRecord })))) [
+script_faults text = elim (is_input_text text) as (λ b. OnlyOfText (cond b (script_of (records_of_text text)) (Err (fault_at 0 faults.BadRecord)))) [
   | true ↦ records_faults (records_of_text text)
   | false ↦ code_is_of_text 0 faults.BadRecord
 ]
-
--- so is the fault of a call that read it
-pub fault_of_text : (text : List ℕ) (fault : TextFault) → script_of_text text ≡ Err fault → IsOfText fault
-fault_of_text text fault h = subst (λ (read : Result Script TextFault). IfErr read IsOfText) h (script_faults text)

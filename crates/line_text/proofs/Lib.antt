@@ -1,5 +1,6 @@
 pub mod FaultLemmas
-pub mod RecoverLemmas
+pub mod JudgeLemmas
 pub mod ReadLemmas
 pub mod ReplyLemmas
+pub mod RoundLemmas
 pub mod RunLemmas

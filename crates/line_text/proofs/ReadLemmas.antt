@@ -1,5 +1,5 @@
 -- Reading a script record by record.
-use Rattle.std.proofs.Common.{◌≡◌, ℕ, ◌+◌, Bool, true, false, List, [], ◌∷◌, ◌++◌, Result, Ok, Err, refl, sym, ap, ◌∙◌, append_assoc}
+use Rattle.std.proofs.Common.{◌≡◌, ℕ, ◌+◌, true, false, List, [], ◌∷◌, ◌++◌, Result, Ok, Err, refl, sym, ap, ◌∙◌, append_assoc}
 use Rattle.std.proofs.lemmas.List.{append-nil}
 use Rattle.line_fields.specs.declared.faults.Fault.TheVariants as faults
 use Rattle.line_fields.specs.Bytes.{is_input_text}
@@ -8,11 +8,11 @@ use Rattle.line_fields.specs.Fields.{◌>>=◌}
 use Rattle.line_fields.specs.Records.{Record, records_of_text}
 use Rattle.line_text.specs.declared.commands.Command.{Command}
 use Rattle.line_text.specs.declared.commands.World.{World}
-use Rattle.line_text.specs.declared.faults.TextFault.{TextFault}
-use Rattle.line_text.specs.declared.faults.TextError.{TextError}
-use Rattle.line_text.specs.declared.faults.TextError.TheVariants as errors
-use Rattle.line_text.specs.Reads.{FailsText}
-use Rattle.line_text.specs.Scripts.{Script, numbered, world_of, command_of, commands_from, script_of, script_of_text}
+use Rattle.line_claims.specs.declared.faults.TextFault.{TextFault}
+use Rattle.line_claims.specs.declared.faults.TextError.{TextError}
+use Rattle.line_claims.specs.declared.faults.TextError.TheVariants as errors
+use Rattle.line_claims.specs.Reads.{FailsText, numbered}
+use Rattle.line_text.specs.Scripts.{Script, world_of, command_of, commands_from, script_of, script_of_text}
 
 pub not_plain : (text : List ℕ) → is_input_text text ≡ false → script_of_text text ≡ Err (record { record_number = 0; code = code_of faults.BadRecord })
 unfolding script_of_text

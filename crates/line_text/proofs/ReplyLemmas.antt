@@ -105,15 +105,19 @@ front_of_passes before first second later record' ls ps h k (front, rest, parts,
     front_behind before first later record' (ls ++ ps) h (records_text ls ++ front, rest, whole, l ∙ ap (λ (t : List ℕ). t ++ front) k ∙ append_assoc first (records_text ls) front)
 
 pub code_is : (error : StepError) (code : ℕ) → (error ≡ errors.OutOfMemory → code ≡ 0) → (error ≡ errors.NoSuchProcess → code ≡ 1) → (error ≡ errors.TapeFull → code ≡ 3) → (error ≡ errors.NoSuchCheck → code ≡ 4) → (error ≡ errors.StateTooLong → code ≡ 5) → (error ≡ errors.InitialDamage → code ≡ 7) → (error ≡ errors.AlreadyDamaged → code ≡ 8)
-    → (error ≡ errors.ToSelf → code ≡ 17) → (error ≡ errors.LinkEmpty → code ≡ 18) → (error ≡ errors.BadPick → code ≡ 19) → (error ≡ errors.NoMoreIncarnations → code ≡ 24) → code ≡ refusal_code error
-code_is errors.OutOfMemory code a b c d e f g h i j k = a refl
-code_is errors.NoSuchProcess code a b c d e f g h i j k = b refl
-code_is errors.TapeFull code a b c d e f g h i j k = c refl
-code_is errors.NoSuchCheck code a b c d e f g h i j k = d refl
-code_is errors.StateTooLong code a b c d e f g h i j k = e refl
-code_is errors.InitialDamage code a b c d e f g h i j k = f refl
-code_is errors.AlreadyDamaged code a b c d e f g h i j k = g refl
-code_is errors.ToSelf code a b c d e f g h i j k = h refl
-code_is errors.LinkEmpty code a b c d e f g h i j k = i refl
-code_is errors.BadPick code a b c d e f g h i j k = j refl
-code_is errors.NoMoreIncarnations code a b c d e f g h i j k = k refl
+    → (error ≡ errors.ToSelf → code ≡ 17) → (error ≡ errors.LinkEmpty → code ≡ 18) → (error ≡ errors.BadPick → code ≡ 19) → (error ≡ errors.RoundOpen → code ≡ 20) → (error ≡ errors.NothingToTurn → code ≡ 21) → (error ≡ errors.WrongMode → code ≡ 22) → (error ≡ errors.NoMoreRounds → code ≡ 23) → (error ≡ errors.NoMoreIncarnations → code ≡ 24) → code ≡ refusal_code error
+code_is errors.OutOfMemory code a b c d e f g h i j k l m n o = a refl
+code_is errors.NoSuchProcess code a b c d e f g h i j k l m n o = b refl
+code_is errors.TapeFull code a b c d e f g h i j k l m n o = c refl
+code_is errors.NoSuchCheck code a b c d e f g h i j k l m n o = d refl
+code_is errors.StateTooLong code a b c d e f g h i j k l m n o = e refl
+code_is errors.InitialDamage code a b c d e f g h i j k l m n o = f refl
+code_is errors.AlreadyDamaged code a b c d e f g h i j k l m n o = g refl
+code_is errors.ToSelf code a b c d e f g h i j k l m n o = h refl
+code_is errors.LinkEmpty code a b c d e f g h i j k l m n o = i refl
+code_is errors.BadPick code a b c d e f g h i j k l m n o = j refl
+code_is errors.RoundOpen code a b c d e f g h i j k l m n o = k refl
+code_is errors.NothingToTurn code a b c d e f g h i j k l m n o = l refl
+code_is errors.WrongMode code a b c d e f g h i j k l m n o = m refl
+code_is errors.NoMoreRounds code a b c d e f g h i j k l m n o = n refl
+code_is errors.NoMoreIncarnations code a b c d e f g h i j k l m n o = o refl

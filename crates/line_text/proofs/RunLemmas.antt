@@ -1,12 +1,19 @@
 -- A run grows by one command, and so do its text and its count of refusals.
 use Rattle.std.proofs.Common.{◌≡◌, ◌<◌, ◌≤◌, ℕ, ◌+◌, cond, List, [], ◌∷◌, ◌++◌, Option, Some, None, append_assoc, drop, get_or, length, take, refl, sym, ap, ◌∙◌, subst, arith}
-use Rattle.std.specs.Prelude.{Ok}
+use Rattle.std.specs.Prelude.{Bool, Err, IfErr, IsTrue, Ok, Result}
 use Rattle.std.specs.List.{flat_map}
 use Rattle.std.proofs.lemmas.Grind.{flat_map-append}
 use Rattle.std.proofs.lemmas.List.{append-nil, drop_more, take_more}
 use Rattle.std.proofs.lemmas.List.Sums.{count_by-le-length, sum_by-append}
 use Rattle.line_devices.specs.Devices.{Puts, PutsFront}
+use Rattle.line_claims.specs.Claims.{Claim}
+use Rattle.line_claims.specs.Records.{check_records, history_records, in_order}
+use Rattle.line_fields.specs.declared.faults.Fault.TheVariants.{NoSuchProcess}
+use Rattle.line_fields.specs.Faults.{code_of}
 use Rattle.line_fields.specs.Texts.{record_text, records_text}
+use Rattle.line_plan.specs.declared.plans.Plan.{Plan}
+use Rattle.line_world.specs.Refusals.{has_stranger}
+use Rattle.line_world.specs.Steps.{IsPlan}
 use Rattle.line_world.specs.Machine.{Machine}
 use Rattle.line_text.specs.declared.commands.Command.{Command}
 use Rattle.line_text.specs.declared.commands.Command.TheVariants as commands
@@ -16,7 +23,8 @@ use Rattle.line_world.specs.declared.replies.StepError.{StepError}
 use Rattle.line_world.specs.declared.replies.Answer.TheVariants as answers
 use Rattle.line_world.specs.Runs.{Takes}
 use Rattle.line_text.specs.Replies.{refusal_code, reply_records, refused as refused_record}
-use Rattle.line_text.specs.Runs.{Told, Answered, Refused, told_records, is_refused, Tells, TellsAll, text_of, refusals, IsRunTo, PutsButEnd, Runs, RunsFront, RunsText, RunsTextFront, StopsAt, StopsText, Writes, WritesFront, first_of}
+use Rattle.line_text.specs.Rounds.{rounds_records}
+use Rattle.line_text.specs.Runs.{Told, Answered, Refused, Listing, Shown, Claimed, IsClaimFor, told_records, is_refused, Tells, TellsAll, text_of, refusals, IsRunTo, PutsButEnd, Runs, RunsFront, RunsText, RunsTextFront, StopsAt, StopsText, Writes, WritesFront, first_of}
 use Rattle.line_text.specs.Scripts.{Script, script_of_text}
 use Rattle.line_devices.proofs.PutLemmas.{puts_both, front_then}
 use Rattle.std.proofs.Math.Seq.{take-add}
@@ -117,6 +125,48 @@ refusal_written old new step error code text later refused count takes same (wri
 
 pub told_written : (old : Machine) (code : ℕ) (text later : List ℕ) (refused count : ℕ) → (later ≡ text ++ record_text (refused_record code)) × (count ≡ refused + 1) → Writes old (commands.Refused code) old text refused later count
 told_written old code text later refused count (written, counted) = record { told = Refused code; tells = (refl, refl); written = refusal_text code text later written; counted = counted }
+
+-- rounds that were written
+pub rounds_written : (old : Machine) (text later : List ℕ) (refused : ℕ) → later ≡ text ++ records_text (rounds_records (length old.history) old.rounds) → Writes old commands.Rounds old text refused later refused
+rounds_written old text later refused written = record { told = Listing (length old.history) old.rounds; tells = (refl, refl, refl); written = written; counted = omega arith }
+
+pub rounds_front : (old : Machine) (text later : List ℕ) → PutsFront (Some text) (Some later) (records_text (rounds_records (length old.history) old.rounds)) → WritesFront old commands.Rounds text later
+rounds_front old text later front = tells_front old old commands.Rounds (Listing (length old.history) old.rounds) text later (refl, refl, refl) front
+
+-- a history that was written
+pub shown_written : (old : Machine) (text later : List ℕ) (refused : ℕ) → later ≡ text ++ records_text (history_records old.history) → Writes old commands.History old text refused later refused
+shown_written old text later refused written = record { told = Shown old.history; tells = (refl, refl); written = written; counted = omega arith }
+
+pub shown_front : (old : Machine) (text later : List ℕ) → PutsFront (Some text) (Some later) (records_text (history_records old.history)) → WritesFront old commands.History text later
+shown_front old text later front = tells_front old old commands.History (Shown old.history) text later (refl, refl) front
+
+-- an answer is no refusal
+pub no_refusal : {A E : Type 0} (x : A) (e : E) → Ok x ≡ Err e → ⊥
+no_refusal {A} {E} x e h = subst (λ (r : Result A E). IfErr r (λ _. ⊥)) h tt
+
+-- the claim of a plan
+abbrev pub claim_of : Machine → List Bool → Plan → Claim
+claim_of machine failed plan = record { marks = in_order machine.history machine.marks; failed = failed; line = plan.line; certificate = plan.certificate.items }
+
+claim_for : (old : Machine) (failed : List Bool) (plan : Plan) → (IsTrue (has_stranger old failed) → ⊥) → IsPlan old failed plan → IsClaimFor old failed (claim_of old failed plan)
+claim_for old failed plan there planned = record { there = there; plan = plan; planned = planned; claim_is = refl }
+
+-- a claim that was written
+pub claim_written : (old : Machine) (failed : List Bool) (plan : Plan) (text later : List ℕ) (refused : ℕ) → (IsTrue (has_stranger old failed) → ⊥) → IsPlan old failed plan
+    → later ≡ text ++ records_text (check_records old.history (claim_of old failed plan)) → Writes old (commands.Bundle failed) old text refused later refused
+claim_written old failed plan text later refused there planned written =
+    record { told = Claimed old.history (claim_of old failed plan); tells = (refl, claim_for old failed plan there planned, refl); written = written; counted = omega arith }
+
+pub claim_front : (old : Machine) (failed : List Bool) (plan : Plan) (text later : List ℕ) → (IsTrue (has_stranger old failed) → ⊥) → IsPlan old failed plan
+    → PutsFront (Some text) (Some later) (records_text (check_records old.history (claim_of old failed plan))) → WritesFront old (commands.Bundle failed) text later
+claim_front old failed plan text later there planned front =
+    tells_front old old (commands.Bundle failed) (Claimed old.history (claim_of old failed plan)) text later (refl, claim_for old failed plan there planned, refl) front
+
+-- a claim that was refused
+pub stranger_written : (old : Machine) (failed : List Bool) (code : ℕ) (text later : List ℕ) (refused count : ℕ) → IsTrue (has_stranger old failed) → code ≡ code_of NoSuchProcess
+    → (later ≡ text ++ record_text (refused_record code)) × (count ≡ refused + 1) → Writes old (commands.Bundle failed) old text refused later count
+stranger_written old failed code text later refused count stranger same (written, counted) =
+    record { told = Refused code; tells = (stranger, same, refl); written = refusal_text code text later written; counted = counted }
 
 -- where nothing was put, all is held
 pub holds_all : (taken : Option (List ℕ)) (held : List ℕ) → PutsButEnd taken taken held held

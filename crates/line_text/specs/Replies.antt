@@ -1,5 +1,5 @@
 -- The records that are written for what the machine answers.
-use Rattle.std.specs.Prelude.{ℕ, List, [], ◌∷◌, ◌++◌, length, map, Option, Some, None, codes, decimal, slice_index_or}
+use Rattle.std.specs.Prelude.{ℕ, Bool, if◌then◌else◌, List, [], ◌∷◌, ◌++◌, length, map, Option, Some, None, codes, decimal, slice_index_or}
 use Rattle.std.specs.List.{range_with_len}
 use Rattle.line_names.specs.declared.certificates.Passed.{Passed}
 use Rattle.line_names.specs.declared.choices.Choice.{Choice}
@@ -9,12 +9,12 @@ use Rattle.line_names.specs.Lines.{choice_at}
 use Rattle.line_fields.specs.Records.{Record}
 use Rattle.line_fields.specs.Texts.{hex_text}
 use Rattle.line_world.specs.declared.replies.Reply.{Reply}
-use Rattle.line_world.specs.declared.replies.Reply.TheVariants.{Sent, Took, Stale, Repeated, Checked, Damaged, Recovered}
+use Rattle.line_world.specs.declared.replies.Reply.TheVariants.{Sent, Took, Marked, Stale, Repeated, Checked, Begun, Turned, Damaged, Recovered}
 use Rattle.line_world.specs.declared.replies.StepError.{StepError}
 use Rattle.line_world.specs.declared.replies.StepError.TheVariants as errors
 use Rattle.line_world.specs.declared.replies.Answer.{Answer}
 use Rattle.line_world.specs.declared.replies.Answer.TheVariants as answers
-use Rattle.line_text.specs.Faults.{name_of}
+use Rattle.line_claims.specs.Faults.{name_of}
 
 -- what stands where there is nothing
 abbrev pub none_text : List ℕ
@@ -40,6 +40,18 @@ round_text (Some round) = decimal round
 -- took,FROM,INC,NUMBER,ROUND
 abbrev pub took : MsgName → Option ℕ → Record
 took m forced = codes "took" ∷ decimal m.from ∷ decimal m.inc ∷ decimal m.number ∷ round_text forced ∷ []
+
+-- marked,ROUND,forced or marked,ROUND,closed
+abbrev pub marked : ℕ → Bool → Record
+marked round forced = codes "marked" ∷ decimal round ∷ (if forced then codes "forced" else codes "closed") ∷ []
+
+-- begun,P,C,ROUND
+abbrev pub begun : ℕ → ℕ → ℕ → Record
+begun p check round = codes "begun" ∷ decimal p ∷ decimal check ∷ decimal round ∷ []
+
+-- turned,P,C,ROUND
+abbrev pub turned : ℕ → ℕ → ℕ → Record
+turned p check round = codes "turned" ∷ decimal p ∷ decimal check ∷ decimal round ∷ []
 
 -- checked,P,C
 abbrev pub checked : ℕ → ℕ → Record
@@ -104,9 +116,12 @@ refused code = codes "refused" ∷ decimal code ∷ name_of code ∷ []
 abbrev pub reply_records : Reply → List Record
 reply_records (Sent message) = sent message ∷ []
 reply_records (Took message forced) = took message forced ∷ []
+reply_records (Marked round forced) = marked round forced ∷ []
 reply_records (Stale message) = stale message ∷ []
 reply_records (Repeated message) = repeated message ∷ []
 reply_records (Checked at check) = checked at check ∷ []
+reply_records (Begun at check round) = begun at check round ∷ []
+reply_records (Turned at check round) = turned at check round ∷ []
 reply_records (Damaged at check) = damaged at check ∷ []
 reply_records (Recovered plan states incarnations) = recovery plan.sweeps plan.certificate.items plan.replays.items plan.line incarnations.items states.items
 
@@ -122,6 +137,10 @@ refusal_code errors.AlreadyDamaged = 8
 refusal_code errors.ToSelf = 17
 refusal_code errors.LinkEmpty = 18
 refusal_code errors.BadPick = 19
+refusal_code errors.RoundOpen = 20
+refusal_code errors.NothingToTurn = 21
+refusal_code errors.WrongMode = 22
+refusal_code errors.NoMoreRounds = 23
 refusal_code errors.NoMoreIncarnations = 24
 
 -- the records of an answer

@@ -1,43 +1,71 @@
 -- What commands are told, and the text of a run.
-use Rattle.std.specs.Prelude.{◌≡◌, ◌<◌, ◌≤◌, ℕ, ◌+◌, ◌++◌, Bool, true, false, List, [], ◌∷◌, Option, Some, drop, length, take, Ok}
+use Rattle.std.specs.Prelude.{IsTrue, ◌≡◌, ◌≤◌, ℕ, ◌+◌, ◌++◌, Bool, true, false, List, [], ◌∷◌, Option, drop, length, take, Ok}
 use Rattle.std.specs.List.{count_by, flat_map}
 use Rattle.line_devices.specs.Devices.{Puts, PutsFront, one_more}
-use Rattle.line_devices.specs.declared.sources.TheConstants.{MOST_INPUT}
+use Rattle.line_claims.specs.Claims.{Claim}
+use Rattle.line_claims.specs.Records.{check_records, history_records, in_order}
+use Rattle.line_fields.specs.declared.faults.Fault.TheVariants.{NoSuchProcess}
+use Rattle.line_fields.specs.Faults.{code_of}
 use Rattle.line_fields.specs.Records.{Record}
 use Rattle.line_fields.specs.Texts.{records_text}
 use Rattle.line_world.specs.declared.replies.Answer.TheVariants as answers
+use Rattle.line_world.specs.Listed.{Listed}
 use Rattle.line_world.specs.Machine.{Machine, start}
+use Rattle.line_plan.specs.declared.plans.Plan.{Plan}
+use Rattle.line_tape.specs.History.{Process}
+use Rattle.line_world.specs.Refusals.{has_stranger}
 use Rattle.line_world.specs.Runs.{Takes}
+use Rattle.line_world.specs.Steps.{IsPlan}
 use Rattle.line_text.specs.declared.commands.Command.{Command}
 use Rattle.line_text.specs.declared.commands.Command.TheVariants as commands
 use Rattle.line_text.specs.declared.engines.Stop.{Stop}
 use Rattle.line_text.specs.declared.engines.Stop.TheVariants as stops
 use Rattle.line_world.specs.declared.replies.Answer.{Answer}
 use Rattle.line_text.specs.Replies.{answer_records, refused}
+use Rattle.line_text.specs.Rounds.{rounds_records}
 use Rattle.line_text.specs.Scripts.{Script, script_of_text}
 
--- what a command is told: the machine's answer, or the number of its refusal before any step
+-- what a command is told: the machine's answer, the number of its refusal before any step, rounds among so many processes, a history, or a history with a claim on it
 pub data Told : Type 0 where
   Answered : Answer → Told
   Refused : ℕ → Told
+  Listing : ℕ → List Listed → Told
+  Shown : List Process → Told
+  Claimed : List Process → Claim → Told
 
 -- the records of what a command is told
 abbrev pub told_records : Told → List Record
 told_records (Answered answer) = answer_records answer
 told_records (Refused code) = refused code ∷ []
+told_records (Listing n rounds) = rounds_records n rounds
+told_records (Shown history) = history_records history
+told_records (Claimed history claim) = check_records history claim
 
 -- a command was refused, by the machine or before any step
 abbrev pub is_refused : Told → Bool
 is_refused (Answered (answers.Done reply)) = false
 is_refused (Answered (answers.Refused error)) = true
 is_refused (Refused code) = true
+is_refused (Listing n rounds) = false
+is_refused (Shown history) = false
+is_refused (Claimed history claim) = false
+
+-- the claim of a plan for these failed: the machine's marks in order, and the plan's line and certificate
+pub record IsClaimFor (machine : Machine) (failed : List Bool) (claim : Claim) : Type 0 where
+  pub there : IsTrue (has_stranger machine failed) → ⊥
+  pub plan : Plan
+  pub planned : IsPlan machine failed plan
+  pub claim_is : claim ≡ record { marks = in_order machine.history machine.marks; failed = failed; line = plan.line; certificate = plan.certificate.items }
 
 -- from old, a command may be told this, and leaves new
 abbrev pub Tells : Machine → Command → Told → Machine → Type 0
 Tells old (commands.Do step) (Answered answer) new = Takes old step answer new
-Tells old (commands.Do step) (Refused code) new = ⊥
-Tells old (commands.Refused code) (Answered answer) new = ⊥
 Tells old (commands.Refused code) (Refused shown) new = (shown ≡ code) × (new ≡ old)
+Tells old commands.Rounds (Listing n rounds) new = (n ≡ length old.history) × (rounds ≡ old.rounds) × (new ≡ old)
+Tells old commands.History (Shown history) new = (history ≡ old.history) × (new ≡ old)
+Tells old (commands.Bundle failed) (Claimed history claim) new = (history ≡ old.history) × IsClaimFor old failed claim × (new ≡ old)
+Tells old (commands.Bundle failed) (Refused code) new = IsTrue (has_stranger old failed) × (code ≡ code_of NoSuchProcess) × (new ≡ old)
+Tells old command told new = ⊥
 
 -- from old, commands may be told these, one after another
 abbrev pub TellsAll : Machine → List Command → List Told → Machine → Type 0
@@ -111,10 +139,6 @@ pub record StopsText (text : List ℕ) (record_number : ℕ) (old new : Option (
   pub script : Script
   pub spelt : script_of_text text ≡ Ok script
   pub runs : StopsAt (first_of script) script.commands record_number (Puts old new)
-
--- the input is longer than it may be, where the source tells
-abbrev pub IsTooLong : Option (List ℕ) → Type 0
-IsTooLong left = (text : List ℕ) → left ≡ Some text → MOST_INPUT < length text
 
 -- a command was told something, which was written
 pub record Writes (old : Machine) (command : Command) (new : Machine) (text : List ℕ) (refused : ℕ) (later : List ℕ) (count : ℕ) : Type 0 where

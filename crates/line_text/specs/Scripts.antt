@@ -1,9 +1,8 @@
 -- Which script a list of records spells, and the first fault where it spells none.
-use Rattle.std.specs.Prelude.{ℕ, ◌+◌, nat_le, nat_lt, ◌==◌, ◌&&◌, Bool, true, false, not, List, [], ◌∷◌, length, drop, fold, Result, Ok, Err, if◌then◌else◌, codes}
+use Rattle.std.specs.Prelude.{ℕ, ◌+◌, nat_le, nat_lt, ◌==◌, ◌&&◌, Bool, true, List, [], ◌∷◌, length, Result, Ok, Err, if◌then◌else◌, codes}
 use Rattle.std.specs.Str.{bytes_eq}
 use Rattle.std.specs.List.{list_all}
 use Rattle.line_names.specs.declared.limits.TheConstants.{MOST_BODY, MOST_PROCESSES}
-use Rattle.line_names.specs.Sets.{nobody, with_member}
 use Rattle.line_fields.specs.declared.faults.Fault.{Fault}
 use Rattle.line_fields.specs.declared.faults.Fault.TheVariants as faults
 use Rattle.line_fields.specs.Bytes.{is_input_text}
@@ -12,18 +11,18 @@ use Rattle.line_fields.specs.Fields.{◌>>=◌, want, num, hex}
 use Rattle.line_fields.specs.Records.{Record, field, records_of_text}
 use Rattle.line_world.specs.declared.steps.Mode.{Mode}
 use Rattle.line_world.specs.declared.steps.Mode.TheVariants.{Fifo, Unordered}
-use Rattle.line_world.specs.declared.steps.Step.TheVariants.{Send, Deliver, Check, Damage, Recover}
+use Rattle.line_world.specs.declared.steps.Step.TheVariants.{Send, Deliver, Check, Begin, Turn, Damage, Recover}
 use Rattle.line_text.specs.declared.commands.Command.{Command}
-use Rattle.line_text.specs.declared.commands.Command.TheVariants.{Do, Refused}
+use Rattle.line_text.specs.declared.commands.Command.TheVariants.{Bundle, Do, History, Refused, Rounds}
 use Rattle.line_text.specs.declared.commands.Kind.{Kind}
 use Rattle.line_text.specs.declared.commands.Kind.TheVariants as kinds
 use Rattle.line_text.specs.declared.commands.World.{World}
-use Rattle.line_text.specs.declared.faults.TextFault.{TextFault}
+use Rattle.line_claims.specs.declared.faults.TextFault.{TextFault}
+use Rattle.line_claims.specs.Entries.{failed_of}
+use Rattle.line_claims.specs.Numbers.{plain}
+use Rattle.line_claims.specs.Reads.{fault_at, numbered}
 
--- a number in its widest range, and the place of an item on a link
-abbrev pub plain : List ℕ → Result ℕ Fault
-plain text = num 0 4294967295 text
-
+-- the place of an item on a link
 abbrev pub place : List ℕ → Result ℕ Fault
 place text = num 0 18446744073709551615 text
 
@@ -82,6 +81,20 @@ check_of n r = do
   state ← hex (field r 2)
   Ok (below n (at ∷ []) (Do (Check at state)))
 
+-- begin,P,HEX
+unfoldable pub begin_of : ℕ → Record → Result Command Fault
+begin_of n r = do
+  at ← plain (field r 1)
+  state ← hex (field r 2)
+  Ok (below n (at ∷ []) (Do (Begin at state)))
+
+-- turn,P,HEX
+unfoldable pub turn_of : ℕ → Record → Result Command Fault
+turn_of n r = do
+  at ← plain (field r 1)
+  state ← hex (field r 2)
+  Ok (below n (at ∷ []) (Do (Turn at state)))
+
 -- damage,P,C
 unfoldable pub damage_of : ℕ → Record → Result Command Fault
 damage_of n r = do
@@ -89,19 +102,18 @@ damage_of n r = do
   check ← plain (field r 2)
   Ok (below n (at ∷ []) (Do (Damage at check)))
 
--- the numbers of fields, from left to right
-unfoldable pub numbers : Record → Result (List ℕ) Fault
-numbers [] = Ok []
-numbers (first ∷ others) = do
-  n ← plain first
-  ns ← numbers others
-  Ok (n ∷ ns)
+-- a command of the processes that a record names, refused where one is not below the number of processes
+abbrev pub of_failed : (List Bool → Command) → Result (List Bool) Fault → Result Command Fault
+of_failed command (Ok failed) = Ok (command failed)
+of_failed command (Err fault) = if code_of fault == code_of faults.NoSuchProcess then Ok (refused fault) else Err fault
 
 -- recover or recover,P,..
-unfoldable pub recover_of : ℕ → Record → Result Command Fault
-recover_of n r = do
-  failed ← numbers (drop 1 r)
-  Ok (below n failed (Do (Recover (fold with_member nobody failed))))
+abbrev pub recover_of : ℕ → Record → Result Command Fault
+recover_of n r = of_failed (λ failed. Do (Recover failed)) (failed_of n r)
+
+-- bundle or bundle,P,..
+abbrev pub bundle_of : ℕ → Record → Result Command Fault
+bundle_of n r = of_failed (λ failed. Bundle failed) (failed_of n r)
 
 -- the first field names the kind
 abbrev pub kind_named : List ℕ → Result Kind Fault
@@ -109,8 +121,13 @@ kind_named first =
     if bytes_eq first (codes "send") then Ok kinds.Send
     else if bytes_eq first (codes "deliver") then Ok kinds.Deliver
     else if bytes_eq first (codes "check") then Ok kinds.Check
+    else if bytes_eq first (codes "begin") then Ok kinds.Begin
+    else if bytes_eq first (codes "turn") then Ok kinds.Turn
     else if bytes_eq first (codes "damage") then Ok kinds.Damage
     else if bytes_eq first (codes "recover") then Ok kinds.Recover
+    else if bytes_eq first (codes "rounds") then Ok kinds.Rounds
+    else if bytes_eq first (codes "history") then Ok kinds.History
+    else if bytes_eq first (codes "bundle") then Ok kinds.Bundle
     else Err faults.BadRecord
 
 -- how many fields a kind has
@@ -118,16 +135,26 @@ abbrev pub has_width : Kind → ℕ → Bool
 has_width kinds.Send width = width == 4
 has_width kinds.Deliver width = width == 5
 has_width kinds.Check width = width == 3
+has_width kinds.Begin width = width == 3
+has_width kinds.Turn width = width == 3
 has_width kinds.Damage width = width == 3
 has_width kinds.Recover width = true
+has_width kinds.Rounds width = width == 1
+has_width kinds.History width = width == 1
+has_width kinds.Bundle width = true
 
 -- the command of a record of that kind
 abbrev pub of_kind : Kind → ℕ → Record → Result Command Fault
 of_kind kinds.Send n r = send_of n r
 of_kind kinds.Deliver n r = deliver_of n r
 of_kind kinds.Check n r = check_of n r
+of_kind kinds.Begin n r = begin_of n r
+of_kind kinds.Turn n r = turn_of n r
 of_kind kinds.Damage n r = damage_of n r
 of_kind kinds.Recover n r = recover_of n r
+of_kind kinds.Rounds n r = Ok Rounds
+of_kind kinds.History n r = Ok History
+of_kind kinds.Bundle n r = bundle_of n r
 
 -- the command that a record spells, among n processes
 unfoldable pub command_of : ℕ → Record → Result Command Fault
@@ -135,11 +162,6 @@ command_of n r = do
   kind ← kind_named (field r 0)
   long ← want (has_width kind (length r)) faults.BadRecord
   of_kind kind n r
-
--- what a record reads, where a fault has the record's number
-abbrev pub numbered : {A : Type 0} → ℕ → Result A Fault → Result A TextFault
-numbered i (Ok x) = Ok x
-numbered i (Err fault) = Err (record { record_number = i; code = code_of fault })
 
 -- the commands of the records from the i-th on
 unfoldable pub commands_from : ℕ → ℕ → List Record → Result (List Command) TextFault
@@ -157,7 +179,7 @@ pub record Script : Type 0 where
 
 -- the script that records spell
 unfoldable pub script_of : List Record → Result Script TextFault
-script_of [] = Err (record { record_number = 1; code = code_of faults.NoWorld })
+script_of [] = Err (fault_at 1 faults.NoWorld)
 script_of (first ∷ rest) = do
   world ← numbered 1 (world_of first)
   commands ← commands_from world.n 2 rest
@@ -167,4 +189,4 @@ script_of (first ∷ rest) = do
 unfoldable pub script_of_text : List ℕ → Result Script TextFault
 script_of_text text =
     if is_input_text text then script_of (records_of_text text)
-    else Err (record { record_number = 0; code = code_of faults.BadRecord })
+    else Err (fault_at 0 faults.BadRecord)

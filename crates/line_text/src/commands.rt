@@ -1,12 +1,11 @@
 //! What one record of a script says.
 
-ghost use Rattle.std.specs.Prelude.{◌≡◌, ◌≤◌, ◌==◌, ◌&&◌, not, length, IfOk};
+ghost use Rattle.std.specs.Prelude.{◌≡◌, ◌≤◌, ◌==◌, ◌&&◌, not, length, Err, IfOk};
 ghost use Rattle.line_names.specs.declared.limits.TheConstants.{MOST_PROCESSES};
 ghost use Rattle.line_fields.specs.Fields.{Gives};
-ghost use Rattle.line_fields.specs.Fields as fields;
-ghost use Rattle.line_fields.specs.Records as records;
 ghost use Rattle.line_text.specs.Scripts as spec;
 
+use line_claims::{failed_of, plain, want};
 use line_fields::{Fault, ReadError, Row, hex, number};
 use line_names::{Body, MOST_PROCESSES, ProcId, ProcSet};
 use line_tape::State;
@@ -18,6 +17,12 @@ use std::alloc::Global;
 pub enum Command {
     /// A step of the machine.
     Do(Step),
+    /// The rounds that were completed, and what was on its way at their checks.
+    Rounds,
+    /// The machine's history, as a text.
+    History,
+    /// A check text of the machine's history and damage, with the plan for these failed processes.
+    Bundle(ProcSet),
     /// Nothing: a process isn't below the number of processes, or a body is too long. The number of
     /// the refusal tells which.
     Refused(u32),
@@ -36,25 +41,13 @@ pub(crate) enum Kind {
     Send,
     Deliver,
     Check,
+    Begin,
+    Turn,
     Damage,
     Recover,
-}
-
-const MOST_NUMBER: u64 = 4_294_967_295;
-
-// A fault unless a test holds.
-fn want(holds: bool, fault: Fault) -> Result<(), Fault>
-    ensures { result ≡ fields.want holds fault }
-{
-    if holds { Ok(()) } else { Err(fault) }
-}
-
-// The number in a field.
-fn plain(row: &Row, place: usize) -> Result<u32, Fault>
-    ensures { result ≡ spec.plain (records.field row.now place) }
-{
-    let value = number(row.field(place), 0, MOST_NUMBER)?;
-    Ok(value as u32)
+    Rounds,
+    History,
+    Bundle,
 }
 
 // A command that is refused, before any step.
@@ -101,10 +94,20 @@ fn kind_named(first: &[u8]) -> Result<Kind, Fault>
         Ok(Kind::Deliver)
     } else if first == b"check".as_slice() {
         Ok(Kind::Check)
+    } else if first == b"begin".as_slice() {
+        Ok(Kind::Begin)
+    } else if first == b"turn".as_slice() {
+        Ok(Kind::Turn)
     } else if first == b"damage".as_slice() {
         Ok(Kind::Damage)
     } else if first == b"recover".as_slice() {
         Ok(Kind::Recover)
+    } else if first == b"rounds".as_slice() {
+        Ok(Kind::Rounds)
+    } else if first == b"history".as_slice() {
+        Ok(Kind::History)
+    } else if first == b"bundle".as_slice() {
+        Ok(Kind::Bundle)
     } else {
         Err(Fault::BadRecord)
     }
@@ -117,8 +120,13 @@ fn has_width(kind: Kind, width: usize) -> bool
         Kind::Send => width == 4,
         Kind::Deliver => width == 5,
         Kind::Check => width == 3,
+        Kind::Begin => width == 3,
+        Kind::Turn => width == 3,
         Kind::Damage => width == 3,
         Kind::Recover => true,
+        Kind::Rounds => width == 1,
+        Kind::History => width == 1,
+        Kind::Bundle => true,
     }
 }
 
@@ -180,6 +188,34 @@ fn check_of(alloc: Global, n: u32, row: &Row) -> Result<Command, ReadError>
     Ok(Command::Do(Step::Check { at, state }))
 }
 
+#[tactic(auto, unfolding(crate::specs::Scripts::begin_of))]
+fn begin_of(alloc: Global, n: u32, row: &Row) -> Result<Command, ReadError>
+    requires { n ≤ MOST_PROCESSES }
+    ensures { Gives (λ command. command) result (spec.begin_of n row.now) }
+{
+    let at = plain(row, 1)?;
+    let bytes = hex(alloc, row.field(2))?;
+    let Ok(at) = ProcId::try_new(at, n) else {
+        return Ok(refused(Fault::NoSuchProcess));
+    };
+    let state = State::of(bytes);
+    Ok(Command::Do(Step::Begin { at, state }))
+}
+
+#[tactic(auto, unfolding(crate::specs::Scripts::turn_of))]
+fn turn_of(alloc: Global, n: u32, row: &Row) -> Result<Command, ReadError>
+    requires { n ≤ MOST_PROCESSES }
+    ensures { Gives (λ command. command) result (spec.turn_of n row.now) }
+{
+    let at = plain(row, 1)?;
+    let bytes = hex(alloc, row.field(2))?;
+    let Ok(at) = ProcId::try_new(at, n) else {
+        return Ok(refused(Fault::NoSuchProcess));
+    };
+    let state = State::of(bytes);
+    Ok(Command::Do(Step::Turn { at, state }))
+}
+
 #[tactic(auto, unfolding(crate::specs::Scripts::damage_of))]
 fn damage_of(n: u32, row: &Row) -> Result<Command, Fault>
     requires { n ≤ MOST_PROCESSES }
@@ -193,23 +229,36 @@ fn damage_of(n: u32, row: &Row) -> Result<Command, Fault>
     Ok(Command::Do(Step::Damage { at, check }))
 }
 
+// A command of processes that were not read: one is not below the number of processes, or a field has a
+// fault.
+fn not_read(fault: Fault) -> Result<Command, Fault>
+    ensures { result ≡ spec.of_failed (λ failed. Command.Bundle failed) (Err fault) }
+{
+    if fault.code() == Fault::NoSuchProcess.code() {
+        Ok(refused(fault))
+    } else {
+        Err(fault)
+    }
+}
+
 fn recover_of(n: u32, row: &Row) -> Result<Command, Fault>
     requires { n ≤ MOST_PROCESSES }
     ensures { result ≡ spec.recover_of n row.now }
 {
-    let mut failed = ProcSet::empty();
-    let mut below = true;
-    for place in 1..row.len() {
-        let p = plain(row, place)?;
-        match ProcId::try_new(p, n) {
-            Ok(p) => failed = failed.with(p),
-            Err(_) => below = false,
-        }
+    match failed_of(n, row) {
+        Ok(failed) => Ok(Command::Do(Step::Recover { failed })),
+        Err(fault) => not_read(fault),
     }
-    if !below {
-        return Ok(refused(Fault::NoSuchProcess));
+}
+
+fn bundle_of(n: u32, row: &Row) -> Result<Command, Fault>
+    requires { n ≤ MOST_PROCESSES }
+    ensures { result ≡ spec.bundle_of n row.now }
+{
+    match failed_of(n, row) {
+        Ok(failed) => Ok(Command::Bundle(failed)),
+        Err(fault) => not_read(fault),
     }
-    Ok(Command::Do(Step::Recover { failed }))
 }
 
 /// The command that a record after the first spells, or its first fault.
@@ -224,7 +273,12 @@ pub(crate) fn command_of(alloc: Global, n: u32, row: &Row) -> Result<Command, Re
         Kind::Send => send_of(alloc, n, row),
         Kind::Deliver => deliver_of(alloc, n, row),
         Kind::Check => check_of(alloc, n, row),
+        Kind::Begin => begin_of(alloc, n, row),
+        Kind::Turn => turn_of(alloc, n, row),
         Kind::Damage => Ok(damage_of(n, row)?),
         Kind::Recover => Ok(recover_of(n, row)?),
+        Kind::Rounds => Ok(Command::Rounds),
+        Kind::History => Ok(Command::History),
+        Kind::Bundle => Ok(bundle_of(n, row)?),
     }
 }

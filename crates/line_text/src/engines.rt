@@ -2,19 +2,26 @@
 
 ghost use Rattle.std.specs.Prelude.{◌≡◌, ◌≢◌, ◌<◌, ◌≤◌, ◌++◌, ◌+◌, ◌^◌, ◌⊎◌, ℕ, List, [], Err, Some, length, IfOk, IfErr, OnErr, OnOk};
 ghost use Rattle.line_devices.specs.Devices.{Puts, PutsFront, one_more};
-ghost use Rattle.line_fields.specs.Texts.{record_text};
+ghost use Rattle.line_fields.specs.Texts.{record_text, records_text};
+ghost use Rattle.line_text.specs.Rounds.{rounds_records};
 ghost use Rattle.line_names.specs.declared.limits.TheConstants.{MOST_PROCESSES};
-ghost use Rattle.line_text.specs.Reads.{IsOfText, no_memory, seen};
+ghost use Rattle.line_claims.specs.Reads.{IsOfText, no_memory};
+ghost use Rattle.line_text.specs.declared.ends.TheConstants.{READ_FAULT, WRITE_FAULT};
+ghost use Rattle.line_text.specs.Ends.{IsTooLong};
+ghost use Rattle.line_text.specs.Reads.{seen};
 ghost use Rattle.line_text.specs.Replies.{refused as refused_record};
 ghost use Rattle.line_text.specs.Runs as spec;
 ghost use Rattle.line_text.specs.Scripts.{script_of_text};
 
 use crate::commands::Command;
-use crate::faults::TextFault;
+use crate::ends::{WRITE_FAULT, fault_of, put, read_input};
 use crate::replies::{put_refusal, put_reply, refusal_code};
+use crate::rounds::put_rounds;
 use crate::scripts::{Script, read_script};
-use line_devices::{DeviceFault, ReadRefused, Sink, Source, put_all, read_all};
-use line_fields::{Draft, RecordWriter};
+use line_claims::{TextFault, put_check_text, put_history};
+use line_devices::{DeviceFault, Sink, Source, put_all};
+use line_fields::{Draft, Fault, RecordWriter};
+use line_names::ProcSet;
 use line_tape::CountError;
 use line_world::World;
 use std::alloc::{AllocError, Global};
@@ -35,22 +42,8 @@ pub struct Done {
     pub refused: u64,
 }
 
-const READ_FAULT: u32 = 36;
-
-const WRITE_FAULT: u32 = 37;
-
 // Where so many bytes of replies are gathered, they are put.
 const BATCH: usize = 65536;
-
-// A fault of no record.
-fn fault_of(code: u32) -> TextFault
-    ensures { result ≡ record { record_number = 0; code = code } }
-{
-    TextFault {
-        record_number: 0,
-        code,
-    }
-}
 
 // Writes a refusal, and counts it.
 fn refuse(
@@ -68,6 +61,52 @@ fn refuse(
     Ok(())
 }
 
+// Writes the check text of the machine's history and damage, with the plan for these failed processes, or
+// a front of it where memory does not suffice.
+fn bundle(
+    alloc: Global,
+    world: &World,
+    writer: &mut RecordWriter,
+    draft: &mut Draft,
+    refused: &mut u64,
+    failed: &ProcSet,
+) -> Result<(), AllocError>
+    requires { refused.old < 18446744073709551615 }
+    ensures ok { OnOk result (spec.Writes world.now (Command.Bundle failed.now) world.now writer.old refused.old writer.new refused.new) }
+    ensures err { OnErr result (spec.WritesFront world.now (Command.Bundle failed.now) writer.old writer.new) }
+{
+    match world.plan_for(alloc, failed) {
+        Ok(plan) => put_check_text(
+            writer,
+            draft,
+            world.history(),
+            world.marks(),
+            failed,
+            &plan.line,
+            plan.certificate.as_slice(),
+        ),
+        Err(error) => {
+            if error.is_out_of_memory() {
+                return Err(AllocError);
+            }
+            refuse(writer, draft, refused, Fault::NoSuchProcess.code())
+        }
+    }
+}
+
+// Writes the rounds that the machine has completed, or a front of them where memory does not suffice.
+fn list_rounds(
+    world: &World,
+    writer: &mut RecordWriter,
+    draft: &mut Draft,
+) -> Result<(), AllocError>
+    ensures ok { OnOk result (writer.new ≡ writer.old ++ records_text (rounds_records (length world.now.history) world.now.rounds)) }
+    ensures err { OnErr result (PutsFront (Some writer.old) (Some writer.new) (records_text (rounds_records (length world.now.history) world.now.rounds))) }
+{
+    let n = world.history().n();
+    put_rounds(writer, draft, n, world.rounds())
+}
+
 // Does a command, and writes what it is told, or a front of it where memory does not suffice.
 fn do_command(
     alloc: Global,
@@ -83,6 +122,9 @@ fn do_command(
 {
     match command {
         Command::Refused(code) => refuse(writer, draft, refused, *code),
+        Command::Rounds => list_rounds(world, writer, draft),
+        Command::History => put_history(writer, draft, world.history()),
+        Command::Bundle(failed) => bundle(alloc, world, writer, draft, refused, failed),
         Command::Do(step) => match world.step(alloc, step) {
             Ok(reply) => put_reply(writer, draft, &reply),
             Err(error) => {
@@ -141,17 +183,6 @@ fn do_commands<K: Sink>(
     Ok(refused)
 }
 
-// Puts all of these bytes, and lets them out.
-fn put<K: Sink>(sink: &mut K, bytes: &[u8]) -> Result<(), DeviceFault>
-    ensures ok { OnOk result (Puts (K.taken sink.old) (K.taken sink.new) bytes.now) }
-    ensures err { OnErr result (PutsFront (K.taken sink.old) (K.taken sink.new) bytes.now) }
-    ensures sound { OnOk result (K.faults sink.new ≡ K.faults sink.old) }
-    ensures failed { OnErr result (K.faults sink.new ≡ one_more (K.faults sink.old)) }
-{
-    put_all(sink, bytes)?;
-    sink.finish()
-}
-
 // Does the commands one after another, and puts the text of what they are told. It answers how many were
 // refused.
 fn run_commands<K: Sink>(
@@ -199,21 +230,6 @@ fn world_of(alloc: Global, script: &Script) -> Result<World, TextFault>
     }
 }
 
-// Reads the whole input.
-fn read_input<S: Source>(alloc: Global, source: &mut S) -> Result<Vec<u8>, TextFault>
-    ensures whole { IfOk result (λ text. (xs : List ℕ) → S.left source.old ≡ Some xs → text.items ≡ xs) }
-    ensures codes { IfErr result (λ fault. (fault ≡ no_memory) ⊎ (fault ≡ record { record_number = 0; code = READ_FAULT })) }
-    ensures failed { IfErr result (λ fault. fault.code ≡ READ_FAULT
-        → (S.faults source.new ≡ one_more (S.faults source.old)) ⊎ spec.IsTooLong (S.left source.old)) }
-{
-    match read_all(alloc, source) {
-        Ok(text) => Ok(text),
-        Err(ReadRefused::OutOfMemory) => Err(fault_of(0)),
-        Err(ReadRefused::Failed) => Err(fault_of(READ_FAULT)),
-        Err(ReadRefused::TooLong) => Err(fault_of(READ_FAULT)),
-    }
-}
-
 /// Reads a script, runs it, and writes the replies.
 ///
 /// The whole script is read, and every fault of it found, before the first command runs. A fault of the
@@ -236,7 +252,7 @@ pub fn run_text<S: Source, K: Sink>(
     // So it is where the source failed or the input is too long.
     ensures read { IfErr result (λ fault. fault.code ≡ READ_FAULT
         → (fault.record_number ≡ 0) × (sink.new ≡ sink.old)
-        × ((S.faults source.new ≡ one_more (S.faults source.old)) ⊎ spec.IsTooLong (S.left source.old))) }
+        × ((S.faults source.new ≡ one_more (S.faults source.old)) ⊎ IsTooLong (S.left source.old))) }
 
     // Where the sink failed, what it took is a front of the replies.
     ensures write { IfErr result (λ fault. fault.code ≡ WRITE_FAULT

@@ -5,7 +5,7 @@ ghost use Rattle.line_devices.specs.Devices.{PutsFront};
 ghost use Rattle.line_fields.specs.Texts.{is_plain_field, record_text, records_text};
 ghost use Rattle.line_text.specs.Replies as spec;
 
-use crate::faults::name_of;
+use line_claims::name_of;
 use line_fields::{Draft, RecordWriter};
 use line_names::{Choice, MsgName, Passed, ProcId};
 use line_plan::Plan;
@@ -117,6 +117,63 @@ fn put_checked(
     draft.clear();
     draft.word(b"checked")?;
     add_check(draft, at, check)?;
+    writer.put(draft)
+}
+
+// Writes `marked,ROUND,forced` or `marked,ROUND,closed`.
+fn put_marked(
+    writer: &mut RecordWriter,
+    draft: &mut Draft,
+    round: u32,
+    forced: bool,
+) -> Result<(), AllocError>
+    ensures ok { OnOk result (writer.new ≡ writer.old ++ record_text (spec.marked round forced)) }
+    ensures err { OnErr result (writer.new ≡ writer.old) }
+{
+    draft.clear();
+    draft.word(b"marked")?;
+    draft.number(u64::from(round))?;
+    if forced {
+        draft.word(b"forced")?;
+    } else {
+        draft.word(b"closed")?;
+    }
+    writer.put(draft)
+}
+
+// Writes `begun,P,C,ROUND`.
+fn put_begun(
+    writer: &mut RecordWriter,
+    draft: &mut Draft,
+    at: ProcId,
+    check: u32,
+    round: u32,
+) -> Result<(), AllocError>
+    ensures ok { OnOk result (writer.new ≡ writer.old ++ record_text (spec.begun at check round)) }
+    ensures err { OnErr result (writer.new ≡ writer.old) }
+{
+    draft.clear();
+    draft.word(b"begun")?;
+    add_check(draft, at, check)?;
+    draft.number(u64::from(round))?;
+    writer.put(draft)
+}
+
+// Writes `turned,P,C,ROUND`.
+fn put_turned(
+    writer: &mut RecordWriter,
+    draft: &mut Draft,
+    at: ProcId,
+    check: u32,
+    round: u32,
+) -> Result<(), AllocError>
+    ensures ok { OnOk result (writer.new ≡ writer.old ++ record_text (spec.turned at check round)) }
+    ensures err { OnErr result (writer.new ≡ writer.old) }
+{
+    draft.clear();
+    draft.word(b"turned")?;
+    add_check(draft, at, check)?;
+    draft.number(u64::from(round))?;
     writer.put(draft)
 }
 
@@ -328,9 +385,12 @@ pub fn put_reply(
     match reply {
         Reply::Sent { message } => put_sent(writer, draft, *message),
         Reply::Took { message, forced } => put_took(writer, draft, *message, *forced),
+        Reply::Marked { round, forced } => put_marked(writer, draft, *round, *forced),
         Reply::Stale { message } => put_stale(writer, draft, *message),
         Reply::Repeated { message } => put_repeated(writer, draft, *message),
         Reply::Checked { at, check } => put_checked(writer, draft, *at, *check),
+        Reply::Begun { at, check, round } => put_begun(writer, draft, *at, *check, *round),
+        Reply::Turned { at, check, round } => put_turned(writer, draft, *at, *check, *round),
         Reply::Damaged { at, check } => put_damaged(writer, draft, *at, *check),
         Reply::Recovered {
             plan,

@@ -3,10 +3,12 @@
 ghost use Rattle.std.specs.Prelude.{◌≡◌, ◌+◌, ◌^◌, ◌≤◌, ◌<◌, ◌⊎◌, false, length, IfErr, IfOk, IsSome};
 ghost use Rattle.line_names.specs.declared.limits.TheConstants.{MOST_PROCESSES};
 ghost use Rattle.line_text.specs.Scripts as spec;
-ghost use Rattle.line_text.specs.Reads.{IsOfText, Reads, Yields, YieldsScript, no_memory};
+ghost use Rattle.line_claims.specs.Reads.{IsOfText, Reads, Yields, no_memory};
+ghost use Rattle.line_claims.specs.Reads as reads;
+ghost use Rattle.line_text.specs.Reads.{seen};
 
 use crate::commands::{Command, World, command_of, world_of};
-use crate::faults::{TextError, TextFault, error_at, fault_at};
+use line_claims::{TextError, TextFault, error_at, fault_at, told};
 use line_fields::{Fault, RecordReader, Row, is_plain};
 use line_world::Mode;
 use std::alloc::Global;
@@ -24,7 +26,7 @@ pub struct Script {
 
 // What the first record says.
 fn world_at(row: &Row) -> Result<World, TextError>
-    ensures exact { Yields result (spec.numbered 1 (spec.world_of row.now)) }
+    ensures exact { Yields (λ world. world) result (reads.numbered 1 (spec.world_of row.now)) }
     ensures within { IfOk result (λ world. (1 ≤ world.n) × (world.n ≤ MOST_PROCESSES)) }
 {
     match world_of(row) {
@@ -36,7 +38,7 @@ fn world_at(row: &Row) -> Result<World, TextError>
 // What the record with that number asks for.
 fn command_at(alloc: Global, n: u32, record_number: u64, row: &Row) -> Result<Command, TextError>
     requires { n ≤ MOST_PROCESSES }
-    ensures { Yields result (spec.numbered record_number (spec.command_of n row.now)) }
+    ensures { Yields (λ command. command) result (reads.numbered record_number (spec.command_of n row.now)) }
 {
     match command_of(alloc, n, row) {
         Ok(command) => Ok(command),
@@ -46,7 +48,7 @@ fn command_at(alloc: Global, n: u32, record_number: u64, row: &Row) -> Result<Co
 
 // The script that a text spells.
 fn read(alloc: Global, text: &[u8]) -> Result<Script, TextError>
-    ensures exact { YieldsScript result (spec.script_of_text text.now) }
+    ensures exact { Yields seen result (spec.script_of_text text.now) }
     ensures within { IfOk result (λ script. (1 ≤ script.n) × (script.n ≤ MOST_PROCESSES)) }
     ensures few { IfOk result (λ script. length script.commands.items + 2 < 2 ^ 64) }
 {
@@ -82,17 +84,13 @@ fn read(alloc: Global, text: &[u8]) -> Result<Script, TextError>
 /// comes before all else; a text without records wants its first one. Want of memory, at any time, is
 /// the fault 0 of record 0. It takes time and memory in proportion to the text.
 pub fn read_script(alloc: Global, text: &[u8]) -> Result<Script, TextFault>
-    ensures exact { Reads result (spec.script_of_text text.now) }
+    ensures exact { Reads seen result (spec.script_of_text text.now) }
     ensures codes { IfErr result (λ fault. (fault ≡ no_memory) ⊎ IsOfText fault) }
     ensures within { IfOk result (λ script. (1 ≤ script.n) × (script.n ≤ MOST_PROCESSES)) }
     ensures few { IfOk result (λ script. length script.commands.items + 2 < 2 ^ 64) }
 {
     match read(alloc, text) {
         Ok(script) => Ok(script),
-        Err(TextError::OutOfMemory) => Err(TextFault {
-            record_number: 0,
-            code: 0,
-        }),
-        Err(TextError::Fault(fault)) => Err(fault),
+        Err(error) => Err(told(error)),
     }
 }

@@ -1,6 +1,7 @@
 ghost use Rattle.std.specs.Prelude.{◌<◌};
 
 use super::*;
+use line_check::CertFault;
 use line_devices::{MemSink, MemSource, Sink, Source};
 use line_fields::{Draft, RecordWriter};
 use line_names::{Certificate, Choice, Line, MsgName, Passed, ProcId, ProcSet};
@@ -83,8 +84,13 @@ fn finds_the_first_fault_of_a_command(rt: HostRuntime) {
         (b"world,1,2,fifo\nrecover,0,x\n", Some((2, 33))),
         (b"world,1,2,fifo\nworld,1,2,fifo\n", Some((2, 32))),
         (b"world,1,2,fifo\nSend,0,1,61\n", Some((2, 32))),
-        (b"world,1,2,fifo\nrounds\n", Some((2, 32))),
-        (b"world,1,2,fifo\nbegin,0,a1\n", Some((2, 32))),
+        (b"world,1,2,fifo\nrounds,\n", Some((2, 32))),
+        (b"world,1,2,fifo\nhistory,\n", Some((2, 32))),
+        (b"world,1,2,fifo\nbundle,9,x\n", Some((2, 33))),
+        (b"world,1,2,fifo\nhistory\nbundle\nbundle,9\n", None),
+        (b"world,1,2,fifo\nbegin,0\n", Some((2, 32))),
+        (b"world,1,2,fifo\nturn,0,a\n", Some((2, 33))),
+        (b"world,1,2,fifo\nrounds\nbegin,9,\nturn,9,\n", None),
         // Empty lines aren't counted, and a line of blanks is.
         (
             b"\r\nworld,1,2,fifo\n\n\r\ncheck,0,a1\r\n\ncheck,0\n",
@@ -124,15 +130,29 @@ fn show(out: &mut String, command: &Command) -> Result<(), AllocError> {
         Command::Do(Step::Check { at, state }) => {
             write!(out, "check {} {:?};", at.get(), state.bytes())?
         }
+        Command::Do(Step::Begin { at, state }) => {
+            write!(out, "begin {} {:?};", at.get(), state.bytes())?
+        }
+        Command::Do(Step::Turn { at, state }) => {
+            write!(out, "turn {} {:?};", at.get(), state.bytes())?
+        }
         Command::Do(Step::Damage { at, check }) => write!(out, "damage {} {check};", at.get())?,
-        Command::Do(Step::Recover { failed }) => show_set(out, failed)?,
+        Command::Do(Step::Recover { failed }) => {
+            write!(out, "recover")?;
+            show_set(out, failed)?
+        }
+        Command::Rounds => write!(out, "rounds;")?,
+        Command::History => write!(out, "history;")?,
+        Command::Bundle(failed) => {
+            write!(out, "bundle")?;
+            show_set(out, failed)?
+        }
     }
     Ok(())
 }
 
-// Shows a recover.
+// Shows a set of processes.
 fn show_set(out: &mut String, failed: &ProcSet) -> Result<(), AllocError> {
-    write!(out, "recover")?;
     for value in 0..64u32 {
         if let Ok(p) = ProcId::try_new(value, 64) {
             if failed.has(p) {
@@ -514,5 +534,154 @@ fn puts_long_replies_in_pieces(rt: HostRuntime) -> Result<(), Fail> {
     assert_eq!(rt; ran.write_failures, 1);
     assert_eq!(rt; ran.put.len(), 65_538);
     assert!(rt; want.as_slice().starts_with(&ran.put));
+    Ok(())
+}
+
+// The history of the domino, and the claim of process 0's failure on it.
+const CLAIM: &[u8] =
+    b"history,1,2\ntape,0,0\nsend,1,0,61\nrecv,1,0,0\ncheck,a1,-\nsend,1,0,63\ntape,1,0\nrecv,0,0,0\ncheck,b1,-\nsend,0,0,62\nrecv,0,0,1\ncheck,b2,-\nfailed,0\nline,0,0\npass,1,now,0,0,1\npass,1,2,0,0,1\npass,0,1,1,0,0\npass,1,1,0,0,0\nend\n";
+
+// What a judgement came to.
+#[derive(Drop)]
+struct Judged {
+    answer: Result<Option<CertFault>, TextFault>,
+    put: Vec<u8>,
+}
+
+// Judges a text over memory, in steps of so many bytes, where these calls fail.
+fn judge(
+    alloc: Global,
+    text: &[u8],
+    step: usize,
+    read_fails: Option<u64>,
+    write_fails: Option<u64>,
+) -> Result<Judged, AllocError>
+    requires { 0 < step }
+{
+    let mut source = MemSource::new(Vec::from_slice(alloc, text)?, step, read_fails);
+    let mut sink = MemSink::new(alloc, step, write_fails);
+    let answer = check_text(alloc, &mut source, &mut sink);
+    Ok(Judged {
+        answer,
+        put: Vec::from_slice(alloc, sink.bytes())?,
+    })
+}
+
+#[test]
+fn judges_claims(rt: HostRuntime) -> Result<(), Fail> {
+    for (text, want) in [
+        (CLAIM, b"valid\n".as_slice()),
+        (
+            b"history,1,2\ntape,0,0\nsend,1,0,61\nrecv,1,0,0\ncheck,a1,-\ntape,1,0\nsend,0,0,62\nrecv,0,0,0\ncheck,b1,-\nfailed,0,1\nline,0,0\npass,0,1,1,0,0\npass,1,1,0,0,0\nend\n",
+            b"invalid,0,13,NotOrphan\n",
+        ),
+        (
+            b"history,1,1\ntape,0,0\ncheck,a1,-\nfailed,0\nline,0\nend\n",
+            b"invalid,-,14,LineDiffers\n",
+        ),
+        (
+            b"history,1,1\ntape,0,0\ndamage,0,1\nfailed\nline,now\nend\n",
+            b"invalid,-,16,BadShape\n",
+        ),
+        (
+            b"history,1,1\ntape,0,0\nfailed\nline,now\nend\n",
+            b"valid\n",
+        ),
+    ] {
+        let judged = judge(rt.alloc(), text, 16, None, None)?;
+        assert!(rt; judged.answer.is_ok(), "at {text:?}");
+        assert_eq!(rt; judged.put.as_slice(), want, "at {text:?}");
+    }
+    Ok(())
+}
+
+#[test]
+fn judges_nothing_after_a_fault(rt: HostRuntime) -> Result<(), Fail> {
+    for (text, read_fails, write_fails, record_number, code, put) in [
+        (
+            b"world,1,1,fifo\n".as_slice(),
+            None,
+            None,
+            1u64,
+            34u32,
+            0usize,
+        ),
+        (b"history,1,1\ntape,0,0\nfailed\n", None, None, 4, 32, 0),
+        (CLAIM, Some(1u64), None, 0, 36, 0),
+        (CLAIM, None, Some(1u64), 0, 37, 0),
+        (CLAIM, None, Some(2), 0, 37, 4),
+    ] {
+        let judged = judge(rt.alloc(), text, 4, read_fails, write_fails)?;
+        let fault = TextFault {
+            record_number,
+            code,
+        };
+        assert_eq!(rt; judged.answer, Err(fault), "at {text:?}");
+        assert_eq!(rt; judged.put.len(), put, "at {text:?}");
+    }
+    Ok(())
+}
+
+#[test]
+fn shows_the_machine(rt: HostRuntime) -> Result<(), Fail> {
+    for (text, refused, want) in [
+        (
+            b"world,1,2,fifo\nsend,0,1,61\ndamage,1,1\ncheck,1,\ndamage,1,1\nhistory\nbundle,2\n".as_slice(),
+            2u64,
+            b"sent,0,0,0\nrefused,4,NoSuchCheck\nchecked,1,1\ndamaged,1,1\nhistory,1,2\ntape,0,0\nsend,1,0,61\ntape,1,0\ncheck,,-\nrefused,1,NoSuchProcess\n".as_slice(),
+        ),
+        // Damage by process and then check, and the failed in order.
+        (
+            b"world,1,2,fifo\ncheck,1,b1\ncheck,1,b2\ncheck,0,a1\ndamage,1,2\ndamage,0,1\ndamage,1,1\nbundle,1,0,1\n",
+            0,
+            b"checked,1,1\nchecked,1,2\nchecked,0,1\ndamaged,1,2\ndamaged,0,1\ndamaged,1,1\nhistory,1,2\ntape,0,0\ncheck,a1,-\ntape,1,0\ncheck,b1,-\ncheck,b2,-\ndamage,0,1\ndamage,1,1\ndamage,1,2\nfailed,0,1\nline,0,0\nend\n",
+        ),
+    ] {
+        let ran = run(rt.alloc(), text, 4096, None, None)?;
+        assert_eq!(rt; ran.answer, Ok(Done { refused }), "at {text:?}");
+        assert_eq!(rt; ran.put.as_slice(), want, "at {text:?}");
+    }
+    Ok(())
+}
+
+// The nine replies of the domino, and its claim.
+#[test]
+fn a_bundle_is_judged_valid(rt: HostRuntime) -> Result<(), Fail> {
+    let text =
+        b"world,1,2,fifo\nsend,0,1,61\ndeliver,0,1,0,\ncheck,1,b1\nsend,1,0,62\ndeliver,1,0,0,\ncheck,0,a1\nsend,0,1,63\ndeliver,0,1,0,\ncheck,1,b2\nbundle,0\n";
+    let ran = run(rt.alloc(), text, 4096, None, None)?;
+    let mut want = Vec::from_slice(
+        rt.alloc(),
+        b"sent,0,0,0\ntook,0,0,0,-\nchecked,1,1\nsent,1,0,0\ntook,1,0,0,-\nchecked,0,1\nsent,0,0,1\ntook,0,0,1,-\nchecked,1,2\n",
+    )?;
+    want.extend_from_slice(CLAIM)?;
+    assert_eq!(rt; ran.answer, Ok(Done { refused: 0 }));
+    assert_eq!(rt; ran.put.as_slice(), want.as_slice());
+    Ok(())
+}
+
+#[test]
+fn runs_rounds(rt: HostRuntime) -> Result<(), Fail> {
+    for (text, refused, want) in [
+        (
+            b"world,1,2,fifo\nsend,1,0,78\nbegin,0,a1\ndeliver,1,0,0,\ndeliver,0,1,0,b1\ndeliver,1,0,0,\nrounds\n".as_slice(),
+            0u64,
+            b"sent,1,0,0\nbegun,0,1,1\ntook,1,0,0,-\nmarked,1,forced\nmarked,1,closed\nrounds,1\nround,1,1,1\nchannel,1,1,0,0,0\n".as_slice(),
+        ),
+        (
+            b"world,1,2,fifo\nturn,0,\nbegin,0,\nbegin,1,\nturn,2,\nbegin,2,\n",
+            4,
+            b"refused,22,WrongMode\nbegun,0,1,1\nrefused,20,RoundOpen\nrefused,1,NoSuchProcess\nrefused,1,NoSuchProcess\n",
+        ),
+        (
+            b"world,1,2,fifo\nbegin,0,a1\nrecover,0\nrounds\nbegin,0,a2\ndeliver,0,1,0,b1\n",
+            0,
+            b"begun,0,1,1\nrecovered,1,0,0\nline,0,1,1,a1\nline,1,now,0,-\nrounds,0\nbegun,0,2,2\nmarked,2,forced\n",
+        ),
+    ] {
+        let ran = run(rt.alloc(), text, 4096, None, None)?;
+        assert_eq!(rt; ran.answer, Ok(Done { refused }), "at {text:?}");
+        assert_eq!(rt; ran.put.as_slice(), want, "at {text:?}");
+    }
     Ok(())
 }

@@ -1,7 +1,7 @@
 -- The events of a world's steps agree with its history.
 use Rattle.std.proofs.Common.{ℕ, ◌<◌, List, length, refl, inl}
 use Rattle.line_names.specs.declared.messages.MsgName.{MsgName}
-use Rattle.line_tape.specs.declared.events.Event.TheVariants.{Send, Recv, Check}
+use Rattle.line_tape.specs.declared.events.Event.TheVariants.{Send, Recv, Check, Mark}
 use Rattle.line_tape.specs.Event.{Holds}
 use Rattle.line_tape.specs.History.{Process, tape_at, incarnation_at}
 use Rattle.line_catalogue.specs.Agreement.{Agrees, AgreesNext}
@@ -20,3 +20,7 @@ module _ (history : List Process) (agrees : Agrees history) (p : ℕ) (within : 
   -- a check
   pub AgreesNext-check : (state : List ℕ) (round : Option ℕ) → AgreesNext history p (Check state round)
   AgreesNext-check state round = record { agrees = Agrees-more history p (Check state round) within tt tt agrees; present = tt }
+
+  -- a mark
+  pub AgreesNext-mark : (from round : ℕ) → AgreesNext history p (Mark from round)
+  AgreesNext-mark from round = record { agrees = Agrees-more history p (Mark from round) within tt tt agrees; present = tt }

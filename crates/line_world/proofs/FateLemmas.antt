@@ -19,7 +19,7 @@ use Rattle.line_world.specs.declared.steps.Mode.TheVariants.{Unordered}
 use Rattle.line_world.specs.Fates.{is_number, is_held, fate_of}
 
 -- two tests that mean the same
-same_test : (a b : Bool) → (a ≡ true → b ≡ true) → (b ≡ true → a ≡ true) → a ≡ b
+pub same_test : (a b : Bool) → (a ≡ true → b ≡ true) → (b ≡ true → a ≡ true) → a ≡ b
 same_test true b to from = sym (to refl)
 same_test false b to from = sym (false_from_ne_true b (λ t. both_ways false refl (from t)))
 

@@ -1,6 +1,10 @@
 pub mod QueueLemmas
 pub mod LinkLemmas
 pub mod FateLemmas
+pub mod RecordingLemmas
+pub mod OpeningLemmas
+pub mod OpenFacts
+pub mod MarkerFacts
 pub mod WorldLemmas
 pub mod TransitFacts
 pub mod StartLemmas

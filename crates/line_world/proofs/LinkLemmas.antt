@@ -1,19 +1,21 @@
 -- Each kind of step keeps what a world keeps true of links in order.
-use Rattle.std.proofs.Common.{◌≡◌, ℕ, ◌<◌, Bool, true, false, cond, List, [], ◌∷◌, ◌++◌, length, get_or, drop, Some, None, refl, sym, ap, ◌∙◌, subst, arith, inl, inr}
+use Rattle.std.proofs.Common.{◌≡◌, ◌≢◌, ℕ, ◌<◌, Bool, true, false, cond, List, [], ◌∷◌, ◌++◌, length, get_or, map, drop, Some, None, refl, sym, ap, ◌∙◌, subst, arith, inl, inr}
 use Rattle.std.specs.List.{slice_get, cons_option}
 use Rattle.std.proofs.lemmas.Bool.{cases_eq, eq-eqb, ne_eqb}
-use Rattle.std.proofs.lemmas.List.{append-nil, length-set}
+use Rattle.std.proofs.lemmas.List.{append-nil, length-set, get_or-map, get_or-set_same, get_or-set_other}
 use Rattle.std.specs.Prelude.{◌==◌}
 use Rattle.line_names.specs.declared.messages.MsgName.{MsgName}
 use Rattle.line_tape.specs.declared.events.Event.{Event}
-use Rattle.line_tape.specs.declared.events.Event.TheVariants.{Send, Recv, Check}
+use Rattle.line_tape.specs.declared.events.Event.TheVariants.{Send, Recv, Check, Mark}
 use Rattle.line_tape.specs.declared.items.Item.{Item}
-use Rattle.line_tape.specs.declared.items.Item.TheVariants.{Message}
+use Rattle.line_tape.specs.declared.items.Item.TheVariants.{Message, Marker}
 use Rattle.line_tape.specs.Event.{sends}
 use Rattle.line_tape.specs.Fit.{link, IsNextFifo, items_put, items_got}
 use Rattle.line_tape.specs.History.{Process, process_at, tape_at, with_event}
 use Rattle.line_tape.proofs.NextLemmas.{stays_fit, link_after}
-use Rattle.line_world.specs.Queues.{queue_at, with_queue}
+use Rattle.line_tape.specs.Rounds.{has_check_of}
+use Rattle.line_tape.proofs.CompletionLemmas.{contains_round}
+use Rattle.line_world.specs.Queues.{queue_at, with_queue, with_on_each}
 use Rattle.line_world.specs.Worlds.{AreQueues, IsOrderedWorld}
 use Rattle.line_world.proofs.QueueLemmas.{queue-same, queue-other}
 
@@ -97,43 +99,96 @@ module _ (history : List Process) (queues : List (List (List Item))) (are : AreQ
             ];
           }
 
-    -- a message delivered
-    module _ (message : MsgName) (first : slice_get (queue_at queues from to) 0 ≡ Some (Message message)) (named : message.from ≡ from) where
-      taken_elsewhere : (p q : ℕ) → ((p ≡ from) × (q ≡ to) → ⊥) → items_got to (Recv message) p q ≡ []
-      taken_elsewhere p q apart = elim (cases_eq q to) [
-        | inl same ↦ ap (λ b. cond (q == to) (cons_option (cond b (Some (Message message)) None) []) []) (ne_eqb message.from p (λ e. apart (sym e ∙ named, same)))
+    -- the first item of a link taken off
+    module _ (e : Event) (item : Item) (first : slice_get (queue_at queues from to) 0 ≡ Some item) (got : (p q : ℕ) → items_got to e p q ≡ cond (q == to) (cons_option (cond (from == p) (Some item) None) []) [])
+        (puts : (p q : ℕ) → items_put history to e p q ≡ []) where
+      taken_elsewhere : (p q : ℕ) → ((p ≡ from) × (q ≡ to) → ⊥) → items_got to e p q ≡ []
+      taken_elsewhere p q apart = got p q ∙ elim (cases_eq q to) [
+        | inl same ↦ ap (λ b. cond (q == to) (cons_option (cond b (Some item) None) []) []) (ne_eqb from p (λ e. apart (sym e, same)))
             ∙ same_nil (q == to)
-        | inr other ↦ ap (λ b. cond b (cons_option (cond (message.from == p) (Some (Message message)) None) []) []) (ne_eqb q to other)
+        | inr other ↦ ap (λ b. cond b (cons_option (cond (from == p) (Some item) None) []) []) (ne_eqb q to other)
       ]
 
-      taken_there : items_got to (Recv message) from to ≡ Message message ∷ []
+      taken_there : items_got to e from to ≡ item ∷ []
       taken_there =
-          ap (λ b. cond b (cons_option (cond (message.from == from) (Some (Message message)) None) []) []) (eq-eqb to to refl)
-          ∙ ap (λ b. cons_option (cond b (Some (Message message)) None) []) (eq-eqb message.from from named)
+          got from to ∙ ap (λ b. cond b (cons_option (cond (from == from) (Some item) None) []) []) (eq-eqb to to refl)
+          ∙ ap (λ b. cons_option (cond b (Some item) None) []) (eq-eqb from from refl)
 
-      held : link history from to ≡ Message message ∷ drop 1 (queue_at queues from to)
-      held = sym (world.links from to from_within to_within) ∙ first_rest (queue_at queues from to) (Message message) first
+      pub held : link history from to ≡ item ∷ drop 1 (queue_at queues from to)
+      held = sym (world.links from to from_within to_within) ∙ first_rest (queue_at queues from to) item first
 
-      pub IsOrdered-take : IsOrderedWorld (with_event history to (Recv message)) (with_queue queues from to (drop 1 (queue_at queues from to)))
-      IsOrdered-take =
-          let event : Event = Recv message in
+      pub IsOrdered-off : IsNextFifo history to e → IsOrderedWorld (with_event history to e) (with_queue queues from to (drop 1 (queue_at queues from to)))
+      IsOrdered-off next =
           let items : List Item = drop 1 (queue_at queues from to) in
           let row = row_within from from_within in
           let there : queue_at (with_queue queues from to items) from to ≡ items = queue-same queues from to items row (column_within from to from_within to_within) in
-          let after : link (with_event history to event) from to ≡ items ++ items_put history to event from to =
-          link_after history to event world.fit to_within from to items (held ∙ ap (λ (xs : List Item). xs ++ items) (sym taken_there)) in
-          let next : IsNextFifo history to event = (items, ap (λ (v : ℕ). link history v to) named ∙ held) in
+          let after : link (with_event history to e) from to ≡ items ++ items_put history to e from to =
+          link_after history to e world.fit to_within from to items (held ∙ ap (λ (xs : List Item). xs ++ items) (sym taken_there)) in
           record {
-            fit = stays_fit history to event world.fit to_within next;
+            fit = stays_fit history to e world.fit to_within next;
             links = λ p q p_within q_within. elim (cases_eq p from) [
               | inl p_same ↦ elim (cases_eq q to) [
-                | inl q_same ↦ subst (λ (v : ℕ). queue_at (with_queue queues from to items) v q ≡ link (with_event history to event) v q) (sym p_same)
-                    (subst (λ (v : ℕ). queue_at (with_queue queues from to items) from v ≡ link (with_event history to event) from v) (sym q_same)
-                    (there ∙ sym (append-nil items) ∙ ap (λ (xs : List Item). items ++ xs) (sym (same_nil (from == to))) ∙ sym after))
+                | inl q_same ↦ subst (λ (v : ℕ). queue_at (with_queue queues from to items) v q ≡ link (with_event history to e) v q) (sym p_same)
+                    (subst (λ (v : ℕ). queue_at (with_queue queues from to items) from v ≡ link (with_event history to e) from v) (sym q_same)
+                    (there ∙ sym (append-nil items) ∙ ap (λ (xs : List Item). items ++ xs) (sym (puts from to)) ∙ sym after))
                 | inr q_other ↦ queue-other queues from to items row p q (λ e. q_other e.1)
-                    ∙ link_same to event to_within p q p_within q_within (taken_elsewhere p q (λ e. q_other e.1)) (same_nil (p == to))
+                    ∙ link_same to e to_within p q p_within q_within (taken_elsewhere p q (λ e. q_other e.1)) (puts p q)
               ]
               | inr p_other ↦ queue-other queues from to items row p q (λ e. p_other e.0)
-                  ∙ link_same to event to_within p q p_within q_within (taken_elsewhere p q (λ e. p_other e.0)) (same_nil (p == to))
+                  ∙ link_same to e to_within p q p_within q_within (taken_elsewhere p q (λ e. p_other e.0)) (puts p q)
             ];
           }
+
+    -- a message delivered
+    pub IsOrdered-take : (message : MsgName) → slice_get (queue_at queues from to) 0 ≡ Some (Message message) → message.from ≡ from
+        → IsOrderedWorld (with_event history to (Recv message)) (with_queue queues from to (drop 1 (queue_at queues from to)))
+    IsOrdered-take message first named =
+        let e : Event = Recv message in
+        let item : Item = Message message in
+        let got : (p q : ℕ) → items_got to e p q ≡ cond (q == to) (cons_option (cond (from == p) (Some item) None) []) [] =
+        λ p q. ap (λ (v : ℕ). cond (q == to) (cons_option (cond (v == p) (Some item) None) []) []) named in
+        let puts : (p q : ℕ) → items_put history to e p q ≡ [] = λ p q. same_nil (p == to) in
+        IsOrdered-off e item first got puts (drop 1 (queue_at queues from to), ap (λ (v : ℕ). link history v to) named ∙ held e item first got puts)
+
+    -- a marker delivered
+    pub IsOrdered-mark : (r : ℕ) → slice_get (queue_at queues from to) 0 ≡ Some (Marker r) → has_check_of r (tape_at history to) ≡ true
+        → IsOrderedWorld (with_event history to (Mark from r)) (with_queue queues from to (drop 1 (queue_at queues from to)))
+    IsOrdered-mark r first begun =
+        let e : Event = Mark from r in
+        let item : Item = Marker r in
+        let got : (p q : ℕ) → items_got to e p q ≡ cond (q == to) (cons_option (cond (from == p) (Some item) None) []) [] = λ p q. refl in
+        let puts : (p q : ℕ) → items_put history to e p q ≡ [] = λ p q. same_nil (p == to) in
+        IsOrdered-off e item first got puts ((drop 1 (queue_at queues from to), held e item first got puts), contains_round (tape_at history to) r begun)
+
+  -- a check of a round puts its marker on each link
+  module _ (at : ℕ) (within : at < length history) (state : List ℕ) (r : ℕ) where
+    row-marked : get_or (with_on_each queues at (Marker r)) at [] ≡ map (λ items. items ++ Marker r ∷ []) (get_or queues at [])
+    row-marked = get_or-set_same queues at (map (λ items. items ++ Marker r ∷ []) (get_or queues at [])) [] (row_within at within)
+
+    pub each-same : (q : ℕ) → q < length history → queue_at (with_on_each queues at (Marker r)) at q ≡ queue_at queues at q ++ Marker r ∷ []
+    each-same q q_within =
+        ap (λ (xs : List (List Item)). get_or xs q []) row-marked
+        ∙ get_or-map (λ items. items ++ Marker r ∷ []) (get_or queues at []) q [] [] (column_within at q within q_within)
+
+    pub each-other : (p q : ℕ) → p ≢ at → queue_at (with_on_each queues at (Marker r)) p q ≡ queue_at queues p q
+    each-other p q other = ap (λ (xs : List (List Item)). get_or xs q []) (get_or-set_other queues at p (map (λ items. items ++ Marker r ∷ []) (get_or queues at [])) [] other)
+
+    pub IsOrdered-round : has_check_of r (tape_at history at) ≡ false → IsOrderedWorld (with_event history at (Check state (Some r))) (with_on_each queues at (Marker r))
+    IsOrdered-round none =
+        let e : Event = Check state (Some r) in
+        let size = length-with_event history at e in
+        record {
+          fit = stays_fit history at e world.fit within none;
+          links = λ p q p_within q_within.
+              let p_in : p < length history = omega (arith, p_within, size) in
+              let q_in : q < length history = omega (arith, q_within, size) in
+              let after : link (with_event history at e) p q ≡ link history p q ++ items_put history at e p q =
+              link_after history at e world.fit within p q (link history p q) (ap (λ (xs : List Item). xs ++ link history p q) (sym (same_nil (q == at)))) in
+              elim (cases_eq p at) [
+                | inl same ↦ ap (λ (v : ℕ). queue_at (with_on_each queues at (Marker r)) v q) same ∙ each-same q q_in ∙ ap (λ (v : ℕ). queue_at queues v q ++ Marker r ∷ []) (sym same)
+                    ∙ ap (λ (xs : List Item). xs ++ Marker r ∷ []) (world.links p q p_in q_in)
+                    ∙ ap (λ b. link history p q ++ cond b (Marker r ∷ []) []) (sym (eq-eqb p at same)) ∙ sym after
+                | inr other ↦ each-other p q other ∙ world.links p q p_in q_in ∙ sym (append-nil (link history p q))
+                    ∙ ap (λ b. link history p q ++ cond b (Marker r ∷ []) []) (sym (ne_eqb p at other)) ∙ sym after
+              ];
+        }

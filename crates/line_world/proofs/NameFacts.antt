@@ -1,11 +1,11 @@
 -- The names of the messages that a run sends.
-use Rattle.std.proofs.Common.{◌≡◌, ◌≢◌, ℕ, zero, suc, ◌<◌, ◌≤◌, List, [], ◌∷◌, length, get_or, Option, Some, None, refl, sym, ap, ◌∙◌, subst, arith}
+use Rattle.std.proofs.Common.{◌≡◌, ◌≢◌, ℕ, zero, suc, ◌<◌, ◌≤◌, ◌+◌, Bool, true, false, List, [], ◌∷◌, length, get_or, Option, Some, None, refl, sym, ap, ◌∙◌, subst, arith}
 use Rattle.std.specs.List.{All, AllPairs, filter_map, cons_option}
 use Rattle.std.proofs.lemmas.List.Kept.{AllPairs-cons}
 use Rattle.line_names.specs.declared.choices.Choice.{Choice}
 use Rattle.line_names.specs.declared.messages.MsgName.{MsgName}
 use Rattle.line_tape.specs.declared.events.Event.{Event}
-use Rattle.line_tape.specs.declared.events.Event.TheVariants.{Send as SendEvent, Recv as RecvEvent, Check as CheckEvent}
+use Rattle.line_tape.specs.declared.events.Event.TheVariants.{Send as SendEvent, Check as CheckEvent}
 use Rattle.line_tape.specs.Event.{incarnation_of}
 use Rattle.line_tape.specs.History.{Process, incarnation_at, with_event}
 use Rattle.line_tape.specs.Restart.{restarted}
@@ -16,15 +16,20 @@ use Rattle.line_world.specs.declared.fates.Fate.TheVariants.{Taken, Stale as IsS
 use Rattle.line_world.specs.declared.replies.Answer.{Answer}
 use Rattle.line_world.specs.declared.replies.Answer.TheVariants.{Done, Refused}
 use Rattle.line_world.specs.declared.replies.Reply.{Reply}
-use Rattle.line_world.specs.declared.replies.Reply.TheVariants.{Sent, Took, Stale, Repeated, Checked, Damaged, Recovered}
+use Rattle.line_world.specs.declared.replies.Reply.TheVariants.{Sent, Took, Marked, Stale, Repeated, Checked, Begun, Turned, Damaged, Recovered}
 use Rattle.line_world.specs.declared.steps.Step.{Step}
-use Rattle.line_world.specs.declared.steps.Step.TheVariants.{Send, Deliver, Check, Damage, Recover}
-use Rattle.line_world.specs.Fates.{fate_of, events_of, reply_of}
+use Rattle.line_world.specs.declared.steps.Step.TheVariants.{Send, Deliver, Check, Begin, Turn, Damage, Recover}
+use Rattle.line_world.specs.Fates.{fate_of, events_of, events_taken, is_forced, marker_events, reply_of, reply_taken}
 use Rattle.line_world.specs.Machine.{Machine, with_events}
 use Rattle.line_world.specs.Refusals.{refusal_of}
 use Rattle.line_world.specs.Runs.{Takes, Run, reply_name, answer_name}
 use Rattle.line_world.specs.Steps.{Does, RecoversWith}
-use Rattle.line_world.proofs.StepLemmas.{may_send, may_deliver_at, may_check}
+use Rattle.line_world.proofs.StepLemmas.{may_send, may_deliver_at, may_begin, may_check}
+use Rattle.line_world.proofs.LinkLemmas.{length-with_event}
+use Rattle.line_world.specs.declared.steps.Mode.{Mode}
+use Rattle.line_world.specs.declared.steps.Mode.TheVariants.{Fifo, Unordered}
+use Rattle.line_tape.specs.declared.items.Item.{Item}
+use Rattle.line_tape.specs.declared.items.Item.TheVariants.{Message, Marker}
 
 -- what a change of the history leaves of names: those that were sent stay so, and no tape is ahead of its process
 pub record KeepsNames (old new : List Process) : Type 0 where
@@ -48,6 +53,42 @@ KeepsNames-event history at event sends within own = record {
   stays = λ message is. spent_event history at event message within is;
 }
 
+-- events that send nothing
+abbrev AreQuiet : List Event → Type 0
+AreQuiet [] = Unit {0}
+AreQuiet (event ∷ events) = (incarnation_of event ≡ None) × AreQuiet events
+
+KeepsNames-quiet : (history : List Process) (at : ℕ) (events : List Event) → HasNoLaterSend history → at < length history → AreQuiet events → KeepsNames history (with_events history at events)
+KeepsNames-quiet history at [] sends within quiet = KeepsNames-same history sends
+KeepsNames-quiet history at (event ∷ events) sends within (silent, quiet) =
+    let one = KeepsNames-event history at event sends within (λ inc e. absurd (cc (silent, e))) in
+    let rest = KeepsNames-quiet (with_event history at event) at events one.sends (omega (arith, within, length-with_event history at event)) quiet in
+    record { sends = rest.sends; stays = λ message is. rest.stays message (one.stays message is) }
+
+quiet_of : (fate : Fate) (message : MsgName) → AreQuiet (events_of fate message)
+quiet_of Taken message = (refl, tt)
+quiet_of IsStale message = tt
+quiet_of IsRepeated message = tt
+
+quiet_marker : (forced : Bool) (from : ℕ) (state : List ℕ) (round : ℕ) → AreQuiet (marker_events forced from state round)
+quiet_marker true from state round = (refl, (refl, tt))
+quiet_marker false from state round = (refl, tt)
+
+quiet_taken : (mode : Mode) (history : List Process) (from to : ℕ) (state : List ℕ) (item : Item) → AreQuiet (events_taken mode history from to state item)
+quiet_taken mode history from to state (Message message) = quiet_of (fate_of mode history to message) message
+quiet_taken Fifo history from to state (Marker round) = quiet_marker (is_forced history to round) from state round
+quiet_taken Unordered history from to state (Marker round) = tt
+
+told_of : (fate : Fate) (message : MsgName) → reply_name (reply_of fate message) ≡ None
+told_of Taken message = refl
+told_of IsStale message = refl
+told_of IsRepeated message = refl
+
+told_taken : (mode : Mode) (history : List Process) (to : ℕ) (item : Item) → reply_name (reply_taken mode history to item) ≡ None
+told_taken mode history to (Message message) = told_of (fate_of mode history to message) message
+told_taken Fifo history to (Marker round) = refl
+told_taken Unordered history to (Marker round) = refl
+
 -- each step that is done
 names-done : (old new : Machine) (step : Step) (reply : Reply) → HasNoLaterSend old.history → refusal_of old step ≡ None → Does old step reply new → KeepsNames old.history new.history × IsNamed old.history new.history (reply_name reply)
 names-done old new (Send from to body) reply sends none does =
@@ -64,24 +105,22 @@ names-done old new (Send from to body) reply sends none does =
     )
 names-done old new (Deliver from to pick state) reply sends none does =
     let within : to < length old.history = may_deliver_at old from to pick state none in
-    let fate : Fate = fate_of old.mode old.history to does.message in
-    let after : new.history ≡ with_events old.history to (events_of fate does.message) = ap (λ (m : Machine). m.history) does.new_is in
-    (subst (KeepsNames old.history) (sym after) (taken fate does.message within), unnamed old.history new.history (reply_name reply) (ap reply_name does.reply_is ∙ told fate does.message))
-  where
-    taken : (fate : Fate) (message : MsgName) → to < length old.history → KeepsNames old.history (with_events old.history to (events_of fate message))
-    taken Taken message within = KeepsNames-event old.history to (RecvEvent message) sends within (λ inc e. absurd (cc))
-    taken IsStale message within = KeepsNames-same old.history sends
-    taken IsRepeated message within = KeepsNames-same old.history sends
-
-    told : (fate : Fate) (message : MsgName) → reply_name (reply_of fate message) ≡ None
-    told Taken message = refl
-    told IsStale message = refl
-    told IsRepeated message = refl
+    let events : List Event = events_taken old.mode old.history from to state does.item in
+    let after : new.history ≡ with_events old.history to events = ap (λ (m : Machine). m.history) does.new_is in (
+      subst (KeepsNames old.history) (sym after) (KeepsNames-quiet old.history to events sends within (quiet_taken old.mode old.history from to state does.item)),
+      unnamed old.history new.history (reply_name reply) (ap reply_name does.reply_is ∙ told_taken old.mode old.history to does.item),
+    )
 names-done old new (Check at state) reply sends none does =
     let after : new.history ≡ with_event old.history at (CheckEvent state None) = ap (λ (m : Machine). m.history) does.new_is in (
       subst (KeepsNames old.history) (sym after) (KeepsNames-event old.history at (CheckEvent state None) sends (may_check old at state none).within (λ inc e. absurd (cc))),
       unnamed old.history new.history (reply_name reply) (ap reply_name does.reply_is),
     )
+names-done old new (Begin at state) reply sends none does =
+    let after : new.history ≡ with_event old.history at (CheckEvent state (Some (old.last_round + 1))) = ap (λ (m : Machine). m.history) does.new_is in (
+      subst (KeepsNames old.history) (sym after) (KeepsNames-event old.history at (CheckEvent state (Some (old.last_round + 1))) sends (may_begin old at state none).within (λ inc e. absurd (cc))),
+      unnamed old.history new.history (reply_name reply) (ap reply_name does.reply_is),
+    )
+names-done old new (Turn at state) reply sends none does = absurd does
 names-done old new (Damage at check) reply sends none does =
     let after : new.history ≡ old.history = ap (λ (m : Machine). m.history) does.new_is in
     (subst (KeepsNames old.history) (sym after) (KeepsNames-same old.history sends), unnamed old.history new.history (reply_name reply) (ap reply_name does.reply_is))
@@ -99,9 +138,12 @@ names-done old new (Recover failed) reply sends none does = recovered reply does
       )
   recovered (Sent message) is = absurd is
   recovered (Took message forced) is = absurd is
+  recovered (Marked round forced) is = absurd is
   recovered (Stale message) is = absurd is
   recovered (Repeated message) is = absurd is
   recovered (Checked at check) is = absurd is
+  recovered (Begun at check round) is = absurd is
+  recovered (Turned at check round) is = absurd is
   recovered (Damaged at check) is = absurd is
 
 names-taken : (old new : Machine) (step : Step) (answer : Answer) → HasNoLaterSend old.history → Takes old step answer new → KeepsNames old.history new.history × IsNamed old.history new.history (answer_name answer)

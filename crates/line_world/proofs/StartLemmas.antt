@@ -1,18 +1,20 @@
 -- What a world keeps true holds where nothing was done yet.
-use Rattle.std.proofs.Common.{◌≡◌, ℕ, List, [], length, drop, get_or, replicate, refl, sym, ap, ◌∙◌, subst, arith, inl, inr}
+use Rattle.std.proofs.Common.{◌≡◌, ℕ, List, [], length, drop, get_or, replicate, None, refl, sym, ap, ◌∙◌, subst, arith, inl, inr}
 use Rattle.std.specs.List.{All, filter_map}
-use Rattle.std.proofs.lemmas.Bool.{cases_lt}
+use Rattle.std.proofs.lemmas.Bool.{both_ways, cases_lt}
+use Rattle.std.proofs.lemmas.List.Elements.{All-nil}
 use Rattle.std.proofs.lemmas.List.{get_or-replicate, get_or_past, length-replicate}
 use Rattle.line_tape.specs.declared.events.Event.{Event}
 use Rattle.line_tape.specs.declared.items.Item.{Item}
 use Rattle.line_tape.specs.Fit.{items_sent, item_received, IsPrefix, AreDistinct, MarksFollow}
 use Rattle.line_tape.specs.History.{Process, fresh, tape_at}
 use Rattle.line_tape.proofs.CopyLemmas.{unordered_start}
-use Rattle.line_tape.specs.Rounds.{rounds_checked}
+use Rattle.line_tape.specs.Rounds.{has_check_of, rounds_checked}
 use Rattle.line_world.specs.declared.steps.Mode.{Mode}
 use Rattle.line_world.specs.declared.steps.Mode.TheVariants.{Fifo, Unordered}
 use Rattle.line_world.specs.Queues.{queue_at, IsSquare}
-use Rattle.line_world.specs.Worlds.{IsMessageOf, message_of, messages_at, AreQueues, IsOrderedWorld, IsLinked, IsWorld}
+use Rattle.line_world.specs.Worlds.{IsItemOf, message_of, messages_at, AreQueues, AreRounds, IsOrderedWorld, IsLinked, IsWorld}
+use Rattle.line_world.specs.Listed.{IsSnapshotOf}
 
 get_or-replicate_self : {X : Type 0} (n i : ℕ) (x : X) → get_or (replicate n x) i x ≡ x
 get_or-replicate_self n i x = elim (cases_lt i n) [
@@ -50,7 +52,7 @@ module _ (n : ℕ) where
   AreQueues-start : AreQueues (replicate n fresh) (replicate n (replicate n []))
   AreQueues-start = record {
     shape = shape-start;
-    messages = λ p q. subst (λ (xs : List Item). All (IsMessageOf p) xs) (sym (queue-start p q)) (λ k d within. absurd (omega (arith, within)));
+    messages = λ p q. subst (λ (xs : List Item). All (IsItemOf p) xs) (sym (queue-start p q)) (λ k d within. absurd (omega (arith, within)));
   }
 
   IsOrdered-start : IsOrderedWorld (replicate n fresh) (replicate n (replicate n []))
@@ -69,3 +71,12 @@ module _ (n : ℕ) where
       linked : (m : Mode) → IsLinked m (replicate n fresh) (replicate n (replicate n []))
       linked Fifo = IsOrdered-start
       linked Unordered = unordered_start n (messages_at (replicate n (replicate n []))) (λ p q. ap (filter_map message_of) (queue-start p q))
+
+  -- no round was begun
+  pub AreRounds-start : (mode : Mode) → AreRounds mode (replicate n fresh) 0 None []
+  AreRounds-start mode = record {
+    numbers = λ p r has. absurd (both_ways (has_check_of r (tape_at (replicate n fresh) p)) (ap (has_check_of r) (tape-start p)) has);
+    opening = λ p r has. absurd (both_ways (has_check_of r (tape_at (replicate n fresh) p)) (ap (has_check_of r) (tape-start p)) has);
+    unfinished = tt;
+    snapshots = All-nil (IsSnapshotOf (replicate n fresh));
+  }

@@ -1,6 +1,6 @@
 -- What is known of a step that no cause refuses, and of one that is refused.
-use Rattle.std.proofs.Common.{◌≡◌, ℕ, ◌+◌, ◌<◌, ◌≤◌, Bool, true, false, cond, List, length, Option, Some, None, refl, ap, ◌∙◌, subst, arith}
-use Rattle.std.specs.Prelude.{◌||◌, ◌==◌, slice_get}
+use Rattle.std.proofs.Common.{◌≡◌, ◌≢◌, ℕ, ◌+◌, ◌<◌, ◌≤◌, Bool, true, false, cond, List, length, Option, Some, None, refl, ap, ◌∙◌, subst, arith}
+use Rattle.std.specs.Prelude.{◌||◌, ◌==◌, not, nat_le, slice_get}
 use Rattle.std.proofs.lemmas.Bool.{or_parts, leb-false, ltb-false, eqb-true, eqb-false, not-false}
 use Rattle.line_tape.specs.declared.items.Item.{Item}
 use Rattle.line_tape.specs.declared.limits.TheConstants.{MOST_EVENTS, MOST_STATE}
@@ -8,12 +8,13 @@ use Rattle.line_tape.specs.History.{tape_at}
 use Rattle.line_world.specs.declared.steps.Mode.{Mode}
 use Rattle.line_world.specs.declared.steps.Mode.TheVariants.{Fifo, Unordered}
 use Rattle.line_world.specs.declared.steps.Step.{Step}
-use Rattle.line_world.specs.declared.steps.Step.TheVariants.{Send, Deliver, Check, Recover}
+use Rattle.line_world.specs.declared.steps.Step.TheVariants.{Send, Deliver, Check, Begin, Recover}
 use Rattle.line_world.specs.declared.replies.Answer.TheVariants.{Refused}
 use Rattle.line_world.specs.declared.replies.StepError.{StepError}
-use Rattle.line_world.specs.declared.replies.StepError.TheVariants.{NoSuchProcess, TapeFull, StateTooLong, ToSelf, LinkEmpty, BadPick}
-use Rattle.line_world.specs.Machine.{Machine, items_on}
-use Rattle.line_world.specs.Refusals.{first_cause, link_causes, has_stranger, is_stranger, is_bad_pick, is_full, is_full_for, is_long, refusal_of, IsRefused}
+use Rattle.line_world.specs.declared.replies.StepError.TheVariants.{NoSuchProcess, TapeFull, StateTooLong, ToSelf, LinkEmpty, BadPick, RoundOpen, WrongMode, NoMoreRounds}
+use Rattle.line_world.specs.declared.rounds.TheConstants.{LAST_ROUND}
+use Rattle.line_world.specs.Machine.{Machine, items_on, is_open}
+use Rattle.line_world.specs.Refusals.{first_cause, link_causes, has_stranger, is_stranger, is_bad_pick, is_full, is_fifo, is_full_for, is_long, refusal_of, IsRefused}
 use Rattle.line_world.specs.Runs.{Takes}
 
 -- where no cause holds, the first one doesn't, nor does any other
@@ -52,8 +53,10 @@ may_send machine from to body none =
     record { named = are_processes machine from to named.0; few = room_for machine from room.0 }
 
 -- what a delivery may rely on
-pub record MayDeliver (machine : Machine) (from to pick : ℕ) : Type 0 where
+pub record MayDeliver (machine : Machine) (from to pick : ℕ) (state : List ℕ) : Type 0 where
   pub named : AreProcesses machine from to
+  pub apart : from ≢ to
+  pub short : length state ≤ MOST_STATE
   pub first : machine.mode ≡ Fifo → pick ≡ 0
   pub within : pick < length (items_on machine from to)
 
@@ -65,7 +68,7 @@ good_pick : (mode : Mode) (items : List Item) (pick : ℕ) → is_bad_pick mode 
 good_pick Fifo items pick good some = let first : pick ≡ 0 = eqb-true pick 0 (not-false (pick == 0) good) in (λ e. first, omega (arith, first, some))
 good_pick Unordered items pick good some = (λ e. absurd (cc), leb-false (length items) pick good)
 
-pub may_deliver : (machine : Machine) (from to pick : ℕ) (state : List ℕ) → first_cause (link_causes machine from to pick state) ≡ None → MayDeliver machine from to pick
+pub may_deliver : (machine : Machine) (from to pick : ℕ) (state : List ℕ) → first_cause (link_causes machine from to pick state) ≡ None → MayDeliver machine from to pick state
 may_deliver machine from to pick state none =
     let named = passed (is_stranger machine from || is_stranger machine to) NoSuchProcess _ none in
     let apart = passed (from == to) ToSelf _ named.1 in
@@ -73,18 +76,18 @@ may_deliver machine from to pick state none =
     let some = passed (length (items_on machine from to) == 0) LinkEmpty _ short.1 in
     let good = passed (is_bad_pick machine.mode (items_on machine from to) pick) BadPick _ some.1 in
     let pick_is = good_pick machine.mode (items_on machine from to) pick good.0 (above_zero (length (items_on machine from to)) some.0) in
-    record { named = are_processes machine from to named.0; first = pick_is.0; within = pick_is.1 }
+    record { named = are_processes machine from to named.0; apart = eqb-false from to apart.0; short = ltb-false MOST_STATE (length state) short.0; first = pick_is.0; within = pick_is.1 }
 
 -- a delivery that the link doesn't refuse is refused where the tape is full for its item
 pub link_passed : (machine : Machine) (from to pick : ℕ) (state : List ℕ) → first_cause (link_causes machine from to pick state) ≡ None
-    → refusal_of machine (Deliver from to pick state) ≡ cond (is_full_for machine to (slice_get (items_on machine from to) pick)) (Some TapeFull) None
+    → refusal_of machine (Deliver from to pick state) ≡ cond (is_full_for machine from to state (slice_get (items_on machine from to) pick)) (Some TapeFull) None
 link_passed machine from to pick state none =
     let named = passed (is_stranger machine from || is_stranger machine to) NoSuchProcess _ none in
     let apart = passed (from == to) ToSelf _ named.1 in
     let short = passed (is_long state) StateTooLong _ apart.1 in
     let some = passed (length (items_on machine from to) == 0) LinkEmpty _ short.1 in
     let good = passed (is_bad_pick machine.mode (items_on machine from to) pick) BadPick _ some.1 in
-    let full : Option StepError = cond (is_full_for machine to (slice_get (items_on machine from to) pick)) (Some TapeFull) None in
+    let full : Option StepError = cond (is_full_for machine from to state (slice_get (items_on machine from to) pick)) (Some TapeFull) None in
     ap (λ b. cond b (Some NoSuchProcess) (cond (from == to) (Some ToSelf) (cond (is_long state) (Some StateTooLong) (cond (length (items_on machine from to) == 0) (Some LinkEmpty) (cond (is_bad_pick machine.mode (items_on machine from to) pick) (Some BadPick) full))))) named.0
     ∙ ap (λ b. cond b (Some ToSelf) (cond (is_long state) (Some StateTooLong) (cond (length (items_on machine from to) == 0) (Some LinkEmpty) (cond (is_bad_pick machine.mode (items_on machine from to) pick) (Some BadPick) full)))) apart.0
     ∙ ap (λ b. cond b (Some StateTooLong) (cond (length (items_on machine from to) == 0) (Some LinkEmpty) (cond (is_bad_pick machine.mode (items_on machine from to) pick) (Some BadPick) full))) short.0
@@ -109,6 +112,36 @@ may_check machine at state none =
     record {
       within = leb-false (length machine.history) at named.0;
       short = ltb-false MOST_STATE (length state) short.0;
+      few = room_for machine at room.0;
+    }
+
+-- what a round may rely on that is begun
+pub record MayBegin (machine : Machine) (at : ℕ) (state : List ℕ) : Type 0 where
+  pub within : at < length machine.history
+  pub short : length state ≤ MOST_STATE
+  pub fifo : machine.mode ≡ Fifo
+  pub closed : is_open machine ≡ false
+  pub numbers : machine.last_round < LAST_ROUND
+  pub few : length (tape_at machine.history at) < MOST_EVENTS
+
+in_order : (mode : Mode) → not (is_fifo mode) ≡ false → mode ≡ Fifo
+in_order Fifo e = refl
+in_order Unordered e = absurd (cc)
+
+pub may_begin : (machine : Machine) (at : ℕ) (state : List ℕ) → refusal_of machine (Begin at state) ≡ None → MayBegin machine at state
+may_begin machine at state none =
+    let named = passed (is_stranger machine at) NoSuchProcess _ none in
+    let short = passed (is_long state) StateTooLong _ named.1 in
+    let fifo = passed (not (is_fifo machine.mode)) WrongMode _ short.1 in
+    let closed = passed (is_open machine) RoundOpen _ fifo.1 in
+    let more = passed (nat_le LAST_ROUND machine.last_round) NoMoreRounds _ closed.1 in
+    let room = passed (is_full machine at 1) TapeFull _ more.1 in
+    record {
+      within = leb-false (length machine.history) at named.0;
+      short = ltb-false MOST_STATE (length state) short.0;
+      fifo = in_order machine.mode fifo.0;
+      closed = closed.0;
+      numbers = leb-false LAST_ROUND machine.last_round more.0;
       few = room_for machine at room.0;
     }
 

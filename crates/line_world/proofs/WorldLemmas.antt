@@ -1,16 +1,16 @@
 -- Each kind of step keeps what a world keeps true, in each mode.
-use Rattle.std.proofs.Common.{◌≡◌, ℕ, zero, suc, ◌<◌, Bool, true, false, cond, List, [], ◌∷◌, ◌++◌, length, drop, get_or, map, Some, None, refl, sym, ap, ◌∙◌, subst, arith, inl, inr}
+use Rattle.std.proofs.Common.{◌≡◌, ◌≢◌, ℕ, zero, suc, ◌<◌, Bool, true, false, cond, List, [], ◌∷◌, ◌++◌, length, drop, get_or, map, Some, None, refl, sym, ap, ◌∙◌, subst, arith, inl, inr}
 use Rattle.std.specs.Prelude.{◌==◌, ◌&&◌, not, if◌then◌else◌}
 use Rattle.std.specs.List.{All, Contains, filter_map, range_with_len, slice_get}
 use Rattle.std.specs.Cmp.Derive.{both_true}
-use Rattle.std.proofs.lemmas.Bool.{cases_eq, eq-eqb, ne_eqb}
-use Rattle.std.proofs.lemmas.List.{append-nil}
+use Rattle.std.proofs.lemmas.Bool.{cases_eq, cases_lt, eq-eqb, ne_eqb}
+use Rattle.std.proofs.lemmas.List.{append-nil, length-map, length-set, get_or-map, get_or-set_same, get_or-set_other, get_or_past}
 use Rattle.std.proofs.lemmas.List.FromFn.{fill_by_all}
-use Rattle.std.proofs.lemmas.List.Elements.{All-push, filter_map-append, Contains-append_right}
+use Rattle.std.proofs.lemmas.List.Elements.{All-nil, All-push, filter_map-append, Contains-append_right}
 use Rattle.line_names.specs.declared.choices.Choice.{Choice}
 use Rattle.line_names.specs.declared.messages.MsgName.{MsgName}
 use Rattle.line_tape.specs.declared.events.Event.{Event}
-use Rattle.line_tape.specs.declared.events.Event.TheVariants.{Send, Recv, Check}
+use Rattle.line_tape.specs.declared.events.Event.TheVariants.{Send, Recv, Check, Mark}
 use Rattle.line_tape.specs.declared.items.Item.{Item}
 use Rattle.line_tape.specs.declared.items.Item.TheVariants.{Message, Marker}
 use Rattle.line_tape.specs.Event.{incarnations_sent, Holds}
@@ -18,6 +18,10 @@ use Rattle.line_tape.specs.Fit.{link, received, IsFitFifo, IsSentTo}
 use Rattle.line_tape.specs.History.{Process, tape_at, incarnation_at, with_event}
 use Rattle.line_tape.specs.Line.{IsConsistent}
 use Rattle.line_tape.specs.Restart.{restarted}
+use Rattle.line_tape.specs.Rounds.{has_check_of}
+use Rattle.line_tape.proofs.CompletionLemmas.{marker_checked}
+use Rattle.line_tape.proofs.NextLemmas.{tape_same}
+use Rattle.line_world.proofs.OpeningLemmas.{is_checked_now}
 use Rattle.line_tape.specs.Spent.{next_name}
 use Rattle.line_tape.specs.Transit.{addressees, has_received, in_transit_between}
 use Rattle.line_tape.specs.Views.{MarksView}
@@ -31,12 +35,13 @@ use Rattle.line_world.specs.declared.replies.Reply.TheVariants.{Sent}
 use Rattle.line_world.specs.declared.steps.Mode.{Mode}
 use Rattle.line_world.specs.declared.steps.Mode.TheVariants.{Fifo, Unordered}
 use Rattle.line_world.specs.Fates.{fate_of, is_held}
-use Rattle.line_world.specs.Machine.{Machine, IsFitIn, copies_in, items_in}
-use Rattle.line_world.specs.Queues.{queue_at, with_queue, taken_off, IsSquare}
+use Rattle.line_world.specs.Machine.{Machine, IsFitIn, copies_in, items_in, newly_listed}
+use Rattle.line_world.specs.Listed.{Listed}
+use Rattle.line_world.specs.Queues.{queue_at, with_queue, with_on_each, taken_off, IsSquare}
 use Rattle.line_world.specs.Steps.{Sends, restarted_copies}
-use Rattle.line_world.specs.Worlds.{IsMessageOf, message_of, messages_at, AreQueues, IsLinked, IsWorld}
+use Rattle.line_world.specs.Worlds.{IsItemOf, message_of, messages_at, AreQueues, IsLinked, IsWorld}
 use Rattle.line_world.proofs.FateLemmas.{held-true}
-use Rattle.line_world.proofs.LinkLemmas.{length-with_event, first_rest, IsOrdered-check, IsOrdered-send, IsOrdered-take}
+use Rattle.line_world.proofs.LinkLemmas.{length-with_event, first_rest, IsOrdered-check, IsOrdered-mark, IsOrdered-round, IsOrdered-send, IsOrdered-take}
 use Rattle.line_world.proofs.QueueLemmas.{queue-same, queue-other, IsSquare-written}
 
 -- the history fits
@@ -86,29 +91,29 @@ module _ (history : List Process) (queues : List (List (List Item))) (are : AreQ
   column = omega (arith, are.shape.columns p p_within)
 
   -- another queue of messages in place of one
-  AreQueues-written : (items : List Item) → All (IsMessageOf p) items → AreQueues history (with_queue queues p q items)
+  AreQueues-written : (items : List Item) → All (IsItemOf p) items → AreQueues history (with_queue queues p q items)
   AreQueues-written items all = record {
     shape = IsSquare-written queues p q items row (length history) are.shape;
     messages = λ a b. elim (cases_eq a p) [
       | inl a_same ↦ elim (cases_eq b q) [
-        | inl b_same ↦ subst (λ (v : ℕ). All (IsMessageOf v) (queue_at (with_queue queues p q items) v b)) (sym a_same)
-            (subst (λ (v : ℕ). All (IsMessageOf p) (queue_at (with_queue queues p q items) p v)) (sym b_same)
-            (subst (λ (xs : List Item). All (IsMessageOf p) xs) (sym (queue-same queues p q items row column)) all))
-        | inr b_other ↦ subst (λ (xs : List Item). All (IsMessageOf a) xs) (sym (queue-other queues p q items row a b (λ e. b_other e.1))) (are.messages a b)
+        | inl b_same ↦ subst (λ (v : ℕ). All (IsItemOf v) (queue_at (with_queue queues p q items) v b)) (sym a_same)
+            (subst (λ (v : ℕ). All (IsItemOf p) (queue_at (with_queue queues p q items) p v)) (sym b_same)
+            (subst (λ (xs : List Item). All (IsItemOf p) xs) (sym (queue-same queues p q items row column)) all))
+        | inr b_other ↦ subst (λ (xs : List Item). All (IsItemOf a) xs) (sym (queue-other queues p q items row a b (λ e. b_other e.1))) (are.messages a b)
       ]
-      | inr a_other ↦ subst (λ (xs : List Item). All (IsMessageOf a) xs) (sym (queue-other queues p q items row a b (λ e. a_other e.0))) (are.messages a b)
+      | inr a_other ↦ subst (λ (xs : List Item). All (IsItemOf a) xs) (sym (queue-other queues p q items row a b (λ e. a_other e.0))) (are.messages a b)
     ];
   }
 
   -- a queue with one more message
   pub AreQueues-put : (message : MsgName) → message.from ≡ p → AreQueues history (with_queue queues p q (queue_at queues p q ++ Message message ∷ []))
-  AreQueues-put message from = AreQueues-written (queue_at queues p q ++ Message message ∷ []) (All-push (IsMessageOf p) (queue_at queues p q) (Message message) (are.messages p q) from)
+  AreQueues-put message from = AreQueues-written (queue_at queues p q ++ Message message ∷ []) (All-push (IsItemOf p) (queue_at queues p q) (Message message) (are.messages p q) from)
 
   -- a queue without its first
   AreQueues-off : AreQueues history (with_queue queues p q (drop 1 (queue_at queues p q)))
   AreQueues-off = AreQueues-written (drop 1 (queue_at queues p q)) (dropped (queue_at queues p q) (are.messages p q))
     where
-      dropped : (xs : List Item) → All (IsMessageOf p) xs → All (IsMessageOf p) (drop 1 xs)
+      dropped : (xs : List Item) → All (IsItemOf p) xs → All (IsItemOf p) (drop 1 xs)
       dropped [] all = all
       dropped (x ∷ xs) all = λ k d within. all (suc k) d (omega (arith, within))
 
@@ -182,9 +187,81 @@ module _ (history : List Process) (queues : List (List (List Item))) where
             linked = unordered_event history to (Recv message) (messages_at queues) (messages_at queues) world.linked to_within (sent, means.1) (λ p q p_within q_within. sym (append-nil (messages_at queues p q)));
           }
 
+-- the world once a marker has come
+module _ (history : List Process) (queues : List (List (List Item))) (world : IsWorld Fifo history queues) where
+  pub IsWorld-mark : (from to r : ℕ) → from < length history → to < length history → slice_get (queue_at queues from to) 0 ≡ Some (Marker r) → has_check_of r (tape_at history to) ≡ true
+      → IsWorld Fifo (with_event history to (Mark from r)) (with_queue queues from to (drop 1 (queue_at queues from to)))
+  IsWorld-mark from to r from_within to_within first begun = record {
+    queued = AreQueues-kept history (taken_off Fifo queues from to) to (Mark from r) (AreQueues-off history queues world.queued from to from_within to_within);
+    linked = IsOrdered-mark history queues world.queued world.linked from to from_within to_within r first begun;
+  }
+
+-- the world once a check of a round has put its marker on each link
+module _ (history : List Process) (queues : List (List (List Item))) (world : IsWorld Fifo history queues) where
+  AreQueues-each : (at r : ℕ) → at < length history → AreQueues history (with_on_each queues at (Marker r))
+  AreQueues-each at r within =
+      let are = world.queued in
+      let f : List Item → List Item = λ items. items ++ Marker r ∷ [] in
+      let row : at < length queues = omega (arith, within, are.shape.rows) in
+      let here : get_or (with_on_each queues at (Marker r)) at [] ≡ map f (get_or queues at []) = get_or-set_same queues at (map f (get_or queues at [])) [] row in
+      record {
+        shape = record {
+          rows = length-set queues at (map f (get_or queues at [])) ∙ are.shape.rows;
+          columns = λ a a_within. elim (cases_eq a at) [
+            | inl same ↦ ap (λ (v : ℕ). length (get_or (with_on_each queues at (Marker r)) v [])) same ∙ ap (λ (xs : List (List Item)). length xs) here
+                ∙ length-map (get_or queues at []) f ∙ are.shape.columns at within
+            | inr other ↦ ap (λ (xs : List (List Item)). length xs) (get_or-set_other queues at a (map f (get_or queues at [])) [] other) ∙ are.shape.columns a a_within
+          ];
+        };
+        messages = λ a b. elim (cases_eq a at) [
+          | inl same ↦ subst (λ (v : ℕ). All (IsItemOf v) (queue_at (with_on_each queues at (Marker r)) v b)) (sym same)
+              (subst (λ (xs : List (List Item)). All (IsItemOf at) (get_or xs b [])) (sym here) (marked at r b))
+          | inr other ↦ subst (λ (xs : List (List Item)). All (IsItemOf a) (get_or xs b [])) (sym (get_or-set_other queues at a (map f (get_or queues at [])) [] other)) (are.messages a b)
+        ];
+      }
+    where
+      marked : (at r b : ℕ) → All (IsItemOf at) (get_or (map (λ items. items ++ Marker r ∷ []) (get_or queues at [])) b [])
+      marked at r b =
+          let row : List (List Item) = get_or queues at [] in
+          let f : List Item → List Item = λ items. items ++ Marker r ∷ [] in
+          elim (cases_lt b (length row)) [
+            | inl below ↦ subst (λ (xs : List Item). All (IsItemOf at) xs) (sym (get_or-map f row b [] [] below)) (All-push (IsItemOf at) (get_or row b []) (Marker r) (world.queued.messages at b) tt)
+            | inr past ↦ subst (λ (xs : List Item). All (IsItemOf at) xs) (sym (get_or_past (map f row) b [] (omega (arith, past, length-map row f)))) (All-nil (IsItemOf at))
+          ]
+
+  pub IsWorld-round : (at : ℕ) (state : List ℕ) (r : ℕ) → at < length history → has_check_of r (tape_at history at) ≡ false
+      → IsWorld Fifo (with_event history at (Check state (Some r))) (with_on_each queues at (Marker r))
+  IsWorld-round at state r within none = record {
+    queued = AreQueues-kept history (with_on_each queues at (Marker r)) at (Check state (Some r)) (AreQueues-each at r within);
+    linked = IsOrdered-round history queues world.queued world.linked at within state r none;
+  }
+
+  -- its sender has the check of the round
+  pub marker_sent : (from to r : ℕ) → from < length history → to < length history → slice_get (queue_at queues from to) 0 ≡ Some (Marker r) → has_check_of r (tape_at history from) ≡ true
+  marker_sent from to r from_within to_within first =
+      marker_checked history from to r (subst (λ (xs : List Item). Contains xs (Marker r)) (world.linked.links from to from_within to_within)
+      (subst (λ (xs : List Item). Contains xs (Marker r)) (sym (first_rest (queue_at queues from to) (Marker r) first)) (zero, omega arith, refl)))
+
+  -- the first item of another link is still first
+  pub first_still : (at from to r s : ℕ) → at < length history → from ≢ at → slice_get (queue_at queues from to) 0 ≡ Some (Marker r) → slice_get (queue_at (with_on_each queues at (Marker s)) from to) 0 ≡ Some (Marker r)
+  first_still at from to r s within apart first =
+      let f : List Item → List Item = λ items. items ++ Marker s ∷ [] in
+      ap (λ (xs : List (List Item)). slice_get (get_or xs to []) 0) (get_or-set_other queues at from (map f (get_or queues at [])) [] apart) ∙ first
+
+  -- the marker that has a process take its check first
+  pub IsWorld-forced : (from to r : ℕ) (state : List ℕ) → from < length history → to < length history → from ≢ to → has_check_of r (tape_at history to) ≡ false → slice_get (queue_at queues from to) 0 ≡ Some (Marker r)
+      → IsWorld Fifo (with_event (with_event history to (Check state (Some r))) to (Mark from r))
+      (with_queue (with_on_each queues to (Marker r)) from to (drop 1 (queue_at (with_on_each queues to (Marker r)) from to)))
+  IsWorld-forced from to r state from_within to_within apart none first =
+      let e : Event = Check state (Some r) in
+      let size = length-with_event history to e in
+      IsWorld-mark (with_event history to e) (with_on_each queues to (Marker r)) (IsWorld-round to state r to_within none) from to r (omega (arith, from_within, size)) (omega (arith, to_within, size))
+      (first_still to from to r r to_within apart first)
+      (ap (has_check_of r) (tape_same history to e to to_within refl) ∙ is_checked_now r (tape_at history to) e (eq-eqb r r refl))
+
 -- what callers see of a world
-abbrev pub seen : Mode → List Process → MarksView → List (List (List Item)) → Machine
-seen mode history marks queues = record { mode = mode; history = history; marks = marks; copies = copies_in mode queues }
+abbrev pub seen : Mode → List Process → MarksView → ℕ → List Listed → List (List (List Item)) → Machine
+seen mode history marks last rounds queues = record { mode = mode; history = history; marks = marks; last_round = last; rounds = rounds; copies = copies_in mode queues }
 
 -- a copy more is seen
 copy_kept : (mode : Mode) (queues : List (List (List Item))) (p q : ℕ) (item : Item)
@@ -193,19 +270,30 @@ copy_kept Fifo queues p q item = refl
 copy_kept Unordered queues p q item = refl
 
 -- a message sent, as callers see it
-pub Sends-seen : (mode : Mode) (history : List Process) (marks : MarksView) (queues : List (List (List Item))) (from to : ℕ) (body : List ℕ) (message : MsgName) (after : List Process) (marks_after : MarksView) (queues_after : List (List (List Item)))
+pub Sends-seen : (mode : Mode) (history : List Process) (marks : MarksView) (last : ℕ) (rounds : List Listed) (queues : List (List (List Item))) (from to : ℕ) (body : List ℕ) (message : MsgName) (after : List Process) (marks_after : MarksView)
+    (queues_after : List (List (List Item)))
     → message ≡ next_name history from
     → after ≡ with_event history from (Send to (incarnation_at history from) body)
     → marks_after ≡ marks
     → queues_after ≡ with_queue queues from to (queue_at queues from to ++ Message (next_name history from) ∷ [])
-    → Sends (seen mode history marks queues) from to body (Sent message) (seen mode after marks_after queues_after)
-Sends-seen mode history marks queues from to body message after marks_after queues_after name sent marked put = record {
+    → newly_listed mode history (with_event history from (Send to (incarnation_at history from) body)) last ≡ []
+    → Sends (seen mode history marks last rounds queues) from to body (Sent message) (seen mode after marks_after last rounds queues_after)
+Sends-seen mode history marks last rounds queues from to body message after marks_after queues_after name sent marked put none = record {
   reply_is = ap (λ (m : MsgName). Sent m) name;
-  new_is = ap (λ (h : List Process). seen mode h marks_after queues_after) sent
-      ∙ ap (λ (v : MarksView). seen mode (with_event history from (Send to (incarnation_at history from) body)) v queues_after) marked
-      ∙ ap (λ (q : List (List (List Item))). seen mode (with_event history from (Send to (incarnation_at history from) body)) marks q) put
-      ∙ ap (λ (copies : List (List (List Item))). let m : Machine = record { mode = mode; history = with_event history from (Send to (incarnation_at history from) body); marks = marks; copies = copies } in m)
-      (copy_kept mode queues from to (Message (next_name history from)));
+  new_is = ap (λ (h : List Process). seen mode h marks_after last rounds queues_after) sent
+      ∙ ap (λ (v : MarksView). seen mode (with_event history from (Send to (incarnation_at history from) body)) v last rounds queues_after) marked
+      ∙ ap (λ (q : List (List (List Item))). seen mode (with_event history from (Send to (incarnation_at history from) body)) marks last rounds q) put
+      ∙ ap (λ (copies : List (List (List Item))). let m : Machine = record { mode = mode; history = with_event history from (Send to (incarnation_at history from) body); marks = marks; last_round = last; rounds = rounds; copies = copies } in m)
+      (copy_kept mode queues from to (Message (next_name history from)))
+      ∙ ap (λ (listed : List Listed). let m : Machine = record {
+        mode = mode;
+        history = with_event history from (Send to (incarnation_at history from) body);
+        marks = marks;
+        last_round = last;
+        rounds = listed;
+        copies = copies_in mode (with_queue (copies_in mode queues) from to (queue_at (copies_in mode queues) from to ++ Message (next_name history from) ∷ []));
+      } in m)
+      (sym (append-nil rounds) ∙ ap (λ (new : List Listed). rounds ++ new) (sym none));
 }
 
 -- the messages of items that are messages

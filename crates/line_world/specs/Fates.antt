@@ -1,15 +1,18 @@
--- What becomes of the message that a delivery picks.
-use Rattle.std.specs.Prelude.{ℕ, ◌==◌, Bool, false, not, if◌then◌else◌, List, [], ◌∷◌, slice_get, Option, Some, None}
+-- What becomes of the item that a delivery picks.
+use Rattle.std.specs.Prelude.{ℕ, ◌==◌, Bool, true, false, not, if◌then◌else◌, List, [], ◌∷◌, slice_get, Option, Some, None}
 use Rattle.line_names.specs.declared.messages.MsgName.{MsgName}
 use Rattle.line_tape.specs.declared.events.Event.{Event}
-use Rattle.line_tape.specs.declared.events.Event.TheVariants.{Recv}
+use Rattle.line_tape.specs.declared.events.Event.TheVariants.{Recv, Check, Mark}
+use Rattle.line_tape.specs.declared.items.Item.{Item}
+use Rattle.line_tape.specs.declared.items.Item.TheVariants.{Message, Marker}
 use Rattle.line_tape.specs.Event.{incarnations_sent}
 use Rattle.line_tape.specs.History.{Process, tape_at}
+use Rattle.line_tape.specs.Rounds.{has_check_of}
 use Rattle.line_tape.specs.Transit.{has_received}
 use Rattle.line_world.specs.declared.fates.Fate.{Fate}
 use Rattle.line_world.specs.declared.fates.Fate.TheVariants.{Taken as IsTaken, Stale as IsStale, Repeated as IsRepeated}
 use Rattle.line_world.specs.declared.replies.Reply.{Reply}
-use Rattle.line_world.specs.declared.replies.Reply.TheVariants.{Took, Stale, Repeated}
+use Rattle.line_world.specs.declared.replies.Reply.TheVariants.{Took, Marked, Stale, Repeated}
 use Rattle.line_world.specs.declared.steps.Mode.{Mode}
 use Rattle.line_world.specs.declared.steps.Mode.TheVariants.{Fifo, Unordered}
 
@@ -39,3 +42,24 @@ abbrev pub reply_of : Fate → MsgName → Reply
 reply_of IsTaken message = Took message None
 reply_of IsStale message = Stale message
 reply_of IsRepeated message = Repeated message
+
+-- a marker has process p take its check of the round first, if it has none
+abbrev pub is_forced : List Process → ℕ → ℕ → Bool
+is_forced history p round = not (has_check_of round (tape_at history p))
+
+-- the events of process `to` by the marker of a round from another process
+abbrev pub marker_events : Bool → ℕ → List ℕ → ℕ → List Event
+marker_events true from state round = Check state (Some round) ∷ Mark from round ∷ []
+marker_events false from state round = Mark from round ∷ []
+
+-- the events of process `to` by an item from another process; links without an order hold no markers
+abbrev pub events_taken : Mode → List Process → ℕ → ℕ → List ℕ → Item → List Event
+events_taken mode history from to state (Message message) = events_of (fate_of mode history to message) message
+events_taken Fifo history from to state (Marker round) = marker_events (is_forced history to round) from state round
+events_taken Unordered history from to state (Marker round) = []
+
+-- and what is told of it
+abbrev pub reply_taken : Mode → List Process → ℕ → Item → Reply
+reply_taken mode history to (Message message) = reply_of (fate_of mode history to message) message
+reply_taken Fifo history to (Marker round) = Marked round (is_forced history to round)
+reply_taken Unordered history to (Marker round) = Marked round false

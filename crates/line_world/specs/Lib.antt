@@ -1,4 +1,6 @@
 pub mod Queues
+pub mod Listed
+pub mod Openings
 pub mod Fates
 pub mod Machine
 pub mod Refusals

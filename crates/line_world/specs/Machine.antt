@@ -1,5 +1,5 @@
--- The machine's state: what each process did, and which checks are damaged. What the links hold is read off it where they keep their order (Chandy and Lamport, ACM TOCS 3(1), 1985); else each holds copies (Lai and Yang, Information Processing Letters 25(3), 1987).
-use Rattle.std.specs.Prelude.{ℕ, List, [], ◌∷◌, ◌++◌, replicate}
+-- The machine's state: what each process did, which checks are damaged, and which rounds were completed. What the links hold is read off it where they keep their order (Chandy and Lamport, ACM TOCS 3(1), 1985); else each holds copies (Lai and Yang, Information Processing Letters 25(3), 1987).
+use Rattle.std.specs.Prelude.{ℕ, Bool, not, ◌&&◌, if◌then◌else◌, List, [], ◌∷◌, ◌++◌, replicate}
 use Rattle.line_tape.specs.declared.events.Event.{Event}
 use Rattle.line_tape.specs.declared.items.Item.{Item}
 use Rattle.line_tape.specs.Fit.{link, IsFitFifo, IsFitUnordered}
@@ -7,12 +7,17 @@ use Rattle.line_tape.specs.History.{Process, fresh, with_event}
 use Rattle.line_tape.specs.Views.{MarksView}
 use Rattle.line_world.specs.declared.steps.Mode.{Mode}
 use Rattle.line_world.specs.declared.steps.Mode.TheVariants.{Fifo, Unordered}
+use Rattle.line_world.specs.Listed.{Listed, is_begun, is_completed, listed}
 use Rattle.line_world.specs.Queues.{queue_at, with_queue}
 
 pub record Machine : Type 0 where
   pub mode : Mode
   pub history : List Process
   pub marks : MarksView
+  -- the number of the last round begun; 0 where none was
+  pub last_round : ℕ
+  -- the completed rounds, the oldest first
+  pub rounds : List Listed
   -- from each process to each, the oldest first; none are kept in `Fifo`
   pub copies : List (List (List Item))
 
@@ -27,6 +32,8 @@ start n mode = record {
   mode = mode;
   history = replicate n fresh;
   marks = record { damaged = replicate n [] };
+  last_round = 0;
+  rounds = [];
   copies = copies_in mode (replicate n (replicate n []));
 }
 
@@ -52,9 +59,24 @@ abbrev pub with_events : List Process → ℕ → List Event → List Process
 with_events history p [] = history
 with_events history p (event ∷ events) = with_events (with_event history p event) p events
 
--- the machine with more events of process p
-abbrev pub with_step : Machine → ℕ → List Event → Machine
-with_step machine p events = record machine { history = with_events machine.history p events }
+-- the last round begun, if a change of the history completes it: no other can be, since each earlier one is completed or given up
+abbrev pub newly_listed : Mode → List Process → List Process → ℕ → List Listed
+newly_listed mode old new last =
+    if is_completed mode new last && not (is_completed mode old last) then listed mode new last ∷ [] else []
+
+-- the machine with more events of process p, where `last` is then the last round begun; it is listed if these events complete it
+abbrev pub with_step : Machine → ℕ → List Event → ℕ → Machine
+with_step machine p events last =
+    let new = with_events machine.history p events in
+    record machine {
+      history = new;
+      last_round = last;
+      rounds = machine.rounds ++ newly_listed machine.mode machine.history new last;
+    }
+
+-- a round is open: the last one was begun since the last restart, and isn't completed
+abbrev pub is_open : Machine → Bool
+is_open machine = is_begun machine.history machine.last_round && not (is_completed machine.mode machine.history machine.last_round)
 
 -- the machine with one more copy from process p to q, which isn't kept in `Fifo`
 abbrev pub with_copy : Machine → ℕ → ℕ → Item → Machine

@@ -1,5 +1,5 @@
 -- Queues from each process to each.
-use Rattle.std.specs.Prelude.{◌≡◌, ℕ, ◌<◌, List, [], length, drop, slice_index_or, slice_set}
+use Rattle.std.specs.Prelude.{◌≡◌, ℕ, ◌<◌, List, [], ◌∷◌, ◌++◌, length, map, drop, slice_index_or, slice_set}
 use Rattle.line_tape.specs.declared.items.Item.{Item}
 use Rattle.line_world.specs.declared.steps.Mode.{Mode}
 use Rattle.line_world.specs.declared.steps.Mode.TheVariants.{Fifo, Unordered}
@@ -21,3 +21,7 @@ taken_off Unordered queues p q = queues
 pub record IsSquare (n : ℕ) (queues : List (List (List Item))) : Type 0 where
   pub rows : length queues ≡ n
   pub columns : (p : ℕ) → p < n → length (slice_index_or queues p []) ≡ n
+
+-- the queues with an item more on each from process p
+abbrev pub with_on_each : List (List (List Item)) → ℕ → Item → List (List (List Item))
+with_on_each queues p item = slice_set queues p (map (λ items. items ++ item ∷ []) (slice_index_or queues p []))

@@ -1,11 +1,10 @@
 -- What refuses a step: the first cause that holds.
-use Rattle.std.specs.Prelude.{◌≡◌, ℕ, ◌+◌, ◌-◌, Bool, false, not, ◌||◌, ◌==◌, nat_lt, nat_le, if◌then◌else◌, List, [], ◌∷◌, ◌++◌, length, slice_get, Option, Some, None}
+use Rattle.std.specs.Prelude.{◌≡◌, ℕ, ◌+◌, ◌-◌, Bool, true, false, not, ◌||◌, ◌==◌, nat_lt, nat_le, if◌then◌else◌, List, [], ◌∷◌, ◌++◌, length, slice_get, Option, Some, None}
 use Rattle.std.specs.List.{list_any, range_with_len}
 use Rattle.line_names.specs.declared.choices.Choice.{Choice}
 use Rattle.line_names.specs.declared.limits.TheConstants.{MOST_PROCESSES}
 use Rattle.line_names.specs.Sets.{is_member}
 use Rattle.line_tape.specs.declared.items.Item.{Item}
-use Rattle.line_tape.specs.declared.items.Item.TheVariants.{Message, Marker}
 use Rattle.line_tape.specs.declared.limits.TheConstants.{MOST_EVENTS, MOST_STATE}
 use Rattle.line_tape.specs.Event.{checks}
 use Rattle.line_tape.specs.History.{tape_at}
@@ -14,11 +13,12 @@ use Rattle.line_tape.specs.Survival.{is_damaged, IsLatest}
 use Rattle.line_world.specs.declared.steps.Mode.{Mode}
 use Rattle.line_world.specs.declared.steps.Mode.TheVariants.{Fifo, Unordered}
 use Rattle.line_world.specs.declared.steps.Step.{Step}
-use Rattle.line_world.specs.declared.steps.Step.TheVariants.{Send, Deliver, Check, Damage, Recover}
+use Rattle.line_world.specs.declared.steps.Step.TheVariants.{Send, Deliver, Check, Begin, Turn, Damage, Recover}
 use Rattle.line_world.specs.declared.replies.StepError.{StepError}
-use Rattle.line_world.specs.declared.replies.StepError.TheVariants.{NoSuchProcess, TapeFull, NoSuchCheck, StateTooLong, InitialDamage, AlreadyDamaged, ToSelf, LinkEmpty, BadPick, NoMoreIncarnations}
-use Rattle.line_world.specs.Fates.{fate_of, events_of}
-use Rattle.line_world.specs.Machine.{Machine, items_on}
+use Rattle.line_world.specs.declared.replies.StepError.TheVariants.{NoSuchProcess, TapeFull, NoSuchCheck, StateTooLong, InitialDamage, AlreadyDamaged, ToSelf, LinkEmpty, BadPick, RoundOpen, NothingToTurn, WrongMode, NoMoreRounds, NoMoreIncarnations}
+use Rattle.line_world.specs.declared.rounds.TheConstants.{LAST_ROUND}
+use Rattle.line_world.specs.Fates.{events_taken}
+use Rattle.line_world.specs.Machine.{Machine, items_on, is_open}
 
 -- the first cause that holds
 abbrev pub first_cause : List (Bool × StepError) → Option StepError
@@ -46,11 +46,15 @@ abbrev pub is_bad_pick : Mode → List Item → ℕ → Bool
 is_bad_pick Fifo items pick = not (pick == 0)
 is_bad_pick Unordered items pick = nat_le (length items) pick
 
--- the tape of process p has no room for the events of the item that is picked
-abbrev pub is_full_for : Machine → ℕ → Option Item → Bool
-is_full_for machine p None = false
-is_full_for machine p (Some (Message message)) = is_full machine p (length (events_of (fate_of machine.mode machine.history p message) message))
-is_full_for machine p (Some (Marker round)) = false
+-- the tape of process `to` has no room for all events of the item that is picked
+abbrev pub is_full_for : Machine → ℕ → ℕ → List ℕ → Option Item → Bool
+is_full_for machine from to state None = false
+is_full_for machine from to state (Some item) = is_full machine to (length (events_taken machine.mode machine.history from to state item))
+
+-- links keep their order
+abbrev pub is_fifo : Mode → Bool
+is_fifo Fifo = true
+is_fifo Unordered = false
 
 -- what refuses a delivery, whatever the item would have the process do
 abbrev pub link_causes : Machine → ℕ → ℕ → ℕ → List ℕ → List (Bool × StepError)
@@ -71,12 +75,28 @@ refusal_of machine (Send from to body) =
     ∷ (is_full machine from 1, TapeFull)
     ∷ [])
 refusal_of machine (Deliver from to pick state) =
-    first_cause (link_causes machine from to pick state ++ (is_full_for machine to (slice_get (items_on machine from to) pick), TapeFull) ∷ [])
+    first_cause (link_causes machine from to pick state ++ (is_full_for machine from to state (slice_get (items_on machine from to) pick), TapeFull) ∷ [])
 refusal_of machine (Check at state) =
     first_cause (
     (is_stranger machine at, NoSuchProcess)
     ∷ (is_long state, StateTooLong)
     ∷ (is_full machine at 1, TapeFull)
+    ∷ [])
+refusal_of machine (Begin at state) =
+    first_cause (
+    (is_stranger machine at, NoSuchProcess)
+    ∷ (is_long state, StateTooLong)
+    ∷ (not (is_fifo machine.mode), WrongMode)
+    ∷ (is_open machine, RoundOpen)
+    ∷ (nat_le LAST_ROUND machine.last_round, NoMoreRounds)
+    ∷ (is_full machine at 1, TapeFull)
+    ∷ [])
+refusal_of machine (Turn at state) =
+    first_cause (
+    (is_stranger machine at, NoSuchProcess)
+    ∷ (is_fifo machine.mode, WrongMode)
+    ∷ (is_long state, StateTooLong)
+    ∷ (true, NothingToTurn)
     ∷ [])
 refusal_of machine (Damage at check) =
     first_cause (

@@ -1,5 +1,5 @@
 -- What an accepted step replies and leaves.
-use Rattle.std.specs.Prelude.{◌≡◌, ℕ, ◌+◌, ◌≤◌, Bool, List, [], ◌∷◌, ◌++◌, length, map, slice_get, Option, Some, None}
+use Rattle.std.specs.Prelude.{◌≡◌, ℕ, ◌+◌, ◌≤◌, Bool, List, [], ◌∷◌, ◌++◌, length, map, filter, slice_get, Option, Some, None}
 use Rattle.std.specs.List.{range_with_len}
 use Rattle.line_names.specs.declared.choices.Choice.{Choice}
 use Rattle.line_names.specs.declared.choices.Choice.TheVariants.{Check as AtCheck, Now}
@@ -20,10 +20,11 @@ use Rattle.line_tape.specs.Transit.{in_transit, in_transit_between}
 use Rattle.line_tape.specs.Views.{with_mark}
 use Rattle.line_world.specs.declared.steps.Mode.{Mode}
 use Rattle.line_world.specs.declared.steps.Step.{Step}
-use Rattle.line_world.specs.declared.steps.Step.TheVariants.{Send, Deliver, Check, Damage, Recover}
+use Rattle.line_world.specs.declared.steps.Step.TheVariants.{Send, Deliver, Check, Begin, Turn, Damage, Recover}
 use Rattle.line_world.specs.declared.replies.Reply.{Reply}
-use Rattle.line_world.specs.declared.replies.Reply.TheVariants.{Sent, Checked, Damaged, Recovered}
-use Rattle.line_world.specs.Fates.{fate_of, events_of, reply_of}
+use Rattle.line_world.specs.declared.replies.Reply.TheVariants.{Sent, Checked, Begun, Damaged, Recovered}
+use Rattle.line_world.specs.Fates.{events_taken, reply_taken}
+use Rattle.line_world.specs.Listed.{stays}
 use Rattle.line_world.specs.Machine.{Machine, copies_in, items_on, with_copy, with_step}
 use Rattle.line_world.specs.Queues.{queue_at}
 
@@ -34,19 +35,24 @@ next_check history p = checks (tape_at history p) + 1
 -- Send adds a send of the present incarnation, and in `Unordered` a copy
 pub record Sends (old : Machine) (from to : ℕ) (body : List ℕ) (reply : Reply) (new : Machine) : Type 0 where
   pub reply_is : reply ≡ Sent (next_name old.history from)
-  pub new_is : new ≡ with_copy (with_step old from (SendEvent to (incarnation_at old.history from) body ∷ [])) from to (Message (next_name old.history from))
+  pub new_is : new ≡ with_copy (with_step old from (SendEvent to (incarnation_at old.history from) body ∷ []) old.last_round) from to (Message (next_name old.history from))
 
--- Deliver takes the message that is picked, or finds its copy stale or repeated: a copy stays on the link in any case
-pub record Delivers (old : Machine) (from to pick : ℕ) (reply : Reply) (new : Machine) : Type 0 where
-  pub message : MsgName
-  pub picked : slice_get (items_on old from to) pick ≡ Some (Message message)
-  pub reply_is : reply ≡ reply_of (fate_of old.mode old.history to message) message
-  pub new_is : new ≡ with_step old to (events_of (fate_of old.mode old.history to message) message)
+-- Deliver has the process take or look at the item that is picked: a copy stays on the link in any case
+pub record Delivers (old : Machine) (from to pick : ℕ) (state : List ℕ) (reply : Reply) (new : Machine) : Type 0 where
+  pub item : Item
+  pub picked : slice_get (items_on old from to) pick ≡ Some item
+  pub reply_is : reply ≡ reply_taken old.mode old.history to item
+  pub new_is : new ≡ with_step old to (events_taken old.mode old.history from to state item) old.last_round
 
 -- Check adds a check without a round
 pub record Checks (old : Machine) (at : ℕ) (state : List ℕ) (reply : Reply) (new : Machine) : Type 0 where
   pub reply_is : reply ≡ Checked at (next_check old.history at)
-  pub new_is : new ≡ with_step old at (CheckEvent state None ∷ [])
+  pub new_is : new ≡ with_step old at (CheckEvent state None ∷ []) old.last_round
+
+-- Begin adds a check of the next round
+pub record Begins (old : Machine) (at : ℕ) (state : List ℕ) (reply : Reply) (new : Machine) : Type 0 where
+  pub reply_is : reply ≡ Begun at (next_check old.history at) (old.last_round + 1)
+  pub new_is : new ≡ with_step old at (CheckEvent state (Some (old.last_round + 1)) ∷ []) (old.last_round + 1)
 
 -- Damage adds a mark
 pub record Damages (old : Machine) (at check : ℕ) (reply : Reply) (new : Machine) : Type 0 where
@@ -76,11 +82,12 @@ restarted_copies mode history line copies =
     let processes = range_with_len 0 (length history) in
     copies_in mode (map (λ p. map (λ q. queue_at copies p q ++ map (λ m. Message m) (in_transit_between history line p q)) processes) processes)
 
--- the machine that goes on from a line
+-- the machine that goes on from a line: no round is open then, and a listed one stays unless one of its checks is cut
 abbrev pub restarted_machine : Machine → List Choice → Machine
 restarted_machine old line = record old {
   history = restarted old.history line;
   marks = restarted_marks old.marks line;
+  rounds = filter (stays line) old.rounds;
   copies = restarted_copies old.mode old.history line old.copies;
 }
 
@@ -100,7 +107,9 @@ RecoversWith old failed reply new = ⊥
 -- the step may be done with this reply, and leaves that state
 abbrev pub Does : Machine → Step → Reply → Machine → Type 0
 Does old (Send from to body) reply new = Sends old from to body reply new
-Does old (Deliver from to pick state) reply new = Delivers old from to pick reply new
+Does old (Deliver from to pick state) reply new = Delivers old from to pick state reply new
 Does old (Check at state) reply new = Checks old at state reply new
+Does old (Begin at state) reply new = Begins old at state reply new
+Does old (Turn at state) reply new = ⊥
 Does old (Damage at check) reply new = Damages old at check reply new
 Does old (Recover failed) reply new = RecoversWith old failed reply new

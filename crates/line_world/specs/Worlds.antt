@@ -1,20 +1,23 @@
--- What a world keeps true of its queues.
-use Rattle.std.specs.Prelude.{◌≡◌, ℕ, ◌<◌, List, length, All, Option, Some, None}
+-- What a world keeps true of its queues and of its rounds.
+use Rattle.std.specs.Prelude.{◌≡◌, ℕ, ◌<◌, ◌≤◌, true, List, length, All, Option, Some, None}
 use Rattle.std.specs.List.{filter_map}
 use Rattle.line_names.specs.declared.messages.MsgName.{MsgName}
 use Rattle.line_tape.specs.declared.items.Item.{Item}
 use Rattle.line_tape.specs.declared.items.Item.TheVariants.{Message, Marker}
 use Rattle.line_tape.specs.Copies.{IsUnordered}
 use Rattle.line_tape.specs.Fit.{link, IsFitFifo}
-use Rattle.line_tape.specs.History.{Process}
+use Rattle.line_tape.specs.History.{Process, tape_at}
+use Rattle.line_tape.specs.Rounds.{has_check_of}
 use Rattle.line_world.specs.declared.steps.Mode.{Mode}
 use Rattle.line_world.specs.declared.steps.Mode.TheVariants.{Fifo, Unordered}
+use Rattle.line_world.specs.Listed.{Listed, IsSnapshotOf}
+use Rattle.line_world.specs.Openings.{OpenView, IsOpening, IsLast}
 use Rattle.line_world.specs.Queues.{queue_at, IsSquare}
 
--- the item is a message of process p
-abbrev pub IsMessageOf : ℕ → Item → Type 0
-IsMessageOf p (Message message) = message.from ≡ p
-IsMessageOf p (Marker round) = ⊥
+-- the item is a message of process p, or a marker
+abbrev pub IsItemOf : ℕ → Item → Type 0
+IsItemOf p (Message message) = message.from ≡ p
+IsItemOf p (Marker round) = Unit {0}
 
 -- the message of an item
 abbrev pub message_of : Item → Option MsgName
@@ -25,10 +28,10 @@ message_of (Marker round) = None
 abbrev pub messages_at : List (List (List Item)) → ℕ → ℕ → List MsgName
 messages_at queues p q = filter_map message_of (queue_at queues p q)
 
--- there is a queue for each pair of processes, and it holds messages of its sender alone
+-- there is a queue for each pair of processes, and the messages that it holds are of its sender
 pub record AreQueues (history : List Process) (queues : List (List (List Item))) : Type 0 where
   pub shape : IsSquare (length history) queues
-  pub messages : (p q : ℕ) → All (IsMessageOf p) (queue_at queues p q)
+  pub messages : (p q : ℕ) → All (IsItemOf p) (queue_at queues p q)
 
 -- in order: the history fits, and each queue is what its link holds
 pub record IsOrderedWorld (history : List Process) (queues : List (List (List Item))) : Type 0 where
@@ -44,3 +47,10 @@ IsLinked Unordered history queues = IsUnordered history (messages_at queues)
 pub record IsWorld (mode : Mode) (history : List Process) (queues : List (List (List Item))) : Type 0 where
   pub queued : AreQueues history queues
   pub linked : IsLinked mode history queues
+
+-- what a world keeps true of its rounds: none on a tape is later than the last one begun, and each listed one is a snapshot
+pub record AreRounds (mode : Mode) (history : List Process) (last : ℕ) (open_round : Option OpenView) (rounds : List Listed) : Type 0 where
+  pub numbers : (p r : ℕ) → has_check_of r (tape_at history p) ≡ true → r ≤ last
+  pub opening : IsOpening mode history open_round
+  pub unfinished : IsLast mode history last open_round
+  pub snapshots : All (IsSnapshotOf history) rounds

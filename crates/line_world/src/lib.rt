@@ -10,10 +10,12 @@ mod moves;
 mod replies;
 mod restarts;
 mod restores;
+mod rounds;
 mod steps;
 mod worlds;
 
 pub use laws::runs_name_apart;
 pub use replies::{Answer, Reply, RunStopped, StepError};
+pub use rounds::{LAST_ROUND, Round};
 pub use steps::{Mode, Step};
 pub use worlds::World;

@@ -1,6 +1,6 @@
 //! The queues of all links.
-ghost use Rattle.std.specs.Prelude.{◌≡◌, ◌<◌, ◌++◌, ◌∷◌, [], length, replicate, drop, slice_index_or, slice_get, IfOk, OnOk, OnErr};
-ghost use Rattle.line_world.specs.Queues.{queue_at, with_queue};
+ghost use Rattle.std.specs.Prelude.{◌≡◌, ◌<◌, ◌++◌, ◌∷◌, [], length, map, replicate, drop, slice_index_or, slice_get, IfOk, OnOk, OnErr};
+ghost use Rattle.line_world.specs.Queues.{queue_at, with_queue, with_on_each};
 
 use line_names::ProcId;
 use line_tape::Item;
@@ -35,6 +35,15 @@ impl Queue {
             items: VecDeque::from_vec(items),
         })
     }
+
+    /// The same items and one more, in memory of their own.
+    fn copy_with(&self, alloc: Global, item: Item) -> Result<Queue, AllocError>
+        ensures { IfOk result (λ queue. queue ≡ self.now ++ item ∷ []) }
+    {
+        let mut queue = self.copy(alloc)?;
+        queue.items.push_back(item)?;
+        Ok(queue)
+    }
 }
 
 /// The links from one process.
@@ -60,6 +69,17 @@ impl Row {
         let mut queues = Vec::with_capacity(alloc, self.queues.len())?;
         for queue in &self.queues {
             queues.push(queue.copy(alloc)?)?;
+        }
+        Ok(Row { queues })
+    }
+
+    /// The same queues with an item more on each, in memory of their own.
+    fn copy_with(&self, alloc: Global, item: Item) -> Result<Row, AllocError>
+        ensures { IfOk result (λ row. row ≡ map (λ items. items ++ item ∷ []) self.now) }
+    {
+        let mut queues = Vec::with_capacity(alloc, self.queues.len())?;
+        for queue in &self.queues {
+            queues.push(queue.copy_with(alloc, item)?)?;
         }
         Ok(Row { queues })
     }
@@ -152,6 +172,17 @@ impl Links {
         self.rows[from.get() as usize].queues[to.get() as usize]
             .items
             .push_back(item)?;
+        Ok(())
+    }
+
+    /// Puts an item at the end of each link from a process, or on none where memory doesn't suffice. It copies what these links hold.
+    pub fn push_each(&mut self, alloc: Global, from: ProcId, item: Item) -> Result<(), AllocError>
+        requires { from < length self.old }
+        ensures ok { OnOk result (self.new ≡ with_on_each self.old from item) }
+        ensures err { OnErr result (self.new ≡ self.old) }
+    {
+        let row = self.rows[from.get() as usize].copy_with(alloc, item)?;
+        self.rows[from.get() as usize] = row;
         Ok(())
     }
 

@@ -1,22 +1,28 @@
 //! What each kind of step does to the tapes and the queues.
-ghost use Rattle.std.specs.Prelude.{◌≡◌, ◌<◌, ◌≤◌, ◌++◌, ◌∷◌, [], length, slice_get, slice_index_or, All, IfOk, OnOk, OnErr, Some, None};
-ghost use Rattle.line_tape.specs.declared.events.Event.TheVariants.{Send as SendEvent, Recv as RecvEvent, Check as CheckEvent};
-ghost use Rattle.line_tape.specs.declared.items.Item.TheVariants.{Message};
+ghost use Rattle.std.specs.Prelude.{◌≡◌, ◌≢◌, ◌<◌, ◌≤◌, ◌+◌, ◌++◌, ℕ, ◌∷◌, [], length, true, false, slice_get, slice_index_or, All, IfOk, OnOk, OnErr, Some, None};
+ghost use Rattle.line_tape.specs.declared.events.Event.TheVariants.{Send as SendEvent, Recv as RecvEvent, Check as CheckEvent, Mark as MarkEvent};
+ghost use Rattle.line_tape.specs.declared.items.Item.TheVariants.{Message, Marker};
 ghost use Rattle.line_tape.specs.Event.{NamesBelow, HasLongState, Holds};
 ghost use Rattle.line_tape.specs.History.{tape_at, incarnation_at, with_event};
 ghost use Rattle.line_tape.specs.Spent.{next_name};
 ghost use Rattle.line_catalogue.specs.Agreement.{Agrees, AgreesNext};
 ghost use Rattle.line_catalogue.specs.Views.{room_at};
+ghost use Rattle.line_tape.specs.Rounds.{has_check_of};
+ghost use Rattle.line_world.specs.declared.steps.Mode.TheVariants.{Fifo};
+ghost use Rattle.line_world.specs.Fates.{is_forced, marker_events};
+ghost use Rattle.line_world.specs.Machine.{with_events};
+ghost use Rattle.line_world.specs.Openings.{open_number, IsOpening, IsRecording};
 ghost use Rattle.line_world.specs.Queues.{queue_at, with_queue, taken_off, IsSquare};
 ghost use Rattle.line_world.specs.Steps.{next_check};
-ghost use Rattle.line_world.specs.Worlds.{IsMessageOf};
+ghost use Rattle.line_world.specs.Worlds.{IsWorld};
 
 use crate::links::Links;
+use crate::rounds::{LAST_ROUND, OpenRound, hear, note};
 use crate::steps::Mode;
 use line_catalogue::Catalogue;
 use line_names::{Body, MsgName, ProcId};
-use line_tape::{Event, Item, MOST_EVENTS, MOST_STATE, State};
-use std::alloc::AllocError;
+use line_tape::{Event, History, Item, MOST_EVENTS, MOST_STATE, State};
+use std::alloc::{AllocError, Global};
 
 /// Adds an event to a tape that has room for it.
 fn add_event(catalogue: &mut Catalogue, p: ProcId, event: Event)
@@ -28,6 +34,7 @@ fn add_event(catalogue: &mut Catalogue, p: ProcId, event: Event)
     requires room { 0 < room_at catalogue.old p }
     ensures processes { catalogue.new.processes ≡ with_event catalogue.old.processes p event }
     ensures marks { catalogue.new.marks ≡ catalogue.old.marks }
+    ensures spent { room_at catalogue.old p ≤ room_at catalogue.new p + 1 }
 {
     catalogue.add(p, event).unwrap();
 }
@@ -62,22 +69,6 @@ pub fn put_message(
     Ok(MsgName { from, inc, number })
 }
 
-/// The message at a place of a link that holds messages of its sender alone.
-pub fn message_at(links: &Links, from: ProcId, to: ProcId, pick: u64) -> MsgName
-    requires from { from < length links.now }
-    requires to { to < length (slice_index_or links.now from []) }
-    requires pick { pick < length (queue_at links.now from to) }
-    requires messages { All (IsMessageOf from) (queue_at links.now from to) }
-    ensures at { slice_get (queue_at links.now from to) pick ≡ Some (Message result) }
-    ensures from { result.from ≡ from }
-{
-    match links.item(from, to, pick as usize) {
-        Some(Item::Message(message)) => message,
-        Some(Item::Marker(_)) => unreachable!(),
-        None => unreachable!(),
-    }
-}
-
 /// The event that receives a message.
 fn receipt(message: &MsgName) -> Event
     ensures { result ≡ RecvEvent message.now }
@@ -97,11 +88,34 @@ fn take_off(mode: Mode, links: &mut Links, from: ProcId, to: ProcId)
     }
 }
 
-/// Takes a message: the event on the receiver's tape, and the item off the link where it keeps its order.
+/// Has the open round note a message, where there are markers.
+fn note_message(
+    mode: Mode,
+    running: &mut Option<OpenRound>,
+    history: &History,
+    to: ProcId,
+    message: &MsgName,
+) -> Result<(), AllocError>
+    requires from { message.now.from < length history.now.processes }
+    requires to { to < length history.now.processes }
+    requires other { message.now.from ≢ to }
+    requires opening { IsOpening mode history.now.processes running.old }
+    ensures number { open_number running.new ≡ open_number running.old }
+    ensures ok { OnOk result (IsOpening mode (with_event history.now.processes to (RecvEvent message.now)) running.new) }
+    ensures err { OnErr result (IsOpening mode history.now.processes running.new) }
+{
+    match mode {
+        Mode::Fifo => note(running, history, to, message),
+        Mode::Unordered => Ok(()),
+    }
+}
+
+/// Takes a message: the event on the receiver's tape, the item off the link where it keeps its order, and a note of it for the open round.
 pub fn take_message(
     mode: Mode,
     catalogue: &mut Catalogue,
     links: &mut Links,
+    running: &mut Option<OpenRound>,
     from: ProcId,
     to: ProcId,
     message: &MsgName,
@@ -109,20 +123,172 @@ pub fn take_message(
     requires shape { IsSquare (length catalogue.old.processes) links.old }
     requires from { from < length catalogue.old.processes }
     requires to { to < length catalogue.old.processes }
+    requires other { from ≢ to }
     requires named { message.now.from ≡ from }
     requires agrees { Agrees catalogue.old.processes }
     requires held { Holds (tape_at catalogue.old.processes message.now.from) message.now.inc message.now.number }
     requires few { length (tape_at catalogue.old.processes to) < MOST_EVENTS }
+    requires opening { IsOpening mode catalogue.old.processes running.old }
     ensures taken { OnOk result (catalogue.new.processes ≡ with_event catalogue.old.processes to (RecvEvent message.now)) }
     ensures off { OnOk result (links.new ≡ taken_off mode links.old from to) }
     ensures err { OnErr result (catalogue.new.processes ≡ catalogue.old.processes) }
     ensures marks { catalogue.new.marks ≡ catalogue.old.marks }
     ensures kept { OnErr result (links.new ≡ links.old) }
+    ensures opening { IsOpening mode catalogue.new.processes running.new }
+    ensures number { open_number running.new ≡ open_number running.old }
 {
     catalogue.reserve(to, 1)?;
+    note_message(mode, running, catalogue.history(), to, message)?;
     take_off(mode, links, from, to);
     add_event(catalogue, to, receipt(message));
     Ok(())
+}
+
+/// Begins the round after the last one: the check on the tape of a process, and a marker on each link from it.
+pub fn begin_round(
+    alloc: Global,
+    catalogue: &mut Catalogue,
+    links: &mut Links,
+    at: ProcId,
+    state: &State,
+    last: u32,
+) -> Result<(OpenRound, u32), AllocError>
+    requires at { at < length catalogue.old.processes }
+    requires short { length state.now ≤ MOST_STATE }
+    requires few { length (tape_at catalogue.old.processes at) < MOST_EVENTS }
+    requires numbers { last < LAST_ROUND }
+    requires fresh { (q : ℕ) → has_check_of (last + 1) (tape_at catalogue.old.processes q) ≡ false }
+    requires world { IsWorld Fifo catalogue.old.processes links.old }
+    ensures check { IfOk result (λ begun. begun.1 ≡ next_check catalogue.old.processes at) }
+    ensures number { IfOk result (λ begun. begun.0.number ≡ last + 1) }
+    ensures recording { IfOk result (λ begun. IsRecording catalogue.new.processes begun.0) }
+    ensures checked { OnOk result (catalogue.new.processes ≡ with_event catalogue.old.processes at (CheckEvent state.now (Some (last + 1)))) }
+    ensures world { OnOk result (IsWorld Fifo catalogue.new.processes links.new) }
+    ensures err { OnErr result (catalogue.new.processes ≡ catalogue.old.processes) }
+    ensures marks { catalogue.new.marks ≡ catalogue.old.marks }
+    ensures kept { OnErr result (links.new ≡ links.old) }
+{
+    let state = state.copy(alloc)?;
+    catalogue.reserve(at, 1)?;
+    let mut running = OpenRound::new(alloc, catalogue.history(), last)?;
+    running.reserve(at)?;
+    links.push_each(alloc, at, Item::Marker(last + 1))?;
+    let check = catalogue.history().tape(at).checks() + 1;
+    running.begin(catalogue.history(), at);
+    let round = Some(last + 1);
+    add_event(catalogue, at, Event::Check { state, round });
+    Ok((running, check))
+}
+
+/// The marker of the open round has a process take its check: the check and the mark on its tape, a marker on each link from it, and the marker that came off its link.
+fn force_round(
+    alloc: Global,
+    catalogue: &mut Catalogue,
+    links: &mut Links,
+    running: &mut OpenRound,
+    from: ProcId,
+    to: ProcId,
+    state: &State,
+) -> Result<(), AllocError>
+    requires from { from < length catalogue.old.processes }
+    requires to { to < length catalogue.old.processes }
+    requires other { from ≢ to }
+    requires short { length state.now ≤ MOST_STATE }
+    requires few { length (tape_at catalogue.old.processes to) + 1 < MOST_EVENTS }
+    requires first { has_check_of running.old.number (tape_at catalogue.old.processes to) ≡ false }
+    requires marker { slice_get (queue_at links.old from to) 0 ≡ Some (Marker running.old.number) }
+    requires world { IsWorld Fifo catalogue.old.processes links.old }
+    requires recording { IsRecording catalogue.old.processes running.old }
+    ensures taken { OnOk result (catalogue.new.processes
+        ≡ with_events catalogue.old.processes to (CheckEvent state.now (Some running.old.number) ∷ MarkEvent from running.old.number ∷ [])) }
+    ensures world { IsWorld Fifo catalogue.new.processes links.new }
+    ensures recording { IsRecording catalogue.new.processes running.new }
+    ensures number { running.new.number ≡ running.old.number }
+    ensures err { OnErr result (catalogue.new.processes ≡ catalogue.old.processes) }
+    ensures marks { catalogue.new.marks ≡ catalogue.old.marks }
+{
+    let number = running.number();
+    let state = state.copy(alloc)?;
+    catalogue.reserve(to, 2)?;
+    running.reserve(to)?;
+    links.push_each(alloc, to, Item::Marker(number))?;
+    links.drop_first(from, to);
+    running.force(catalogue.history(), from, to);
+    let round = Some(number);
+    add_event(catalogue, to, Event::Check { state, round });
+    let round = number;
+    add_event(catalogue, to, Event::Mark { from, round });
+    Ok(())
+}
+
+/// The marker of a round has come to a process that has its check of it: the mark on its tape, and the marker off its link.
+fn hear_round(
+    catalogue: &mut Catalogue,
+    links: &mut Links,
+    running: &mut Option<OpenRound>,
+    from: ProcId,
+    to: ProcId,
+    round: u32,
+) -> Result<(), AllocError>
+    requires from { from < length catalogue.old.processes }
+    requires to { to < length catalogue.old.processes }
+    requires other { from ≢ to }
+    requires few { length (tape_at catalogue.old.processes to) < MOST_EVENTS }
+    requires begun { has_check_of round (tape_at catalogue.old.processes to) ≡ true }
+    requires marker { slice_get (queue_at links.old from to) 0 ≡ Some (Marker round) }
+    requires world { IsWorld Fifo catalogue.old.processes links.old }
+    requires opening { IsOpening Fifo catalogue.old.processes running.old }
+    ensures taken { OnOk result (catalogue.new.processes ≡ with_event catalogue.old.processes to (MarkEvent from round)) }
+    ensures world { IsWorld Fifo catalogue.new.processes links.new }
+    ensures opening { IsOpening Fifo catalogue.new.processes running.new }
+    ensures number { open_number running.new ≡ open_number running.old }
+    ensures err { OnErr result (catalogue.new.processes ≡ catalogue.old.processes) }
+    ensures marks { catalogue.new.marks ≡ catalogue.old.marks }
+{
+    catalogue.reserve(to, 1)?;
+    hear(running, catalogue.history(), from, to, round)?;
+    links.drop_first(from, to);
+    add_event(catalogue, to, Event::Mark { from, round });
+    Ok(())
+}
+
+/// Takes the marker that is first on a link.
+pub fn take_marker(
+    alloc: Global,
+    catalogue: &mut Catalogue,
+    links: &mut Links,
+    running: &mut Option<OpenRound>,
+    from: ProcId,
+    to: ProcId,
+    round: u32,
+    state: &State,
+    forced: bool,
+) -> Result<(), AllocError>
+    requires from { from < length catalogue.old.processes }
+    requires to { to < length catalogue.old.processes }
+    requires other { from ≢ to }
+    requires short { length state.now ≤ MOST_STATE }
+    requires forced { forced ≡ is_forced catalogue.old.processes to round }
+    requires few { length (tape_at catalogue.old.processes to) + length (marker_events (is_forced catalogue.old.processes to round) from state.now round) ≤ MOST_EVENTS }
+    requires marker { slice_get (queue_at links.old from to) 0 ≡ Some (Marker round) }
+    requires world { IsWorld Fifo catalogue.old.processes links.old }
+    requires opening { IsOpening Fifo catalogue.old.processes running.old }
+    ensures taken { OnOk result (catalogue.new.processes
+        ≡ with_events catalogue.old.processes to (marker_events (is_forced catalogue.old.processes to round) from state.now round)) }
+    ensures world { IsWorld Fifo catalogue.new.processes links.new }
+    ensures opening { IsOpening Fifo catalogue.new.processes running.new }
+    ensures number { open_number running.new ≡ open_number running.old }
+    ensures err { OnErr result (catalogue.new.processes ≡ catalogue.old.processes) }
+    ensures marks { catalogue.new.marks ≡ catalogue.old.marks }
+{
+    if forced {
+        match running {
+            Some(kept) => force_round(alloc, catalogue, links, kept, from, to, state),
+            None => unreachable!(),
+        }
+    } else {
+        hear_round(catalogue, links, running, from, to, round)
+    }
 }
 
 /// Adds a check without a round, and tells its index. No link changes.

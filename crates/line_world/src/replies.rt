@@ -1,6 +1,7 @@
 //! What the machine answers.
 ghost use Rattle.std.specs.Prelude.{◌≡◌, ◌↔◌, IsTrue};
 
+use crate::rounds::LAST_ROUND;
 use line_catalogue::DamageError;
 use line_names::{MsgName, ProcId};
 use line_plan::{Plan, PlanError};
@@ -21,6 +22,11 @@ pub enum Reply {
         message: MsgName,
         forced: Option<u32>,
     },
+    /// The round of the marker taken, and whether the process had to take its check of that round first.
+    Marked {
+        round: u32,
+        forced: bool,
+    },
     /// The message of a copy whose send is on the sender's tape no more.
     Stale {
         message: MsgName,
@@ -33,6 +39,18 @@ pub enum Reply {
     Checked {
         at: ProcId,
         check: u32,
+    },
+    /// The index of the check taken, and the round that it began.
+    Begun {
+        at: ProcId,
+        check: u32,
+        round: u32,
+    },
+    /// The index of the check taken, and the round that was open.
+    Turned {
+        at: ProcId,
+        check: u32,
+        round: u32,
     },
     /// The check that is marked now.
     Damaged {
@@ -81,6 +99,10 @@ pub enum StepError {
     ToSelf,
     LinkEmpty,
     BadPick,
+    RoundOpen,
+    NothingToTurn,
+    WrongMode,
+    NoMoreRounds,
     NoMoreIncarnations,
 }
 
@@ -100,6 +122,10 @@ impl StepError {
             | StepError::ToSelf
             | StepError::LinkEmpty
             | StepError::BadPick
+            | StepError::RoundOpen
+            | StepError::NothingToTurn
+            | StepError::WrongMode
+            | StepError::NoMoreRounds
             | StepError::NoMoreIncarnations => false,
         }
     }
@@ -116,6 +142,10 @@ impl StepError {
         ensures itself { self ≡ StepError.ToSelf → result ≡ 17 }
         ensures empty { self ≡ StepError.LinkEmpty → result ≡ 18 }
         ensures pick { self ≡ StepError.BadPick → result ≡ 19 }
+        ensures round { self ≡ StepError.RoundOpen → result ≡ 20 }
+        ensures turn { self ≡ StepError.NothingToTurn → result ≡ 21 }
+        ensures mode { self ≡ StepError.WrongMode → result ≡ 22 }
+        ensures rounds { self ≡ StepError.NoMoreRounds → result ≡ 23 }
         ensures incarnations { self ≡ StepError.NoMoreIncarnations → result ≡ 24 }
     {
         match self {
@@ -129,6 +159,10 @@ impl StepError {
             StepError::ToSelf => 17,
             StepError::LinkEmpty => 18,
             StepError::BadPick => 19,
+            StepError::RoundOpen => 20,
+            StepError::NothingToTurn => 21,
+            StepError::WrongMode => 22,
+            StepError::NoMoreRounds => 23,
             StepError::NoMoreIncarnations => 24,
         }
     }
@@ -151,6 +185,12 @@ impl fmt::Display for StepError {
             StepError::ToSelf => f.write_str("a process has no link to itself"),
             StepError::LinkEmpty => f.write_str("the link holds nothing"),
             StepError::BadPick => f.write_str("the link has nothing to take at that place"),
+            StepError::RoundOpen => f.write_str("the last round begun is not completed"),
+            StepError::NothingToTurn => {
+                f.write_str("no round is open of which the process has no check")
+            }
+            StepError::WrongMode => f.write_str("links of this kind have no such step"),
+            StepError::NoMoreRounds => write!(f, "the last round begun has number {LAST_ROUND}"),
             StepError::NoMoreIncarnations => {
                 write!(
                     f,

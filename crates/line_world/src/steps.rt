@@ -1,4 +1,7 @@
 //! What the machine is asked to do.
+ghost use Rattle.std.specs.Prelude.{◌≡◌};
+ghost use Rattle.line_world.specs.Refusals.{is_fifo};
+
 use line_names::{Body, ProcId, ProcSet};
 use line_tape::State;
 
@@ -9,6 +12,18 @@ pub enum Mode {
     Fifo,
     /// Each link holds copies of its messages, delivers any of them, and keeps it.
     Unordered,
+}
+
+impl Mode {
+    /// Whether links keep their order.
+    pub fn is_fifo(self) -> bool
+        ensures { result ≡ is_fifo self }
+    {
+        match self {
+            Mode::Fifo => true,
+            Mode::Unordered => false,
+        }
+    }
 }
 
 /// One step.
@@ -29,6 +44,16 @@ pub enum Step {
     },
     /// A process takes a check.
     Check {
+        at: ProcId,
+        state: State,
+    },
+    /// A process begins the next round: it takes its check of it, and where links keep their order it puts a marker on each.
+    Begin {
+        at: ProcId,
+        state: State,
+    },
+    /// A process takes its check of the round that is open, without waiting for a message of it. There are such turns only where links keep no order.
+    Turn {
         at: ProcId,
         state: State,
     },

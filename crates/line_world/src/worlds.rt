@@ -1,10 +1,13 @@
 //! The world: the machine that answers steps.
-ghost use Rattle.std.specs.Prelude.{◌≡◌, ◌≢◌, ◌<◌, ◌≤◌, ◌↔◌, ◌⊎◌, ℕ, List, length, take, slice_get, IfOk, IfErr, OnOk, IsErrOf, IsTrue};
+ghost use Rattle.std.specs.Prelude.{◌≡◌, ◌≢◌, ◌<◌, ◌≤◌, ◌↔◌, ◌⊎◌, ℕ, List, All, Some, None, length, take, slice_get, IfOk, IfErr, OnOk, IsErrOf, IsTrue};
 ghost use Rattle.line_tape.specs.History.{incarnation_at};
 ghost use Rattle.line_world.specs.declared.replies.Answer.TheVariants.{Done, Refused};
-ghost use Rattle.line_world.specs.declared.steps.Step.TheVariants.{Send, Deliver, Check, Damage, Recover};
+ghost use Rattle.line_world.specs.declared.steps.Step.TheVariants.{Send, Deliver, Check, Begin, Turn, Damage, Recover};
+ghost use Rattle.line_tape.specs.declared.items.Item.TheVariants.{Message, Marker};
+ghost use Rattle.line_world.specs.declared.steps.Mode.TheVariants.{Fifo};
+ghost use Rattle.line_world.specs.Listed.{IsSnapshotOf};
 ghost use Rattle.line_world.specs.Machine.{start, items_on, IsFit};
-ghost use Rattle.line_world.specs.Refusals.{refusal_of, has_stranger};
+ghost use Rattle.line_world.specs.Refusals.{first_cause, link_causes, refusal_of, has_stranger};
 ghost use Rattle.line_world.specs.Runs.{Takes, Run};
 ghost use Rattle.line_world.specs.Steps.{IsPlan};
 
@@ -12,13 +15,14 @@ mod refusals;
 
 use crate::fates::{Fate, fate_of};
 use crate::links::Links;
-use crate::moves::{add_check, message_at, put_message, take_message};
+use crate::moves::{add_check, begin_round, put_message, take_marker, take_message};
 use crate::replies::{Answer, Reply, RunStopped, StepError};
 use crate::restarts::restarted_links;
 use crate::restores::{restarted_incarnations, restored_states};
+use crate::rounds::{OpenRound, Round, is_forced, keep_rounds, still_open};
 use crate::steps::{Mode, Step};
 use line_catalogue::Catalogue;
-use line_names::{Body, MOST_PROCESSES, ProcId, ProcSet};
+use line_names::{Body, MOST_PROCESSES, MsgName, ProcId, ProcSet};
 use line_plan::Plan;
 use line_tape::{CountError, History, Item, Marks, State};
 use std::alloc::Global;
@@ -32,6 +36,10 @@ pub struct World {
     mode: Mode,
     catalogue: Catalogue,
     links: Links,
+    /// The number of the last round begun; 0 where none was.
+    last_round: u32,
+    running: Option<OpenRound>,
+    rounds: Vec<Round>,
 }
 
 impl Model for World {
@@ -40,11 +48,19 @@ impl Model for World {
     ghost Value = { Machine };
 
     ghost use Rattle.line_world.specs.Machine.{copies_in};
-    ghost use Rattle.line_world.specs.Worlds.{IsWorld};
+    ghost use Rattle.line_world.specs.Worlds.{AreRounds, IsWorld};
 
-    ghost view = { λ w. record { mode = w.mode; history = w.catalogue.processes; marks = w.catalogue.marks; copies = copies_in w.mode w.links } };
+    ghost view = { λ w. record {
+      mode = w.mode;
+      history = w.catalogue.processes;
+      marks = w.catalogue.marks;
+      last_round = w.last_round;
+      rounds = w.rounds.items;
+      copies = copies_in w.mode w.links;
+    } };
 
-    ghost invariant = { λ w. IsWorld w.mode w.catalogue.processes w.links };
+    ghost invariant = { λ w. IsWorld w.mode w.catalogue.processes w.links
+        × AreRounds w.mode w.catalogue.processes w.last_round w.running w.rounds.items };
 }
 
 impl World {
@@ -61,6 +77,9 @@ impl World {
             mode,
             catalogue,
             links,
+            last_round: 0,
+            running: None,
+            rounds: Vec::new(alloc),
         })
     }
 
@@ -77,6 +96,16 @@ impl World {
         ensures { result.now ≡ self.now.marks }
     {
         self.catalogue.marks()
+    }
+
+    /// The completed rounds whose checks no recovery has cut, the oldest first.
+    ///
+    /// Each is a snapshot (Chandy and Lamport, ACM TOCS 3(1), 1985): its checks make a consistent line, and each channel has the messages in transit there, by number. It stays so until a recovery cuts one of its checks, and then it leaves the list.
+    pub fn rounds(&self) -> &[Round]
+        ensures value { result.now ≡ self.now.rounds }
+        ensures snapshots { All (IsSnapshotOf self.now.history) self.now.rounds }
+    {
+        &self.rounds
     }
 
     /// The incarnation of a process.
@@ -105,6 +134,19 @@ impl World {
         self.links.item(from, to, i)
     }
 
+    /// The item at a place of a link.
+    fn item_at(&self, from: ProcId, to: ProcId, pick: u64) -> Item
+        requires from { from < length self.now.history }
+        requires to { to < length self.now.history }
+        requires pick { pick < length (items_on self.now from to) }
+        ensures { slice_get (items_on self.now from to) pick ≡ Some result }
+    {
+        match self.links.item(from, to, pick as usize) {
+            Some(item) => item,
+            None => unreachable!(),
+        }
+    }
+
     /// Sends a message.
     fn send(&mut self, from: ProcId, to: ProcId, body: &Body) -> Result<Reply, StepError>
         ensures done { IfOk result (λ reply. Takes self.old (Send from to body.now) (Done reply) self.new) }
@@ -118,9 +160,91 @@ impl World {
         Ok(Reply::Sent { message })
     }
 
-    /// Delivers the message that is picked, or finds its copy stale or repeated.
+    /// Takes the message that stands at a place of a link, or finds its copy stale or repeated.
+    fn deliver_message(
+        &mut self,
+        from: ProcId,
+        to: ProcId,
+        pick: u64,
+        state: &State,
+        message: &MsgName,
+    ) -> Result<Reply, StepError>
+        requires passed { first_cause (link_causes self.old from to pick state.now) ≡ None }
+        requires picked { slice_get (items_on self.old from to) pick ≡ Some (Message message.now) }
+        ensures done { IfOk result (λ reply. Takes self.old (Deliver from to pick state.now) (Done reply) self.new) }
+        ensures refused { IfErr result (λ e. e ≢ StepError.OutOfMemory
+            → Takes self.old (Deliver from to pick state.now) (Refused e) self.new) }
+        ensures memory { IsErrOf result StepError.OutOfMemory → self.new ≡ self.old }
+    {
+        let _n = self.catalogue.n();
+        match fate_of(self.mode, self.catalogue.history(), to, message) {
+            Fate::Taken => {
+                if self.is_full(to, 1) {
+                    return Err(StepError::TapeFull);
+                }
+                take_message(
+                    self.mode,
+                    &mut self.catalogue,
+                    &mut self.links,
+                    &mut self.running,
+                    from,
+                    to,
+                    message,
+                )?;
+                Ok(Reply::Took {
+                    message: *message,
+                    forced: None,
+                })
+            }
+            Fate::Stale => Ok(Reply::Stale { message: *message }),
+            Fate::Repeated => Ok(Reply::Repeated { message: *message }),
+        }
+    }
+
+    /// Takes the marker that is first on a link, after the check of its round where the process has none.
+    fn deliver_marker(
+        &mut self,
+        alloc: Global,
+        from: ProcId,
+        to: ProcId,
+        state: &State,
+        round: u32,
+    ) -> Result<Reply, StepError>
+        requires mode { self.old.mode ≡ Fifo }
+        requires passed { first_cause (link_causes self.old from to 0 state.now) ≡ None }
+        requires picked { slice_get (items_on self.old from to) 0 ≡ Some (Marker round) }
+        ensures done { IfOk result (λ reply. Takes self.old (Deliver from to 0 state.now) (Done reply) self.new) }
+        ensures refused { IfErr result (λ e. e ≢ StepError.OutOfMemory
+            → Takes self.old (Deliver from to 0 state.now) (Refused e) self.new) }
+        ensures memory { IsErrOf result StepError.OutOfMemory → self.new ≡ self.old }
+    {
+        let _n = self.catalogue.n();
+        let forced = is_forced(&self.running, self.catalogue.history(), from, to, round);
+        let events = if forced { 2 } else { 1 };
+        if self.is_full(to, events) {
+            return Err(StepError::TapeFull);
+        }
+        self.rounds.reserve(1)?;
+        take_marker(
+            alloc,
+            &mut self.catalogue,
+            &mut self.links,
+            &mut self.running,
+            from,
+            to,
+            round,
+            state,
+            forced,
+        )?;
+        let running = self.running.take();
+        self.running = still_open(running, self.catalogue.history(), &mut self.rounds);
+        Ok(Reply::Marked { round, forced })
+    }
+
+    /// Takes or looks at the item that is picked.
     fn deliver(
         &mut self,
+        alloc: Global,
         from: ProcId,
         to: ProcId,
         pick: u64,
@@ -135,27 +259,16 @@ impl World {
             return Err(e);
         }
         let _n = self.catalogue.n();
-        let message = message_at(&self.links, from, to, pick);
-        match fate_of(self.mode, self.catalogue.history(), to, &message) {
-            Fate::Taken => {
-                if self.is_full(to) {
-                    return Err(StepError::TapeFull);
-                }
-                take_message(
-                    self.mode,
-                    &mut self.catalogue,
-                    &mut self.links,
-                    from,
-                    to,
-                    &message,
-                )?;
-                Ok(Reply::Took {
-                    message,
-                    forced: None,
-                })
-            }
-            Fate::Stale => Ok(Reply::Stale { message }),
-            Fate::Repeated => Ok(Reply::Repeated { message }),
+        let item = self.item_at(from, to, pick);
+        match item {
+            Item::Message(message) => self.deliver_message(from, to, pick, state, &message),
+            Item::Marker(round) => match self.mode {
+                Mode::Fifo => self.deliver_marker(alloc, from, to, state, round),
+                Mode::Unordered => Ok(Reply::Marked {
+                    round,
+                    forced: false,
+                }),
+            },
         }
     }
 
@@ -171,6 +284,42 @@ impl World {
         let state = state.copy(alloc)?;
         let check = add_check(&mut self.catalogue, at, state)?;
         Ok(Reply::Checked { at, check })
+    }
+
+    /// Begins a round.
+    fn begin(&mut self, alloc: Global, at: ProcId, state: &State) -> Result<Reply, StepError>
+        ensures done { IfOk result (λ reply. Takes self.old (Begin at state.now) (Done reply) self.new) }
+        ensures refused { IfErr result (λ e. e ≢ StepError.OutOfMemory → Takes self.old (Begin at state.now) (Refused e) self.new) }
+        ensures memory { IsErrOf result StepError.OutOfMemory → self.new ≡ self.old }
+    {
+        if let Some(e) = self.begin_refusal(at, state) {
+            return Err(e);
+        }
+        self.rounds.reserve(1)?;
+        let (begun, check) = begin_round(
+            alloc,
+            &mut self.catalogue,
+            &mut self.links,
+            at,
+            state,
+            self.last_round,
+        )?;
+        self.last_round += 1;
+        self.running = still_open(Some(begun), self.catalogue.history(), &mut self.rounds);
+        Ok(Reply::Begun {
+            at,
+            check,
+            round: self.last_round,
+        })
+    }
+
+    /// Refuses a turn: there are no rounds of colours yet.
+    fn turn(&mut self, at: ProcId, state: &State) -> Result<Reply, StepError>
+        ensures done { IfOk result (λ reply. Takes self.old (Turn at state.now) (Done reply) self.new) }
+        ensures refused { IfErr result (λ e. e ≢ StepError.OutOfMemory → Takes self.old (Turn at state.now) (Refused e) self.new) }
+        ensures memory { IsErrOf result StepError.OutOfMemory → self.new ≡ self.old }
+    {
+        Err(self.turn_refusal(at, state))
     }
 
     /// Marks a check as damaged.
@@ -220,6 +369,8 @@ impl World {
         let links = restarted_links(alloc, self.mode, history, &self.links, &plan.line)?;
         self.catalogue.restart(&plan.line);
         self.links = links;
+        self.running = None;
+        keep_rounds(&mut self.rounds, &plan.line);
         Ok(Reply::Recovered {
             plan,
             states,
@@ -229,7 +380,7 @@ impl World {
 
     /// Takes one step.
     ///
-    /// Sending, delivering and taking a check cost the same however much was done before; recovering costs what a plan does, and looks at each event and at each copy.
+    /// Sending, delivering a message and taking a check cost the same however much was done before. A marker looks at its receiver's channels, and the last one of a process at all channels of the round. A check of a round, begun or forced by a marker, copies what the links from its process hold. Recovering costs what a plan does, and looks at each event and at each copy.
     pub fn step(&mut self, alloc: Global, step: &Step) -> Result<Reply, StepError>
         ensures done { IfOk result (λ reply. Takes self.old step.now (Done reply) self.new) }
         ensures refused { IfErr result (λ e. e ≢ StepError.OutOfMemory → Takes self.old step.now (Refused e) self.new) }
@@ -242,8 +393,10 @@ impl World {
                 to,
                 pick,
                 state,
-            } => self.deliver(*from, *to, *pick, state),
+            } => self.deliver(alloc, *from, *to, *pick, state),
             Step::Check { at, state } => self.check(alloc, *at, state),
+            Step::Begin { at, state } => self.begin(alloc, *at, state),
+            Step::Turn { at, state } => self.turn(*at, state),
             Step::Damage { at, check } => self.damage(*at, *check),
             Step::Recover { failed } => self.recover(alloc, failed),
         }

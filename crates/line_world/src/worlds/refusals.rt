@@ -1,22 +1,24 @@
 //! What refuses a step of a world.
-ghost use Rattle.std.specs.Prelude.{◌≡◌, ◌<◌, ℕ, List, length};
-ghost use Rattle.line_world.specs.declared.steps.Step.TheVariants.{Send, Check};
+ghost use Rattle.std.specs.Prelude.{◌≡◌, ◌<◌, ◌≤◌, ℕ, List, Some, length};
+ghost use Rattle.line_world.specs.declared.steps.Step.TheVariants.{Send, Check, Begin, Turn};
 ghost use Rattle.line_world.specs.Refusals.{first_cause, link_causes, refusal_of, has_stranger, is_bad_pick, is_full};
-ghost use Rattle.line_world.specs.Machine.{items_on};
+ghost use Rattle.line_world.specs.Machine.{is_open, items_on};
 
 use super::World;
 use crate::replies::StepError;
+use crate::rounds::LAST_ROUND;
 use crate::steps::Mode;
 use line_names::{MOST_PROCESSES, ProcId, ProcSet};
 use line_tape::{MOST_EVENTS, MOST_STATE, State};
 
 impl World {
-    /// Whether the tape of a process has no room for an event.
-    pub(super) fn is_full(&self, p: ProcId) -> bool
-        requires { p < length self.now.history }
-        ensures { result ≡ is_full self.now p 1 }
+    /// Whether the tape of a process has no room for so many events.
+    pub(super) fn is_full(&self, p: ProcId, events: usize) -> bool
+        requires process { p < length self.now.history }
+        requires few { events ≤ MOST_EVENTS }
+        ensures { result ≡ is_full self.now p events }
     {
-        self.catalogue.history().tape(p).len() as usize >= MOST_EVENTS
+        self.catalogue.history().tape(p).len() as usize > MOST_EVENTS - events
     }
 
     /// Why a process may not send to another now.
@@ -30,7 +32,7 @@ impl World {
         if from == to {
             return Some(StepError::ToSelf);
         }
-        if self.is_full(from) {
+        if self.is_full(from, 1) {
             return Some(StepError::TapeFull);
         }
         None
@@ -87,10 +89,61 @@ impl World {
         if state.bytes().len() > MOST_STATE {
             return Some(StepError::StateTooLong);
         }
-        if self.is_full(at) {
+        if self.is_full(at, 1) {
             return Some(StepError::TapeFull);
         }
         None
+    }
+
+    /// Whether the last round begun is on a tape and not completed.
+    fn is_open(&self) -> bool
+        ensures { result ≡ is_open self.now }
+    {
+        match &self.running {
+            Some(_round) => true,
+            None => false,
+        }
+    }
+
+    /// Why a process may not begin a round now.
+    pub(super) fn begin_refusal(&self, at: ProcId, state: &State) -> Option<StepError>
+        ensures { result ≡ refusal_of self.now (Begin at state.now) }
+    {
+        if at.get() >= self.catalogue.n() {
+            return Some(StepError::NoSuchProcess);
+        }
+        if state.bytes().len() > MOST_STATE {
+            return Some(StepError::StateTooLong);
+        }
+        if !self.mode.is_fifo() {
+            return Some(StepError::WrongMode);
+        }
+        if self.is_open() {
+            return Some(StepError::RoundOpen);
+        }
+        if self.last_round >= LAST_ROUND {
+            return Some(StepError::NoMoreRounds);
+        }
+        if self.is_full(at, 1) {
+            return Some(StepError::TapeFull);
+        }
+        None
+    }
+
+    /// Why a process may not turn to a round now.
+    pub(super) fn turn_refusal(&self, at: ProcId, state: &State) -> StepError
+        ensures { refusal_of self.now (Turn at state.now) ≡ Some result }
+    {
+        if at.get() >= self.catalogue.n() {
+            return StepError::NoSuchProcess;
+        }
+        if self.mode.is_fifo() {
+            return StepError::WrongMode;
+        }
+        if state.bytes().len() > MOST_STATE {
+            return StepError::StateTooLong;
+        }
+        StepError::NothingToTurn
     }
 
     /// Whether a member of the set is no process.

@@ -1,15 +1,52 @@
--- No queue changes, and no link does.
-use Rattle.std.proofs.Common.{List, sym, subst, ap, ◌∙◌, length, arith}
-use Rattle.line_tape.specs.History.{Process}
+-- No queue changes, and no link does; and no round is completed.
+use Rattle.std.proofs.Common.{◌≡◌, ◌<◌, ℕ, List, [], ◌∷◌, None, refl, sym, subst, ap, ◌∙◌, length, arith}
+use Rattle.line_tape.specs.declared.events.Event.{Event}
+use Rattle.line_tape.specs.declared.events.Event.TheVariants.{Check as CheckEvent}
+use Rattle.line_tape.specs.History.{Process, with_event}
+use Rattle.line_world.specs.declared.replies.Reply.TheVariants.{Checked}
+use Rattle.line_world.specs.declared.steps.Mode.{Mode}
+use Rattle.line_world.specs.declared.steps.Step.TheVariants.{Check}
+use Rattle.line_world.specs.Listed.{Listed}
 use Rattle.line_world.specs.Machine.{Machine}
-use Rattle.line_world.specs.Worlds.{IsWorld}
+use Rattle.line_world.specs.Refusals.{refusal_of}
+use Rattle.line_world.specs.Steps.{Checks}
+use Rattle.line_world.specs.Worlds.{AreRounds, IsWorld}
+use Rattle.line_world.proofs.DeliverLemmas.{quiet_seen}
+use Rattle.line_world.proofs.OpeningLemmas.{AreRounds-kept, IsOpening-kept, none_listed}
 use Rattle.line_world.proofs.StepLemmas.{may_check}
-use Rattle.line_world.proofs.WorldLemmas.{IsWorld-check}
+use Rattle.line_world.proofs.WorldLemmas.{IsWorld-check, seen}
 use Rattle.line_world.proofs.worlds.World.check.Goals as goal
 
 pub invariant_of-self-2 : goal.invariant_of-self-2
 invariant_of-self-2 c =
     let may = may_check c.args.self.now c.args.at c.args.state.now (sym c.check_refusal.ensures ∙ c.in_default.is) in
-    subst (λ (h : List Process). IsWorld c.self.inside.mode h c.self.inside.links) (sym c.in_ok-check.ensures.checked)
-    (IsWorld-check c.self.inside.catalogue.processes c.self.inside.links c.self.inside.mode c.self.invariant c.args.at c.in_ok-state.state
-    (omega (arith, may.within, ap (λ (m : Machine). length m.history) c.self.view_is)))
+    let history : List Process = c.self.inside.catalogue.processes in
+    let mode : Mode = c.self.inside.mode in
+    let e : Event = CheckEvent c.in_ok-state.state None in
+    let within : c.args.at < length history = omega (arith, may.within, ap (λ (m : Machine). length m.history) c.self.view_is) in (
+      subst (λ (h : List Process). IsWorld mode h c.self.inside.links) (sym c.in_ok-check.ensures.checked)
+          (IsWorld-check history c.self.inside.links mode c.self.invariant.0 c.args.at c.in_ok-state.state within),
+      subst (λ (h : List Process). AreRounds mode h c.self.inside.last_round c.self.inside.running c.self.inside.rounds.items) (sym c.in_ok-check.ensures.checked)
+          (AreRounds-kept history c.args.at e within (λ r. refl) (λ r p. refl) mode c.self.inside.last_round c.self.inside.running c.self.inside.running c.self.inside.rounds.items refl
+          (IsOpening-kept history c.args.at e within (λ r. refl) mode c.self.inside.running (λ r p. refl) (λ r p. refl) c.self.invariant.1.opening) c.self.invariant.1),
+    )
+
+pub returns-clause-done : goal.returns-clause-done
+returns-clause-done c =
+    let none : refusal_of c.args.self.now (Check c.args.at c.args.state.now) ≡ None = sym c.check_refusal.ensures ∙ c.in_default.is in
+    let may = may_check c.args.self.now c.args.at c.args.state.now none in
+    let history : List Process = c.self.inside.catalogue.processes in
+    let mode : Mode = c.self.inside.mode in
+    let last : ℕ = c.self.inside.last_round in
+    let rounds : List Listed = c.self.inside.rounds.items in
+    let e : Event = CheckEvent c.args.state.now None in
+    let within : c.args.at < length history = omega (arith, may.within, ap (λ (m : Machine). length m.history) c.self.view_is) in
+    let after : Machine = seen mode c.add_check.new.catalogue.processes c.add_check.new.catalogue.marks last rounds c.self.inside.links in
+    let done : c.add_check.new.catalogue.processes ≡ with_event history c.args.at e = c.in_ok-check.ensures.checked ∙ ap (λ (bytes : List ℕ). with_event history c.args.at (CheckEvent bytes None)) c.in_ok-state.ensures in (
+      none,
+      subst (λ (m : Machine). Checks m c.args.at c.args.state.now (Checked c.args.at c.in_ok-check.check) after) c.self.view_is (record {
+        reply_is = ap (λ (k : ℕ). Checked c.args.at k) c.in_ok-check.ensures.check;
+        new_is = quiet_seen mode history c.add_check.new.catalogue.processes c.self.inside.catalogue.marks c.add_check.new.catalogue.marks last rounds c.self.inside.links c.self.inside.links c.args.at (e ∷ []) done c.in_ok-check.ensures.marks refl
+            (none_listed history c.args.at e within (λ r. refl) (λ r p. refl) mode last);
+      }),
+    )

@@ -16,7 +16,10 @@ use Rattle.line_world.specs.Machine.{Machine, copies_in}
 use Rattle.line_world.specs.Queues.{queue_at}
 use Rattle.line_world.specs.Refusals.{refusal_of, has_stranger, IsRefused}
 use Rattle.line_world.specs.Steps.{restored_states, restarted_machine}
-use Rattle.line_world.specs.Worlds.{IsWorld, AreQueues}
+use Rattle.line_world.specs.Worlds.{AreRounds, IsWorld, AreQueues}
+use Rattle.std.specs.List.{filter}
+use Rattle.line_world.specs.Listed.{Listed, stays}
+use Rattle.line_world.proofs.OpeningLemmas.{AreRounds-restarted}
 use Rattle.line_world.proofs.LineFacts.{IsLine-latest}
 use Rattle.line_world.proofs.StepLemmas.{may_recover}
 use Rattle.line_world.proofs.WorldLemmas.{IsWorld-restart, seen, seen-restart}
@@ -54,7 +57,7 @@ restarted_links-requires-clause-line c =
 
 pub restarted_links-requires-clause-queued : goal.restarted_links-requires-clause-queued
 restarted_links-requires-clause-queued c =
-    subst (λ (h : List Process). AreQueues h c.self.inside.links) (sym c.history-history.ensures.processes) c.self.invariant.queued
+    subst (λ (h : List Process). AreQueues h c.self.inside.links) (sym c.history-history.ensures.processes) c.self.invariant.0.queued
 
 pub restart-requires-clause-line : goal.restart-requires-clause-line
 restart-requires-clause-line c =
@@ -78,16 +81,21 @@ invariant_of-self c =
     let line : List Choice = c.in_ok-plan.plan.line in
     let size : length line ≡ length old = c.in_ok-plan.ensures.plan.latest.recoverable.length_is ∙ ap (λ (m : Machine). length m.history) (sym c.self.view_is) in
     let consistent : IsConsistent old line = subst (λ (m : Machine). IsConsistent m.history line) (sym c.self.view_is) c.in_ok-plan.ensures.plan.latest.recoverable.consistent in
-    let queued : AreQueues old new = subst (λ (h : List Process). AreQueues h new) c.history-history.ensures.processes c.in_ok-links.ensures.queued in
-    subst (λ (h : List Process). IsWorld mode h new) (sym c.restart.ensures.processes)
-    (IsWorld-restart old links new line size consistent queued mode c.self.invariant
-    (subst (λ (h : List Process). (p q : ℕ) → p < length h → q < length h → queue_at new p q ≡ queue_at (copies_in mode links) p q ++ map (λ m. Message m) (in_transit_between h line p q)) c.history-history.ensures.processes c.in_ok-links.ensures.put))
+    let queued : AreQueues old new = subst (λ (h : List Process). AreQueues h new) c.history-history.ensures.processes c.in_ok-links.ensures.queued in (
+      subst (λ (h : List Process). IsWorld mode h new) (sym c.restart.ensures.processes)
+          (IsWorld-restart old links new line size consistent queued mode c.self.invariant.0
+          (subst (λ (h : List Process). (p q : ℕ) → p < length h → q < length h → queue_at new p q ≡ queue_at (copies_in mode links) p q ++ map (λ m. Message m) (in_transit_between h line p q)) c.history-history.ensures.processes c.in_ok-links.ensures.put)),
+      subst (λ (h : List Process). AreRounds mode h c.self.inside.last_round None c.keep_rounds.new.rounds.items) (sym c.restart.ensures.processes)
+          (subst (λ (rounds : List Listed). AreRounds mode (restarted old line) c.self.inside.last_round None rounds) (sym c.keep_rounds.ensures)
+          (AreRounds-restarted mode old line c.self.inside.last_round c.self.inside.running c.self.inside.rounds.items size c.self.invariant.1)),
+    )
 
 pub returns-clause-done : goal.returns-clause-done
 returns-clause-done c =
     let mode : Mode = c.self.inside.mode in
     let old : List Process = c.self.inside.catalogue.processes in
     let marks : MarksView = c.self.inside.catalogue.marks in
+    let last : ℕ = c.self.inside.last_round in
     let links : List (List (List Item)) = c.self.inside.links in
     let new : List (List (List Item)) = c.in_ok-links.links in
     let line : List Choice = c.in_ok-plan.plan.line in
@@ -104,9 +112,10 @@ returns-clause-done c =
         states_are = c.in_ok-states.ensures ∙ ap (λ (h : List Process). restored_states h line) same;
         incarnations_are = c.in_ok-incarnations.ensures ∙ ap (λ (h : List Process). map (λ (process : Process). process.incarnation) (restarted h line)) c.history-history.ensures.processes
             ∙ ap (λ (h : List Process). map (λ (process : Process). process.incarnation) h) (sym c.restart.ensures.processes);
-        new_is = ap (λ (h : List Process). seen mode h c.restart.new.self.marks new) c.restart.ensures.processes
-            ∙ ap (λ (v : MarksView). seen mode (restarted old line) v new) c.restart.ensures.marks
-            ∙ ap (λ (copies : List (List (List Item))). let m : Machine = record { mode = mode; history = restarted old line; marks = restarted_marks marks line; copies = copies } in m)
+        new_is = ap (λ (h : List Process). seen mode h c.restart.new.self.marks last c.keep_rounds.new.rounds.items new) c.restart.ensures.processes
+            ∙ ap (λ (v : MarksView). seen mode (restarted old line) v last c.keep_rounds.new.rounds.items new) c.restart.ensures.marks
+            ∙ ap (λ (rounds : List Listed). seen mode (restarted old line) (restarted_marks marks line) last rounds new) c.keep_rounds.ensures
+            ∙ ap (λ (copies : List (List (List Item))). let m : Machine = record { mode = mode; history = restarted old line; marks = restarted_marks marks line; last_round = last; rounds = filter (stays line) c.self.inside.rounds.items; copies = copies } in m)
             (seen-restart old links new line size consistent queued mode
             (subst (λ (h : List Process). (p q : ℕ) → p < length h → q < length h → queue_at new p q ≡ queue_at (copies_in mode links) p q ++ map (λ m. Message m) (in_transit_between h line p q)) c.history-history.ensures.processes c.in_ok-links.ensures.put))
             ∙ ap (λ (m : Machine). restarted_machine m line) c.self.view_is;

@@ -1,5 +1,5 @@
 -- The first cause refuses, or the message is put.
-use Rattle.std.proofs.Common.{◌≡◌, List, [], length, None, sym, ap, ◌∙◌, subst, arith}
+use Rattle.std.proofs.Common.{◌≡◌, ◌<◌, ℕ, List, [], length, None, refl, sym, ap, ◌∙◌, subst, arith}
 use Rattle.line_tape.specs.declared.items.Item.{Item}
 use Rattle.line_tape.specs.declared.events.Event.TheVariants.{Send as SendEvent}
 use Rattle.line_tape.specs.History.{Process, tape_at, incarnation_at, with_event}
@@ -8,7 +8,11 @@ use Rattle.line_world.specs.declared.steps.Step.TheVariants.{Send}
 use Rattle.line_world.specs.Machine.{Machine}
 use Rattle.line_world.specs.Refusals.{refusal_of}
 use Rattle.line_world.specs.Steps.{Sends}
-use Rattle.line_world.specs.Worlds.{IsWorld}
+use Rattle.line_world.specs.Worlds.{AreRounds, IsWorld}
+use Rattle.line_world.specs.Listed.{Listed}
+use Rattle.line_world.specs.declared.steps.Mode.{Mode}
+use Rattle.line_tape.specs.declared.events.Event.{Event}
+use Rattle.line_world.proofs.OpeningLemmas.{AreRounds-kept, IsOpening-kept, none_listed}
 use Rattle.line_world.proofs.StepLemmas.{Takes-refused, may_send}
 use Rattle.line_world.proofs.WorldLemmas.{IsWorld-send, Sends-seen, seen}
 use Rattle.line_world.proofs.worlds.World.send.Goals as goal
@@ -35,18 +39,33 @@ put_message-requires-clause-few c =
 pub invariant_of-self-2 : goal.invariant_of-self-2
 invariant_of-self-2 c =
     let may = may_send c.args.self.now c.args.from c.args.to [] (sym (c.send_refusal.ensures []) ∙ c.in_default.is) in
-    subst (λ (h : List Process). IsWorld c.self.inside.mode h c.put_message.new.links) (sym c.in_ok-message.ensures.sent)
-    (subst (λ (q : List (List (List Item))). IsWorld c.self.inside.mode (with_event c.self.inside.catalogue.processes c.args.from (SendEvent c.args.to (incarnation_at c.self.inside.catalogue.processes c.args.from) c.args.body.now)) q) (sym c.in_ok-message.ensures.put)
-    (IsWorld-send c.self.inside.catalogue.processes c.self.inside.links c.args.from c.args.to
-    (omega (arith, may.named.from_within, ap (λ (m : Machine). length m.history) c.self.view_is))
-    (omega (arith, may.named.to_within, ap (λ (m : Machine). length m.history) c.self.view_is)) c.self.inside.mode c.self.invariant c.args.body.now))
+    let history : List Process = c.self.inside.catalogue.processes in
+    let mode : Mode = c.self.inside.mode in
+    let e : Event = SendEvent c.args.to (incarnation_at history c.args.from) c.args.body.now in
+    let from_within : c.args.from < length history = omega (arith, may.named.from_within, ap (λ (m : Machine). length m.history) c.self.view_is) in
+    let to_within : c.args.to < length history = omega (arith, may.named.to_within, ap (λ (m : Machine). length m.history) c.self.view_is) in (
+      subst (λ (h : List Process). IsWorld mode h c.put_message.new.links) (sym c.in_ok-message.ensures.sent)
+          (subst (λ (q : List (List (List Item))). IsWorld mode (with_event history c.args.from e) q) (sym c.in_ok-message.ensures.put)
+          (IsWorld-send history c.self.inside.links c.args.from c.args.to from_within to_within mode c.self.invariant.0 c.args.body.now)),
+      subst (λ (h : List Process). AreRounds mode h c.self.inside.last_round c.self.inside.running c.self.inside.rounds.items) (sym c.in_ok-message.ensures.sent)
+          (AreRounds-kept history c.args.from e from_within (λ r. refl) (λ r p. refl) mode c.self.inside.last_round c.self.inside.running c.self.inside.running c.self.inside.rounds.items refl
+          (IsOpening-kept history c.args.from e from_within (λ r. refl) mode c.self.inside.running (λ r p. refl) (λ r p. refl) c.self.invariant.1.opening) c.self.invariant.1),
+    )
 
 pub returns-clause-done : goal.returns-clause-done
 returns-clause-done c =
     let none : refusal_of c.args.self.now (Send c.args.from c.args.to c.args.body.now) ≡ None = sym (c.send_refusal.ensures c.args.body.now) ∙ c.in_default.is in
-    let after : Machine = seen c.self.inside.mode c.put_message.new.catalogue.processes c.put_message.new.catalogue.marks c.put_message.new.links in (
+    let may = may_send c.args.self.now c.args.from c.args.to [] (sym (c.send_refusal.ensures []) ∙ c.in_default.is) in
+    let history : List Process = c.self.inside.catalogue.processes in
+    let mode : Mode = c.self.inside.mode in
+    let last : ℕ = c.self.inside.last_round in
+    let rounds : List Listed = c.self.inside.rounds.items in
+    let e : Event = SendEvent c.args.to (incarnation_at history c.args.from) c.args.body.now in
+    let from_within : c.args.from < length history = omega (arith, may.named.from_within, ap (λ (m : Machine). length m.history) c.self.view_is) in
+    let after : Machine = seen mode c.put_message.new.catalogue.processes c.put_message.new.catalogue.marks last rounds c.put_message.new.links in (
       none,
       subst (λ (m : Machine). Sends m c.args.from c.args.to c.args.body.now (Sent c.in_ok-message.message) after) c.self.view_is
-          (Sends-seen c.self.inside.mode c.self.inside.catalogue.processes c.self.inside.catalogue.marks c.self.inside.links c.args.from c.args.to c.args.body.now c.in_ok-message.message c.put_message.new.catalogue.processes
-          c.put_message.new.catalogue.marks c.put_message.new.links c.in_ok-message.ensures.name c.in_ok-message.ensures.sent c.in_ok-message.ensures.marks c.in_ok-message.ensures.put),
+          (Sends-seen mode history c.self.inside.catalogue.marks last rounds c.self.inside.links c.args.from c.args.to c.args.body.now c.in_ok-message.message c.put_message.new.catalogue.processes
+          c.put_message.new.catalogue.marks c.put_message.new.links c.in_ok-message.ensures.name c.in_ok-message.ensures.sent c.in_ok-message.ensures.marks c.in_ok-message.ensures.put
+          (none_listed history c.args.from e from_within (λ r. refl) (λ r p. refl) mode last)),
     )

@@ -1,0 +1,76 @@
+//! Steps in one run.
+use line_names::{Body, MsgName, ProcId};
+use line_tape::State;
+use line_world::{Answer, Mode, Reply, Step, StepError, World};
+use std::alloc::Global;
+use std::test::Fail;
+
+/// What an answer tells, as far as these runs ask.
+#[derive(Clone, Copy, Debug, PartialEq, Eq)]
+enum Told {
+    Sent(MsgName),
+    Took(MsgName),
+    Checked(u32),
+    Refused(StepError),
+    Else,
+}
+
+fn seen(answer: &Answer) -> Told {
+    match answer {
+        Answer::Done(Reply::Sent { message }) => Told::Sent(*message),
+        Answer::Done(Reply::Took { message, .. }) => Told::Took(*message),
+        Answer::Done(Reply::Checked { check, .. }) => Told::Checked(*check),
+        Answer::Done(_) => Told::Else,
+        Answer::Refused(error) => Told::Refused(*error),
+    }
+}
+
+/// A message from process 0 to process 1 that is delivered, and a check behind it.
+fn a_message_and_a_check(alloc: Global) -> Result<Vec<Step>, Fail> {
+    let (from, to) = (ProcId::try_new(0, 2)?, ProcId::try_new(1, 2)?);
+    let body = Body::try_new(b"a")?;
+    let nothing = State::of(Vec::new(alloc));
+    let state = State::of(Vec::new(alloc));
+    let mut steps = Vec::with_capacity(alloc, 3)?;
+    steps.push(Step::Send { from, to, body })?;
+    steps.push(Step::Deliver {
+        from,
+        to,
+        pick: 0,
+        state: nothing,
+    })?;
+    steps.push(Step::Check { at: to, state })?;
+    Ok(steps)
+}
+
+#[test]
+fn a_run_answers_each_step(rt: HostRuntime) -> Result<(), Fail> {
+    let steps = a_message_and_a_check(rt.alloc())?;
+    let from = ProcId::try_new(0, 2)?;
+    let message = MsgName {
+        from,
+        inc: 0,
+        number: 0,
+    };
+    let mut world = World::new(rt.alloc(), 2, Mode::Fifo)?;
+    let answers = world.run(rt.alloc(), &steps)?;
+    assert_eq!(rt; answers.len(), 3);
+    assert_eq!(rt; answers.first().map(seen), Some(Told::Sent(message)));
+    assert_eq!(rt; answers.get(1).map(seen), Some(Told::Took(message)));
+    assert_eq!(rt; answers.last().map(seen), Some(Told::Checked(1)));
+    Ok(())
+}
+
+#[test]
+fn a_run_goes_on_past_a_refusal(rt: HostRuntime) -> Result<(), Fail> {
+    let steps = a_message_and_a_check(rt.alloc())?;
+    let mut world = World::new(rt.alloc(), 2, Mode::Fifo)?;
+    let answers = world.run(rt.alloc(), &steps[1..])?;
+    assert_eq!(rt; answers.len(), 2);
+    assert_eq!(rt;
+        answers.first().map(seen),
+        Some(Told::Refused(StepError::LinkEmpty))
+    );
+    assert_eq!(rt; answers.last().map(seen), Some(Told::Checked(1)));
+    Ok(())
+}

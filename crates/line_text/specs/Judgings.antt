@@ -1,0 +1,59 @@
+-- What is told of a history and a claim on it.
+use Rattle.std.specs.Prelude.{◌≡◌, ℕ, List, [], ◌∷◌, Option, Some, None, Ok, codes, decimal}
+use Rattle.line_check.specs.declared.faults.CertFault.{CertFault}
+use Rattle.line_check.specs.declared.faults.FaultCode.{FaultCode}
+use Rattle.line_check.specs.declared.faults.FaultCode.TheVariants as faults
+use Rattle.line_check.specs.Shape.{HasShape}
+use Rattle.line_check.specs.Verdict.{IsFirstFault}
+use Rattle.line_claims.specs.Faults.{name_of}
+use Rattle.line_claims.specs.Texts.{Check, check_of_text}
+use Rattle.line_devices.specs.Devices.{Puts, PutsFront}
+use Rattle.line_fields.specs.Records.{Record}
+use Rattle.line_fields.specs.Texts.{record_text}
+use Rattle.line_tape.specs.Chain.{IsChain}
+use Rattle.line_tape.specs.Survival.{IsLatest}
+
+-- a claim names only what its history has, and its entries lead to its line
+pub record IsValid (check : Check) : Type 0 where
+  pub shape : HasShape check.history check.claim.marks check.claim.failed check.claim.certificate check.claim.line
+  pub chain : IsChain check.history check.claim.marks check.claim.failed check.claim.certificate check.claim.line
+  pub latest : IsLatest check.history check.claim.marks check.claim.failed check.claim.line
+
+-- nothing is wrong with a claim, or this is the first thing that is
+abbrev pub IsVerdict : Check → Option CertFault → Type 0
+IsVerdict check None = IsValid check
+IsVerdict check (Some fault) = IsFirstFault check.history check.claim.marks check.claim.failed check.claim.certificate check.claim.line fault.entry fault.code
+
+-- the number of a fault of a claim
+abbrev pub fault_code : FaultCode → ℕ
+fault_code faults.NotTop = 11
+fault_code faults.NotReceived = 12
+fault_code faults.NotOrphan = 13
+fault_code faults.LineDiffers = 14
+fault_code faults.NotConsistent = 15
+fault_code faults.BadShape = 16
+
+-- the entry that a fault is of, counted from 0, where it is of one
+abbrev pub entry_text : Option ℕ → List ℕ
+entry_text None = codes "-"
+entry_text (Some entry) = decimal entry
+
+-- valid, or invalid,ENTRY,CODE,NAME
+abbrev pub verdict_record : Option CertFault → Record
+verdict_record None = codes "valid" ∷ []
+verdict_record (Some fault) = codes "invalid" ∷ entry_text fault.entry ∷ decimal (fault_code fault.code) ∷ name_of (fault_code fault.code) ∷ []
+
+-- the text spells a history and a claim on it, which are told this, and the record of that was put
+pub record JudgesText (text : List ℕ) (verdict : Option CertFault) (old new : Option (List ℕ)) : Type 0 where
+  pub check : Check
+  pub spelt : check_of_text text ≡ Ok check
+  pub judged : IsVerdict check verdict
+  pub put : Puts old new (record_text (verdict_record verdict))
+
+-- of the record of what they are told a front was put
+pub record JudgesTextFront (text : List ℕ) (old new : Option (List ℕ)) : Type 0 where
+  pub check : Check
+  pub verdict : Option CertFault
+  pub spelt : check_of_text text ≡ Ok check
+  pub judged : IsVerdict check verdict
+  pub put : PutsFront old new (record_text (verdict_record verdict))

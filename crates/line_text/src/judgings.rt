@@ -1,0 +1,139 @@
+//! Check texts that are judged: a text in, a verdict out.
+
+ghost use Rattle.std.specs.Prelude.{◌≡◌, ◌++◌, ◌∷◌, ◌≤◌, ◌⊎◌, [], ℕ, List, Err, Some, IfErr, IfOk, OnOk};
+ghost use Rattle.line_claims.specs.Reads.{IsOfText};
+ghost use Rattle.line_claims.specs.Texts.{check_of_text, seen_check};
+ghost use Rattle.line_devices.specs.Devices.{one_more};
+ghost use Rattle.line_fields.specs.Texts.{record_text};
+ghost use Rattle.line_text.specs.declared.ends.TheConstants.{READ_FAULT, WRITE_FAULT};
+ghost use Rattle.line_text.specs.Ends.{IsTooLong};
+ghost use Rattle.line_text.specs.Judgings as spec;
+
+use crate::ends::{WRITE_FAULT, fault_of, put, read_input};
+use line_check::{CertFault, FaultCode, check_certificate};
+use line_claims::{CheckText, TextFault, name_of, read_check_text};
+use line_devices::{Sink, Source};
+use line_fields::{Draft, put_record};
+use std::alloc::{AllocError, Global};
+
+// What is wrong with a claim, if anything is.
+fn verdict_of(check: &CheckText) -> Option<CertFault>
+    ensures { spec.IsVerdict (seen_check check.now) result }
+{
+    let claim = &check.claim;
+    match check_certificate(
+        &check.history,
+        &claim.marks,
+        &claim.failed,
+        &claim.line,
+        claim.certificate.as_slice(),
+    ) {
+        Ok(()) => None,
+        Err(fault) => Some(fault),
+    }
+}
+
+// The number of a fault of a claim.
+fn code_of(code: FaultCode) -> u32
+    ensures { result ≡ spec.fault_code code }
+{
+    code.code()
+}
+
+// Adds the entry that a fault is of, or `-`.
+fn add_entry(draft: &mut Draft, entry: Option<u32>) -> Result<(), AllocError>
+    ensures { OnOk result (draft.new ≡ draft.old ++ spec.entry_text entry ∷ []) }
+{
+    match entry {
+        None => draft.word(b"-"),
+        Some(entry) => draft.number(u64::from(entry)),
+    }
+}
+
+// The text of `valid`.
+fn valid_text(alloc: Global) -> Result<Vec<u8>, AllocError>
+    ensures { IfOk result (λ text. text.items ≡ record_text (spec.verdict_record None)) }
+{
+    let mut draft = Draft::new(alloc);
+    let mut text = Vec::new(alloc);
+    draft.word(b"valid")?;
+    put_record(alloc, &mut text, &draft)?;
+    Ok(text)
+}
+
+// The text of `invalid,ENTRY,CODE,NAME`.
+fn invalid_text(alloc: Global, fault: CertFault) -> Result<Vec<u8>, AllocError>
+    ensures { IfOk result (λ text. text.items ≡ record_text (spec.verdict_record (Some fault))) }
+{
+    let mut draft = Draft::new(alloc);
+    let mut text = Vec::new(alloc);
+    let code = code_of(fault.code);
+    draft.word(b"invalid")?;
+    add_entry(&mut draft, fault.entry)?;
+    draft.number(u64::from(code))?;
+    draft.word(name_of(code).as_bytes())?;
+    put_record(alloc, &mut text, &draft)?;
+    Ok(text)
+}
+
+// The text of a verdict.
+fn verdict_text(alloc: Global, verdict: Option<CertFault>) -> Result<Vec<u8>, AllocError>
+    ensures { IfOk result (λ text. text.items ≡ record_text (spec.verdict_record verdict)) }
+{
+    match verdict {
+        None => valid_text(alloc),
+        Some(fault) => invalid_text(alloc, fault),
+    }
+}
+
+/// Reads a history and a claim on it, judges the claim, and writes the verdict: `valid`, or
+/// `invalid,ENTRY,CODE,NAME` with the first fault of the claim, and the entry that it is of, counted from
+/// 0, or `-`. It answers that fault, and none where the claim is valid.
+///
+/// A claim that is told `valid` names only what its history has, its entries lead from the latest
+/// surviving choices to its line, and that line is the latest consistent one of choices that survive.
+///
+/// A fault of the text is the first one, with the number of its record; then nothing is judged and nothing
+/// written. `ReadFault` says that the source failed or that the input is too long, `WriteFault` that the
+/// sink failed, and the fault 0 that memory did not suffice, each of record 0. It takes time and memory in
+/// proportion to the input, and keeps beside it the history and the claim, each once.
+pub fn check_text<S: Source, K: Sink>(
+    alloc: Global,
+    source: &mut S,
+    sink: &mut K,
+) -> Result<Option<CertFault>, TextFault>
+    ensures done { IfOk result (λ verdict. (xs : List ℕ) → S.left source.old ≡ Some xs
+        → spec.JudgesText xs verdict (K.taken sink.old) (K.taken sink.new)) }
+
+    // A fault of the text is its first, and then nothing is written.
+    ensures text { IfErr result (λ fault. IsOfText fault
+        → (sink.new ≡ sink.old) × ((xs : List ℕ) → S.left source.old ≡ Some xs → check_of_text xs ≡ Err fault)) }
+
+    // So it is where the source failed or the input is too long.
+    ensures read { IfErr result (λ fault. fault.code ≡ READ_FAULT
+        → (fault.record_number ≡ 0) × (sink.new ≡ sink.old)
+        × ((S.faults source.new ≡ one_more (S.faults source.old)) ⊎ IsTooLong (S.left source.old))) }
+
+    // Where the sink failed, what it took is a front of the verdict.
+    ensures write { IfErr result (λ fault. fault.code ≡ WRITE_FAULT
+        → (fault.record_number ≡ 0) × (K.faults sink.new ≡ one_more (K.faults sink.old))
+        × ((xs : List ℕ) → S.left source.old ≡ Some xs → spec.JudgesTextFront xs (K.taken sink.old) (K.taken sink.new))) }
+
+    // Want of memory is of no record, and then nothing is written.
+    ensures memory { IfErr result (λ fault. fault.code ≡ 0 → (fault.record_number ≡ 0) × (sink.new ≡ sink.old)) }
+
+    // There are no other faults, and a sound sink is not blamed.
+    ensures codes { IfErr result (λ fault. fault.code ≤ WRITE_FAULT) }
+    ensures sound { OnOk result (K.faults sink.new ≡ K.faults sink.old) }
+{
+    let text = read_input(alloc, source)?;
+    let check = read_check_text(alloc, &text)?;
+    let verdict = verdict_of(&check);
+    let Ok(told) = verdict_text(alloc, verdict) else {
+        return Err(fault_of(0));
+    };
+    match put(sink, &told) {
+        Ok(()) => Ok(verdict),
+        Err(_) => Err(fault_of(WRITE_FAULT)),
+    }
+}

@@ -1,0 +1,107 @@
+-- The rounds of a world once a round is begun, and once a marker has come.
+use Rattle.std.proofs.Common.{◌≡◌, ◌≢◌, ℕ, ◌<◌, ◌≤◌, ◌+◌, Bool, true, false, List, [], ◌∷◌, ◌++◌, length, Option, Some, None, refl, sym, ap, ◌∙◌, subst, arith, inl, inr}
+use Rattle.std.specs.Prelude.{◌&&◌, not}
+use Rattle.std.specs.List.{All}
+use Rattle.std.proofs.lemmas.Bool.{both_ways, cases_eq, eq-eqb, false_from_ne_true, ne_eqb}
+use Rattle.std.proofs.lemmas.List.Elements.{All-weaker}
+use Rattle.line_tape.specs.declared.events.Event.{Event}
+use Rattle.line_tape.specs.declared.events.Event.TheVariants.{Check, Mark}
+use Rattle.line_tape.specs.Fit.{IsFitFifo}
+use Rattle.line_tape.specs.History.{Process, tape_at, with_event}
+use Rattle.line_tape.specs.Rounds.{has_check_of}
+use Rattle.line_tape.proofs.NextLemmas.{tape_same}
+use Rattle.line_tape.proofs.RoundLines.{checked_has, completed_checked}
+use Rattle.line_tape.proofs.SnapshotLemmas.{snapshot_event}
+use Rattle.line_world.specs.declared.steps.Mode.TheVariants.{Fifo}
+use Rattle.line_world.specs.Fates.{is_forced, marker_events}
+use Rattle.line_world.specs.Listed.{Listed, channel_in, is_begun, is_completed, IsSnapshotOf}
+use Rattle.line_world.specs.Machine.{newly_listed, with_events}
+use Rattle.line_world.specs.Openings.{OpenView, left_open, newly_closed, open_number, IsOpening, IsRecording, IsRunning}
+use Rattle.line_world.specs.Worlds.{AreRounds}
+use Rattle.line_world.proofs.LinkLemmas.{length-with_event}
+use Rattle.line_world.proofs.OpeningLemmas.{begun_by, begun_still, closed_others, forced_none, forced_open, has_back, is_checked_now, newly_is, newly_none, none_left, still_last, AreRounds-settled, IsRunning-begun}
+
+-- one event more
+more_snapshots : (history : List Process) (at : ℕ) (e : Event) (rounds : List Listed) → at < length history → All (IsSnapshotOf history) rounds → All (IsSnapshotOf (with_event history at e)) rounds
+more_snapshots history at e rounds within all =
+    All-weaker (IsSnapshotOf history) (IsSnapshotOf (with_event history at e)) (λ round is. snapshot_event history at e round.checks (channel_in round) within is) rounds all
+
+module _ (history : List Process) (last : ℕ) (running : Option OpenView) (rounds : List Listed) (are : AreRounds Fifo history last running rounds) where
+  -- a round is begun
+  module _ (closed : (is_begun history last && not (is_completed Fifo history last)) ≡ false) (at : ℕ) (state : List ℕ) (within : at < length history) (round : OpenView) (number : round.number ≡ last + 1) where
+    abbrev begun : List Process
+    begun = with_event history at (Check state (Some (last + 1)))
+
+    pub begun_fresh : (q : ℕ) → has_check_of (last + 1) (tape_at history q) ≡ false
+    begun_fresh q = false_from_ne_true (has_check_of (last + 1) (tape_at history q)) (λ t. let wrong = are.numbers q (last + 1) t in omega (arith, wrong))
+
+    pub begun_running : IsRecording begun round → IsRunning Fifo begun round
+    begun_running recording =
+        subst (λ (v : ℕ). IsRunning Fifo (with_event history at (Check state (Some v))) round) number
+        (IsRunning-begun Fifo history at state round within (λ p r has apart. closed_others Fifo history last running are.opening are.unfinished closed p r has)
+        (subst (λ (v : ℕ). IsRecording (with_event history at (Check state (Some v))) round) (sym number) recording))
+
+    begun_numbers : (p r : ℕ) → has_check_of r (tape_at begun p) ≡ true → r ≤ last + 1
+    begun_numbers p r has = elim (cases_eq r (last + 1)) [
+      | inl same ↦ omega (arith, same)
+      | inr apart ↦ let old = are.numbers p r (sym (has_back history at (Check state (Some (last + 1))) within p r (ne_eqb (last + 1) r (λ e. apart (sym e)))) ∙ has) in omega (arith, old)
+    ]
+
+    begun_now : is_begun begun (last + 1) ≡ true
+    begun_now =
+        let e : Event = Check state (Some (last + 1)) in
+        begun_by begun (last + 1) at (omega (arith, within, length-with_event history at e))
+        (ap (has_check_of (last + 1)) (tape_same history at e at within refl) ∙ is_checked_now (last + 1) (tape_at history at) e (eq-eqb (last + 1) (last + 1) refl))
+
+    pub begun_settled : IsFitFifo begun → IsRecording begun round → AreRounds Fifo begun (last + 1) (left_open Fifo begun (Some round)) (rounds ++ newly_closed Fifo begun (Some round))
+    begun_settled fit recording =
+        AreRounds-settled begun fit (last + 1) rounds begun_numbers (more_snapshots history at (Check state (Some (last + 1))) rounds within are.snapshots) (Some round) (begun_running recording)
+        (λ o is. let same : round ≡ o = cc in (sym (ap (λ (v : OpenView). v.number) same) ∙ number, begun_now))
+
+    pub begun_listed : newly_closed Fifo begun (Some round) ≡ newly_listed Fifo history begun (last + 1)
+    begun_listed =
+        newly_is Fifo history begun (last + 1) round number (false_from_ne_true (is_completed Fifo history (last + 1)) (λ t.
+        both_ways (has_check_of (last + 1) (tape_at history at)) (begun_fresh at) (checked_has history (last + 1) at (completed_checked history (last + 1) t) within)))
+
+  -- a marker has come
+  module _ (from to round : ℕ) (state : List ℕ) (within : to < length history) (sent : has_check_of round (tape_at history from) ≡ true) where
+    abbrev after : Bool → List Process
+    after forced = with_events history to (marker_events forced from state round)
+
+    abbrev one : List Process
+    one = with_event history to (Check state (Some round))
+
+    one_within : to < length one
+    one_within = omega (arith, within, length-with_event history to (Check state (Some round)))
+
+    marker_numbers : (forced : Bool) → (p r : ℕ) → has_check_of r (tape_at (after forced) p) ≡ true → r ≤ last
+    marker_numbers true p r has = elim (cases_eq r round) [
+      | inl same ↦ subst (λ (v : ℕ). v ≤ last) (sym same) (are.numbers from round sent)
+      | inr apart ↦ are.numbers p r (sym (has_back history to (Check state (Some round)) within p r (ne_eqb round r (λ e. apart (sym e)))) ∙ sym (has_back one to (Mark from round) one_within p r refl) ∙ has)
+    ]
+    marker_numbers false p r has = are.numbers p r (sym (has_back history to (Mark from round) within p r refl) ∙ has)
+
+    marker_snapshots : (forced : Bool) → All (IsSnapshotOf (after forced)) rounds
+    marker_snapshots true = more_snapshots one to (Mark from round) rounds one_within (more_snapshots history to (Check state (Some round)) rounds within are.snapshots)
+    marker_snapshots false = more_snapshots history to (Mark from round) rounds within are.snapshots
+
+    marker_begun : (forced : Bool) → is_begun history last ≡ true → is_begun (after forced) last ≡ true
+    marker_begun true begun = begun_still one to (Mark from round) last one_within (begun_still history to (Check state (Some round)) last within begun)
+    marker_begun false begun = begun_still history to (Mark from round) last within begun
+
+    pub marker_settled : (forced : Bool) (new : Option OpenView) → IsFitFifo (after forced) → open_number new ≡ open_number running → IsOpening Fifo (after forced) new
+        → AreRounds Fifo (after forced) last (left_open Fifo (after forced) new) (rounds ++ newly_closed Fifo (after forced) new)
+    marker_settled forced new fit number opening =
+        AreRounds-settled (after forced) fit last rounds (marker_numbers forced) (marker_snapshots forced) new opening
+        (λ o is. let l = still_last Fifo history last running are.unfinished o.number (sym (ap open_number is) ∙ number) in (l.0, marker_begun forced l.1))
+
+    pub marker_listed : (forced : Bool) → forced ≡ is_forced history to round → (new : Option OpenView) → open_number new ≡ open_number running → newly_closed Fifo (after forced) new ≡ newly_listed Fifo history (after forced) last
+    marker_listed forced is (Some o) number = let l = still_last Fifo history last running are.unfinished o.number number in newly_is Fifo history (after forced) last o l.0 l.2
+    marker_listed true is None number =
+        absurd (forced_open history from to round (subst (IsOpening Fifo history) (none_left running number) are.opening) sent (forced_none history to round (sym is)) within)
+    marker_listed false is None number =
+        let opening : IsOpening Fifo history None = subst (IsOpening Fifo history) (none_left running number) are.opening in
+        let new : List Process = with_event history to (Mark from round) in
+        sym (newly_none Fifo history new last (λ completed.
+        opening to last (sym (has_back history to (Mark from round) within to last refl)
+        ∙ checked_has new last to (completed_checked new last completed) (omega (arith, within, length-with_event history to (Mark from round))))))

@@ -1,0 +1,239 @@
+-- What a call on the open round leaves of it.
+use Rattle.std.proofs.Common.{◌≡◌, ◌≢◌, ℕ, zero, suc, ◌<◌, ◌≤◌, ◌+◌, Bool, true, false, cond, List, [], ◌∷◌, ◌++◌, length, get_or, set, map, Option, Some, refl, sym, ap, ◌∙◌, subst, arith, inl, inr}
+use Rattle.std.proofs.lemmas.List.{length_push, get_or_append_left, get_or_default, get_or-set_same, get_or-set_other, length-set}
+use Rattle.std.specs.Prelude.{◌==◌, ◌↔◌, IsTrue, Result, Ok, Err, OnOk, OnErr}
+use Rattle.std.specs.List.{range_with_len}
+use Rattle.std.proofs.lemmas.List.FromFn.{fill_by_all}
+use Rattle.line_marker.specs.Recording.{Channel, MarkerView, Recorded, messages_by, IsOver, with_marker, with_round, noted, IsRepeated}
+use Rattle.line_names.specs.declared.messages.MsgName.{MsgName}
+use Rattle.line_tape.specs.declared.events.Event.{Event}
+use Rattle.line_tape.specs.declared.events.Event.TheVariants.{Recv, Check, Mark}
+use Rattle.line_tape.specs.Event.{checks}
+use Rattle.line_tape.specs.History.{Process, tape_at, with_event}
+use Rattle.line_tape.specs.Rounds.{has_check_of, check_of, checks_of, channel_fifo, is_closed_at, is_completed_fifo}
+use Rattle.line_tape.proofs.CompletionLemmas.{closed_from, closed_parts}
+use Rattle.line_world.proofs.FateLemmas.{same_test}
+use Rattle.line_tape.proofs.RoundLines.{closed_has_check}
+use Rattle.line_tape.proofs.NextLemmas.{tape_same, tape_other}
+use Rattle.line_world.specs.declared.steps.Mode.TheVariants.{Fifo}
+use Rattle.line_world.specs.Listed.{Listed, channel, channel_table, listed}
+use Rattle.line_world.specs.Openings.{OpenView, names_or_none, recorded_channel, recorded_table, check_or_none, marker_at, no_marker, AreMarkers, IsFresh, IsMarkerOf, IsRecording, IsRoundOrNone}
+use Rattle.line_world.proofs.LinkLemmas.{length-with_event}
+use Rattle.line_world.proofs.OpeningLemmas.{check_begun, check_forced, check_heard, check_noted, is_checked_now, IsRecording-written}
+use Rattle.line_world.proofs.RecordingLemmas.{recorded_round, recorded_there, closed_over, over_closed, IsMarkerOf-begun, IsMarkerOf-marked, IsMarkerOf-noted, IsMarkerOf-repeated}
+use Rattle.std.proofs.lemmas.Bool.{eq-eqb, cases_eq, cases_lt}
+use Rattle.std.proofs.Math.Seq.{get_or-append_seam}
+
+module _ (history : List Process) (p r : ℕ) (indices : List ℕ) (markers : List MarkerView) (within : p < length history) (are : AreMarkers (length indices) markers)
+    (is : IsRecording history (record { number = r; checks = indices; markers = markers })) where
+  -- the marker of process p
+  pub own_marker : (d : MarkerView) → d ≡ get_or markers p d → d ≡ marker_at markers p
+  own_marker d e = e ∙ get_or_default markers p d no_marker (omega (arith, within, is.count, are.count))
+
+  -- as it was before
+  before : IsMarkerOf (length history) p r (tape_at history p) (marker_at markers p)
+  before = is.markers p within
+
+  same_n : (marker_at markers p).n ≡ length history
+  same_n = are.n_is p (omega (arith, within, is.count)) ∙ is.count
+
+  -- another check and another marker of process p
+  module _ (new : List Process) (length_is : length new ≡ length history) (others : (q : ℕ) → q ≢ p → tape_at new q ≡ tape_at history q) where
+    set_marker : (checks' : List ℕ) → length checks' ≡ length indices → ((q : ℕ) → q ≢ p → get_or checks' q 0 ≡ get_or indices q 0) → get_or checks' p 0 ≡ check_or_none r (tape_at new p)
+        → (marker : MarkerView) → IsMarkerOf (length history) p r (tape_at new p) marker → IsRecording new (record { number = r; checks = checks'; markers = set markers p marker })
+    set_marker checks' count same here marker is_new =
+        IsRecording-written history new p r length_is others indices checks' markers (set markers p marker) is count same
+        (λ q apart. get_or-set_other markers p q marker no_marker apart) here
+        (subst (IsMarkerOf (length history) p r (tape_at new p)) (sym (get_or-set_same markers p marker no_marker (omega (arith, within, is.count, are.count)))) is_new)
+
+    -- with its check
+    pub set_both : (check : ℕ) (marker : MarkerView) → check ≡ check_or_none r (tape_at new p) → IsMarkerOf (length history) p r (tape_at new p) marker
+        → IsRecording new (record { number = r; checks = set indices p check; markers = set markers p marker })
+    set_both check marker check_is is_new =
+        set_marker (set indices p check) (length-set indices p check) (λ q apart. get_or-set_other indices p q check 0 apart)
+        (get_or-set_same indices p check 0 (omega (arith, within, is.count)) ∙ check_is) marker is_new
+
+    -- without it
+    pub set_one : check_or_none r (tape_at new p) ≡ check_or_none r (tape_at history p) → (marker : MarkerView) → IsMarkerOf (length history) p r (tape_at new p) marker
+        → IsRecording new (record { number = r; checks = indices; markers = set markers p marker })
+    set_one kept marker is_new = set_marker indices refl (λ q apart. refl) (is.checks p within ∙ sym kept) marker is_new
+
+  one_event : (e : Event) → tape_at (with_event history p e) p ≡ tape_at history p ++ e ∷ []
+  one_event e = tape_same history p e p within refl
+
+  -- the process takes its check
+  pub IsRecording-begun : (state : List ℕ) (i j check : ℕ) (marker : MarkerView) → i ≡ p → j ≡ p → has_check_of r (tape_at history p) ≡ false → check ≡ checks (tape_at history p) + 1
+      → marker.floor ≡ (marker_at markers p).floor → marker.rounds ≡ with_round (marker_at markers p).rounds (marker_at markers p).n r
+      → IsRecording (with_event history p (Check state (Some r))) (record { number = r; checks = set indices i check; markers = set markers j marker })
+  IsRecording-begun state i j check marker i_is j_is none check_is floor rounds =
+      let e : Event = Check state (Some r) in
+      let new : List Process = with_event history p e in
+      subst (λ (v : ℕ). IsRecording new (record { number = r; checks = set indices v check; markers = set markers j marker })) (sym i_is)
+      (subst (λ (v : ℕ). IsRecording new (record { number = r; checks = set indices p check; markers = set markers v marker })) (sym j_is)
+      (set_both new (length-with_event history p e) (λ q apart. tape_other history p e q apart) check marker
+      (check_is ∙ sym (check_begun r (tape_at history p) state none) ∙ ap (check_or_none r) (sym (one_event e)))
+      (subst (λ (t : List Event). IsMarkerOf (length history) p r t marker) (sym (one_event e))
+      (IsMarkerOf-begun (length history) p r (tape_at history p) (marker_at markers p) before state marker none floor
+      (rounds ∙ ap (λ (n : ℕ). with_round (marker_at markers p).rounds n r) same_n)))))
+
+  -- the marker from another process has come
+  module _ (from : ℕ) (from_within : from < length history) (apart : from ≢ p) where
+    -- before the process has its check
+    pub IsRecording-forced : (state : List ℕ) (i j check : ℕ) (marker : MarkerView) → i ≡ p → j ≡ p → has_check_of r (tape_at history p) ≡ false → check ≡ checks (tape_at history p) + 1
+        → marker.floor ≡ (marker_at markers p).floor → marker.rounds ≡ with_marker (with_round (marker_at markers p).rounds (marker_at markers p).n r) from r
+        → IsRecording (with_event (with_event history p (Check state (Some r))) p (Mark from r)) (record { number = r; checks = set indices i check; markers = set markers j marker })
+    IsRecording-forced state i j check marker i_is j_is none check_is floor rounds =
+        let e : Event = Check state (Some r) in
+        let f : Event = Mark from r in
+        let tape : List Event = tape_at history p in
+        let old : MarkerView = marker_at markers p in
+        let n : ℕ = length history in
+        let mid : MarkerView = record old { rounds = with_round old.rounds n r } in
+        let one : List Process = with_event history p e in
+        let new : List Process = with_event one p f in
+        let size : length one ≡ n = length-with_event history p e in
+        let here : tape_at new p ≡ (tape ++ e ∷ []) ++ f ∷ [] = tape_same one p f p (omega (arith, within, size)) refl ∙ ap (λ (t : List Event). t ++ f ∷ []) (one_event e) in
+        let mid_is : IsMarkerOf n p r (tape ++ e ∷ []) mid = IsMarkerOf-begun n p r tape old before state mid none refl refl in
+        subst (λ (v : ℕ). IsRecording new (record { number = r; checks = set indices v check; markers = set markers j marker })) (sym i_is)
+        (subst (λ (v : ℕ). IsRecording new (record { number = r; checks = set indices p check; markers = set markers v marker })) (sym j_is)
+        (set_both new (length-with_event one p f ∙ size) (λ q other. tape_other one p f q other ∙ tape_other history p e q other) check marker
+        (check_is ∙ sym (check_forced r from tape state none) ∙ ap (check_or_none r) (sym here))
+        (subst (λ (t : List Event). IsMarkerOf n p r t marker) (sym here)
+        (IsMarkerOf-marked n p r (tape ++ e ∷ []) mid mid_is (is_checked_now r tape e (eq-eqb r r refl)) from from_within apart marker floor
+        (rounds ∙ ap (λ (v : ℕ). with_marker (with_round old.rounds v r) from r) same_n)))))
+
+    module _ (begun : has_check_of r (tape_at history p) ≡ true) (j : ℕ) (marker : MarkerView) (j_is : j ≡ p) (floor : marker.floor ≡ (marker_at markers p).floor) where
+      -- after it
+      heard : IsMarkerOf (length history) p r (tape_at history p ++ Mark from r ∷ []) marker → IsRecording (with_event history p (Mark from r)) (record { number = r; checks = indices; markers = set markers j marker })
+      heard is_new =
+          let e : Event = Mark from r in
+          let new : List Process = with_event history p e in
+          subst (λ (v : ℕ). IsRecording new (record { number = r; checks = indices; markers = set markers v marker })) (sym j_is)
+          (set_one new (length-with_event history p e) (λ q other. tape_other history p e q other)
+          (ap (check_or_none r) (one_event e) ∙ check_heard r from (tape_at history p)) marker
+          (subst (λ (t : List Event). IsMarkerOf (length history) p r t marker) (sym (one_event e)) is_new))
+
+      pub IsRecording-heard : marker.rounds ≡ with_marker (marker_at markers p).rounds from r → IsRecording (with_event history p (Mark from r)) (record { number = r; checks = indices; markers = set markers j marker })
+      IsRecording-heard rounds = heard (IsMarkerOf-marked (length history) p r (tape_at history p) (marker_at markers p) before begun from from_within apart marker floor rounds)
+
+      -- and where it has come before
+      pub IsRecording-repeated : marker.rounds ≡ (marker_at markers p).rounds → IsRepeated (marker_at markers p).rounds from r
+          → IsRecording (with_event history p (Mark from r)) (record { number = r; checks = indices; markers = set markers j marker })
+      IsRecording-repeated rounds repeated = heard (IsMarkerOf-repeated (length history) p r (tape_at history p) (marker_at markers p) before begun from from_within apart marker floor rounds repeated)
+
+  -- a message has come
+  pub IsRecording-noted : (message : MsgName) (j : ℕ) (marker : MarkerView) → message.from < length history → message.from ≢ p → j ≡ p → marker.floor ≡ (marker_at markers p).floor
+      → marker.rounds ≡ noted (marker_at markers p).rounds message → IsRecording (with_event history p (Recv message)) (record { number = r; checks = indices; markers = set markers j marker })
+  IsRecording-noted message j marker from_within apart j_is floor rounds =
+      let e : Event = Recv message in
+      let new : List Process = with_event history p e in
+      subst (λ (v : ℕ). IsRecording new (record { number = r; checks = indices; markers = set markers v marker })) (sym j_is)
+      (set_one new (length-with_event history p e) (λ q other. tape_other history p e q other)
+      (ap (check_or_none r) (one_event e) ∙ check_noted r message (tape_at history p)) marker
+      (subst (λ (t : List Event). IsMarkerOf (length history) p r t marker) (sym (one_event e))
+      (IsMarkerOf-noted (length history) p r (tape_at history p) (marker_at markers p) before message from_within apart marker floor rounds)))
+
+  -- or none, for want of memory
+  pub IsRecording-same : (j : ℕ) (marker : MarkerView) → j ≡ p → marker.floor ≡ (marker_at markers p).floor → marker.rounds ≡ (marker_at markers p).rounds
+      → IsRecording history (record { number = r; checks = indices; markers = set markers j marker })
+  IsRecording-same j marker j_is floor rounds =
+      subst (λ (v : ℕ). IsRecording history (record { number = r; checks = indices; markers = set markers v marker })) (sym j_is)
+      (set_one history refl (λ q other. refl) refl marker (record {
+        floor_is = omega (arith, floor, before.floor_is);
+        recorded = subst (λ (rs : List Recorded). IsRoundOrNone (length history) p r (tape_at history p) (has_check_of r (tape_at history p)) rs) (sym rounds) before.recorded;
+      }))
+
+-- the markers of the first k of n processes, with nothing recorded
+pub record AreFresh (n floor k : ℕ) (markers : List MarkerView) : Type 0 where
+  pub count : length markers ≡ k
+  pub n_is : (q : ℕ) → q < k → (marker_at markers q).n ≡ n
+  pub me_is : (q : ℕ) → q < k → (marker_at markers q).me ≡ q
+  pub fresh : (q : ℕ) → q < k → IsFresh floor (marker_at markers q)
+
+pub AreFresh-more : (n floor k : ℕ) (markers : List MarkerView) (marker : MarkerView) → AreFresh n floor k markers → marker.n ≡ n → marker.me ≡ k → marker.floor ≡ floor → marker.rounds ≡ []
+    → AreFresh n floor (k + 1) (markers ++ marker ∷ [])
+AreFresh-more n floor k markers marker are n_is me_is floor_is rounds = record {
+  count = length_push markers marker ∙ ap (λ (v : ℕ). v + 1) are.count;
+  n_is = λ q within. elim (cases_lt q k) [
+    | inl below ↦ ap (λ (m : MarkerView). m.n) (earlier q below) ∙ are.n_is q below
+    | inr past ↦ ap (λ (m : MarkerView). m.n) (last q (omega (arith, within, past))) ∙ n_is
+  ];
+  me_is = λ q within. elim (cases_lt q k) [
+    | inl below ↦ ap (λ (m : MarkerView). m.me) (earlier q below) ∙ are.me_is q below
+    | inr past ↦ ap (λ (m : MarkerView). m.me) (last q (omega (arith, within, past))) ∙ me_is ∙ omega (arith, within, past)
+  ];
+  fresh = λ q within. elim (cases_lt q k) [
+    | inl below ↦ subst (IsFresh floor) (sym (earlier q below)) (are.fresh q below)
+    | inr past ↦ subst (IsFresh floor) (sym (last q (omega (arith, within, past)))) (record { rounds = rounds; floor_is = floor_is })
+  ];
+}
+  where
+    earlier : (q : ℕ) → q < k → marker_at (markers ++ marker ∷ []) q ≡ marker_at markers q
+    earlier q below = get_or_append_left markers (marker ∷ []) no_marker q (omega (arith, below, are.count))
+
+    last : (q : ℕ) → q ≡ k → marker_at (markers ++ marker ∷ []) q ≡ marker
+    last q same = ap (marker_at (markers ++ marker ∷ [])) (same ∙ sym are.count) ∙ get_or-append_seam markers marker [] no_marker
+
+pub on_ok_weaker : {A E P Q : Type 0} (r : Result A E) → (P → Q) → OnOk r P → OnOk r Q
+on_ok_weaker (Ok x) f p = f p
+on_ok_weaker (Err e) f p = tt
+
+pub on_err_weaker : {A E P Q : Type 0} (r : Result A E) → (P → Q) → OnErr r P → OnErr r Q
+on_err_weaker (Ok x) f p = tt
+on_err_weaker (Err e) f p = f p
+
+-- the same cells give the same table
+map_cells : {X : Type 0} (f g : ℕ → X) (a n : ℕ) → ((k : ℕ) → a ≤ k → k < a + n → f k ≡ g k) → map f (range_with_len a n) ≡ map g (range_with_len a n)
+map_cells f g a zero same = refl
+map_cells {X} f g a (suc n) same = ap (λ (x : X). x ∷ map f (range_with_len (a + 1) n)) (same a (omega arith) (omega arith))
+    ∙ ap (λ (xs : List X). g a ∷ xs) (map_cells f g (a + 1) n (λ k low high. same k (omega (arith, low)) (omega (arith, high))))
+
+-- what the markers recorded of a channel is what the tape of its receiver has
+pub recorded_is : (history : List Process) (round : OpenView) → IsRecording history round → (p q : ℕ) → p < length history → q < length history → p ≢ q → has_check_of round.number (tape_at history q) ≡ true
+    → recorded_channel round.markers round.number p q ≡ channel_fifo history round.number p q
+recorded_is history round is p q p_within q_within apart begun =
+    let n : ℕ = length history in
+    let r : ℕ = round.number in
+    let one = recorded_round n q r (tape_at history q) (marker_at round.markers q) (is.markers q q_within) begun in
+    ap (λ (o : Option Recorded). names_or_none (messages_by o p)) (recorded_there n q r (tape_at history q) (marker_at round.markers q).rounds one)
+    ∙ ap (λ (c : Channel). c.messages) (one.channels p p_within apart)
+
+-- the round that is completed, as it is listed
+pub completed_is : (history : List Process) (r : ℕ) (indices : List ℕ) (markers : List MarkerView) → AreMarkers (length indices) markers
+    → IsRecording history (record { number = r; checks = indices; markers = markers }) → is_completed_fifo history r ≡ true
+    → (let round : Listed = record { number = r; checks = indices; channels = recorded_table markers r } in round) ≡ listed Fifo history r
+completed_is history r indices markers are is completed =
+    let n : ℕ = length history in
+    let round : OpenView = record { number = r; checks = indices; markers = markers } in
+    let count : length markers ≡ n = are.count ∙ is.count in
+    let has : (q : ℕ) → q < n → has_check_of r (tape_at history q) ≡ true = λ q within. closed_has_check history r q completed within in
+    let indices_are : indices ≡ checks_of history r = fill_by_all (λ q. check_of r (tape_at history q)) indices n 0 is.count
+    (λ q within. is.checks q within ∙ ap (λ b. cond b (check_of r (tape_at history q)) 0) (has q within)) in
+    let channels_are : recorded_table markers r ≡ channel_table n (channel Fifo history r) =
+    ap (λ (v : ℕ). channel_table v (recorded_channel markers r)) count
+    ∙ map_cells (λ p. map (λ q. cond (p == q) [] (recorded_channel markers r p q)) (range_with_len 0 n)) (λ p. map (λ q. cond (p == q) [] (channel_fifo history r p q)) (range_with_len 0 n)) 0 n (λ p p_low p_high.
+    map_cells (λ q. cond (p == q) [] (recorded_channel markers r p q)) (λ q. cond (p == q) [] (channel_fifo history r p q)) 0 n (λ q q_low q_high. elim (cases_eq p q) [
+      | inl same ↦ ap (λ b. cond b [] (recorded_channel markers r p q)) (eq-eqb p q same) ∙ sym (ap (λ b. cond b [] (channel_fifo history r p q)) (eq-eqb p q same))
+      | inr apart ↦ ap (λ (ms : List MsgName). cond (p == q) [] ms) (recorded_is history round is p q (omega (arith, p_high)) (omega (arith, q_high)) apart (has q (omega (arith, q_high))))
+    ])) in
+    ap (λ (v : List ℕ). let l : Listed = record { number = r; checks = v; channels = recorded_table markers r } in l) indices_are
+    ∙ ap (λ (v : List (List (List MsgName))). let l : Listed = record { number = r; checks = checks_of history r; channels = v } in l) channels_are
+
+-- the channels of a process are closed just where its tape is
+pub closed_is : (history : List Process) (r : ℕ) (indices : List ℕ) (markers : List MarkerView) → AreMarkers (length indices) markers → IsRecording history (record { number = r; checks = indices; markers = markers })
+    → (q : ℕ) (marker : MarkerView) (b : Bool) → q < length history → marker ≡ get_or markers q marker → IsTrue b ↔ IsOver marker r → b ≡ is_closed_at history r q
+closed_is history r indices markers are is q marker b within at over =
+    let n : ℕ = length history in
+    let tape : List Event = tape_at history q in
+    let own : marker ≡ marker_at markers q = at ∙ get_or_default markers q marker no_marker (omega (arith, within, is.count, are.count)) in
+    let n_is : marker.n ≡ n = ap (λ (m : MarkerView). m.n) own ∙ are.n_is q (omega (arith, within, is.count)) ∙ is.count in
+    let me_is : marker.me ≡ q = ap (λ (m : MarkerView). m.me) own ∙ are.me_is q (omega (arith, within, is.count)) in
+    let follows : IsMarkerOf n q r tape marker = subst (IsMarkerOf n q r tape) (sym own) (is.markers q within) in
+    same_test b (is_closed_at history r q)
+    (λ t. let x = over_closed n q r tape marker n_is me_is follows (over.0 t) in closed_from history r q x.0 x.1)
+    (λ t. let x = closed_parts history r q t in over.1 (closed_over n q r tape marker n_is me_is follows x.0 x.1))
+
+-- what both outcomes lead to
+pub either_way : {A E P Q R : Type 0} (r : Result A E) → (P → R) → (Q → R) → OnOk r P → OnErr r Q → R
+either_way (Ok x) f g p q = f p
+either_way (Err e) f g p q = g q

@@ -1,0 +1,117 @@
+-- What is kept of the round that is open, and how it follows the tapes.
+use Rattle.std.specs.Prelude.{◌≡◌, ◌≢◌, ℕ, ◌<◌, Bool, true, false, if◌then◌else◌, List, [], ◌∷◌, length, slice_index_or, Option, Some, None}
+use Rattle.line_marker.specs.Recording.{Channel, MarkerView, Recorded, channel_at, messages_by, round_of}
+use Rattle.line_names.specs.declared.messages.MsgName.{MsgName}
+use Rattle.line_tape.specs.declared.events.Event.{Event}
+use Rattle.line_tape.specs.History.{Process, tape_at}
+use Rattle.line_tape.specs.Rounds.{has_check_of, check_of, has_mark_of, channel_on}
+use Rattle.line_world.specs.declared.steps.Mode.{Mode}
+use Rattle.line_world.specs.declared.steps.Mode.TheVariants.{Fifo, Unordered}
+use Rattle.line_world.specs.Listed.{Listed, channel_table, is_begun, is_completed, listed}
+
+-- a round that is open: its number, the check of each process or 0, and what each process has recorded by markers
+pub record OpenView : Type 0 where
+  pub number : ℕ
+  pub checks : List ℕ
+  pub markers : List MarkerView
+
+-- what a process has recorded where there is none
+abbrev pub no_marker : MarkerView
+no_marker = record { n = 0; me = 0; floor = 0; rounds = []; room = 0 }
+
+-- what process q has recorded
+abbrev pub marker_at : List MarkerView → ℕ → MarkerView
+marker_at markers q = slice_index_or markers q no_marker
+
+-- the marker of each of n processes
+pub record AreMarkers (n : ℕ) (markers : List MarkerView) : Type 0 where
+  pub count : length markers ≡ n
+  pub n_is : (q : ℕ) → q < n → (marker_at markers q).n ≡ n
+  pub me_is : (q : ℕ) → q < n → (marker_at markers q).me ≡ q
+
+-- nothing is recorded, and rounds up to the floor are old
+pub record IsFresh (floor : ℕ) (marker : MarkerView) : Type 0 where
+  pub rounds : marker.rounds ≡ []
+  pub floor_is : marker.floor ≡ floor
+
+-- the messages, if there are some
+abbrev pub names_or_none : Option (List MsgName) → List MsgName
+names_or_none None = []
+names_or_none (Some names) = names
+
+-- what the markers recorded of the channel from process p to q in round r
+abbrev pub recorded_channel : List MarkerView → ℕ → ℕ → ℕ → List MsgName
+recorded_channel markers r p q = names_or_none (messages_by (round_of (marker_at markers q).rounds r) p)
+
+-- and of all channels
+abbrev pub recorded_table : List MarkerView → ℕ → List (List (List MsgName))
+recorded_table markers r = channel_table (length markers) (recorded_channel markers r)
+
+-- the index of the tape's check of round r, or 0
+abbrev pub check_or_none : ℕ → List Event → ℕ
+check_or_none r tape = if has_check_of r tape then check_of r tape else 0
+
+-- what a tape has of the channel from process p in round r
+abbrev pub channel_of : ℕ → ℕ → List Event → Channel
+channel_of p r tape = record { messages = channel_on p r tape; is_closed = has_mark_of p r tape }
+
+-- what process q of n has recorded by its check of round r: its channel from each other process, as its tape has it
+pub record IsRound (n q r : ℕ) (tape : List Event) (rounds : List Recorded) : Type 0 where
+  pub round : Recorded
+  pub alone : rounds ≡ round ∷ []
+  pub number_is : round.number ≡ r
+  pub count : length round.channels ≡ n
+  pub channels : (p : ℕ) → p < n → p ≢ q → channel_at round p ≡ channel_of p r tape
+
+-- it has recorded nothing before its check of the round
+abbrev pub IsRoundOrNone : ℕ → ℕ → ℕ → List Event → Bool → List Recorded → Type 0
+IsRoundOrNone n q r tape true rounds = IsRound n q r tape rounds
+IsRoundOrNone n q r tape false rounds = rounds ≡ []
+
+-- what process q of n has recorded of round r follows its tape; all rounds before are old
+pub record IsMarkerOf (n q r : ℕ) (tape : List Event) (marker : MarkerView) : Type 0 where
+  pub floor_is : marker.floor < r
+  pub recorded : IsRoundOrNone n q r tape (has_check_of r tape) marker.rounds
+
+-- what is kept of the open round follows the tapes
+pub record IsRecording (history : List Process) (round : OpenView) : Type 0 where
+  pub count : length round.checks ≡ length history
+  pub checks : (q : ℕ) → q < length history → slice_index_or round.checks q 0 ≡ check_or_none round.number (tape_at history q)
+  pub markers : (q : ℕ) → q < length history → IsMarkerOf (length history) q round.number (tape_at history q) (marker_at round.markers q)
+
+-- each round on a tape but one is completed, and what is kept of that one follows the tapes
+pub record IsRunning (mode : Mode) (history : List Process) (round : OpenView) : Type 0 where
+  pub others : (p r : ℕ) → has_check_of r (tape_at history p) ≡ true → r ≢ round.number → is_completed mode history r ≡ true
+  pub recording : IsRecording history round
+
+-- each round on a tape is completed, but for the one that is kept as open
+abbrev pub IsOpening : Mode → List Process → Option OpenView → Type 0
+IsOpening mode history None = (p r : ℕ) → has_check_of r (tape_at history p) ≡ true → is_completed mode history r ≡ true
+IsOpening Fifo history (Some round) = IsRunning Fifo history round
+IsOpening Unordered history (Some round) = ⊥
+
+-- the round is the last one begun, it stands on a tape, and it isn't completed
+pub record IsUnfinished (mode : Mode) (history : List Process) (last : ℕ) (round : OpenView) : Type 0 where
+  pub number_is : round.number ≡ last
+  pub begun : is_begun history last ≡ true
+  pub unfinished : is_completed mode history last ≡ false
+
+-- the round that is kept as open, if one is, is the last one begun and unfinished
+abbrev pub IsLast : Mode → List Process → ℕ → Option OpenView → Type 0
+IsLast mode history last None = Unit {0}
+IsLast mode history last (Some round) = IsUnfinished mode history last round
+
+-- the number of the round that is kept as open
+abbrev pub open_number : Option OpenView → Option ℕ
+open_number None = None
+open_number (Some round) = Some round.number
+
+-- it is listed if it is completed
+abbrev pub newly_closed : Mode → List Process → Option OpenView → List Listed
+newly_closed mode history None = []
+newly_closed mode history (Some round) = if is_completed mode history round.number then listed mode history round.number ∷ [] else []
+
+-- and else stays open
+abbrev pub left_open : Mode → List Process → Option OpenView → Option OpenView
+left_open mode history None = None
+left_open mode history (Some round) = if is_completed mode history round.number then None else Some round
