@@ -1,0 +1,7 @@
+"""A small, slow model of the program, written from docs/DEFINITIONS.md and docs/FORMATS.md alone.
+
+It keeps lists of events and looks through whole tapes for every question: there is no queue, no
+index, no stored colour, and no vector. `texts` has what is read and written, `histories` the
+definitions, `machine` the steps, `scripts` and `claims` the program's two commands; `made_scripts`,
+`made_claims` and `made_texts` make random inputs for both.
+"""

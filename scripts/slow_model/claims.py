@@ -1,0 +1,176 @@
+"""Claims and check texts: `recline check`."""
+
+from dataclasses import dataclass, field
+
+from .histories import Check, Entry, History, Mark, Name, Recv, Send
+from .texts import (
+    MOST_BODY, MOST_EVENTS, MOST_PROCESSES, MOST_STATE, NAMES, Fault, choice, fields_of, first_record, hexadecimal,
+    incarnation, number, numbered, records_of, round_number, round_or_none, told, want, written,
+)
+
+READERS = {
+    "tape": [number, incarnation],
+    "send": [number, incarnation, hexadecimal],
+    "recv": [number, incarnation, number],
+    "check": [hexadecimal, round_or_none],
+    "mark": [number, round_number],
+    "damage": [number, number],
+    "pass": [number, choice, number, incarnation, number],
+    "end": [],
+}
+
+
+@dataclass
+class Claim:
+    """That a line is the latest of a history for some damage marks and a failed set, with the entries that show it."""
+    history: History
+    marks: set = field(default_factory=set)
+    failed: set = field(default_factory=set)
+    line: list = field(default_factory=list)
+    entries: list = field(default_factory=list)
+
+    def records(self):
+        yield from self.history.records()
+        for p, check in sorted(self.marks):
+            yield "damage", p, check
+        yield "failed", *sorted(self.failed)
+        yield "line", *self.line
+        for at, passed, message in self.entries:
+            yield "pass", at, passed, *message
+        yield ("end",)
+
+    def has_shape(self):
+        has = self.history.has_choice
+        return (
+            len(self.line) == len(self.history.tapes)
+            and all(has(p, passed) for p, passed in enumerate(self.line))
+            and all(has(p, check) for p, check in self.marks)
+            and all(has(entry.at, entry.choice) for entry in self.entries)
+        )
+
+    def first_fault(self):
+        """The entry and the number of the first fault of the claim, or none."""
+        if not self.has_shape():
+            return None, 16
+        ceilings = self.history.latest_choices(self.marks, self.failed)
+        for i, (at, passed, message) in enumerate(self.entries):
+            if passed != ceilings[at]:
+                return i, 11
+            if message not in self.history.received(at, passed):
+                return i, 12
+            if self.history.is_sent_before(ceilings, message):
+                return i, 13
+            ceilings[at] = self.history.next_lower(self.marks, at, passed)
+        if ceilings != self.line:
+            return None, 14
+        return None if self.history.is_consistent(self.line) else (None, 15)
+
+
+class Reading:
+    """What was read of a check text among n processes, and the part that its last record stands in."""
+
+    def __init__(self, n):
+        self.n, self.part = n, "tapes"
+        self.claim = Claim(History(0))
+        self.tapes = self.claim.history.tapes
+
+    def may_stand(self, kind):
+        """Whether a record of this kind may come next."""
+        has_all = len(self.tapes) == self.n
+        if kind == "tape":
+            return self.part == "tapes" and not has_all
+        if kind in ("send", "recv", "check", "mark"):
+            return self.part == "tapes" and len(self.tapes) > 0
+        if kind in ("damage", "failed"):
+            return self.part in ("tapes", "damages") and has_all
+        return self.part == {"line": "failed", "pass": "line", "end": "line"}.get(kind)
+
+    def read(self, fields):
+        kind, rest = fields[0], fields[1:]
+        want(self.may_stand(kind), 32)
+        getattr(self, f"read_{kind}")(*fields_of(readers_of(kind, len(rest)), rest))
+
+    def known(self, *processes):
+        want(all(p < self.n for p in processes), 1)
+
+    def add(self, event):
+        want(len(self.tapes[-1]) < MOST_EVENTS, 3)
+        self.tapes[-1].append(event)
+
+    def read_tape(self, p, inc):
+        want(p == len(self.tapes), 32)
+        self.tapes.append([])
+        self.claim.history.incarnations.append(inc)
+
+    def read_send(self, to, inc, body):
+        self.known(to)
+        want(len(body) <= MOST_BODY, 2)
+        self.add(Send(to, inc, body))
+
+    def read_recv(self, sender, inc, count):
+        self.known(sender)
+        self.add(Recv(Name(sender, inc, count)))
+
+    def read_check(self, state, of_round):
+        want(len(state) <= MOST_STATE, 5)
+        self.add(Check(state, of_round))
+
+    def read_mark(self, sender, of_round):
+        self.known(sender)
+        self.add(Mark(sender, of_round))
+
+    def read_damage(self, p, check):
+        self.known(p)
+        want(check != 0, 7)
+        want((p, check) not in self.claim.marks, 8)
+        self.claim.marks.add((p, check))
+        self.part = "damages"
+
+    def read_failed(self, *failed):
+        self.known(*failed)
+        self.claim.failed.update(failed)
+        self.part = "failed"
+
+    def read_line(self, *line):
+        self.claim.line.extend(line)
+        self.part = "line"
+
+    def read_pass(self, at, passed, sender, inc, count):
+        self.known(at, sender)
+        self.claim.entries.append(Entry(at, passed, Name(sender, inc, count)))
+
+    def read_end(self):
+        self.part = "end"
+
+
+def readers_of(kind, width):
+    """What reads the fields of a record of that many."""
+    if kind == "failed":
+        return [number] * width
+    if kind == "line":
+        want(1 <= width <= MOST_PROCESSES, 32)
+        return [choice] * width
+    return READERS[kind]
+
+
+def read_claim(text):
+    records = records_of(text)
+    reading = Reading(numbered(1, first_record, records[0], "history", 3))
+    for i, fields in enumerate(records[1:], 2):
+        numbered(i, reading.read, fields)
+    if reading.part != "end":
+        raise Fault(32, len(records) + 1)
+    return reading.claim
+
+
+def check(text):
+    """What the program has to write, say and answer."""
+    try:
+        claim = read_claim(text)
+    except Fault as fault:
+        return told(fault)
+    found = claim.first_fault()
+    if found is None:
+        return b"valid\n", b"", 0
+    entry, code = found
+    return written([("invalid", entry, code, NAMES[code])]), b"", 1

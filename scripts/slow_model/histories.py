@@ -1,0 +1,243 @@
+"""Histories, lines, what survives, plans, and rounds: the definitions, asked of lists of events.
+
+A choice of a process is the index of a check, 0 for the initial state, or NOW. A line is a list
+of choices, one for each process. Damage marks are a set of processes with a check each.
+"""
+
+from typing import NamedTuple
+
+from .texts import NOW
+
+
+class Name(NamedTuple):
+    """A message's name."""
+    sender: int
+    incarnation: int
+    number: int
+
+
+class Marker(NamedTuple):
+    """What a round puts on a link that keeps its order."""
+    round: int
+
+
+class Send(NamedTuple):
+    to: int
+    incarnation: int
+    body: bytes
+
+
+class Recv(NamedTuple):
+    message: Name
+
+
+class Check(NamedTuple):
+    state: bytes
+    round: int | None
+
+
+class Mark(NamedTuple):
+    sender: int
+    round: int
+
+
+class Entry(NamedTuple):
+    """A choice that is passed over, and a message that would be an orphan there."""
+    at: int
+    choice: float
+    message: Name
+
+
+def among(kind, events):
+    """The events of one kind."""
+    return [event for event in events if isinstance(event, kind)]
+
+
+class History:
+    """A tape of events and a present incarnation for each process."""
+
+    def __init__(self, n):
+        self.tapes = [[] for _ in range(n)]
+        self.incarnations = [0] * n
+
+    def processes(self):
+        return range(len(self.tapes))
+
+    # Choices and fronts.
+
+    def checks(self, p):
+        """How many checks a tape has."""
+        return len(among(Check, self.tapes[p]))
+
+    def has_choice(self, p, choice):
+        return choice == NOW or choice <= self.checks(p)
+
+    def front(self, p, choice):
+        """The events that stand before a choice."""
+        if choice == NOW:
+            return self.tapes[p]
+        places = [place for place, event in enumerate(self.tapes[p], 1) if isinstance(event, Check)]
+        return self.tapes[p][:places[choice - 1]] if choice else []
+
+    def stored(self, p, choice):
+        """The state that a process goes on from: nothing is stored for NOW."""
+        if choice == NOW:
+            return None
+        return self.front(p, choice)[-1].state if choice else b""
+
+    # Messages and lines.
+
+    def sent(self, p, choice=NOW):
+        """The messages sent before a choice, each with the process that its send names."""
+        sends = among(Send, self.front(p, choice))
+        return [(Name(p, send.incarnation, number), send.to) for number, send in enumerate(sends)]
+
+    def received(self, p, choice=NOW):
+        """The messages received before a choice."""
+        return [event.message for event in among(Recv, self.front(p, choice))]
+
+    def is_sent_before(self, line, message):
+        return message in [name for name, _ in self.sent(message.sender, line[message.sender])]
+
+    def is_held(self, message):
+        return self.is_sent_before([NOW for _ in self.processes()], message)
+
+    def orphans(self, line, p):
+        """What a process has received before a line and what is not sent before it."""
+        return [name for name in self.received(p, line[p]) if not self.is_sent_before(line, name)]
+
+    def is_consistent(self, line):
+        return not any(self.orphans(line, p) for p in self.processes())
+
+    def in_transit(self, line):
+        """What is sent before a line and not received before its addressee's choice, with the addressee."""
+        return [
+            (name, to)
+            for p in self.processes()
+            for name, to in self.sent(p, line[p])
+            if name not in self.received(to, line[to])
+        ]
+
+    def restart(self, line):
+        """Each process goes on from its choice: marks go, and checks lose their round."""
+        for p in self.processes():
+            front = [event for event in self.front(p, line[p]) if not isinstance(event, Mark)]
+            self.tapes[p] = [event._replace(round=None) if isinstance(event, Check) else event for event in front]
+            self.incarnations[p] += line[p] != NOW
+
+    # Surviving choices, and plans.
+
+    def next_lower(self, marks, p, choice):
+        """The latest surviving choice before a choice."""
+        checks = range(self.checks(p) if choice == NOW else choice - 1, 0, -1)
+        return next((check for check in checks if (p, check) not in marks), 0)
+
+    def latest_choices(self, marks, failed):
+        """The latest surviving choice of each process."""
+        return [self.next_lower(marks, p, NOW) if p in failed else NOW for p in self.processes()]
+
+    def plan(self, marks, failed):
+        """The planned line, the entries of its certificate, and the number of sweeps.
+
+        A sweep visits the processes in order, and lowers each while it has an orphan; the entry
+        names the lowest sender of one, and the latest message from there.
+        """
+        line, entries, sweeps, was_lowered = self.latest_choices(marks, failed), [], 0, True
+        while was_lowered:
+            was_lowered, sweeps = False, sweeps + 1
+            for p in self.processes():
+                while orphans := self.orphans(line, p):
+                    message = min(orphans, key=lambda name: (name.sender, -name.number))
+                    entries.append(Entry(p, line[p], message))
+                    line[p] = self.next_lower(marks, p, line[p])
+                    was_lowered = True
+        return line, entries, sweeps
+
+    # Links that keep their order.
+
+    def put_on_link(self, p, q):
+        """What p put on its link to q: its messages, and a marker for each check of a round."""
+        items, number = [], 0
+        for event in self.tapes[p]:
+            if isinstance(event, Send):
+                if event.to == q:
+                    items.append(Name(p, event.incarnation, number))
+                number += 1
+            elif isinstance(event, Check) and event.round:
+                items.append(Marker(event.round))
+        return items
+
+    def taken_from_link(self, p, q):
+        """What q took from its link from p."""
+        items = []
+        for event in self.tapes[q]:
+            if isinstance(event, Recv) and event.message.sender == p:
+                items.append(event.message)
+            elif isinstance(event, Mark) and event.sender == p:
+                items.append(Marker(event.round))
+        return items
+
+    def link(self, p, q):
+        """What remains of what was put on a link after what was taken from it."""
+        put, taken = self.put_on_link(p, q), self.taken_from_link(p, q)
+        assert put[:len(taken)] == taken, "the history does not fit"
+        return put[len(taken):]
+
+    # Rounds and colours.
+
+    def colour_of(self, p):
+        return colour(self.tapes[p])
+
+    def message_colour(self, message):
+        """The sender's colour where the message's send stands."""
+        tape = self.tapes[message.sender]
+        places = [place for place, event in enumerate(tape) if isinstance(event, Send)]
+        return colour(tape[:places[message.number]])
+
+    def newest_round(self):
+        """The greatest round on the tapes, or 0."""
+        return max(map(self.colour_of, self.processes()))
+
+    def check_of_round(self, p, number):
+        """The index of a tape's check of a round, or none."""
+        checks = among(Check, self.tapes[p])
+        return next((index for index, check in enumerate(checks, 1) if check.round == number), None)
+
+    def round_line(self, number):
+        return [self.check_of_round(p, number) for p in self.processes()]
+
+    def after_check(self, p, number):
+        """The events after a tape's check of a round."""
+        return self.tapes[p][len(self.front(p, self.check_of_round(p, number))):]
+
+    def is_completed(self, number, is_fifo):
+        """Each tape has its check of the round and, with markers, a mark of it from each other process after it."""
+        if None in self.round_line(number):
+            return False
+        pairs = [(p, q) for q in self.processes() for p in self.processes() if p != q]
+        return not is_fifo or all(Mark(p, number) in self.after_check(q, number) for p, q in pairs)
+
+    def channel(self, number, p, q, is_fifo):
+        """The channel of a completed round from p to q."""
+        if not is_fifo:
+            return [name for name, to in self.in_transit(self.round_line(number)) if (name.sender, to) == (p, q)]
+        after = self.after_check(q, number)
+        received = among(Recv, after[:after.index(Mark(p, number))])
+        return [event.message for event in received if event.message.sender == p]
+
+    # As records.
+
+    def records(self):
+        """The records of the history."""
+        yield "history", 1, len(self.tapes)
+        for p in self.processes():
+            yield "tape", p, self.incarnations[p]
+            for event in self.tapes[p]:
+                fields = event.message if isinstance(event, Recv) else event
+                yield type(event).__name__.lower(), *fields
+
+
+def colour(events):
+    """The greatest round of the checks among some events, or 0."""
+    return max((check.round or 0 for check in among(Check, events)), default=0)
+

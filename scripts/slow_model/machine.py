@@ -1,0 +1,177 @@
+"""The machine: one method for each command, which answers the records of its reply or refuses."""
+
+from typing import NamedTuple
+
+from .claims import Claim
+from .histories import Check, History, Mark, Marker, Recv, Send
+from .texts import MOST_BODY, MOST_EVENTS, MOST_INCARNATION, MOST_ROUND, MOST_STATE, NOW, refuse
+
+
+class Round(NamedTuple):
+    """A listed round: its checks, and what its channels hold, by sender, addressee and order."""
+    number: int
+    checks: list
+    channels: list
+
+
+class World:
+    """A history, damage marks, the last round begun, listed rounds, and copies where links keep no order."""
+
+    def __init__(self, n, mode):
+        self.n, self.is_fifo = n, mode == "fifo"
+        self.history = History(n)
+        self.marks = set()
+        self.begun = 0
+        self.listed = []
+        self.copies = {}
+
+    def link(self, p, q):
+        """What a link holds."""
+        return self.history.link(p, q) if self.is_fifo else self.copies.get((p, q), [])
+
+    def open_round(self):
+        """The greatest round on the tapes where it is not completed, or none."""
+        newest = self.history.newest_round()
+        return newest if newest and not self.history.is_completed(newest, self.is_fifo) else None
+
+    def has_no_room(self, p, events):
+        return len(self.history.tapes[p]) + events > MOST_EVENTS
+
+    def known(self, *processes):
+        refuse(1, any(p >= self.n for p in processes))
+
+    def add_check(self, p, state, number):
+        """Adds a check and answers its index."""
+        self.history.tapes[p].append(Check(state, number))
+        return self.history.checks(p)
+
+    def list_completed(self):
+        """Lists the newest round where the step before has completed it."""
+        newest = self.history.newest_round()
+        if not newest or newest in [listed.number for listed in self.listed] or self.open_round():
+            return
+        pairs = [(p, q) for p in range(self.n) for q in range(self.n) if p != q]
+        channels = [(p, q, name) for p, q in pairs for name in self.history.channel(newest, p, q, self.is_fifo)]
+        self.listed.append(Round(newest, self.history.round_line(newest), channels))
+
+    # Steps. The refusals stand in the order in which they are asked.
+
+    def send(self, source, to, body):
+        self.known(source, to)
+        refuse(2, len(body) > MOST_BODY)
+        refuse(17, source == to)
+        refuse(3, self.has_no_room(source, 1))
+        self.history.tapes[source].append(Send(to, self.history.incarnations[source], body))
+        name, _ = self.history.sent(source)[-1]
+        if not self.is_fifo:
+            self.copies.setdefault((source, to), []).append(name)
+        return [("sent", *name)]
+
+    def deliver(self, source, to, pick, state):
+        self.known(source, to)
+        refuse(17, source == to)
+        refuse(5, len(state) > MOST_STATE)
+        items = self.link(source, to)
+        refuse(18, not items)
+        refuse(19, pick >= (1 if self.is_fifo else len(items)))
+        item = items[pick]
+        if isinstance(item, Marker):
+            return self.take_marker(source, to, item.round, state)
+        if not self.history.is_held(item):
+            return [("stale", *item)]
+        if item in self.history.received(to):
+            return [("repeated", *item)]
+        return self.take_message(to, item, state)
+
+    def take_marker(self, source, to, number, state):
+        forced = self.history.check_of_round(to, number) is None
+        refuse(3, self.has_no_room(to, 1 + forced))
+        if forced:
+            self.add_check(to, state, number)
+        self.history.tapes[to].append(Mark(source, number))
+        self.list_completed()
+        return [("marked", number, "forced" if forced else "closed")]
+
+    def take_message(self, to, message, state):
+        """A message of a later colour than its receiver's forces a check first; with markers none has a colour."""
+        number = 0 if self.is_fifo else self.history.message_colour(message)
+        forced = number > self.history.colour_of(to)
+        refuse(3, self.has_no_room(to, 1 + forced))
+        if forced:
+            self.add_check(to, state, number)
+        self.history.tapes[to].append(Recv(message))
+        self.list_completed()
+        return [("took", *message, number if forced else None)]
+
+    def check(self, at, state):
+        self.known(at)
+        refuse(5, len(state) > MOST_STATE)
+        refuse(3, self.has_no_room(at, 1))
+        return [("checked", at, self.add_check(at, state, None))]
+
+    def begin(self, at, state):
+        self.known(at)
+        refuse(5, len(state) > MOST_STATE)
+        refuse(20, self.open_round())
+        refuse(23, self.begun == MOST_ROUND)
+        refuse(3, self.has_no_room(at, 1))
+        self.begun += 1
+        check = self.add_check(at, state, self.begun)
+        self.list_completed()
+        return [("begun", at, check, self.begun)]
+
+    def turn(self, at, state):
+        self.known(at)
+        refuse(22, self.is_fifo)
+        refuse(5, len(state) > MOST_STATE)
+        number = self.open_round()
+        refuse(21, not number or self.history.check_of_round(at, number))
+        refuse(3, self.has_no_room(at, 1))
+        check = self.add_check(at, state, number)
+        self.list_completed()
+        return [("turned", at, check, number)]
+
+    def damage(self, at, check):
+        self.known(at)
+        refuse(7, check == 0)
+        refuse(4, not self.history.has_choice(at, check))
+        refuse(8, (at, check) in self.marks)
+        self.marks.add((at, check))
+        return [("damaged", at, check)]
+
+    def recover(self, *failed):
+        self.known(*failed)
+        line, entries, sweeps = self.history.plan(self.marks, failed)
+        incarnations = self.history.incarnations
+        refuse(24, any(line[p] != NOW and incarnations[p] == MOST_INCARNATION for p in range(self.n)))
+        replays = self.history.in_transit(line)
+        states = [self.history.stored(p, line[p]) for p in range(self.n)]
+        self.history.restart(line)
+        self.marks = {(p, check) for p, check in self.marks if check <= line[p]}
+        self.listed = [listed for listed in self.listed if all(c <= line[p] for p, c in enumerate(listed.checks))]
+        if not self.is_fifo:
+            for name, to in replays:
+                self.copies.setdefault((name.sender, to), []).append(name)
+        return [
+            ("recovered", sweeps, len(entries), len(replays)),
+            *(("line", p, line[p], incarnations[p], states[p]) for p in range(self.n)),
+            *(("pass", at, choice, *message) for at, choice, message in entries),
+            *(("replay", *name) for name, _ in replays),
+        ]
+
+    # Views.
+
+    def rounds(self):
+        records = [("rounds", len(self.listed))]
+        for number, checks, channels in self.listed:
+            records.append(("round", number, *checks))
+            records += [("channel", number, p, q, *name[1:]) for p, q, name in channels]
+        return records
+
+    def history_text(self):
+        return list(self.history.records())
+
+    def bundle(self, *failed):
+        self.known(*failed)
+        line, entries, _ = self.history.plan(self.marks, failed)
+        return list(Claim(self.history, self.marks, set(failed), line, entries).records())

@@ -1,0 +1,211 @@
+"""Random check texts: right claims, claims by chains in other orders, and wrong ones.
+
+A claim is what a plan makes after a random script, or what a chain in another order makes, perhaps
+on a history that tells what could not happen. Then perhaps something in it is changed.
+"""
+
+from .claims import Claim
+from .histories import Check, Entry, Mark, Name, Recv, Send
+from .made_scripts import DOMINOES, ROUNDS, TALK, Player
+from .made_texts import odd_first, one_in, text_of
+from .texts import NOW
+
+
+def some_check_text(chance, unknown):
+    """A check text of a claim after a script without the commands that are unknown."""
+    player = Player(chance, unknown, [TALK, ROUNDS, DOMINOES, DOMINOES, DOMINOES]).play()
+    failed = {p for p in player.processes(0, 1, 1, 2, 3) if p < player.n}
+    claim = Claim(player.world.history, player.world.marks, failed)
+    if one_in(chance, 2):
+        claim.marks = claim.marks | {(p, claim.history.checks(p)) for p in failed if claim.history.checks(p)}
+    if one_in(chance, 4):
+        for _ in range(chance.choice([1, 2, 3])):
+            other_event(chance, claim)
+    if one_in(chance, 2):
+        claim.line, claim.entries, _ = claim.history.plan(claim.marks, failed)
+    else:
+        some_chain(chance, claim)
+    for _ in range(chance.choice([0, 0, 1, 1, 2])):
+        chance.choice(CHANGES)(chance, claim)
+    if one_in(chance, 8):
+        past_limits(chance, claim)
+    records = list(claim.records())
+    if one_in(chance, 80):
+        records[0] = odd_first(chance, "history", player.n)
+    return text_of(chance, records, one_in(chance, 3))
+
+
+def some_chain(chance, claim):
+    """A chain whose entries come in any order and name any orphan; one in four stops early."""
+    history = claim.history
+    claim.line = history.latest_choices(claim.marks, claim.failed)
+    most = chance.randrange(6) if one_in(chance, 4) else NOW
+    while len(claim.entries) < most:
+        orphans = [(p, name) for p in history.processes() for name in history.orphans(claim.line, p)]
+        if not orphans:
+            break
+        p, name = chance.choice(orphans)
+        claim.entries.append(Entry(p, claim.line[p], name))
+        claim.line[p] = history.next_lower(claim.marks, p, claim.line[p])
+
+
+def some_process(chance, claim):
+    return chance.randrange(len(claim.history.tapes))
+
+
+def some_name(chance, claim):
+    """A name, most often one that somebody has sent or received."""
+    history = claim.history
+    p, q = some_process(chance, claim), some_process(chance, claim)
+    names = [name for name, _ in history.sent(p)] + history.received(q)
+    if names and not one_in(chance, 4):
+        return chance.choice(names)
+    return Name(p, chance.choice([0, 0, 1, 65_535]), chance.choice([0, 1, 2, 3, 2**32 - 1]))
+
+
+def near_name(chance, claim, name):
+    """A name that differs in one thing."""
+    return chance.choice([
+        name._replace(sender=some_process(chance, claim)),
+        name._replace(incarnation=max(name.incarnation + chance.choice([-1, 1]), 0)),
+        name._replace(number=max(name.number + chance.choice([-1, 1]), 0)),
+        some_name(chance, claim),
+    ])
+
+
+def near_choice(chance, claim, p, choice):
+    """A choice below or above one, or any."""
+    checks = claim.history.checks(p)
+    below = checks if choice == NOW else max(choice - 1, 0)
+    above = NOW if choice == NOW or choice >= checks else choice + 1
+    return chance.choice([below, below, above, above, 0, NOW, checks, checks + 1])
+
+
+def drop_entry(chance, claim):
+    if claim.entries:
+        del claim.entries[chance.randrange(len(claim.entries))]
+
+
+def double_entry(chance, claim):
+    if claim.entries:
+        claim.entries.insert(chance.randint(0, len(claim.entries)), chance.choice(claim.entries))
+
+
+def exchange_entries(chance, claim):
+    if len(claim.entries) > 1:
+        i = chance.randrange(len(claim.entries) - 1)
+        j = i + 1 if one_in(chance, 2) else chance.randrange(len(claim.entries))
+        claim.entries[i], claim.entries[j] = claim.entries[j], claim.entries[i]
+
+
+def other_entry(chance, claim):
+    """An entry with another message, another choice or another process."""
+    if not claim.entries:
+        p = some_process(chance, claim)
+        claim.entries.append(Entry(p, near_choice(chance, claim, p, NOW), some_name(chance, claim)))
+        return
+    i = chance.randrange(len(claim.entries))
+    entry = claim.entries[i]
+    received = claim.history.received(entry.at)
+    claim.entries[i] = chance.choice([
+        entry._replace(message=near_name(chance, claim, entry.message)),
+        entry._replace(message=chance.choice(received) if received else some_name(chance, claim)),
+        entry._replace(choice=near_choice(chance, claim, entry.at, entry.choice)),
+        entry._replace(at=some_process(chance, claim)),
+    ])
+
+
+def moved_line(chance, claim):
+    """A choice of the line moved up or down; or a choice too few or too many."""
+    if one_in(chance, 12):
+        claim.line = claim.line[:-1] if one_in(chance, 2) and len(claim.line) > 1 else [*claim.line, 0]
+        return
+    p = chance.randrange(len(claim.line))
+    if p < len(claim.history.tapes):
+        claim.line[p] = near_choice(chance, claim, p, claim.line[p])
+
+
+def one_too_low(chance, claim):
+    """One check lower than needed, with an entry for it that names something received about there."""
+    p = some_process(chance, claim)
+    received = claim.history.received(p)
+    if p >= len(claim.line) or not claim.history.has_choice(p, claim.line[p]) or not received:
+        return
+    before = len(claim.history.received(p, claim.line[p]))
+    about = received[max(before - 2, 0):before + 2]
+    claim.entries.append(Entry(p, claim.line[p], chance.choice(about)))
+    claim.line[p] = claim.history.next_lower(claim.marks, p, claim.line[p])
+
+
+def other_failed(chance, claim):
+    claim.failed = claim.failed ^ {some_process(chance, claim)}
+
+
+def other_marks(chance, claim):
+    p = some_process(chance, claim)
+    checks = claim.history.checks(p)
+    claim.marks = claim.marks ^ {(p, chance.choice([checks, chance.randint(1, checks + 1), chance.randint(0, checks)]))}
+
+
+def other_event(chance, claim):
+    """An event changed, dropped, doubled or moved: the history may tell what could not happen."""
+    p = some_process(chance, claim)
+    tape = claim.history.tapes[p]
+    if not tape:
+        tape.append(Recv(some_name(chance, claim)))
+        return
+    i = chance.randrange(len(tape))
+    how = chance.choice(["other", "other", "drop", "double", "move", "receive", "mark", "incarnation"])
+    if how == "other" and isinstance(tape[i], Recv):
+        tape[i] = Recv(near_name(chance, claim, tape[i].message))
+    elif how == "other" and isinstance(tape[i], Send):
+        tape[i] = Send(some_process(chance, claim), chance.choice([0, 1, tape[i].incarnation]), tape[i].body)
+    elif how == "drop":
+        del tape[i]
+    elif how == "double":
+        tape.insert(i, tape[i])
+    elif how == "move":
+        tape.insert(chance.randrange(len(tape)), tape.pop(i))
+    elif how == "receive":
+        tape.insert(i, Recv(some_name(chance, claim)))
+    elif how == "mark":
+        tape.insert(i, Mark(some_process(chance, claim), chance.choice([1, 2, 65_535])))
+    else:
+        claim.history.incarnations[p] = chance.choice([0, 1, 65_535])
+
+
+CHANGES = [
+    drop_entry, double_entry, exchange_entries, other_entry, other_entry, moved_line, moved_line, one_too_low,
+    one_too_low, other_failed, other_marks, other_event,
+]
+
+
+def past_limits(chance, claim):
+    """Values that no text may have, or only just may."""
+    n = len(claim.history.tapes)
+    for tape in claim.history.tapes:
+        for i, event in enumerate(tape):
+            if one_in(chance, 8):
+                tape[i] = odd_event(chance, n, event)
+    if one_in(chance, 3):
+        claim.failed = claim.failed | {n}
+    if one_in(chance, 3):
+        claim.marks = claim.marks | {chance.choice([(n, 0), (n, 1), (0, 0), (0, 2**32)])}
+    if claim.entries and one_in(chance, 3):
+        i = chance.randrange(len(claim.entries))
+        entry, message = claim.entries[i], claim.entries[i].message
+        claim.entries[i] = chance.choice([
+            entry._replace(at=n), entry._replace(choice=2**32), entry._replace(message=message._replace(sender=n)),
+            entry._replace(message=message._replace(incarnation=65_536)),
+            entry._replace(message=message._replace(number=2**32)),
+        ])
+
+
+def odd_event(chance, n, event):
+    if isinstance(event, Send):
+        return Send(chance.choice([event.to, n]), event.incarnation, b"d" * chance.choice([64, 65]))
+    if isinstance(event, Recv):
+        return Recv(event.message._replace(sender=n))
+    if isinstance(event, Check):
+        return Check(b"e" * chance.choice([4096, 4097]), chance.choice([event.round, 0, 1, 65_535, 65_536]))
+    return Mark(chance.choice([event.sender, n]), chance.choice([event.round, 0, 65_536]))

@@ -1,0 +1,138 @@
+"""Random scripts. The machine runs a script while it is made, so that most commands are sensible."""
+
+from .machine import World
+from .made_texts import odd_first, one_in, text_of
+from .scripts import answer, command_of
+from .texts import shown
+
+# How often each kind of command comes. A relay is a message, its receipt, and a check behind it.
+TALK = {
+    "send": 30, "deliver": 40, "check": 14, "damage": 3, "recover": 2, "begin": 4, "turn": 3, "rounds": 2, "history": 1,
+    "bundle": 1,
+}
+ROUNDS = {
+    "send": 16, "deliver": 56, "check": 5, "damage": 2, "recover": 2, "begin": 8, "turn": 6, "rounds": 3, "bundle": 1,
+}
+DOMINOES = {
+    "relay": 40, "send": 18, "deliver": 22, "check": 8, "damage": 4, "recover": 1, "begin": 3, "turn": 2, "bundle": 1,
+}
+LENGTHS = [0, 3, 10, 30, 30, 60, 60, 90]
+PROCESSES = [1, *[2] * 6, *[3] * 6, 4, 4, 5]
+CARE = 90  # one in so many values is an odd one; in a careless command every other one
+
+
+class Player:
+    """Makes the commands of a script one by one, and runs them meanwhile."""
+
+    def __init__(self, chance, unknown, moods):
+        self.chance = chance
+        self.n = chance.choice([63, 64] if one_in(chance, 100) else PROCESSES)
+        self.mode = chance.choice(["fifo", "unordered"])
+        self.world = World(self.n, self.mode)
+        self.commands = []
+        self.care = CARE
+        self.holder = 0  # the process that the last relay went to
+        if "turn" in unknown and self.mode == "unordered":
+            unknown = unknown | {"begin"}  # a program without colours begins no round there
+        self.weights = {kind: weight for kind, weight in chance.choice(moods).items() if kind not in unknown}
+
+    def is_odd(self):
+        return one_in(self.chance, self.care)
+
+    def process(self):
+        odd = [self.n, self.n + 1, 64, 2**32 - 1]
+        return self.chance.choice(odd) if self.is_odd() else self.chance.randrange(self.n)
+
+    def processes(self, *counts):
+        return [self.process() for _ in range(self.chance.choice(counts))]
+
+    def pair(self):
+        source, to = self.process(), self.process()
+        return source, (source + 1) % self.n if source == to and not self.is_odd() else to
+
+    def link(self, source, to):
+        """What a link holds; nothing where there is no such link."""
+        return self.world.link(source, to) if max(source, to) < self.n and source != to else []
+
+    def waiting(self, source, to):
+        """The places on a link whose items can be taken: in order the first, else the copies not received yet."""
+        items = self.link(source, to)
+        if self.mode == "fifo" or not items:
+            return list(range(len(items[:1])))
+        received = self.world.history.received(to)
+        return [place for place, name in enumerate(items) if name not in received]
+
+    def pick(self, source, to):
+        if self.is_odd():
+            return self.chance.choice([0, 1, 2, 3, 2**32, 2**64 - 1])
+        if self.mode == "unordered" and one_in(self.chance, 6):
+            return self.chance.randrange(len(self.link(source, to)) or 1)
+        return self.chance.choice(self.waiting(source, to) or [0])
+
+    def busy_pair(self):
+        """Two processes with something that waits on their link, where some are found."""
+        return next((pair for pair in (self.pair() for _ in range(12)) if self.waiting(*pair)), None)
+
+    def state(self):
+        if self.is_odd():
+            return b"c" * self.chance.choice([64, 65, 65, 4096, 4097, 4097])
+        return self.chance.choice([b"", b"a", b"\x00\xff", b"\xa0\xb1", b"b" * self.chance.randrange(4)])
+
+    def damaged(self):
+        at = self.process()
+        checks = self.world.history.checks(at) if at < self.n else 0
+        return at, self.chance.choice([checks, checks, self.chance.randint(0, checks + 1)])
+
+    def command(self):
+        """A command, most often one that the machine takes."""
+        self.care = 2 if one_in(self.chance, 30) else CARE
+        kind = self.chance.choices(list(self.weights), list(self.weights.values()))[0]
+        if kind == "begin" and self.world.open_round() and not one_in(self.chance, 6):
+            kind = "deliver"
+        if kind == "relay":
+            return self.relay()
+        if kind == "deliver":
+            pair = self.busy_pair() or (self.pair() if one_in(self.chance, 6) else None)
+            if pair:
+                return kind, *pair, self.pick(*pair), self.state()
+            kind = "send"
+        if kind == "send":
+            return kind, *self.pair(), self.state()
+        if kind in ("check", "begin", "turn"):
+            return kind, self.process(), self.state()
+        if kind == "damage":
+            return kind, *self.damaged()
+        return kind, *(self.processes(0, 1, 1, 2, 3) if kind in ("recover", "bundle") else [])
+
+    def relay(self):
+        """The holder sends a message, which is delivered; the next holder takes a check, which the command is."""
+        source, to = self.holder, self.chance.randrange(self.n)
+        if source != to:
+            self.add("send", source, to, self.state())
+            newest = 0 if self.mode == "fifo" else max(len(self.link(source, to)) - 1, 0)
+            self.add("deliver", source, to, newest, b"")
+        self.holder = to
+        return "check", to, self.state()
+
+    def add(self, *command):
+        self.commands.append(command)
+        answer(self.world, *command_of([shown(field) for field in command]))
+
+    def play(self):
+        for _ in range(self.chance.choice(LENGTHS)):
+            self.add(*self.command())
+        self.care = CARE
+        return self
+
+
+def some_script(chance, unknown):
+    """A script without the commands that are unknown."""
+    player = Player(chance, unknown, [TALK, ROUNDS, ROUNDS, DOMINOES]).play()
+    bundle, recover = ["bundle", *player.processes(0, 1, 2)], ["recover", *player.processes(1, 1, 2)]
+    for end in [["rounds"], ["history"], bundle, recover, ["rounds"]]:
+        if end[0] not in unknown and one_in(chance, 2):
+            player.add(*end)
+    first = ("world", 1, player.n, player.mode)
+    if one_in(chance, 80):
+        first = odd_first(chance, "world", player.n, player.mode)
+    return text_of(chance, [first, *player.commands], one_in(chance, 5))

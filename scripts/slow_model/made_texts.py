@@ -1,0 +1,100 @@
+"""Random texts of given records: in loose spellings, and with records, fields or bytes changed."""
+
+from .texts import shown
+
+ODD_NUMBERS = [
+    "0", "1", "2", "3", "64", "65535", "65536", "4294967295", "4294967296", "18446744073709551615",
+    "18446744073709551616", "99999999999999999999999",
+]
+ODD_FIELDS = [
+    ODD_NUMBERS,
+    ["", "-", "now", "00", "007", "+1", "-1", " 1", "1 ", "1.", "0x61", "0" * 5000 + "1", "fifo", "unordered", "lifo"],
+    ["6", "61", "6g", "AB", "61" * 64, "61" * 65, "61" * 4096, "61" * 4097],
+    ["world", "history", "tape", "send", "recv", "deliver", "check", "mark", "begin", "turn", "damage", "recover",
+     "rounds", "bundle", "failed", "line", "pass", "end", "Send"],
+]
+ODD_BYTES = b",\n\r\"0x-9 ~\x7f\xff\x00now"
+ODD_TEXTS = [
+    b"", b"\n", b"\r\n\n", b"\r", b",", b" ", b"world", b"history,1,1", b"world,1,1,fifo",
+    b"\xef\xbb\xbfworld,1,1,fifo\n",
+]
+
+
+def one_in(chance, times):
+    return chance.random() < 1 / times
+
+
+def loosely(chance, field):
+    """A field in another spelling of the same value."""
+    if isinstance(field, bytes):
+        upper = chance.randint(0, 2 * len(field))
+        return field.hex()[:upper].upper() + field.hex()[upper:]
+    if isinstance(field, int) and one_in(chance, 8):
+        return "0" * chance.randrange(12) + str(field)
+    return shown(field)
+
+
+def odd_first(chance, kind, n, *mode):
+    """A first record that may have another version, number of processes or mode."""
+    other_mode = [chance.choice([field, "lifo", ""]) for field in mode]
+    return kind, chance.choice([1, 1, 0, 3]), chance.choice([n, n + 1, 0, 64, 65, 2**32]), *other_mode
+
+
+def text_of(chance, records, is_changed):
+    """The text of some records, perhaps spelled loosely; perhaps changed, so that it may spell something else."""
+    if one_in(chance, 200):
+        return chance.choice(ODD_TEXTS)
+    spelling = loosely if one_in(chance, 3) else lambda _, field: shown(field)
+    records = [[spelling(chance, field) for field in record] for record in records]
+    changes_bytes = is_changed and one_in(chance, 3)
+    if is_changed and not changes_bytes:
+        for _ in range(chance.choice([1, 1, 2])):
+            change_records(chance, records)
+    end = chance.choice(["\n", "\n", "\n", "\r\n", "\n\n"])
+    text = (end.join(",".join(record) for record in records) + chance.choice([end, end, ""])).encode()
+    return with_other_bytes(chance, text) if changes_bytes else text
+
+
+def change_records(chance, records):
+    """Drops, doubles, exchanges or moves a record, or changes fields of one."""
+    kind = chance.choice(sorted({record[0] for record in records}))  # also those of which there are few
+    i = chance.choice([i for i, record in enumerate(records) if record[0] == kind])
+    j = chance.randrange(len(records))
+    how = chance.choice(["drop", "double", "double", "exchange", "move", "field", "field", "fewer", "more", "fields"])
+    record = records[i]
+    if how == "drop" and len(records) > 1:
+        del records[i]
+    elif how == "double":
+        records.insert(chance.choice([i, j]), list(record))
+    elif how == "exchange":
+        records[i], records[j] = records[j], record
+    elif how == "move":
+        records.insert(j, records.pop(i))
+    elif how == "fewer" and len(record) > 1:
+        del record[chance.randrange(len(record))]
+    elif how == "more":
+        record.insert(chance.randint(0, len(record)), other_field(chance, "", records[j]))
+    else:
+        places = range(len(record))
+        for at in [chance.choice(places)] if how == "field" else [at for at in places if one_in(chance, 2)]:
+            record[at] = other_field(chance, record[at], records[j])
+
+
+def other_field(chance, field, record):
+    """Another field: for a number most often a number, else any odd one or one of another record."""
+    if field.isdigit() and one_in(chance, 2):
+        return chance.choice(ODD_NUMBERS)
+    return chance.choice(chance.choice(ODD_FIELDS) if one_in(chance, 2) else record)
+
+
+def with_other_bytes(chance, text):
+    text = bytearray(text)
+    for _ in range(chance.choice([1, 1, 2])):
+        at = chance.randrange(len(text) + 1)
+        how = chance.choice(["add", "replace", "cut"])
+        if how == "cut":
+            del text[at:at + chance.choice([1, 2, 5, 30])]
+        else:
+            byte = chance.choice(ODD_BYTES) if one_in(chance, 2) else chance.randrange(32, 127)
+            text[at:at + (how == "replace")] = bytes([byte])
+    return bytes(text)

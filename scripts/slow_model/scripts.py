@@ -1,0 +1,58 @@
+"""Scripts: `recline run`."""
+
+from .machine import World
+from .texts import (
+    NAMES, Fault, Refusal, fields_of, first_record, hexadecimal, number, numbered, place, records_of, told, want,
+    written,
+)
+
+READERS = {
+    "send": [number, number, hexadecimal],
+    "deliver": [number, number, place, hexadecimal],
+    "check": [number, hexadecimal],
+    "begin": [number, hexadecimal],
+    "turn": [number, hexadecimal],
+    "damage": [number, number],
+    "rounds": [],
+    "history": [],
+}
+OF_FAILED = ["recover", "bundle"]  # with any number of processes
+METHODS = {"history": "history_text"}  # where the world's method has another name
+
+
+def world_of(fields):
+    n = first_record(fields, "world", 4)
+    want(fields[3] in ("fifo", "unordered"), 32)
+    return n, fields[3]
+
+
+def command_of(fields, unknown=()):
+    """The name of a command and its values."""
+    name, rest = fields[0], fields[1:]
+    want(name not in unknown and (name in READERS or name in OF_FAILED), 32)
+    return name, fields_of([number] * len(rest) if name in OF_FAILED else READERS[name], rest)
+
+
+def read_script(text, unknown=()):
+    records = records_of(text)
+    n, mode = numbered(1, world_of, records[0])
+    return n, mode, [numbered(i, command_of, fields, unknown) for i, fields in enumerate(records[1:], 2)]
+
+
+def answer(world, name, values):
+    """The records of a reply or of a refusal, and whether it is a refusal."""
+    try:
+        return getattr(world, METHODS.get(name, name))(*values), False
+    except Refusal as refusal:
+        return [("refused", refusal.code, NAMES[refusal.code])], True
+
+
+def run(text, unknown=()):
+    """What the program has to write, say and answer."""
+    try:
+        n, mode, commands = read_script(text, unknown)
+    except Fault as fault:
+        return told(fault)
+    world = World(n, mode)
+    answers = [answer(world, name, values) for name, values in commands]
+    return b"".join(written(records) for records, _ in answers), b"", int(any(is_refusal for _, is_refusal in answers))

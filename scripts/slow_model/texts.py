@@ -1,0 +1,135 @@
+"""What texts are made of: records, fields, and the names of refusals and faults."""
+
+import math
+import re
+
+NAMES = {
+    0: "OutOfMemory", 1: "NoSuchProcess", 2: "BodyTooLong", 3: "TapeFull", 4: "NoSuchCheck",
+    5: "StateTooLong", 6: "BadCount", 7: "InitialDamage", 8: "AlreadyDamaged", 11: "NotTop",
+    12: "NotReceived", 13: "NotOrphan", 14: "LineDiffers", 15: "NotConsistent", 16: "BadShape",
+    17: "ToSelf", 18: "LinkEmpty", 19: "BadPick", 20: "RoundOpen", 21: "NothingToTurn",
+    22: "WrongMode", 23: "NoMoreRounds", 24: "NoMoreIncarnations", 32: "BadRecord",
+    33: "BadNumber", 34: "NoWorld", 35: "BadVersion",
+}
+NOW = math.inf  # the choice that is later than every check
+MOST_PROCESSES, MOST_BODY, MOST_STATE, MOST_EVENTS = 64, 64, 4096, 1_000_000
+MOST_INCARNATION, MOST_ROUND = 65_535, 65_535
+DIGITS, HEX_DIGITS = set("0123456789"), set("0123456789abcdefABCDEF")
+TEXT = re.compile(rb"([ !#-~\n]|\r\n)*")  # blanks to tildes but the double quote; a return only before a line feed
+
+
+class Fault(Exception):
+    """A fault of the text: its number, and its record once that is known."""
+
+    def __init__(self, code, record=None):
+        super().__init__(code, record)
+        self.code, self.record = code, record
+
+
+class Refusal(Exception):
+    """A refused command: its number."""
+
+    def __init__(self, code):
+        super().__init__(code)
+        self.code = code
+
+
+def want(holds, code):
+    """A fault unless something holds."""
+    if not holds:
+        raise Fault(code)
+
+
+def refuse(code, cause):
+    """A refusal where its cause holds."""
+    if cause:
+        raise Refusal(code)
+
+
+def numbered(record, read, *values):
+    """What is read of a record; a fault of it has the record's number."""
+    try:
+        return read(*values)
+    except Fault as fault:
+        raise Fault(fault.code, record) from None
+
+
+# Reading.
+
+def records_of(text):
+    if not TEXT.fullmatch(text):
+        raise Fault(32, 0)
+    lines = text.decode("ascii").replace("\r\n", "\n").split("\n")
+    records = [line.split(",") for line in lines if line]
+    if not records:
+        raise Fault(34, 1)
+    return records
+
+
+def number(field, most=2**32 - 1, least=0):
+    want(field and DIGITS.issuperset(field), 33)
+    # A field may have thousands of leading zeros.
+    digits = field.lstrip("0") or "0"
+    want(len(digits) <= 20 and least <= int(digits) <= most, 33)
+    return int(digits)
+
+
+def place(field):
+    return number(field, 2**64 - 1)
+
+
+def incarnation(field):
+    return number(field, MOST_INCARNATION)
+
+
+def round_number(field):
+    return number(field, MOST_ROUND, 1)
+
+
+def round_or_none(field):
+    return None if field == "-" else round_number(field)
+
+
+def choice(field):
+    return NOW if field == "now" else number(field)
+
+
+def hexadecimal(field):
+    want(len(field) % 2 == 0 and HEX_DIGITS.issuperset(field), 33)
+    return bytes.fromhex(field)
+
+
+def fields_of(readers, fields):
+    """The values of the fields of a record, one reader for each, from left to right."""
+    want(len(readers) == len(fields), 32)
+    return [reader(field) for reader, field in zip(readers, fields)]
+
+
+def first_record(fields, kind, width):
+    """The number of processes of a first record, whose other fields are its kind and its version."""
+    want(fields[0] == kind, 34)
+    want(len(fields) == width, 32)
+    version, n = number(fields[1]), number(fields[2])
+    want(version == 1, 35)
+    want(1 <= n <= MOST_PROCESSES, 6)
+    return n
+
+
+# Writing.
+
+def shown(value):
+    """A field as it is written."""
+    if value is None:
+        return "-"
+    if value == NOW:
+        return "now"
+    return value.hex() if isinstance(value, bytes) else str(value)
+
+
+def written(records):
+    return "".join(",".join(map(shown, record)) + "\n" for record in records).encode()
+
+
+def told(fault):
+    """What the program writes, says and answers where a text has a fault."""
+    return b"", f"recline: record {fault.record}: {fault.code} {NAMES[fault.code]}\n".encode(), 2
