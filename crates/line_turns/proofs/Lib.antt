@@ -1,0 +1,4 @@
+pub mod TurnedLemmas
+pub mod TurningLemmas
+pub mod ChannelLemmas
+pub mod CompletedLemmas

@@ -1,0 +1,9 @@
+use Rattle.line_turns.proofs.TurnedLemmas.{AreTurned-kept}
+use Rattle.line_turns.proofs.TurningLemmas.{IsTurning-kept}
+use Rattle.line_turns.proofs.laws.other_events_keep.Goals as goal
+
+pub returns-clause-colours : goal.returns-clause-colours
+returns-clause-colours c = AreTurned-kept
+
+pub returns-clause-turning : goal.returns-clause-turning
+returns-clause-turning c = IsTurning-kept

@@ -1,0 +1,40 @@
+//! Laws of what is kept.
+ghost use Rattle.std.specs.Prelude.{◌≡◌, ◌≢◌, ◌<◌, ℕ, List, false, length, IsTrue, None, Some};
+ghost use Rattle.line_names.specs.declared.choices.Choice.{Choice};
+ghost use Rattle.line_tape.specs.declared.events.Event.{Event};
+ghost use Rattle.line_tape.specs.declared.events.Event.TheVariants.{Check};
+ghost use Rattle.line_tape.specs.Colours.{channel_unordered};
+ghost use Rattle.line_tape.specs.History.{Process, tape_at, with_event};
+ghost use Rattle.line_tape.specs.Line.{IsLine};
+ghost use Rattle.line_tape.specs.Rounds.{checked_round, checks_of, has_check_of, is_check_of, is_checked};
+ghost use Rattle.line_tape.specs.Transit.{in_transit_between};
+ghost use Rattle.line_turns.specs.Channels.{channel_between, channels_at, IsTable};
+ghost use Rattle.line_turns.specs.Kept.{Turned, AreTurned};
+ghost use Rattle.line_turns.specs.Turning.{TurningView, IsLastLine, IsTurning};
+
+/// What is kept goes on following the tapes by each event that is no check of a round, and what is kept of one round by each that is no check of it.
+///
+/// The call does nothing: its contract is the law.
+pub fn other_events_keep()
+    ensures colours { (history : List Process) (at : ℕ) (event : Event) (colours : List Turned) → at < length history → checked_round event ≡ None
+        → AreTurned history colours → AreTurned (with_event history at event) colours }
+    ensures turning { (history : List Process) (at : ℕ) (event : Event) (turning : TurningView) → at < length history → is_check_of turning.number event ≡ false
+        → IsTurning history turning → IsTurning (with_event history at event) turning }
+{}
+
+/// How a round of colours is completed (Lai and Yang, Information Processing Letters 25(3), 1987): before the last process takes its check, the others stand at theirs and make a line with it; what is in transit there are the channels of the round once the check is taken; and where every tape has its check, these are the checks that are kept.
+///
+/// The call does nothing: its contract is the law.
+pub fn last_check_completes()
+    ensures line { (history : List Process) (turning : TurningView) (p : ℕ) (line : List Choice) → p < length history → IsTurning history turning → IsLastLine turning p line
+        → ((q : ℕ) → q < length history → q ≢ p → IsTrue (has_check_of turning.number (tape_at history q))) → IsLine history line }
+    ensures channels { (history : List Process) (turning : TurningView) (p : ℕ) (line : List Choice) (state : List ℕ) → p < length history → IsTurning history turning → IsLastLine turning p line
+        → ((q : ℕ) → q < length history → q ≢ p → IsTrue (has_check_of turning.number (tape_at history q))) → has_check_of turning.number (tape_at history p) ≡ false
+        → (a b : ℕ) → a < length history → b < length history
+        → channel_unordered (with_event history p (Check state (Some turning.number))) turning.number a b ≡ channel_between (channels_at history line) a b }
+    ensures checks { (history : List Process) (turning : TurningView) → IsTurning history turning → IsTrue (is_checked history turning.number)
+        → turning.checks ≡ checks_of history turning.number }
+    ensures between { (history : List Process) (line : List Choice) (p q : ℕ) → p < length history → q < length history
+        → channel_between (channels_at history line) p q ≡ in_transit_between history line p q }
+    ensures table { (history : List Process) (line : List Choice) → IsTable (length history) (channels_at history line) }
+{}
