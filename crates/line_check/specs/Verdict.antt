@@ -11,7 +11,7 @@ use Rattle.line_check.specs.declared.faults.FaultCode.{FaultCode}
 use Rattle.line_check.specs.declared.faults.FaultCode.TheVariants.{NotTop, NotReceived, NotOrphan, LineDiffers, NotConsistent, BadShape}
 use Rattle.line_check.specs.Shape.{HasShape}
 
--- what is wrong with an entry at the present ceilings: its choice is not one of them; or its message is not received before it; or it is, and is sent before them
+-- what is wrong with an entry at the present ceilings: its choice is not that of its process; or it is, and its message is not received before it; or it is received before it, and is sent before the ceiling of its sender
 abbrev pub IsEntryFault : List Process → List Choice → Passed → FaultCode → Type 0
 IsEntryFault history ceilings entry NotTop = entry.choice ≢ choice_at ceilings entry.at
 IsEntryFault history ceilings entry NotReceived =

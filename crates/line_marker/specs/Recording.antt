@@ -39,7 +39,7 @@ abbrev pub round_of : List Recorded → ℕ → Option Recorded
 round_of [] number = None
 round_of (round ∷ rounds) number = if round.number == number then Some round else round_of rounds number
 
--- the greatest recorded round; the floor where there is none
+-- the greatest of the floor and the recorded rounds
 abbrev pub latest : ℕ → List Recorded → ℕ
 latest floor [] = floor
 latest floor (round ∷ rounds) = max round.number (latest floor rounds)
@@ -67,10 +67,11 @@ effect_by (Some round) is_new = Closed
 effect_by None true = Forced
 effect_by None false = Ignored
 
+-- what the marker of that round does to what a process has recorded
 abbrev pub effect_of : MarkerView → ℕ → Effect
 effect_of marker number = effect_by (round_of marker.rounds number) (nat_lt (latest marker.floor marker.rounds) number)
 
--- the rounds after that; the channel from the sender of a marker that had the round recorded is empty and closed
+-- the rounds recorded after a marker from a process had this effect; where it had the round recorded, the channel from that process is empty and closed
 abbrev pub rounds_after : Effect → MarkerView → ℕ → ℕ → List Recorded
 rounds_after Closed marker from number = with_marker marker.rounds from number
 rounds_after Forced marker from number = with_marker (with_round marker.rounds marker.n number) from number

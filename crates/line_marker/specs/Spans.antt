@@ -43,11 +43,13 @@ abbrev pub channel_of : List MsgName → Span → Channel
 channel_of names (Open start) = record { messages = drop start names; is_closed = false }
 channel_of names (Closed start end) = record { messages = take (end - start) (drop start names); is_closed = true }
 
+-- the channels that stand there, one from each process
 abbrev pub channels_of : List (List MsgName) → List Span → List Channel
 channels_of [] spans = []
 channels_of (names ∷ rest) [] = []
 channels_of (names ∷ rest) (span ∷ spans) = channel_of names span ∷ channels_of rest spans
 
+-- a round as it is recorded, with the channels that stand there
 abbrev pub recorded_of : List (List MsgName) → RoundView → Recorded
 recorded_of names round = record { number = round.number; channels = channels_of names round.spans }
 
@@ -68,10 +70,12 @@ abbrev pub IsAscending : ℕ → List RoundView → Type 0
 IsAscending floor [] = Unit {0}
 IsAscending floor (round ∷ rounds) = (floor < round.number) × IsAscending round.number rounds
 
+-- in each round each process has one channel, within its messages
 abbrev pub AllWithin : List (List MsgName) → List RoundView → Type 0
 AllWithin names [] = Unit {0}
 AllWithin names (round ∷ rounds) = AreWithin names round.spans × AllWithin names rounds
 
+-- what holds of the rounds that are kept: their numbers ascend, above the floor, and their channels lie within the messages
 pub record AreKept (names : List (List MsgName)) (floor : ℕ) (rounds : List RoundView) : Type 0 where
   pub ascending : IsAscending floor rounds
   pub within : AllWithin names rounds

@@ -26,7 +26,6 @@ pub mod GrowthLemmas
 pub mod ColourLemmas
 pub mod ColourRounds
 pub mod CompletionLemmas
-pub mod GreatestLemmas
 pub mod RoundTransit
 pub mod TurnLemmas
 pub mod ForcedLemmas

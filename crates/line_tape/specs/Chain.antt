@@ -21,7 +21,7 @@ abbrev pub latest_choice : List Process → MarksView → List Bool → ℕ → 
 latest_choice history marks failed p =
     if survives history marks failed p Now then Now else latest_check (survives history marks failed p) (checks (tape_at history p))
 
--- the latest surviving choice of process p before a choice
+-- the latest surviving choice of process p before a choice; for the initial state, itself
 abbrev pub next_lower : List Process → MarksView → List Bool → ℕ → Choice → Choice
 next_lower history marks failed p (AtCheck c) = latest_check (survives history marks failed p) (c - 1)
 next_lower history marks failed p Now = latest_check (survives history marks failed p) (checks (tape_at history p))

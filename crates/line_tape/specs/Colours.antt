@@ -1,6 +1,5 @@
 -- Colours of processes and messages, and rounds without markers (Lai and Yang, Information Processing Letters 25(3), 1987), with round numbers for white and red.
-use Rattle.std.specs.Prelude.{◌≡◌, ℕ, zero, suc, ◌<◌, ◌≤◌, Bool, List, [], ◌∷◌, length, map, max, take, slice_get, Some, None}
-use Rattle.std.specs.List.{range_with_len}
+use Rattle.std.specs.Prelude.{◌≡◌, ℕ, zero, suc, ◌<◌, ◌≤◌, Bool, List, [], ◌∷◌, max, take, slice_get, Some, None}
 use Rattle.line_names.specs.declared.messages.MsgName.{MsgName}
 use Rattle.line_tape.specs.declared.events.Event.{Event}
 use Rattle.line_tape.specs.declared.events.Event.TheVariants.{Send, Recv, Check, Mark}
@@ -17,15 +16,11 @@ greatest (number ∷ rest) = max number (greatest rest)
 abbrev pub colour : List Event → ℕ
 colour events = greatest (rounds_checked events)
 
--- the greatest round that is on a tape; 0 where none is
-abbrev pub greatest_round : List Process → ℕ
-greatest_round history = greatest (map (λ q. colour (tape_at history q)) (range_with_len 0 (length history)))
-
 -- the colour at a place of a tape
 abbrev pub colour_at : List Event → ℕ → ℕ
 colour_at tape i = colour (take i tape)
 
--- how many events stand before the send of that number, counted from 0
+-- how many events stand before the send of that number, the sends counted from 0; all where there is none
 abbrev pub send_place : List Event → ℕ → ℕ
 send_place [] number = 0
 send_place (Send to inc body ∷ rest) zero = 0

@@ -1,5 +1,5 @@
--- Copies of messages on links that may lose, repeat and overtake (Lai and Yang, Information Processing Letters 25(3), 1987).
-use Rattle.std.specs.Prelude.{◌≡◌, ℕ, ◌<◌, ◌==◌, ◌&&◌, if◌then◌else◌, List, [], ◌∷◌, length, All, slice_index_or, Some}
+-- Copies of messages on links that keep no order (Lai and Yang, Information Processing Letters 25(3), 1987); here a delivery leaves its copy on the link, so that one may come late, again or never.
+use Rattle.std.specs.Prelude.{◌≡◌, ℕ, ◌<◌, ◌==◌, ◌&&◌, if◌then◌else◌, List, [], ◌∷◌, length, All, Some}
 use Rattle.line_names.specs.declared.messages.MsgName.{MsgName}
 use Rattle.line_tape.specs.declared.events.Event.{Event}
 use Rattle.line_tape.specs.declared.events.Event.TheVariants.{Send, Recv, Check, Mark}
@@ -9,11 +9,7 @@ use Rattle.line_tape.specs.History.{Process, tape_at}
 use Rattle.line_tape.specs.Spent.{next_name, IsSpentName, HasNoLaterSend}
 use Rattle.line_tape.specs.Transit.{addressee}
 
--- the copies on the link from process p to q, the oldest first, in a table of them by sender and addressee
-abbrev pub copies_at : List (List (List MsgName)) → ℕ → ℕ → List MsgName
-copies_at table p q = slice_index_or (slice_index_or table p []) q []
-
--- a copy on the link from process p to q: a message that p has sent, and to q if p's tape holds it
+-- a copy on the link from process p to q: a message of p whose name is spent, and sent to q if p's tape holds it
 pub record IsCopy (history : List Process) (p q : ℕ) (message : MsgName) : Type 0 where
   pub from_is : message.from ≡ p
   pub spent : IsSpentName history message

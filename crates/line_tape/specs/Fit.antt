@@ -1,4 +1,4 @@
--- What a link has carried and what it still holds, and the histories that links which keep their order can lead to (Chandy and Lamport, ACM TOCS 3(1), 1985).
+-- What a link has carried and what it still holds, and the histories that links can lead to: in the order of sending (Chandy and Lamport, ACM TOCS 3(1), 1985), and in any order (Lai and Yang, Information Processing Letters 25(3), 1987).
 use Rattle.std.specs.Prelude.{◌≡◌, ◌≢◌, false, ℕ, suc, ◌==◌, if◌then◌else◌, List, [], ◌∷◌, ◌++◌, length, take, drop, Contains, AllPairs, slice_get, Option, Some, None}
 use Rattle.std.specs.List.{filter_map}
 use Rattle.line_tape.specs.declared.events.Event.{Event}

@@ -5,7 +5,7 @@ use Rattle.line_names.specs.declared.choices.Choice.TheVariants.{Check as AtChec
 use Rattle.line_tape.specs.declared.events.Event.{Event}
 use Rattle.line_tape.specs.Event.{is_check, checks}
 
--- how many events stand up to and including check c; none for the initial state
+-- how many events stand up to and including check c; none for the initial state, all where the tape has no such check
 abbrev pub check_place : List Event → ℕ → ℕ
 check_place tape zero = 0
 check_place [] (suc c) = 0

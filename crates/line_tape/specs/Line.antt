@@ -31,7 +31,7 @@ pub record IsOrphanAmong (history : List Process) (line : List Choice) (events :
   pub received : Contains events (Recv message)
   pub unsent : IsSentBefore history line message → ⊥
 
--- an orphan at process q: it has received the message before the line, which is not sent before it
+-- an orphan at process q: a message that q has received before the line and that is not sent before the line
 abbrev pub IsOrphan : List Process → List Choice → ℕ → MsgName → Type 0
 IsOrphan history line q message = IsOrphanAmong history line (events_before history line q) message
 

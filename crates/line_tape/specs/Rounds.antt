@@ -91,7 +91,7 @@ channel_on p r tape = names_from p (names_received (before_first (is_mark_of p r
 abbrev pub channel_fifo : List Process → ℕ → ℕ → ℕ → List MsgName
 channel_fifo history r p q = channel_on p r (tape_at history q)
 
--- a snapshot of the history: checks that make a consistent line, and for each two processes the messages in transit there
+-- a snapshot of the history: checks that make a consistent line, and for each two different processes the messages in transit there
 pub record IsSnapshot (history : List Process) (indices : List ℕ) (channels : ℕ → ℕ → List MsgName) : Type 0 where
   pub line : IsLine history (check_line indices)
   pub consistent : IsConsistent history (check_line indices)

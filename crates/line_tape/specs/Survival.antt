@@ -27,7 +27,7 @@ pub record IsRecoverable (history : List Process) (marks : MarksView) (failed : 
   pub surviving : (p : ℕ) → IsTrue (survives history marks failed p (choice_at line p))
   pub consistent : IsConsistent history line
 
--- a recoverable line that is, at every process, as late as every recoverable line
+-- a recoverable line that is, at every process, at least as late as every recoverable line
 pub record IsLatest (history : List Process) (marks : MarksView) (failed : List Bool) (line : List Choice) : Type 0 where
   pub recoverable : IsRecoverable history marks failed line
   pub latest : (other : List Choice) → IsRecoverable history marks failed other → IsNowhereLater other line

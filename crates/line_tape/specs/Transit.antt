@@ -30,9 +30,13 @@ received_name (Recv message) = Some message
 received_name (Check state round) = None
 received_name (Mark from round) = None
 
+-- the messages received among these events, in order
+abbrev pub names_received : List Event → List MsgName
+names_received events = filter_map received_name events
+
 -- the message is received among these events
 abbrev pub has_received : List Event → MsgName → Bool
-has_received events message = list_any (is_name message) (filter_map received_name events)
+has_received events message = list_any (is_name message) (names_received events)
 
 -- the letter is not received before the choice of the process that it is for
 abbrev pub is_open : List Process → List Choice → Letter → Bool
@@ -51,10 +55,6 @@ in_transit history line =
 abbrev pub in_transit_between : List Process → List Choice → ℕ → ℕ → List MsgName
 in_transit_between history line p q =
     map (λ (letter : Letter). letter.message) (filter (λ (letter : Letter). letter.to == q) (open_letters history line p))
-
--- the messages received among these events, in order
-abbrev pub names_received : List Event → List MsgName
-names_received events = filter_map received_name events
 
 -- the process that an event sends to
 abbrev pub addressee_of : Event → Option ℕ

@@ -4,7 +4,7 @@ ghost use Rattle.line_names.specs.declared.choices.Choice.{Choice};
 ghost use Rattle.line_names.specs.declared.messages.MsgName.{MsgName};
 ghost use Rattle.line_tape.specs.declared.events.Event.{Event};
 ghost use Rattle.line_tape.specs.declared.events.Event.TheVariants.{Send, Recv, Check};
-ghost use Rattle.line_tape.specs.Colours.{channel_unordered, colour, greatest, greatest_round, is_completed_unordered, message_colour, AreColoured, IsNextColoured};
+ghost use Rattle.line_tape.specs.Colours.{channel_unordered, colour, greatest, is_completed_unordered, message_colour, AreColoured, IsNextColoured};
 ghost use Rattle.line_tape.specs.Event.{sends, Holds};
 ghost use Rattle.line_tape.specs.Fit.{IsFitUnordered, IsNextUnordered};
 ghost use Rattle.line_tape.specs.History.{Process, fresh, tape_at, with_event};
@@ -47,23 +47,6 @@ pub fn colours_change()
     ensures below { (history : List Process) (message : MsgName) → message_colour history message ≤ colour (tape_at history message.from) }
     ensures at_least { (tape : List Event) (r : ℕ) → IsTrue (has_check_of r tape) → r ≤ colour tape }
     ensures reached { (tape : List Event) → colour tape ≢ 0 → IsTrue (has_check_of (colour tape) tape) }
-{}
-
-/// What the greatest round on the tapes is: it is on a tape, and no other there is greater; and it is 0 where no round is.
-///
-/// It stays by every event that is no check of a round, and by a check of a round that is no smaller it is that round. The call does nothing: its contract is the law.
-pub fn greatest_rounds()
-    ensures least { (history : List Process) (q r : ℕ) → IsTrue (has_check_of r (tape_at history q)) → r ≤ greatest_round history }
-    ensures reached { (history : List Process) → greatest_round history ≢ 0
-        → (q : ℕ) × (q < length history) × IsTrue (has_check_of (greatest_round history) (tape_at history q)) }
-    ensures greatest { (history : List Process) (r q : ℕ) → IsTrue (has_check_of r (tape_at history q))
-        → ((p s : ℕ) → IsTrue (has_check_of s (tape_at history p)) → s ≤ r) → greatest_round history ≡ r }
-    ensures none { (history : List Process) → ((q r : ℕ) → has_check_of r (tape_at history q) ≡ false) → greatest_round history ≡ 0 }
-    ensures other { (history : List Process) (at : ℕ) (event : Event) → at < length history → checked_round event ≡ None
-        → greatest_round (with_event history at event) ≡ greatest_round history }
-    ensures check { (history : List Process) (at : ℕ) (state : List ℕ) (round : ℕ) → at < length history → greatest_round history ≤ round
-        → greatest_round (with_event history at (Check state (Some round))) ≡ round }
-    ensures restart { (history : List Process) (line : List Choice) → length line ≡ length history → greatest_round (restarted history line) ≡ 0 }
 {}
 
 /// The turns of a tape, its checks of rounds each with the count of the sends before it, say its colour and that of each message that it sent.

@@ -22,8 +22,7 @@ mod tapes;
 mod transits;
 
 pub use colours::{
-    colour_round_holds, colours_change, colours_hold, forced_checks_suffice, greatest_rounds,
-    turns_tell,
+    colour_round_holds, colours_change, colours_hold, forced_checks_suffice, turns_tell,
 };
 pub use copies::copies_hold;
 pub use events::{Event, State};
