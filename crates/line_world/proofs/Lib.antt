@@ -5,6 +5,7 @@ pub mod RecordingLemmas
 pub mod OpeningLemmas
 pub mod OpenFacts
 pub mod MarkerFacts
+pub mod TurnFacts
 pub mod WorldLemmas
 pub mod TransitFacts
 pub mod StartLemmas
@@ -13,4 +14,6 @@ pub mod LineFacts
 pub mod StepLemmas
 pub mod DeliverLemmas
 pub mod NameFacts
+pub mod PaintLemmas
+pub mod TurnedFacts
 pub mod RunLemmas

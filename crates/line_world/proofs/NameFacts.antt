@@ -19,12 +19,12 @@ use Rattle.line_world.specs.declared.replies.Reply.{Reply}
 use Rattle.line_world.specs.declared.replies.Reply.TheVariants.{Sent, Took, Marked, Stale, Repeated, Checked, Begun, Turned, Damaged, Recovered}
 use Rattle.line_world.specs.declared.steps.Step.{Step}
 use Rattle.line_world.specs.declared.steps.Step.TheVariants.{Send, Deliver, Check, Begin, Turn, Damage, Recover}
-use Rattle.line_world.specs.Fates.{fate_of, events_of, events_taken, is_forced, marker_events, reply_of, reply_taken}
+use Rattle.line_world.specs.Fates.{fate_of, forced_round, events_of, events_taken, is_forced, marker_events, reply_of, reply_taken}
 use Rattle.line_world.specs.Machine.{Machine, with_events}
 use Rattle.line_world.specs.Refusals.{refusal_of}
 use Rattle.line_world.specs.Runs.{Takes, Run, reply_name, answer_name}
 use Rattle.line_world.specs.Steps.{Does, RecoversWith}
-use Rattle.line_world.proofs.StepLemmas.{may_send, may_deliver_at, may_begin, may_check}
+use Rattle.line_world.proofs.StepLemmas.{may_turn_at, may_send, may_deliver_at, may_begin, may_check}
 use Rattle.line_world.proofs.LinkLemmas.{length-with_event}
 use Rattle.line_world.specs.declared.steps.Mode.{Mode}
 use Rattle.line_world.specs.declared.steps.Mode.TheVariants.{Fifo, Unordered}
@@ -65,27 +65,28 @@ KeepsNames-quiet history at (event ∷ events) sends within (silent, quiet) =
     let rest = KeepsNames-quiet (with_event history at event) at events one.sends (omega (arith, within, length-with_event history at event)) quiet in
     record { sends = rest.sends; stays = λ message is. rest.stays message (one.stays message is) }
 
-quiet_of : (fate : Fate) (message : MsgName) → AreQuiet (events_of fate message)
-quiet_of Taken message = (refl, tt)
-quiet_of IsStale message = tt
-quiet_of IsRepeated message = tt
+quiet_of : (fate : Fate) (forced : Option ℕ) (state : List ℕ) (message : MsgName) → AreQuiet (events_of fate forced state message)
+quiet_of Taken None state message = (refl, tt)
+quiet_of Taken (Some round) state message = (refl, (refl, tt))
+quiet_of IsStale forced state message = tt
+quiet_of IsRepeated forced state message = tt
 
 quiet_marker : (forced : Bool) (from : ℕ) (state : List ℕ) (round : ℕ) → AreQuiet (marker_events forced from state round)
 quiet_marker true from state round = (refl, (refl, tt))
 quiet_marker false from state round = (refl, tt)
 
 quiet_taken : (mode : Mode) (history : List Process) (from to : ℕ) (state : List ℕ) (item : Item) → AreQuiet (events_taken mode history from to state item)
-quiet_taken mode history from to state (Message message) = quiet_of (fate_of mode history to message) message
+quiet_taken mode history from to state (Message message) = quiet_of (fate_of mode history to message) (forced_round mode history to message) state message
 quiet_taken Fifo history from to state (Marker round) = quiet_marker (is_forced history to round) from state round
 quiet_taken Unordered history from to state (Marker round) = tt
 
-told_of : (fate : Fate) (message : MsgName) → reply_name (reply_of fate message) ≡ None
-told_of Taken message = refl
-told_of IsStale message = refl
-told_of IsRepeated message = refl
+told_of : (fate : Fate) (forced : Option ℕ) (message : MsgName) → reply_name (reply_of fate forced message) ≡ None
+told_of Taken forced message = refl
+told_of IsStale forced message = refl
+told_of IsRepeated forced message = refl
 
 told_taken : (mode : Mode) (history : List Process) (to : ℕ) (item : Item) → reply_name (reply_taken mode history to item) ≡ None
-told_taken mode history to (Message message) = told_of (fate_of mode history to message) message
+told_taken mode history to (Message message) = told_of (fate_of mode history to message) (forced_round mode history to message) message
 told_taken Fifo history to (Marker round) = refl
 told_taken Unordered history to (Marker round) = refl
 
@@ -120,7 +121,11 @@ names-done old new (Begin at state) reply sends none does =
       subst (KeepsNames old.history) (sym after) (KeepsNames-event old.history at (CheckEvent state (Some (old.last_round + 1))) sends (may_begin old at state none).within (λ inc e. absurd (cc))),
       unnamed old.history new.history (reply_name reply) (ap reply_name does.reply_is),
     )
-names-done old new (Turn at state) reply sends none does = absurd does
+names-done old new (Turn at state) reply sends none does =
+    let after : new.history ≡ with_event old.history at (CheckEvent state (Some old.last_round)) = ap (λ (m : Machine). m.history) does.new_is in (
+      subst (KeepsNames old.history) (sym after) (KeepsNames-event old.history at (CheckEvent state (Some old.last_round)) sends (may_turn_at old at state none).within (λ inc e. absurd (cc))),
+      unnamed old.history new.history (reply_name reply) (ap reply_name does.reply_is),
+    )
 names-done old new (Damage at check) reply sends none does =
     let after : new.history ≡ old.history = ap (λ (m : Machine). m.history) does.new_is in
     (subst (KeepsNames old.history) (sym after) (KeepsNames-same old.history sends), unnamed old.history new.history (reply_name reply) (ap reply_name does.reply_is))

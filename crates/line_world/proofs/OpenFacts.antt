@@ -1,4 +1,5 @@
 -- What a call on the open round leaves of it.
+use Rattle.std.specs.Option.{unwrap_or}
 use Rattle.std.proofs.Common.{◌≡◌, ◌≢◌, ℕ, zero, suc, ◌<◌, ◌≤◌, ◌+◌, Bool, true, false, cond, List, [], ◌∷◌, ◌++◌, length, get_or, set, map, Option, Some, refl, sym, ap, ◌∙◌, subst, arith, inl, inr}
 use Rattle.std.proofs.lemmas.List.{length_push, get_or_append_left, get_or_default, get_or-set_same, get_or-set_other, length-set}
 use Rattle.std.specs.Prelude.{◌==◌, ◌↔◌, IsTrue, Result, Ok, Err, OnOk, OnErr}
@@ -17,7 +18,8 @@ use Rattle.line_tape.proofs.RoundLines.{closed_has_check}
 use Rattle.line_tape.proofs.NextLemmas.{tape_same, tape_other}
 use Rattle.line_world.specs.declared.steps.Mode.TheVariants.{Fifo}
 use Rattle.line_world.specs.Listed.{Listed, channel, channel_table, listed}
-use Rattle.line_world.specs.Openings.{OpenView, names_or_none, recorded_channel, recorded_table, check_or_none, marker_at, no_marker, AreMarkers, IsFresh, IsMarkerOf, IsRecording, IsRoundOrNone}
+use Rattle.line_turns.specs.Turning.{check_or_none}
+use Rattle.line_world.specs.Openings.{OpenView, recorded_channel, recorded_table, marker_at, no_marker, AreMarkers, IsFresh, IsMarkerOf, IsRecording, IsRoundOrNone}
 use Rattle.line_world.proofs.LinkLemmas.{length-with_event}
 use Rattle.line_world.proofs.OpeningLemmas.{check_begun, check_forced, check_heard, check_noted, is_checked_now, IsRecording-written}
 use Rattle.line_world.proofs.RecordingLemmas.{recorded_round, recorded_there, closed_over, over_closed, IsMarkerOf-begun, IsMarkerOf-marked, IsMarkerOf-noted, IsMarkerOf-repeated}
@@ -183,7 +185,7 @@ on_err_weaker (Ok x) f p = tt
 on_err_weaker (Err e) f p = f p
 
 -- the same cells give the same table
-map_cells : {X : Type 0} (f g : ℕ → X) (a n : ℕ) → ((k : ℕ) → a ≤ k → k < a + n → f k ≡ g k) → map f (range_with_len a n) ≡ map g (range_with_len a n)
+pub map_cells : {X : Type 0} (f g : ℕ → X) (a n : ℕ) → ((k : ℕ) → a ≤ k → k < a + n → f k ≡ g k) → map f (range_with_len a n) ≡ map g (range_with_len a n)
 map_cells f g a zero same = refl
 map_cells {X} f g a (suc n) same = ap (λ (x : X). x ∷ map f (range_with_len (a + 1) n)) (same a (omega arith) (omega arith))
     ∙ ap (λ (xs : List X). g a ∷ xs) (map_cells f g (a + 1) n (λ k low high. same k (omega (arith, low)) (omega (arith, high))))
@@ -195,7 +197,7 @@ recorded_is history round is p q p_within q_within apart begun =
     let n : ℕ = length history in
     let r : ℕ = round.number in
     let one = recorded_round n q r (tape_at history q) (marker_at round.markers q) (is.markers q q_within) begun in
-    ap (λ (o : Option Recorded). names_or_none (messages_by o p)) (recorded_there n q r (tape_at history q) (marker_at round.markers q).rounds one)
+    ap (λ (o : Option Recorded). unwrap_or (messages_by o p) []) (recorded_there n q r (tape_at history q) (marker_at round.markers q).rounds one)
     ∙ ap (λ (c : Channel). c.messages) (one.channels p p_within apart)
 
 -- the round that is completed, as it is listed

@@ -1,22 +1,27 @@
 -- What is kept of the open round follows the tapes, step by step.
 use Rattle.std.proofs.Common.{◌≡◌, ◌≢◌, ℕ, zero, suc, ◌<◌, ◌≤◌, ◌+◌, Bool, true, false, cond, List, [], ◌∷◌, ◌++◌, length, get_or, map, Option, Some, None, refl, sym, ap, ◌∙◌, subst, arith, inl, inr}
-use Rattle.std.specs.Prelude.{◌==◌, ◌||◌, ◌&&◌, not, if◌then◌else◌}
+use Rattle.std.specs.Option.{is_some}
+use Rattle.std.specs.Prelude.{◌==◌, ◌||◌, ◌&&◌, not}
 use Rattle.std.specs.List.{All, filter, list_any, range_with_len}
-use Rattle.std.proofs.lemmas.Bool.{cases_eq, cases_lt, eq-eqb, ne_eqb, both_ways, or_cases, le-leb}
-use Rattle.std.proofs.lemmas.List.{get_or_past, length-map}
+use Rattle.std.proofs.lemmas.List.Kept.{AllPairs-filter}
+use Rattle.std.proofs.lemmas.List.Quantifiers.{all_pairs_push}
+use Rattle.std.proofs.lemmas.Bool.{cases_eq, cases_lt, ne_eqb, both_ways, or_cases, le-leb}
+use Rattle.std.proofs.lemmas.List.{append-nil, get_or_past, length-map}
 use Rattle.std.proofs.lemmas.List.FromFn.{get_or-range_with_len, length-range_with_len}
 use Rattle.std.proofs.lemmas.List.Folds.{list_any_at}
 use Rattle.std.proofs.lemmas.List.Elements.{All-filter, filter_passes, All-weaker, All-append, All-cons, All-nil}
 use Rattle.line_marker.specs.Recording.{MarkerView}
 use Rattle.line_names.specs.declared.messages.MsgName.{MsgName}
 use Rattle.line_tape.specs.declared.events.Event.{Event}
-use Rattle.line_tape.specs.declared.events.Event.TheVariants.{Send, Recv, Check, Mark}
+use Rattle.line_tape.specs.declared.events.Event.TheVariants.{Recv, Check, Mark}
 use Rattle.line_tape.specs.Event.{checks}
 use Rattle.line_tape.specs.History.{Process, tape_at, with_event}
-use Rattle.line_tape.specs.Rounds.{has_check_of, has_mark_of, check_of, channel_fifo, is_check_of, is_mark_of, names_from, IsSnapshot}
-use Rattle.line_tape.specs.Fit.{IsFitFifo}
+use Rattle.line_tape.specs.Rounds.{has_check_of, is_check_of, is_mark_of, names_from}
+use Rattle.line_tape.specs.Colours.{AreColoured}
+use Rattle.line_tape.specs.Fit.{IsFitFifo, IsFitUnordered}
+use Rattle.line_tape.proofs.ColourRounds.{colour_snapshot}
 use Rattle.line_tape.specs.Transit.{names_received}
-use Rattle.line_tape.proofs.CompletionLemmas.{no_check_restarted, check_stays, check_of_push, check_of_new, checked_idle, completed_idle}
+use Rattle.line_tape.proofs.CompletionLemmas.{no_check_restarted, check_stays, checked_idle, completed_idle}
 use Rattle.line_tape.proofs.GrowthLemmas.{has_check_push, checked_event, completed_event}
 use Rattle.line_tape.proofs.NextLemmas.{tape_same, tape_other}
 use Rattle.line_tape.proofs.RoundLines.{in_range, get_range, checked_has, completed_checked, marker_snapshot}
@@ -29,19 +34,12 @@ use Rattle.line_names.specs.declared.choices.Choice.TheVariants.{Check as AtChec
 use Rattle.line_names.specs.Lines.{choice_at}
 use Rattle.line_tape.specs.Restart.{is_kept, restarted}
 use Rattle.line_world.specs.Machine.{newly_listed}
-use Rattle.line_world.specs.Openings.{OpenView, check_or_none, left_open, marker_at, newly_closed, open_number, IsLast, IsMarkerOf, IsOpening, IsRecording, IsRunning, IsUnfinished}
-use Rattle.line_world.specs.Worlds.{AreRounds}
+use Rattle.line_turns.specs.Turning.{TurningView, check_or_none}
+use Rattle.line_world.specs.Openings.{OpenView, left_open, marker_at, first_unlisted, newly_closed, open_number, opened_turning, turning_of, IsLast, IsMarkerOf, IsOpening, IsRecorded, IsRecording, IsRunning}
+use Rattle.line_world.specs.Worlds.{AreNumbered, AreRounds}
+use Rattle.line_turns.proofs.TurningLemmas.{check_or_none-kept, check_or_none-new, IsTurning-kept}
 use Rattle.line_world.proofs.LinkLemmas.{length-with_event}
 use Rattle.line_world.proofs.RecordingLemmas.{IsMarkerOf-kept}
-
--- an event that is no check of a round leaves the index of its check
-check_kept : (r : ℕ) (tape : List Event) (e : Event) → is_check_of r e ≡ false → check_or_none r (tape ++ e ∷ []) ≡ check_or_none r tape
-check_kept r tape e other =
-    ap (λ b. cond b (check_of r (tape ++ e ∷ [])) 0) (check_stays tape e r other)
-    ∙ elim (has_check_of r tape) as (λ b. has_check_of r tape ≡ b → cond b (check_of r (tape ++ e ∷ [])) 0 ≡ cond b (check_of r tape) 0) [
-      | true ↦ λ begun. check_of_push tape e r begun
-      | false ↦ λ none. refl
-    ] refl
 
 or-true : (b : Bool) → (b || true) ≡ true
 or-true true = refl
@@ -51,23 +49,18 @@ or-true false = refl
 pub is_checked_now : (r : ℕ) (tape : List Event) (e : Event) → is_check_of r e ≡ true → has_check_of r (tape ++ e ∷ []) ≡ true
 is_checked_now r tape e is = has_check_push tape e r ∙ ap (λ b. has_check_of r tape || b) is ∙ or-true (has_check_of r tape)
 
-check_new : (r : ℕ) (tape : List Event) (e : Event) → has_check_of r tape ≡ false → is_check_of r e ≡ true → check_or_none r (tape ++ e ∷ []) ≡ checks tape + 1
-check_new r tape e none is =
-    let more : suc (checks tape) ≡ checks tape + 1 = omega arith in
-    ap (λ b. cond b (check_of r (tape ++ e ∷ [])) 0) (is_checked_now r tape e is) ∙ check_of_new tape e r none is ∙ more
-
 -- the index of its check after it and one more event
 pub check_begun : (r : ℕ) (tape : List Event) (state : List ℕ) → has_check_of r tape ≡ false → check_or_none r (tape ++ Check state (Some r) ∷ []) ≡ checks tape + 1
-check_begun r tape state none = check_new r tape (Check state (Some r)) none (eq-eqb r r refl)
+check_begun = check_or_none-new
 
 pub check_forced : (r from : ℕ) (tape : List Event) (state : List ℕ) → has_check_of r tape ≡ false → check_or_none r ((tape ++ Check state (Some r) ∷ []) ++ Mark from r ∷ []) ≡ checks tape + 1
-check_forced r from tape state none = check_kept r (tape ++ Check state (Some r) ∷ []) (Mark from r) refl ∙ check_begun r tape state none
+check_forced r from tape state none = check_or_none-kept r (tape ++ Check state (Some r) ∷ []) (Mark from r) refl ∙ check_begun r tape state none
 
 pub check_heard : (r from : ℕ) (tape : List Event) → check_or_none r (tape ++ Mark from r ∷ []) ≡ check_or_none r tape
-check_heard r from tape = check_kept r tape (Mark from r) refl
+check_heard r from tape = check_or_none-kept r tape (Mark from r) refl
 
 pub check_noted : (r : ℕ) (message : MsgName) (tape : List Event) → check_or_none r (tape ++ Recv message ∷ []) ≡ check_or_none r tape
-check_noted r message tape = check_kept r tape (Recv message) refl
+check_noted r message tape = check_or_none-kept r tape (Recv message) refl
 
 -- what is kept, once the tape of one process has changed
 module _ (history new : List Process) (p r : ℕ) (length_is : length new ≡ length history) (others : (q : ℕ) → q ≢ p → tape_at new q ≡ tape_at history q) where
@@ -89,6 +82,13 @@ module _ (history new : List Process) (p r : ℕ) (length_is : length new ≡ le
           (subst (IsMarkerOf (length history) q r (tape_at history q)) (sym (markers_same q other)) (is.markers q (omega (arith, within, length_is)))))
     ];
   }
+
+-- two that are kept as open and have one number
+pub first_same : (running new : Option OpenView) (last : ℕ) → open_number new ≡ open_number running → first_unlisted running last ≡ first_unlisted new last
+first_same None None last e = refl
+first_same (Some old) (Some round) last e = refl
+first_same None (Some round) last e = absurd (cc)
+first_same (Some old) None last e = absurd (cc)
 
 module _ (history : List Process) (at : ℕ) (e : Event) (within : at < length history) where
   -- the round is completed still
@@ -118,7 +118,7 @@ module _ (history : List Process) (at : ℕ) (e : Event) (within : at < length h
         let here : tape_at (with_event history at e) at ≡ tape ++ e ∷ [] = tape_same history at e at within refl in
         IsRecording-written history (with_event history at e) at round.number (length-with_event history at e) (λ q apart. tape_other history at e q apart) round.checks round.checks round.markers round.markers is refl
         (λ q apart. refl) (λ q apart. refl)
-        (is.checks at within ∙ sym (check_kept round.number tape e other) ∙ ap (check_or_none round.number) (sym here))
+        (is.checks at within ∙ sym (check_or_none-kept round.number tape e other) ∙ ap (check_or_none round.number) (sym here))
         (subst (λ (t : List Event). IsMarkerOf (length history) at round.number t (marker_at round.markers at)) (sym here)
         (IsMarkerOf-kept (length history) at round.number tape (marker_at round.markers at) (is.markers at within) e other (λ p p_within apart. (unmarked p, adds round.number p))))
 
@@ -137,7 +137,7 @@ module _ (history : List Process) (at : ℕ) (e : Event) (within : at < length h
 
   module _ (other : (r : ℕ) → is_check_of r e ≡ false) where
     -- the round that is open, by an event that is no check of a round
-    pub IsRunning-kept : (mode : Mode) (round new : OpenView) → new.number ≡ round.number → IsRunning mode history round → IsRecording (with_event history at e) new → IsRunning mode (with_event history at e) new
+    pub IsRunning-kept : (mode : Mode) (round new : OpenView) → new.number ≡ round.number → IsRunning mode history round → IsRecorded mode (with_event history at e) new → IsRunning mode (with_event history at e) new
     IsRunning-kept mode round new number is recording = record {
       others = λ p r has apart. others_kept mode round.number (λ s _. other s) is.others p r has (λ same. apart (same ∙ sym number));
       recording = recording;
@@ -147,12 +147,12 @@ module _ (history : List Process) (at : ℕ) (e : Event) (within : at < length h
     pub IsOpening-kept : (mode : Mode) (running : Option OpenView) → ((r p : ℕ) → names_from p (names_received (e ∷ [])) ≡ []) → ((r p : ℕ) → is_mark_of p r e ≡ false) → IsOpening mode history running → IsOpening mode (with_event history at e) running
     IsOpening-kept mode None adds unmarked old = all_kept mode other old
     IsOpening-kept Fifo (Some round) adds unmarked old = IsRunning-kept Fifo round round refl old (IsRecording-kept adds round (other round.number) (unmarked round.number) old.recording)
-    IsOpening-kept Unordered (Some round) adds unmarked old = old
+    IsOpening-kept Unordered (Some round) adds unmarked old = IsRunning-kept Unordered round round refl old (IsTurning-kept history at e (turning_of round) within (other round.number) old.recording)
 
     -- where links keep no order
     pub IsOpening-unordered : (running : Option OpenView) → IsOpening Unordered history running → IsOpening Unordered (with_event history at e) running
     IsOpening-unordered None old = all_kept Unordered other old
-    IsOpening-unordered (Some round) old = old
+    IsOpening-unordered (Some round) old = IsRunning-kept Unordered round round refl old (IsTurning-kept history at e (turning_of round) within (other round.number) old.recording)
 
     -- whether a round is begun
     begun_kept : (r : ℕ) → is_begun (with_event history at e) r ≡ is_begun history r
@@ -171,7 +171,7 @@ module _ (history : List Process) (at : ℕ) (e : Event) (within : at < length h
     numbers_kept last old p r has = old p r (sym (has_back p r (other r)) ∙ has)
 
     module _ (unmarked : (r p : ℕ) → is_mark_of p r e ≡ false) where
-      completed_same : (mode : Mode) (r : ℕ) → is_completed mode (with_event history at e) r ≡ is_completed mode history r
+      pub completed_same : (mode : Mode) (r : ℕ) → is_completed mode (with_event history at e) r ≡ is_completed mode history r
       completed_same Fifo r = completed_idle history at e r within (other r) (unmarked r)
       completed_same Unordered r = checked_idle history at e r within (other r)
 
@@ -190,6 +190,7 @@ module _ (history : List Process) (at : ℕ) (e : Event) (within : at < length h
         opening = opening;
         unfinished = IsLast-kept mode last running new number are.unfinished;
         snapshots = All-weaker (IsSnapshotOf history) (IsSnapshotOf (with_event history at e)) (λ round is. snapshot_event history at e round.checks (channel_in round) within is) rounds are.snapshots;
+        numbered = subst (λ (v : ℕ). AreNumbered v rounds) (first_same running new last number) are.numbered;
       }
 
       -- no round is completed
@@ -227,23 +228,71 @@ listed_snapshot history r fit completed =
       transit = λ p q p_within q_within apart. listed_channel Fifo history r p q p_within q_within apart ∙ is.transit p q p_within q_within apart;
     }
 
--- the rounds once a step of markers is settled
-module _ (history : List Process) (fit : IsFitFifo history) (last : ℕ) (rounds : List Listed) (numbers : (p r : ℕ) → has_check_of r (tape_at history p) ≡ true → r ≤ last)
+-- and a completed round of colours
+pub counted_snapshot : (history : List Process) (r : ℕ) → IsFitUnordered history → AreColoured history → is_completed Unordered history r ≡ true → IsSnapshotOf history (listed Unordered history r)
+counted_snapshot history r fit coloured completed =
+    let is = colour_snapshot history r fit coloured completed in
+    record {
+      line = is.line;
+      consistent = is.consistent;
+      transit = λ p q p_within q_within apart. listed_channel Unordered history r p q p_within q_within apart ∙ is.transit p q p_within q_within apart;
+    }
+
+-- the numbers of listed rounds lie below a greater one too
+pub AreNumbered-weaker : (first next : ℕ) (rounds : List Listed) → first ≤ next → AreNumbered first rounds → AreNumbered next rounds
+AreNumbered-weaker first next rounds most is = record {
+  earlier = All-weaker (λ (round : Listed). round.number < first) (λ (round : Listed). round.number < next) (λ round less. omega (arith, less, most)) rounds is.earlier;
+  ascending = is.ascending;
+}
+
+-- one more round is listed, of a number that they lie below
+AreNumbered-push : (first : ℕ) (rounds : List Listed) (round : Listed) → round.number ≡ first → AreNumbered first rounds → AreNumbered (suc first) (rounds ++ round ∷ [])
+AreNumbered-push first rounds round number is =
+    let below : Listed → Type 0 = λ r. r.number < suc first in
+    record {
+      earlier = All-append below rounds (round ∷ []) (AreNumbered-weaker first (suc first) rounds (omega arith) is).earlier (All-cons below round [] (omega (arith, number)) (All-nil below));
+      ascending = all_pairs_push (λ (a b : Listed). a.number < b.number) rounds round is.ascending (λ k d within. let less = is.earlier k d within in omega (arith, less, number));
+    }
+
+AreNumbered-none : (first : ℕ) (rounds : List Listed) → AreNumbered first rounds → AreNumbered first (rounds ++ [])
+AreNumbered-none first rounds is = subst (AreNumbered first) (sym (append-nil rounds)) is
+
+-- and some of them leave the list
+AreNumbered-filter : (first : ℕ) (test : Listed → Bool) (rounds : List Listed) → AreNumbered first rounds → AreNumbered first (filter test rounds)
+AreNumbered-filter first test rounds is = record {
+  earlier = All-filter test (λ (round : Listed). round.number < first) rounds is.earlier;
+  ascending = AllPairs-filter (λ (a b : Listed). a.number < b.number) test rounds is.ascending;
+}
+
+-- they lie below the next number in any case
+pub first_most : (running : Option OpenView) (last : ℕ) → first_unlisted running last ≤ suc last
+first_most None last = omega arith
+first_most (Some round) last = omega arith
+
+-- the rounds once a step of the open round is settled, where a completed one is a snapshot as it is listed
+module _ (mode : Mode) (history : List Process) (holds : (r : ℕ) → is_completed mode history r ≡ true → IsSnapshotOf history (listed mode history r)) (last : ℕ) (rounds : List Listed) (numbers : (p r : ℕ) → has_check_of r (tape_at history p) ≡ true → r ≤ last)
     (snapshots : All (IsSnapshotOf history) rounds) where
-  pub AreRounds-settled : (running : Option OpenView) → IsOpening Fifo history running → ((round : OpenView) → running ≡ Some round → (round.number ≡ last) × (is_begun history last ≡ true))
-      → AreRounds Fifo history last (left_open Fifo history running) (rounds ++ newly_closed Fifo history running)
-  AreRounds-settled None opening begun = record { numbers = numbers; opening = opening; unfinished = tt; snapshots = All-append (IsSnapshotOf history) rounds [] snapshots (All-nil (IsSnapshotOf history)) }
-  AreRounds-settled (Some round) opening begun = elim (is_completed Fifo history round.number) as (λ b. is_completed Fifo history round.number ≡ b
-      → AreRounds Fifo history last (cond b None (Some round)) (rounds ++ cond b (listed Fifo history round.number ∷ []) [])) [
+  pub AreRounds-settled : (running : Option OpenView) → AreNumbered (first_unlisted running last) rounds → IsOpening mode history running → ((round : OpenView) → running ≡ Some round → (round.number ≡ last) × (is_begun history last ≡ true))
+      → AreRounds mode history last (left_open mode history running) (rounds ++ newly_closed mode history running)
+  AreRounds-settled None numbered opening begun = record {
+    numbers = numbers;
+    opening = opening;
+    unfinished = tt;
+    snapshots = All-append (IsSnapshotOf history) rounds [] snapshots (All-nil (IsSnapshotOf history));
+    numbered = AreNumbered-none (suc last) rounds numbered;
+  }
+  AreRounds-settled (Some round) numbered opening begun = elim (is_completed mode history round.number) as (λ b. is_completed mode history round.number ≡ b
+      → AreRounds mode history last (cond b None (Some round)) (rounds ++ cond b (listed mode history round.number ∷ []) [])) [
         | true ↦ λ completed. record {
           numbers = numbers;
           opening = λ p r has. elim (cases_eq r round.number) [
-            | inl same ↦ subst (λ (v : ℕ). is_completed Fifo history v ≡ true) (sym same) completed
+            | inl same ↦ subst (λ (v : ℕ). is_completed mode history v ≡ true) (sym same) completed
             | inr apart ↦ opening.others p r has apart
           ];
           unfinished = tt;
-          snapshots = All-append (IsSnapshotOf history) rounds (listed Fifo history round.number ∷ []) snapshots
-              (All-cons (IsSnapshotOf history) (listed Fifo history round.number) [] (listed_snapshot history round.number fit completed) (All-nil (IsSnapshotOf history)));
+          snapshots = All-append (IsSnapshotOf history) rounds (listed mode history round.number ∷ []) snapshots
+              (All-cons (IsSnapshotOf history) (listed mode history round.number) [] (holds round.number completed) (All-nil (IsSnapshotOf history)));
+          numbered = AreNumbered-push last rounds (listed mode history round.number) (begun round refl).0 numbered;
         }
         | false ↦ λ unfinished. record {
           numbers = numbers;
@@ -251,9 +300,10 @@ module _ (history : List Process) (fit : IsFitFifo history) (last : ℕ) (rounds
           unfinished = record {
             number_is = (begun round refl).0;
             begun = (begun round refl).1;
-            unfinished = subst (λ (v : ℕ). is_completed Fifo history v ≡ false) (begun round refl).0 unfinished;
+            unfinished = subst (λ (v : ℕ). is_completed mode history v ≡ false) (begun round refl).0 unfinished;
           };
           snapshots = All-append (IsSnapshotOf history) rounds [] snapshots (All-nil (IsSnapshotOf history));
+          numbered = AreNumbered-none last rounds numbered;
         }
       ] refl
 
@@ -296,7 +346,7 @@ forced_open history from to r opening sent none within = both_ways (has_check_of
 -- the open round, once a process has taken its check of it
 pub IsRunning-begun : (mode : Mode) (history : List Process) (at : ℕ) (state : List ℕ) (new : OpenView) → at < length history
     → ((p r : ℕ) → has_check_of r (tape_at history p) ≡ true → r ≢ new.number → is_completed mode history r ≡ true)
-    → IsRecording (with_event history at (Check state (Some new.number))) new → IsRunning mode (with_event history at (Check state (Some new.number))) new
+    → IsRecorded mode (with_event history at (Check state (Some new.number))) new → IsRunning mode (with_event history at (Check state (Some new.number))) new
 IsRunning-begun mode history at state new within old recording = record {
   others = λ p r has apart. others_kept history at (Check state (Some new.number)) within mode new.number (λ s other. ne_eqb new.number s (λ same. other (sym same))) old p r has apart;
   recording = recording;
@@ -305,7 +355,7 @@ IsRunning-begun mode history at state new within old recording = record {
 -- and the mark of the marker that had it do so
 pub IsRunning-forced : (mode : Mode) (history : List Process) (at from number : ℕ) (state : List ℕ) (new : OpenView) → at < length history → new.number ≡ number
     → ((p r : ℕ) → has_check_of r (tape_at history p) ≡ true → r ≢ number → is_completed mode history r ≡ true)
-    → IsRecording (with_event (with_event history at (Check state (Some number))) at (Mark from number)) new
+    → IsRecorded mode (with_event (with_event history at (Check state (Some number))) at (Mark from number)) new
     → IsRunning mode (with_event (with_event history at (Check state (Some number))) at (Mark from number)) new
 IsRunning-forced mode history at from number state new within is old recording =
     let one : List Process = with_event history at (Check state (Some number)) in
@@ -317,7 +367,7 @@ IsRunning-forced mode history at from number state new within is old recording =
     }
 
 -- a round that is begun stands on a tape
-any_found : (history : List Process) (r a n : ℕ) → list_any (λ p. has_check_of r (tape_at history p)) (range_with_len a n) ≡ true → (p : ℕ) × (has_check_of r (tape_at history p) ≡ true) × (p < a + n)
+pub any_found : (history : List Process) (r a n : ℕ) → list_any (λ p. has_check_of r (tape_at history p)) (range_with_len a n) ≡ true → (p : ℕ) × (has_check_of r (tape_at history p) ≡ true) × (p < a + n)
 any_found history r a zero t = absurd (cc)
 any_found history r a (suc n) t = elim (or_cases (has_check_of r (tape_at history a)) (list_any (λ p. has_check_of r (tape_at history p)) (range_with_len (a + 1) n)) t) [
   | inl here ↦ (a, here, omega arith)
@@ -346,7 +396,7 @@ forced_none history to r forced = elim (has_check_of r (tape_at history to)) as 
 ] forced
 
 -- what is kept of the open round, where the tapes stay as they are
-pub IsRunning-renewed : (mode : Mode) (history : List Process) (round new : OpenView) → new.number ≡ round.number → IsRunning mode history round → IsRecording history new → IsRunning mode history new
+pub IsRunning-renewed : (mode : Mode) (history : List Process) (round new : OpenView) → new.number ≡ round.number → IsRunning mode history round → IsRecorded mode history new → IsRunning mode history new
 IsRunning-renewed mode history round new number is recording = record {
   others = λ p r has apart. is.others p r has (λ same. apart (same ∙ sym number));
   recording = recording;
@@ -360,6 +410,7 @@ AreRounds-renewed mode history last running new rounds number opening are = reco
   opening = opening;
   unfinished = renewed running new number are.unfinished;
   snapshots = are.snapshots;
+  numbered = subst (λ (v : ℕ). AreNumbered v rounds) (first_same running new last number) are.numbered;
 }
   where
     renewed : (old round : Option OpenView) → open_number round ≡ open_number old → IsLast mode history last old → IsLast mode history last round
@@ -374,6 +425,7 @@ AreRounds-restarted mode history line last running rounds size are = record {
   numbers = λ p r has. absurd (both_ways (has_check_of r (tape_at (restarted history line) p)) (no_check_restarted history line r p size) has);
   opening = λ p r has. absurd (both_ways (has_check_of r (tape_at (restarted history line) p)) (no_check_restarted history line r p size) has);
   unfinished = tt;
+  numbered = AreNumbered-filter (suc last) (stays line) rounds (AreNumbered-weaker (first_unlisted running last) (suc last) rounds (first_most running last) are.numbered);
   snapshots = λ k d within. kept (get_or (filter (stays line) rounds) k d) (All-filter (stays line) (IsSnapshotOf history) rounds are.snapshots k d within) (filter_passes (stays line) rounds k d within);
 }
   where
@@ -388,6 +440,11 @@ AreRounds-restarted mode history line last running rounds size are = record {
           | inl below ↦ in_range (λ q. is_kept (choice_at line q) (check_in round q)) 0 (length line) p all (omega arith) (omega (arith, below))
           | inr past ↦ subst (λ (c : ℕ). is_kept (choice_at line p) c ≡ true) (sym (get_or_past round.checks p 0 (omega (arith, past, many)))) (first_kept (choice_at line p))
         ]) is
+
+-- a completed round is on each tape
+pub completed_has : (mode : Mode) (history : List Process) (r q : ℕ) → is_completed mode history r ≡ true → q < length history → has_check_of r (tape_at history q) ≡ true
+completed_has Fifo history r q is within = checked_has history r q (completed_checked history r is) within
+completed_has Unordered history r q is within = checked_has history r q is within
 
 -- a begun round stays so
 pub begun_still : (history : List Process) (at : ℕ) (e : Event) (r : ℕ) → at < length history → is_begun history r ≡ true → is_begun (with_event history at e) r ≡ true
@@ -411,3 +468,13 @@ still_last mode history last (Some old) is number e = let same : number ≡ old.
 pub none_left : (running : Option OpenView) → None ≡ open_number running → running ≡ None
 none_left None e = refl
 none_left (Some old) e = absurd (cc)
+
+-- one is kept as open just where the last round begun is open
+pub open_told : (mode : Mode) (history : List Process) (last : ℕ) (running : Option OpenView) → IsOpening mode history running → IsLast mode history last running
+    → is_some running ≡ (is_begun history last && not (is_completed mode history last))
+open_told mode history last None opening is = sym (closed_none mode history last opening)
+open_told mode history last (Some round) opening is = sym (ap (λ b. b && not (is_completed mode history last)) is.begun ∙ ap (λ b. true && not b) is.unfinished)
+
+pub some_turning : (turning : Option TurningView) → is_some turning ≡ is_some (opened_turning turning)
+some_turning None = refl
+some_turning (Some turning) = refl

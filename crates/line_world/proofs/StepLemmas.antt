@@ -1,6 +1,6 @@
 -- What is known of a step that no cause refuses, and of one that is refused.
 use Rattle.std.proofs.Common.{◌≡◌, ◌≢◌, ℕ, ◌+◌, ◌<◌, ◌≤◌, Bool, true, false, cond, List, length, Option, Some, None, refl, ap, ◌∙◌, subst, arith}
-use Rattle.std.specs.Prelude.{◌||◌, ◌==◌, not, nat_le, slice_get}
+use Rattle.std.specs.Prelude.{◌||◌, ◌&&◌, ◌==◌, not, nat_le, slice_get}
 use Rattle.std.proofs.lemmas.Bool.{or_parts, leb-false, ltb-false, eqb-true, eqb-false, not-false}
 use Rattle.line_tape.specs.declared.items.Item.{Item}
 use Rattle.line_tape.specs.declared.limits.TheConstants.{MOST_EVENTS, MOST_STATE}
@@ -8,13 +8,13 @@ use Rattle.line_tape.specs.History.{tape_at}
 use Rattle.line_world.specs.declared.steps.Mode.{Mode}
 use Rattle.line_world.specs.declared.steps.Mode.TheVariants.{Fifo, Unordered}
 use Rattle.line_world.specs.declared.steps.Step.{Step}
-use Rattle.line_world.specs.declared.steps.Step.TheVariants.{Send, Deliver, Check, Begin, Recover}
+use Rattle.line_world.specs.declared.steps.Step.TheVariants.{Send, Deliver, Check, Begin, Turn, Recover}
 use Rattle.line_world.specs.declared.replies.Answer.TheVariants.{Refused}
 use Rattle.line_world.specs.declared.replies.StepError.{StepError}
-use Rattle.line_world.specs.declared.replies.StepError.TheVariants.{NoSuchProcess, TapeFull, StateTooLong, ToSelf, LinkEmpty, BadPick, RoundOpen, WrongMode, NoMoreRounds}
+use Rattle.line_world.specs.declared.replies.StepError.TheVariants.{NoSuchProcess, TapeFull, StateTooLong, ToSelf, LinkEmpty, BadPick, RoundOpen, NothingToTurn, WrongMode, NoMoreRounds}
 use Rattle.line_world.specs.declared.rounds.TheConstants.{LAST_ROUND}
 use Rattle.line_world.specs.Machine.{Machine, items_on, is_open}
-use Rattle.line_world.specs.Refusals.{first_cause, link_causes, has_stranger, is_stranger, is_bad_pick, is_full, is_fifo, is_full_for, is_long, refusal_of, IsRefused}
+use Rattle.line_world.specs.Refusals.{first_cause, link_causes, has_stranger, is_stranger, is_bad_pick, is_full, is_fifo, is_full_for, is_long, may_turn, refusal_of, IsRefused}
 use Rattle.line_world.specs.Runs.{Takes}
 
 -- where no cause holds, the first one doesn't, nor does any other
@@ -119,29 +119,59 @@ may_check machine at state none =
 pub record MayBegin (machine : Machine) (at : ℕ) (state : List ℕ) : Type 0 where
   pub within : at < length machine.history
   pub short : length state ≤ MOST_STATE
-  pub fifo : machine.mode ≡ Fifo
   pub closed : is_open machine ≡ false
   pub numbers : machine.last_round < LAST_ROUND
   pub few : length (tape_at machine.history at) < MOST_EVENTS
-
-in_order : (mode : Mode) → not (is_fifo mode) ≡ false → mode ≡ Fifo
-in_order Fifo e = refl
-in_order Unordered e = absurd (cc)
 
 pub may_begin : (machine : Machine) (at : ℕ) (state : List ℕ) → refusal_of machine (Begin at state) ≡ None → MayBegin machine at state
 may_begin machine at state none =
     let named = passed (is_stranger machine at) NoSuchProcess _ none in
     let short = passed (is_long state) StateTooLong _ named.1 in
-    let fifo = passed (not (is_fifo machine.mode)) WrongMode _ short.1 in
-    let closed = passed (is_open machine) RoundOpen _ fifo.1 in
+    let closed = passed (is_open machine) RoundOpen _ short.1 in
     let more = passed (nat_le LAST_ROUND machine.last_round) NoMoreRounds _ closed.1 in
     let room = passed (is_full machine at 1) TapeFull _ more.1 in
     record {
       within = leb-false (length machine.history) at named.0;
       short = ltb-false MOST_STATE (length state) short.0;
-      fifo = in_order machine.mode fifo.0;
       closed = closed.0;
       numbers = leb-false LAST_ROUND machine.last_round more.0;
+      few = room_for machine at room.0;
+    }
+
+-- what a turn may rely on
+pub record MayTurn (machine : Machine) (at : ℕ) (state : List ℕ) : Type 0 where
+  pub within : at < length machine.history
+  pub unordered : machine.mode ≡ Unordered
+  pub short : length state ≤ MOST_STATE
+  pub may : may_turn machine at ≡ true
+  pub few : length (tape_at machine.history at) < MOST_EVENTS
+
+out_of_order : (mode : Mode) → is_fifo mode ≡ false → mode ≡ Unordered
+out_of_order Fifo e = absurd (cc)
+out_of_order Unordered e = refl
+
+turns_so : (b : Bool) → not b ≡ false → b ≡ true
+turns_so true e = refl
+turns_so false e = absurd (cc)
+
+-- a process that may turn has no check of the round yet
+pub turns_anew : (a b : Bool) → (a && not b) ≡ true → b ≡ false
+turns_anew true true e = absurd (cc)
+turns_anew true false e = refl
+turns_anew false b e = absurd (cc)
+
+pub may_turn_at : (machine : Machine) (at : ℕ) (state : List ℕ) → refusal_of machine (Turn at state) ≡ None → MayTurn machine at state
+may_turn_at machine at state none =
+    let named = passed (is_stranger machine at) NoSuchProcess _ none in
+    let unordered = passed (is_fifo machine.mode) WrongMode _ named.1 in
+    let short = passed (is_long state) StateTooLong _ unordered.1 in
+    let may = passed (not (may_turn machine at)) NothingToTurn _ short.1 in
+    let room = passed (is_full machine at 1) TapeFull _ may.1 in
+    record {
+      within = leb-false (length machine.history) at named.0;
+      unordered = out_of_order machine.mode unordered.0;
+      short = ltb-false MOST_STATE (length state) short.0;
+      may = turns_so (may_turn machine at) may.0;
       few = room_for machine at room.0;
     }
 

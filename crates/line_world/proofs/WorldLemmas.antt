@@ -14,7 +14,7 @@ use Rattle.line_tape.specs.declared.events.Event.TheVariants.{Send, Recv, Check,
 use Rattle.line_tape.specs.declared.items.Item.{Item}
 use Rattle.line_tape.specs.declared.items.Item.TheVariants.{Message, Marker}
 use Rattle.line_tape.specs.Event.{incarnations_sent, Holds}
-use Rattle.line_tape.specs.Fit.{link, received, IsFitFifo, IsSentTo}
+use Rattle.line_tape.specs.Fit.{link, received, IsFitFifo, IsNextUnordered}
 use Rattle.line_tape.specs.History.{Process, tape_at, incarnation_at, with_event}
 use Rattle.line_tape.specs.Line.{IsConsistent}
 use Rattle.line_tape.specs.Restart.{restarted}
@@ -26,6 +26,7 @@ use Rattle.line_tape.specs.Spent.{next_name}
 use Rattle.line_tape.specs.Transit.{addressees, has_received, in_transit_between}
 use Rattle.line_tape.specs.Views.{MarksView}
 use Rattle.line_tape.proofs.CopyLemmas.{unordered_event, unordered_restarted, copy_addressed}
+use Rattle.line_tape.proofs.ForcedLemmas.{receipt_waits}
 use Rattle.line_tape.proofs.LinkLemmas.{In-append_right, restart_fit, restart_link}
 use Rattle.line_tape.proofs.OrderLemmas.{messages_sent, sent_is}
 use Rattle.line_tape.proofs.SentLemmas.{messages, In}
@@ -141,6 +142,13 @@ module _ (history : List Process) (queues : List (List (List Item))) (are : AreQ
       and-false false y e = refl
 
 module _ (history : List Process) (queues : List (List (List Item))) where
+  -- a check of a round of colours
+  pub IsWorld-turn : IsWorld Unordered history queues → (at : ℕ) (state : List ℕ) (r : ℕ) → at < length history → IsWorld Unordered (with_event history at (Check state (Some r))) queues
+  IsWorld-turn world at state r within = record {
+    queued = AreQueues-kept history queues at (Check state (Some r)) world.queued;
+    linked = unordered_event history at (Check state (Some r)) (messages_at queues) (messages_at queues) world.linked within tt (λ p q p_within q_within. sym (append-nil (messages_at queues p q)));
+  }
+
   pub IsWorld-check : (mode : Mode) → IsWorld mode history queues → (at : ℕ) (state : List ℕ) → at < length history → IsWorld mode (with_event history at (Check state None)) queues
   IsWorld-check mode world at state within = record { queued = AreQueues-kept history queues at (Check state None) world.queued; linked = linked mode world.linked }
     where
@@ -172,19 +180,34 @@ module _ (history : List Process) (queues : List (List (List Item))) where
           (first-held history world.linked.fit from to message (drop 1 (queue_at queues from to)) (sym (world.linked.links from to from_within to_within) ∙ first_rest (queue_at queues from to) (Message message) here))
       IsWorld-held Unordered world first taken = held-true history message (taken-means (is_held history message) (has_received (tape_at history to) message) taken).0
 
+      -- where links keep no order, it may come next
+      pub next_receipt : IsWorld Unordered history queues → fate_of Unordered history to message ≡ Taken → IsNextUnordered history to (Recv message)
+      next_receipt world taken =
+          let means = taken-means (is_held history message) (has_received (tape_at history to) message) taken in
+          (copy_addressed history (messages_at queues) from to message world.linked from_within to_within (among-messages (queue_at queues from to) pick message at) (held-true history message means.0), means.1)
+
       pub IsWorld-take : (mode : Mode) → IsWorld mode history queues → (mode ≡ Fifo → pick ≡ 0) → fate_of mode history to message ≡ Taken
           → IsWorld mode (with_event history to (Recv message)) (taken_off mode queues from to)
       IsWorld-take Fifo world first taken = record {
         queued = AreQueues-kept history (taken_off Fifo queues from to) to (Recv message) (AreQueues-off history queues world.queued from to from_within to_within);
         linked = IsOrdered-take history queues world.queued world.linked from to from_within to_within message (ap (λ (k : ℕ). slice_get (queue_at queues from to) k) (sym (first refl)) ∙ at) named;
       }
-      IsWorld-take Unordered world first taken =
-          let means = taken-means (is_held history message) (has_received (tape_at history to) message) taken in
-          let sent : IsSentTo history to message = copy_addressed history (messages_at queues) from to message world.linked from_within to_within
-          (among-messages (queue_at queues from to) pick message at) (held-true history message means.0) in
+      IsWorld-take Unordered world first taken = record {
+        queued = AreQueues-kept history queues to (Recv message) world.queued;
+        linked = unordered_event history to (Recv message) (messages_at queues) (messages_at queues) world.linked to_within (next_receipt world taken) (λ p q p_within q_within. sym (append-nil (messages_at queues p q)));
+      }
+
+      -- after a check of a round that it forces
+      pub IsWorld-caught : IsWorld Unordered history queues → fate_of Unordered history to message ≡ Taken → (state : List ℕ) (r : ℕ)
+          → IsWorld Unordered (with_event (with_event history to (Check state (Some r))) to (Recv message)) queues
+      IsWorld-caught world taken state r =
+          let e : Event = Check state (Some r) in
+          let one : List Process = with_event history to e in
+          let mid : IsWorld Unordered one queues = IsWorld-turn world to state r to_within in
           record {
-            queued = AreQueues-kept history queues to (Recv message) world.queued;
-            linked = unordered_event history to (Recv message) (messages_at queues) (messages_at queues) world.linked to_within (sent, means.1) (λ p q p_within q_within. sym (append-nil (messages_at queues p q)));
+            queued = AreQueues-kept one queues to (Recv message) mid.queued;
+            linked = unordered_event one to (Recv message) (messages_at queues) (messages_at queues) mid.linked (omega (arith, to_within, length-with_event history to e))
+                (receipt_waits history to state (Some r) message to_within (next_receipt world taken)) (λ p q p_within q_within. sym (append-nil (messages_at queues p q)));
           }
 
 -- the world once a marker has come

@@ -1,13 +1,16 @@
 -- Rounds: which of them are completed, and what is listed of one that is.
-use Rattle.std.specs.Prelude.{ℕ, Bool, ◌==◌, if◌then◌else◌, List, [], length, map, slice_index_or}
+use Rattle.std.specs.Prelude.{ℕ, ◌<◌, Bool, IsTrue, ◌==◌, if◌then◌else◌, List, [], length, map, slice_index_or}
 use Rattle.std.specs.List.{list_all, list_any, range_with_len}
 use Rattle.line_names.specs.declared.choices.Choice.{Choice}
 use Rattle.line_names.specs.declared.messages.MsgName.{MsgName}
-use Rattle.line_names.specs.Lines.{choice_at}
+use Rattle.line_names.specs.declared.choices.Choice.TheVariants.{Check as AtCheck}
+use Rattle.line_names.specs.Lines.{choice_at, IsNowhereLater}
 use Rattle.line_tape.specs.Colours.{is_completed_unordered, channel_unordered}
 use Rattle.line_tape.specs.History.{Process, tape_at}
 use Rattle.line_tape.specs.Restart.{is_kept}
-use Rattle.line_tape.specs.Rounds.{has_check_of, checks_of, is_completed_fifo, channel_fifo, IsSnapshot}
+use Rattle.line_tape.specs.Survival.{survives}
+use Rattle.line_tape.specs.Views.{MarksView}
+use Rattle.line_tape.specs.Rounds.{has_check_of, checks_of, is_completed_fifo, channel_fifo, check_line, IsSnapshot}
 use Rattle.line_world.specs.declared.steps.Mode.{Mode}
 use Rattle.line_world.specs.declared.steps.Mode.TheVariants.{Fifo, Unordered}
 
@@ -58,3 +61,8 @@ stays line round = list_all (λ p. is_kept (choice_at line p) (check_in round p)
 -- some tape has a check of round r
 abbrev pub is_begun : List Process → ℕ → Bool
 is_begun history r = list_any (λ p. has_check_of r (tape_at history p)) (range_with_len 0 (length history))
+
+-- where the checks of the round all survive, the line is at every process that check or later
+abbrev pub IsReached : List Process → MarksView → List Bool → List Choice → Listed → Type 0
+IsReached history marks failed line round =
+    ((p : ℕ) → p < length history → IsTrue (survives history marks failed p (AtCheck (check_in round p)))) → IsNowhereLater (check_line round.checks) line

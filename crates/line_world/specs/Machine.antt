@@ -1,4 +1,4 @@
--- The machine's state: what each process did, which checks are damaged, and which rounds were completed. What the links hold is read off it where they keep their order (Chandy and Lamport, ACM TOCS 3(1), 1985); else each holds copies (Lai and Yang, Information Processing Letters 25(3), 1987).
+-- The machine's state: what each process did, which checks are damaged, and which rounds were completed. What the links hold is read off it where they keep their order (Chandy and Lamport, ACM TOCS 3(1), 1985); else they deliver in any order, as Lai and Yang allow (Information Processing Letters 25(3), 1987), and then each holds copies.
 use Rattle.std.specs.Prelude.{ℕ, Bool, not, ◌&&◌, if◌then◌else◌, List, [], ◌∷◌, ◌++◌, replicate}
 use Rattle.line_tape.specs.declared.events.Event.{Event}
 use Rattle.line_tape.specs.declared.items.Item.{Item}
@@ -10,6 +10,7 @@ use Rattle.line_world.specs.declared.steps.Mode.TheVariants.{Fifo, Unordered}
 use Rattle.line_world.specs.Listed.{Listed, is_begun, is_completed, listed}
 use Rattle.line_world.specs.Queues.{queue_at, with_queue}
 
+-- a state of the machine
 pub record Machine : Type 0 where
   pub mode : Mode
   pub history : List Process
@@ -51,6 +52,7 @@ abbrev pub IsFitIn : Mode → List Process → Type 0
 IsFitIn Fifo history = IsFitFifo history
 IsFitIn Unordered history = IsFitUnordered history
 
+-- the machine's history is one that its links can lead to
 abbrev pub IsFit : Machine → Type 0
 IsFit machine = IsFitIn machine.mode machine.history
 

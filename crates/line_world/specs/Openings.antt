@@ -1,10 +1,14 @@
 -- What is kept of the round that is open, and how it follows the tapes.
-use Rattle.std.specs.Prelude.{◌≡◌, ◌≢◌, ℕ, ◌<◌, Bool, true, false, if◌then◌else◌, List, [], ◌∷◌, length, slice_index_or, Option, Some, None}
+use Rattle.std.specs.Option.{unwrap_or}
+use Rattle.std.specs.Prelude.{◌≡◌, ◌≢◌, ℕ, suc, ◌<◌, Bool, true, false, if◌then◌else◌, List, [], ◌∷◌, length, slice_index_or, Option, Some, None}
 use Rattle.line_marker.specs.Recording.{Channel, MarkerView, Recorded, channel_at, messages_by, round_of}
 use Rattle.line_names.specs.declared.messages.MsgName.{MsgName}
 use Rattle.line_tape.specs.declared.events.Event.{Event}
 use Rattle.line_tape.specs.History.{Process, tape_at}
-use Rattle.line_tape.specs.Rounds.{has_check_of, check_of, has_mark_of, channel_on}
+use Rattle.line_tape.specs.Colours.{is_completed_unordered}
+use Rattle.line_tape.specs.Rounds.{has_check_of, has_mark_of, channel_on, round_line}
+use Rattle.line_turns.specs.Channels.{channel_between, channels_at, IsTable}
+use Rattle.line_turns.specs.Turning.{TurningView, check_or_none, IsTurning}
 use Rattle.line_world.specs.declared.steps.Mode.{Mode}
 use Rattle.line_world.specs.declared.steps.Mode.TheVariants.{Fifo, Unordered}
 use Rattle.line_world.specs.Listed.{Listed, channel_table, is_begun, is_completed, listed}
@@ -34,22 +38,13 @@ pub record IsFresh (floor : ℕ) (marker : MarkerView) : Type 0 where
   pub rounds : marker.rounds ≡ []
   pub floor_is : marker.floor ≡ floor
 
--- the messages, if there are some
-abbrev pub names_or_none : Option (List MsgName) → List MsgName
-names_or_none None = []
-names_or_none (Some names) = names
-
 -- what the markers recorded of the channel from process p to q in round r
 abbrev pub recorded_channel : List MarkerView → ℕ → ℕ → ℕ → List MsgName
-recorded_channel markers r p q = names_or_none (messages_by (round_of (marker_at markers q).rounds r) p)
+recorded_channel markers r p q = unwrap_or (messages_by (round_of (marker_at markers q).rounds r) p) []
 
 -- and of all channels
 abbrev pub recorded_table : List MarkerView → ℕ → List (List (List MsgName))
 recorded_table markers r = channel_table (length markers) (recorded_channel markers r)
-
--- the index of the tape's check of round r, or 0
-abbrev pub check_or_none : ℕ → List Event → ℕ
-check_or_none r tape = if has_check_of r tape then check_of r tape else 0
 
 -- what a tape has of the channel from process p in round r
 abbrev pub channel_of : ℕ → ℕ → List Event → Channel
@@ -79,16 +74,24 @@ pub record IsRecording (history : List Process) (round : OpenView) : Type 0 wher
   pub checks : (q : ℕ) → q < length history → slice_index_or round.checks q 0 ≡ check_or_none round.number (tape_at history q)
   pub markers : (q : ℕ) → q < length history → IsMarkerOf (length history) q round.number (tape_at history q) (marker_at round.markers q)
 
+-- the round as it is kept without markers
+abbrev pub turning_of : OpenView → TurningView
+turning_of round = record { number = round.number; checks = round.checks }
+
+-- what is kept of the open round follows the tapes, in each mode: there are markers only on links in order
+abbrev pub IsRecorded : Mode → List Process → OpenView → Type 0
+IsRecorded Fifo history round = IsRecording history round
+IsRecorded Unordered history round = IsTurning history (turning_of round)
+
 -- each round on a tape but one is completed, and what is kept of that one follows the tapes
 pub record IsRunning (mode : Mode) (history : List Process) (round : OpenView) : Type 0 where
   pub others : (p r : ℕ) → has_check_of r (tape_at history p) ≡ true → r ≢ round.number → is_completed mode history r ≡ true
-  pub recording : IsRecording history round
+  pub recording : IsRecorded mode history round
 
 -- each round on a tape is completed, but for the one that is kept as open
 abbrev pub IsOpening : Mode → List Process → Option OpenView → Type 0
 IsOpening mode history None = (p r : ℕ) → has_check_of r (tape_at history p) ≡ true → is_completed mode history r ≡ true
-IsOpening Fifo history (Some round) = IsRunning Fifo history round
-IsOpening Unordered history (Some round) = ⊥
+IsOpening mode history (Some round) = IsRunning mode history round
 
 -- the round is the last one begun, it stands on a tape, and it isn't completed
 pub record IsUnfinished (mode : Mode) (history : List Process) (last : ℕ) (round : OpenView) : Type 0 where
@@ -106,6 +109,11 @@ abbrev pub open_number : Option OpenView → Option ℕ
 open_number None = None
 open_number (Some round) = Some round.number
 
+-- the least number that no listed round has reached: that of the open round, or else the next one
+abbrev pub first_unlisted : Option OpenView → ℕ → ℕ
+first_unlisted None last = suc last
+first_unlisted (Some round) last = last
+
 -- it is listed if it is completed
 abbrev pub newly_closed : Mode → List Process → Option OpenView → List Listed
 newly_closed mode history None = []
@@ -115,3 +123,33 @@ newly_closed mode history (Some round) = if is_completed mode history round.numb
 abbrev pub left_open : Mode → List Process → Option OpenView → Option OpenView
 left_open mode history None = None
 left_open mode history (Some round) = if is_completed mode history round.number then None else Some round
+
+-- a round of colours as it is kept beside rounds of markers
+abbrev pub opened_by : TurningView → OpenView
+opened_by turning = record { number = turning.number; checks = turning.checks; markers = [] }
+
+-- the round of colours that is kept as open, if one is
+abbrev pub opened_turning : Option TurningView → Option OpenView
+opened_turning None = None
+opened_turning (Some turning) = Some (opened_by turning)
+
+-- the round that is kept as open in each mode
+abbrev pub opened : Mode → Option OpenView → Option TurningView → Option OpenView
+opened Fifo running turning = running
+opened Unordered running turning = opened_turning turning
+
+-- the channels of a round that is completed, between n processes: by the markers, or as they were counted
+abbrev pub channels_kept : Option (List (List (List MsgName))) → ℕ → List MarkerView → ℕ → List (List (List MsgName))
+channels_kept None n markers r = recorded_table markers r
+channels_kept (Some table) n markers r = channel_table n (channel_between table)
+
+-- they are there for each two of n processes
+abbrev pub AreChannels : Option (List (List (List MsgName))) → ℕ → List MarkerView → Type 0
+AreChannels None n markers = AreMarkers n markers
+AreChannels (Some table) n markers = IsTable n table
+
+-- what is in transit at the checks of a round of colours, if it is completed
+abbrev pub completed_channels : List Process → Option TurningView → Option (List (List (List MsgName)))
+completed_channels history None = None
+completed_channels history (Some turning) =
+    if is_completed_unordered history turning.number then Some (channels_at history (round_line history turning.number)) else None

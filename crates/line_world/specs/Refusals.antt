@@ -1,5 +1,5 @@
 -- What refuses a step: the first cause that holds.
-use Rattle.std.specs.Prelude.{◌≡◌, ℕ, ◌+◌, ◌-◌, Bool, true, false, not, ◌||◌, ◌==◌, nat_lt, nat_le, if◌then◌else◌, List, [], ◌∷◌, ◌++◌, length, slice_get, Option, Some, None}
+use Rattle.std.specs.Prelude.{◌≡◌, ℕ, ◌+◌, ◌-◌, Bool, true, false, not, ◌||◌, ◌&&◌, ◌==◌, nat_lt, nat_le, if◌then◌else◌, List, [], ◌∷◌, ◌++◌, length, slice_get, Option, Some, None}
 use Rattle.std.specs.List.{list_any, range_with_len}
 use Rattle.line_names.specs.declared.choices.Choice.{Choice}
 use Rattle.line_names.specs.declared.limits.TheConstants.{MOST_PROCESSES}
@@ -9,6 +9,7 @@ use Rattle.line_tape.specs.declared.limits.TheConstants.{MOST_EVENTS, MOST_STATE
 use Rattle.line_tape.specs.Event.{checks}
 use Rattle.line_tape.specs.History.{tape_at}
 use Rattle.line_tape.specs.Restart.{HaveFurther}
+use Rattle.line_tape.specs.Rounds.{has_check_of}
 use Rattle.line_tape.specs.Survival.{is_damaged, IsLatest}
 use Rattle.line_world.specs.declared.steps.Mode.{Mode}
 use Rattle.line_world.specs.declared.steps.Mode.TheVariants.{Fifo, Unordered}
@@ -56,6 +57,10 @@ abbrev pub is_fifo : Mode → Bool
 is_fifo Fifo = true
 is_fifo Unordered = false
 
+-- a round is open of which process p has no check yet
+abbrev pub may_turn : Machine → ℕ → Bool
+may_turn machine p = is_open machine && not (has_check_of machine.last_round (tape_at machine.history p))
+
 -- what refuses a delivery, whatever the item would have the process do
 abbrev pub link_causes : Machine → ℕ → ℕ → ℕ → List ℕ → List (Bool × StepError)
 link_causes machine from to pick state =
@@ -86,7 +91,6 @@ refusal_of machine (Begin at state) =
     first_cause (
     (is_stranger machine at, NoSuchProcess)
     ∷ (is_long state, StateTooLong)
-    ∷ (not (is_fifo machine.mode), WrongMode)
     ∷ (is_open machine, RoundOpen)
     ∷ (nat_le LAST_ROUND machine.last_round, NoMoreRounds)
     ∷ (is_full machine at 1, TapeFull)
@@ -96,7 +100,8 @@ refusal_of machine (Turn at state) =
     (is_stranger machine at, NoSuchProcess)
     ∷ (is_fifo machine.mode, WrongMode)
     ∷ (is_long state, StateTooLong)
-    ∷ (true, NothingToTurn)
+    ∷ (not (may_turn machine at), NothingToTurn)
+    ∷ (is_full machine at 1, TapeFull)
     ∷ [])
 refusal_of machine (Damage at check) =
     first_cause (

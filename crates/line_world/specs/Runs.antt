@@ -36,6 +36,7 @@ reply_name (Turned at check round) = None
 reply_name (Damaged at check) = None
 reply_name (Recovered plan states incarnations) = None
 
+-- the name that an answer tells of a message sent
 abbrev pub answer_name : Answer → Option MsgName
 answer_name (Done reply) = reply_name reply
 answer_name (Refused e) = None

@@ -3,7 +3,6 @@ use Rattle.std.specs.Prelude.{◌≡◌, ℕ, ◌+◌, ◌≤◌, Bool, List, []
 use Rattle.std.specs.List.{range_with_len}
 use Rattle.line_names.specs.declared.choices.Choice.{Choice}
 use Rattle.line_names.specs.declared.choices.Choice.TheVariants.{Check as AtCheck, Now}
-use Rattle.line_names.specs.declared.messages.MsgName.{MsgName}
 use Rattle.line_names.specs.Lines.{choice_at}
 use Rattle.line_plan.specs.declared.plans.Plan.{Plan}
 use Rattle.line_tape.specs.declared.events.Event.{Event}
@@ -22,7 +21,7 @@ use Rattle.line_world.specs.declared.steps.Mode.{Mode}
 use Rattle.line_world.specs.declared.steps.Step.{Step}
 use Rattle.line_world.specs.declared.steps.Step.TheVariants.{Send, Deliver, Check, Begin, Turn, Damage, Recover}
 use Rattle.line_world.specs.declared.replies.Reply.{Reply}
-use Rattle.line_world.specs.declared.replies.Reply.TheVariants.{Sent, Checked, Begun, Damaged, Recovered}
+use Rattle.line_world.specs.declared.replies.Reply.TheVariants.{Sent, Checked, Begun, Turned, Damaged, Recovered}
 use Rattle.line_world.specs.Fates.{events_taken, reply_taken}
 use Rattle.line_world.specs.Listed.{stays}
 use Rattle.line_world.specs.Machine.{Machine, copies_in, items_on, with_copy, with_step}
@@ -53,6 +52,11 @@ pub record Checks (old : Machine) (at : ℕ) (state : List ℕ) (reply : Reply) 
 pub record Begins (old : Machine) (at : ℕ) (state : List ℕ) (reply : Reply) (new : Machine) : Type 0 where
   pub reply_is : reply ≡ Begun at (next_check old.history at) (old.last_round + 1)
   pub new_is : new ≡ with_step old at (CheckEvent state (Some (old.last_round + 1)) ∷ []) (old.last_round + 1)
+
+-- Turn adds a check of the round that is open
+pub record Turns (old : Machine) (at : ℕ) (state : List ℕ) (reply : Reply) (new : Machine) : Type 0 where
+  pub reply_is : reply ≡ Turned at (next_check old.history at) old.last_round
+  pub new_is : new ≡ with_step old at (CheckEvent state (Some old.last_round) ∷ []) old.last_round
 
 -- Damage adds a mark
 pub record Damages (old : Machine) (at check : ℕ) (reply : Reply) (new : Machine) : Type 0 where
@@ -110,6 +114,6 @@ Does old (Send from to body) reply new = Sends old from to body reply new
 Does old (Deliver from to pick state) reply new = Delivers old from to pick state reply new
 Does old (Check at state) reply new = Checks old at state reply new
 Does old (Begin at state) reply new = Begins old at state reply new
-Does old (Turn at state) reply new = ⊥
+Does old (Turn at state) reply new = Turns old at state reply new
 Does old (Damage at check) reply new = Damages old at check reply new
 Does old (Recover failed) reply new = RecoversWith old failed reply new

@@ -1,17 +1,19 @@
 -- What a world keeps true of its queues and of its rounds.
-use Rattle.std.specs.Prelude.{◌≡◌, ℕ, ◌<◌, ◌≤◌, true, List, length, All, Option, Some, None}
+use Rattle.std.specs.Prelude.{◌≡◌, ℕ, ◌<◌, ◌≤◌, true, List, length, All, AllPairs, Option, Some, None}
 use Rattle.std.specs.List.{filter_map}
 use Rattle.line_names.specs.declared.messages.MsgName.{MsgName}
 use Rattle.line_tape.specs.declared.items.Item.{Item}
 use Rattle.line_tape.specs.declared.items.Item.TheVariants.{Message, Marker}
+use Rattle.line_tape.specs.Colours.{AreColoured}
 use Rattle.line_tape.specs.Copies.{IsUnordered}
 use Rattle.line_tape.specs.Fit.{link, IsFitFifo}
 use Rattle.line_tape.specs.History.{Process, tape_at}
 use Rattle.line_tape.specs.Rounds.{has_check_of}
+use Rattle.line_turns.specs.Kept.{Turned, AreTurned}
 use Rattle.line_world.specs.declared.steps.Mode.{Mode}
 use Rattle.line_world.specs.declared.steps.Mode.TheVariants.{Fifo, Unordered}
 use Rattle.line_world.specs.Listed.{Listed, IsSnapshotOf}
-use Rattle.line_world.specs.Openings.{OpenView, IsOpening, IsLast}
+use Rattle.line_world.specs.Openings.{OpenView, first_unlisted, IsOpening, IsLast}
 use Rattle.line_world.specs.Queues.{queue_at, IsSquare}
 
 -- the item is a message of process p, or a marker
@@ -48,9 +50,25 @@ pub record IsWorld (mode : Mode) (history : List Process) (queues : List (List (
   pub queued : AreQueues history queues
   pub linked : IsLinked mode history queues
 
--- what a world keeps true of its rounds: none on a tape is later than the last one begun, and each listed one is a snapshot
+-- listed rounds stand in the order of their numbers, which are all below one
+pub record AreNumbered (first : ℕ) (rounds : List Listed) : Type 0 where
+  pub earlier : All (λ (round : Listed). round.number < first) rounds
+  pub ascending : AllPairs (λ (a b : Listed). a.number < b.number) rounds
+
+-- what a world keeps true of its rounds: none on a tape is later than the last one begun; each on a tape is completed but the one that is kept as open, which is that last one, and what is kept of it follows the tapes; and the listed ones are snapshots, by number
 pub record AreRounds (mode : Mode) (history : List Process) (last : ℕ) (open_round : Option OpenView) (rounds : List Listed) : Type 0 where
   pub numbers : (p r : ℕ) → has_check_of r (tape_at history p) ≡ true → r ≤ last
   pub opening : IsOpening mode history open_round
   pub unfinished : IsLast mode history last open_round
   pub snapshots : All (IsSnapshotOf history) rounds
+  pub numbered : AreNumbered (first_unlisted open_round last) rounds
+
+-- what is kept of colours follows the tapes, and no process received a message of a greater colour than its own
+pub record IsPainted (history : List Process) (colours : List Turned) : Type 0 where
+  pub turned : AreTurned history colours
+  pub coloured : AreColoured history
+
+-- what a world keeps true of colours: links in order need none
+abbrev pub ArePainted : Mode → List Process → List Turned → Type 0
+ArePainted Fifo history colours = Unit {0}
+ArePainted Unordered history colours = IsPainted history colours

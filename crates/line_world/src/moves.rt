@@ -1,5 +1,5 @@
 //! What each kind of step does to the tapes and the queues.
-ghost use Rattle.std.specs.Prelude.{◌≡◌, ◌≢◌, ◌<◌, ◌≤◌, ◌+◌, ◌++◌, ℕ, ◌∷◌, [], length, true, false, slice_get, slice_index_or, All, IfOk, OnOk, OnErr, Some, None};
+ghost use Rattle.std.specs.Prelude.{◌≡◌, ◌≢◌, ◌<◌, ◌≤◌, ◌+◌, ◌++◌, ℕ, ◌∷◌, [], length, true, false, slice_get, slice_index_or, All, IfOk, OnOk, OnErr, Option, Some, None};
 ghost use Rattle.line_tape.specs.declared.events.Event.TheVariants.{Send as SendEvent, Recv as RecvEvent, Check as CheckEvent, Mark as MarkEvent};
 ghost use Rattle.line_tape.specs.declared.items.Item.TheVariants.{Message, Marker};
 ghost use Rattle.line_tape.specs.Event.{NamesBelow, HasLongState, Holds};
@@ -7,11 +7,14 @@ ghost use Rattle.line_tape.specs.History.{tape_at, incarnation_at, with_event};
 ghost use Rattle.line_tape.specs.Spent.{next_name};
 ghost use Rattle.line_catalogue.specs.Agreement.{Agrees, AgreesNext};
 ghost use Rattle.line_catalogue.specs.Views.{room_at};
+ghost use Rattle.line_tape.specs.Colours.{colour};
 ghost use Rattle.line_tape.specs.Rounds.{has_check_of};
+ghost use Rattle.line_turns.specs.Kept.{AreTurned};
+ghost use Rattle.line_turns.specs.Turning.{TurningView, IsTurning};
 ghost use Rattle.line_world.specs.declared.steps.Mode.TheVariants.{Fifo};
 ghost use Rattle.line_world.specs.Fates.{is_forced, marker_events};
 ghost use Rattle.line_world.specs.Machine.{with_events};
-ghost use Rattle.line_world.specs.Openings.{open_number, IsOpening, IsRecording};
+ghost use Rattle.line_world.specs.Openings.{completed_channels, open_number, opened, IsOpening, IsRecording};
 ghost use Rattle.line_world.specs.Queues.{queue_at, with_queue, taken_off, IsSquare};
 ghost use Rattle.line_world.specs.Steps.{next_check};
 ghost use Rattle.line_world.specs.Worlds.{IsWorld};
@@ -22,6 +25,7 @@ use crate::steps::Mode;
 use line_catalogue::Catalogue;
 use line_names::{Body, MsgName, ProcId};
 use line_tape::{Event, History, Item, MOST_EVENTS, MOST_STATE, State};
+use line_turns::{Channels, Colours, Turning};
 use std::alloc::{AllocError, Global};
 
 /// Adds an event to a tape that has room for it.
@@ -99,10 +103,12 @@ fn note_message(
     requires from { message.now.from < length history.now.processes }
     requires to { to < length history.now.processes }
     requires other { message.now.from ≢ to }
-    requires opening { IsOpening mode history.now.processes running.old }
-    ensures number { open_number running.new ≡ open_number running.old }
-    ensures ok { OnOk result (IsOpening mode (with_event history.now.processes to (RecvEvent message.now)) running.new) }
-    ensures err { OnErr result (IsOpening mode history.now.processes running.new) }
+    requires opening { mode ≡ Fifo → IsOpening Fifo history.now.processes running.old }
+    ensures number { (turning : Option TurningView) → open_number (opened mode running.new turning) ≡ open_number (opened mode running.old turning) }
+    ensures ok { OnOk result ((turning : Option TurningView) → IsOpening mode history.now.processes (opened mode running.old turning)
+        → IsOpening mode (with_event history.now.processes to (RecvEvent message.now)) (opened mode running.new turning)) }
+    ensures err { OnErr result ((turning : Option TurningView) → IsOpening mode history.now.processes (opened mode running.old turning)
+        → IsOpening mode history.now.processes (opened mode running.new turning)) }
 {
     match mode {
         Mode::Fifo => note(running, history, to, message),
@@ -128,19 +134,20 @@ pub fn take_message(
     requires agrees { Agrees catalogue.old.processes }
     requires held { Holds (tape_at catalogue.old.processes message.now.from) message.now.inc message.now.number }
     requires few { length (tape_at catalogue.old.processes to) < MOST_EVENTS }
-    requires opening { IsOpening mode catalogue.old.processes running.old }
+    requires opening { mode ≡ Fifo → IsOpening Fifo catalogue.old.processes running.old }
     ensures taken { OnOk result (catalogue.new.processes ≡ with_event catalogue.old.processes to (RecvEvent message.now)) }
     ensures off { OnOk result (links.new ≡ taken_off mode links.old from to) }
     ensures err { OnErr result (catalogue.new.processes ≡ catalogue.old.processes) }
     ensures marks { catalogue.new.marks ≡ catalogue.old.marks }
     ensures kept { OnErr result (links.new ≡ links.old) }
-    ensures opening { IsOpening mode catalogue.new.processes running.new }
-    ensures number { open_number running.new ≡ open_number running.old }
+    ensures opening { (turning : Option TurningView) → IsOpening mode catalogue.old.processes (opened mode running.old turning)
+        → IsOpening mode catalogue.new.processes (opened mode running.new turning) }
+    ensures number { (turning : Option TurningView) → open_number (opened mode running.new turning) ≡ open_number (opened mode running.old turning) }
 {
     catalogue.reserve(to, 1)?;
     note_message(mode, running, catalogue.history(), to, message)?;
     take_off(mode, links, from, to);
-    add_event(catalogue, to, receipt(message));
+    add_receipt(catalogue, to, message);
     Ok(())
 }
 
@@ -289,6 +296,71 @@ pub fn take_marker(
     } else {
         hear_round(catalogue, links, running, from, to, round)
     }
+}
+
+/// A process takes its check of the round of colours that is open: the check on its tape, its new colour, and what is in transit at the round's checks if this was the last of them. There is room for some further events of the process then.
+///
+/// The last check of a round looks once at each event before the round's checks.
+pub fn take_turn(
+    alloc: Global,
+    catalogue: &mut Catalogue,
+    colours: &mut Colours,
+    turning: &mut Turning,
+    at: ProcId,
+    state: &State,
+    further: u32,
+) -> Result<(u32, Option<Channels>), AllocError>
+    requires at { at < length catalogue.old.processes }
+    requires short { length state.now ≤ MOST_STATE }
+    requires few { length (tape_at catalogue.old.processes at) < MOST_EVENTS }
+    requires further { further ≤ 1 }
+    requires first { has_check_of turning.old.number (tape_at catalogue.old.processes at) ≡ false }
+    requires greater { colour (tape_at catalogue.old.processes at) < turning.old.number }
+    requires turned { AreTurned catalogue.old.processes colours.old }
+    requires turning { IsTurning catalogue.old.processes turning.old }
+    ensures check { IfOk result (λ turned. turned.0 ≡ next_check catalogue.old.processes at) }
+    ensures channels { IfOk result (λ turned. turned.1 ≡ completed_channels catalogue.new.processes (Some turning.new)) }
+    ensures checked { OnOk result (catalogue.new.processes ≡ with_event catalogue.old.processes at (CheckEvent state.now (Some turning.old.number))) }
+    ensures turned { OnOk result (AreTurned catalogue.new.processes colours.new) }
+    ensures turning { OnOk result (IsTurning catalogue.new.processes turning.new) }
+    ensures number { turning.new.number ≡ turning.old.number }
+    ensures room { OnOk result (further ≤ room_at catalogue.new at) }
+    ensures err { OnErr result (catalogue.new.processes ≡ catalogue.old.processes) }
+    ensures marks { catalogue.new.marks ≡ catalogue.old.marks }
+    ensures colours { OnErr result (colours.new ≡ colours.old) }
+    ensures kept { OnErr result (turning.new ≡ turning.old) }
+{
+    let state = state.copy(alloc)?;
+    catalogue.reserve(at, 1 + further)?;
+    let channels = if turning.is_last(at) {
+        let line = turning.line(at);
+        Some(Channels::at(alloc, catalogue.history(), &line)?)
+    } else {
+        None
+    };
+    let tape = catalogue.history().tape(at);
+    let check = tape.checks() + 1;
+    let sends = tape.sends();
+    let number = turning.number();
+    colours.turn(at, number, sends)?;
+    turning.check(at, check);
+    let round = Some(number);
+    add_event(catalogue, at, Event::Check { state, round });
+    Ok((check, channels))
+}
+
+/// Adds the receipt of a message to a tape that has room for it.
+pub fn add_receipt(catalogue: &mut Catalogue, to: ProcId, message: &MsgName)
+    requires to { to < length catalogue.old.processes }
+    requires from { message.now.from < length catalogue.old.processes }
+    requires agrees { Agrees catalogue.old.processes }
+    requires held { Holds (tape_at catalogue.old.processes message.now.from) message.now.inc message.now.number }
+    requires few { length (tape_at catalogue.old.processes to) < MOST_EVENTS }
+    requires room { 0 < room_at catalogue.old to }
+    ensures taken { catalogue.new.processes ≡ with_event catalogue.old.processes to (RecvEvent message.now) }
+    ensures marks { catalogue.new.marks ≡ catalogue.old.marks }
+{
+    add_event(catalogue, to, receipt(message));
 }
 
 /// Adds a check without a round, and tells its index. No link changes.

@@ -1,9 +1,10 @@
 //! What the links hold after a restart at a line.
-ghost use Rattle.std.specs.Prelude.{◌≡◌, ◌≢◌, ◌<◌, ◌++◌, ℕ, [], ◌∷◌, map, length, if◌then◌else◌, OnOk, IfOk};
+ghost use Rattle.std.specs.Prelude.{◌≡◌, ◌≢◌, ◌<◌, ◌++◌, ℕ, All, map, length, OnOk, IfOk};
 ghost use Rattle.line_names.specs.declared.messages.MsgName.{MsgName};
 ghost use Rattle.line_tape.specs.declared.items.Item.TheVariants.{Message};
 ghost use Rattle.line_tape.specs.Line.{IsLine};
-ghost use Rattle.line_tape.specs.Transit.{Letter, is_open, in_transit_between};
+ghost use Rattle.line_tape.specs.Transit.{in_transit_between};
+ghost use Rattle.line_turns.specs.Channels.{channels_at};
 ghost use Rattle.line_world.specs.Machine.{copies_in};
 ghost use Rattle.line_world.specs.Queues.{queue_at};
 ghost use Rattle.line_world.specs.Worlds.{AreQueues};
@@ -11,55 +12,64 @@ ghost use Rattle.line_world.specs.Worlds.{AreQueues};
 use crate::links::Links;
 use crate::steps::Mode;
 use line_names::{Line, MsgName, ProcId};
-use line_tape::{Event, History, Item};
+use line_tape::{History, Item};
+use line_turns::Channels;
 use std::alloc::{AllocError, Global};
 
-/// Whether the process that the send names has not received the message before its choice of the line.
-fn is_open(history: &History, line: &Line, to: ProcId, message: &MsgName) -> bool
-    requires line { IsLine history.now.processes line.now }
-    requires process { to < length history.now.processes }
-    ensures { (letter : Letter) → letter.message ≡ message.now → letter.to ≡ to
-        → result ≡ is_open history.now.processes line.now letter }
+/// Puts messages of one process at the end of a link, in order.
+fn put_names(
+    history: &History,
+    from: ProcId,
+    to: ProcId,
+    names: &[MsgName],
+    links: &mut Links,
+) -> Result<(), AllocError>
+    requires from { from < length history.now.processes }
+    requires to { to < length history.now.processes }
+    requires named { All (λ (m : MsgName). m.from ≡ from) names.now }
+    requires queued { AreQueues history.now.processes links.old }
+    ensures queued { OnOk result (AreQueues history.now.processes links.new) }
+    ensures put { OnOk result (queue_at links.new from to ≡ queue_at links.old from to ++ map (λ m. Message m) names.now) }
+    ensures others { OnOk result ((a b : ℕ) → ((a ≡ from) × (b ≡ to) → ⊥) → queue_at links.new a b ≡ queue_at links.old a b) }
 {
-    !history.tape(to).received_before(line.at(to), message)
+    let _n = history.n();
+    for name in names {
+        links.push(from, to, Item::Message(*name))?;
+    }
+    Ok(())
 }
 
-/// Puts the messages of one sender that are in transit at the ends of their links, by number.
-fn put_open(history: &History, line: &Line, p: ProcId, links: &mut Links) -> Result<(), AllocError>
-    requires line { IsLine history.now.processes line.now }
+/// Puts what is in transit from one process at the ends of its links, by number.
+fn put_row(
+    history: &History,
+    _line: &Line,
+    channels: &Channels,
+    p: ProcId,
+    links: &mut Links,
+) -> Result<(), AllocError>
     requires process { p < length history.now.processes }
+    requires channels { channels.now ≡ channels_at history.now.processes _line.now }
     requires queued { AreQueues history.now.processes links.old }
     ensures queued { OnOk result (AreQueues history.now.processes links.new) }
     ensures put { OnOk result ((q : ℕ) → q < length history.now.processes → queue_at links.new p q
-        ≡ queue_at links.old p q ++ map (λ m. Message m) (in_transit_between history.now.processes line.now p q)) }
+        ≡ queue_at links.old p q ++ map (λ m. Message m) (in_transit_between history.now.processes _line.now p q)) }
     ensures others { OnOk result ((a b : ℕ) → a ≢ p → queue_at links.new a b ≡ queue_at links.old a b) }
 {
-    let _n = history.n();
-    let events = history.tape(p).front(line.at(p));
-    let mut number = 0;
-    for event in events {
-        match event {
-            Event::Send { to, inc, .. } => {
-                let message = MsgName {
-                    from: p,
-                    inc: *inc,
-                    number,
-                };
-                if is_open(history, line, *to, &message) {
-                    links.push(p, *to, Item::Message(message))?;
-                }
-                number += 1;
-            }
-            Event::Recv { .. } => {}
-            Event::Check { .. } => {}
-            Event::Mark { .. } => {}
-        }
+    let n = history.n();
+    for q in 0..n {
+        let to = ProcId::try_new(q, n).unwrap();
+        put_names(history, p, to, channels.between(p, to), links)?;
     }
     Ok(())
 }
 
 /// Puts each message that is in transit at the end of its link.
-fn put_transit(history: &History, line: &Line, links: &mut Links) -> Result<(), AllocError>
+fn put_transit(
+    alloc: Global,
+    history: &History,
+    line: &Line,
+    links: &mut Links,
+) -> Result<(), AllocError>
     requires line { IsLine history.now.processes line.now }
     requires queued { AreQueues history.now.processes links.old }
     ensures queued { OnOk result (AreQueues history.now.processes links.new) }
@@ -67,9 +77,10 @@ fn put_transit(history: &History, line: &Line, links: &mut Links) -> Result<(), 
         ≡ queue_at links.old p q ++ map (λ m. Message m) (in_transit_between history.now.processes line.now p q)) }
 {
     let n = history.n();
+    let channels = Channels::at(alloc, history, line)?;
     for q in 0..n {
         let p = ProcId::try_new(q, n).unwrap();
-        put_open(history, line, p, links)?;
+        put_row(history, line, &channels, p, links)?;
     }
     Ok(())
 }
@@ -108,6 +119,6 @@ pub fn restarted_links(
         ≡ queue_at (copies_in mode links.now) p q ++ map (λ m. Message m) (in_transit_between history.now.processes line.now p q)) }
 {
     let mut new = kept_links(alloc, mode, history, links)?;
-    put_transit(history, line, &mut new)?;
+    put_transit(alloc, history, line, &mut new)?;
     Ok(new)
 }

@@ -1,18 +1,22 @@
-//! Rounds of markers (Chandy and Lamport, ACM TOCS 3(1), 1985): the one that is open, and those that are completed.
+//! Rounds of markers (Chandy and Lamport, ACM TOCS 3(1), 1985) and of colours (Lai and Yang, Information Processing Letters 25(3), 1987): the one that is open, and those that are completed.
 ghost use Rattle.std.specs.Prelude.{◌≡◌, ◌≢◌, ◌<◌, ◌≤◌, ◌+◌, ◌++◌, ℕ, [], ◌∷◌, List, filter, vec_len, vec_capacity, length, replicate, true, false, IfOk, OnOk, OnErr, Some};
 ghost use Rattle.line_tape.specs.declared.events.Event.TheVariants.{Recv as RecvEvent, Check as CheckEvent, Mark as MarkEvent};
 ghost use Rattle.line_tape.specs.History.{Process, tape_at, with_event};
 ghost use Rattle.line_tape.specs.Restart.{is_kept};
-ghost use Rattle.line_tape.specs.Rounds.{has_check_of, is_completed_fifo};
-ghost use Rattle.line_world.specs.declared.steps.Mode.TheVariants.{Fifo};
+ghost use Rattle.line_tape.specs.Colours.{is_completed_unordered};
+ghost use Rattle.line_tape.specs.Rounds.{has_check_of, is_completed_fifo, round_line};
+ghost use Rattle.line_turns.specs.Channels.{channels_at};
+ghost use Rattle.line_turns.specs.Turning.{IsTurning};
+ghost use Rattle.line_world.specs.declared.steps.Mode.TheVariants.{Fifo, Unordered};
 ghost use Rattle.line_world.specs.Listed.{check_in, channel_in, listed, stays};
-ghost use Rattle.line_world.specs.Openings.{left_open, marker_at, newly_closed, open_number, AreMarkers, IsFresh, IsOpening, IsRecording};
+ghost use Rattle.line_world.specs.Openings.{completed_channels, left_open, marker_at, newly_closed, open_number, opened_turning, AreMarkers, IsFresh, IsOpening, IsRecording};
 ghost use Rattle.line_world.specs.Fates.{is_forced};
 ghost use Rattle.line_world.specs.Steps.{next_check};
 
 use line_marker::{Marker, MarkerError};
 use line_names::{Choice, Line, MOST_PROCESSES, MsgName, ProcId};
 use line_tape::History;
+use line_turns::{Channels, Turning};
 use std::alloc::{AllocError, Global};
 use std::marker::Model;
 
@@ -24,23 +28,26 @@ pub const LAST_ROUND: u32 = 65_535;
 pub struct Round {
     number: u32,
     checks: Vec<u32>,
+    /// What each process recorded until its last marker came; none where links keep no order.
     markers: Vec<Marker>,
+    /// What was in transit, where links keep no order.
+    counted: Option<Channels>,
 }
 
 impl Model for Round {
     ghost use Rattle.std.specs.Prelude.{length};
     ghost use Rattle.line_world.specs.Listed.{Listed};
-    ghost use Rattle.line_world.specs.Openings.{recorded_table, AreMarkers};
+    ghost use Rattle.line_world.specs.Openings.{channels_kept, AreChannels};
 
     ghost Value = { Listed };
 
     ghost view = { λ r. record {
       number = r.number;
       checks = r.checks.items;
-      channels = recorded_table r.markers.items r.number;
+      channels = channels_kept r.counted (length r.checks.items) r.markers.items r.number;
     } };
 
-    ghost invariant = { λ r. AreMarkers (length r.checks.items) r.markers.items };
+    ghost invariant = { λ r. AreChannels r.counted (length r.checks.items) r.markers.items };
 }
 
 impl Round {
@@ -61,16 +68,40 @@ impl Round {
 
     /// What was on its way from one process to another at these checks, by number.
     ///
-    /// It was received behind the receiver's check and before the sender's marker.
+    /// By markers it is what was received behind the receiver's check and before the sender's marker; by colours, what was sent before the sender's check and not received before the receiver's.
     pub fn channel(&self, from: ProcId, to: ProcId) -> &[MsgName]
         requires from { from < length self.now.checks }
         requires to { to < length self.now.checks }
         requires other { from ≢ to }
         ensures { result.now ≡ channel_in self.now from to }
     {
-        match self.markers[to.get() as usize].channel(from, self.number) {
-            Some(names) => names,
-            None => &[],
+        match &self.counted {
+            Some(channels) => channels.between(from, to),
+            None => match self.markers[to.get() as usize].channel(from, self.number) {
+                Some(names) => names,
+                None => &[],
+            },
+        }
+    }
+
+    /// A round of colours that is completed, with what is in transit at its checks.
+    pub fn of_turning(
+        alloc: Global,
+        turning: Turning,
+        channels: Channels,
+        _history: &History,
+    ) -> Round
+        requires turning { IsTurning _history.now.processes turning }
+        requires completed { is_completed_unordered _history.now.processes turning.number ≡ true }
+        requires channels { channels ≡ channels_at _history.now.processes (round_line _history.now.processes turning.number) }
+        ensures { result ≡ listed Unordered _history.now.processes turning.number }
+    {
+        let number = turning.number();
+        Round {
+            number,
+            checks: turning.into_checks(),
+            markers: Vec::new(alloc),
+            counted: Some(channels),
         }
     }
 
@@ -292,6 +323,7 @@ impl OpenRound {
             number: self.number,
             checks: self.checks,
             markers: self.markers,
+            counted: None,
         }
     }
 }
@@ -386,6 +418,32 @@ pub fn still_open(
                 Some(round)
             }
         }
+        None => None,
+    }
+}
+
+/// Lists the round of colours if it is completed, and what is in transit at its checks is therefore given; and else gives it back.
+pub fn still_turning(
+    alloc: Global,
+    turning: Option<Turning>,
+    channels: Option<Channels>,
+    history: &History,
+    rounds: &mut Vec<Round>,
+) -> Option<Turning>
+    requires opening { IsOpening Unordered history.now.processes (opened_turning turning) }
+    requires channels { channels ≡ completed_channels history.now.processes turning }
+    requires room { vec_len rounds.old < vec_capacity rounds.old }
+    ensures listed { rounds.new.items ≡ rounds.old.items ++ newly_closed Unordered history.now.processes (opened_turning turning) }
+    ensures left { opened_turning result ≡ left_open Unordered history.now.processes (opened_turning turning) }
+{
+    match turning {
+        Some(turning) => match channels {
+            Some(channels) => {
+                rounds.push_reserved(Round::of_turning(alloc, turning, channels, history));
+                None
+            }
+            None => Some(turning),
+        },
         None => None,
     }
 }

@@ -1,11 +1,13 @@
 //! The world: the machine that answers steps.
-ghost use Rattle.std.specs.Prelude.{◌≡◌, ◌≢◌, ◌<◌, ◌≤◌, ◌↔◌, ◌⊎◌, ℕ, List, All, Some, None, length, take, slice_get, IfOk, IfErr, OnOk, IsErrOf, IsTrue};
+ghost use Rattle.std.specs.Prelude.{◌≡◌, ◌≢◌, ◌<◌, ◌≤◌, ◌↔◌, ◌⊎◌, ℕ, List, All, AllPairs, Some, None, length, take, slice_get, IfOk, IfErr, OnOk, IsErrOf, IsTrue};
 ghost use Rattle.line_tape.specs.History.{incarnation_at};
 ghost use Rattle.line_world.specs.declared.replies.Answer.TheVariants.{Done, Refused};
 ghost use Rattle.line_world.specs.declared.steps.Step.TheVariants.{Send, Deliver, Check, Begin, Turn, Damage, Recover};
 ghost use Rattle.line_tape.specs.declared.items.Item.TheVariants.{Message, Marker};
-ghost use Rattle.line_world.specs.declared.steps.Mode.TheVariants.{Fifo};
-ghost use Rattle.line_world.specs.Listed.{IsSnapshotOf};
+ghost use Rattle.line_world.specs.declared.fates.Fate.TheVariants.{Taken as IsTaken};
+ghost use Rattle.line_world.specs.declared.steps.Mode.TheVariants.{Fifo, Unordered};
+ghost use Rattle.line_world.specs.Fates.{fate_of, forced_round};
+ghost use Rattle.line_world.specs.Listed.{Listed, IsReached, IsSnapshotOf};
 ghost use Rattle.line_world.specs.Machine.{start, items_on, IsFit};
 ghost use Rattle.line_world.specs.Refusals.{first_cause, link_causes, refusal_of, has_stranger};
 ghost use Rattle.line_world.specs.Runs.{Takes, Run};
@@ -15,16 +17,19 @@ mod refusals;
 
 use crate::fates::{Fate, fate_of};
 use crate::links::Links;
-use crate::moves::{add_check, begin_round, put_message, take_marker, take_message};
+use crate::moves::{
+    add_check, add_receipt, begin_round, put_message, take_marker, take_message, take_turn,
+};
 use crate::replies::{Answer, Reply, RunStopped, StepError};
 use crate::restarts::restarted_links;
 use crate::restores::{restarted_incarnations, restored_states};
-use crate::rounds::{OpenRound, Round, is_forced, keep_rounds, still_open};
+use crate::rounds::{OpenRound, Round, is_forced, keep_rounds, still_open, still_turning};
 use crate::steps::{Mode, Step};
 use line_catalogue::Catalogue;
 use line_names::{Body, MOST_PROCESSES, MsgName, ProcId, ProcSet};
 use line_plan::Plan;
 use line_tape::{CountError, History, Item, Marks, State};
+use line_turns::{Colours, Turning};
 use std::alloc::Global;
 use std::marker::Model;
 
@@ -38,7 +43,12 @@ pub struct World {
     links: Links,
     /// The number of the last round begun; 0 where none was.
     last_round: u32,
+    /// The open round of markers, where links keep their order.
     running: Option<OpenRound>,
+    /// The open round of colours, where they don't.
+    turning: Option<Turning>,
+    /// The colours of the processes, where links keep no order.
+    colours: Colours,
     rounds: Vec<Round>,
 }
 
@@ -48,7 +58,8 @@ impl Model for World {
     ghost Value = { Machine };
 
     ghost use Rattle.line_world.specs.Machine.{copies_in};
-    ghost use Rattle.line_world.specs.Worlds.{AreRounds, IsWorld};
+    ghost use Rattle.line_world.specs.Openings.{opened};
+    ghost use Rattle.line_world.specs.Worlds.{ArePainted, AreRounds, IsWorld};
 
     ghost view = { λ w. record {
       mode = w.mode;
@@ -60,7 +71,8 @@ impl Model for World {
     } };
 
     ghost invariant = { λ w. IsWorld w.mode w.catalogue.processes w.links
-        × AreRounds w.mode w.catalogue.processes w.last_round w.running w.rounds.items };
+        × AreRounds w.mode w.catalogue.processes w.last_round (opened w.mode w.running w.turning) w.rounds.items
+        × ArePainted w.mode w.catalogue.processes w.colours };
 }
 
 impl World {
@@ -73,12 +85,15 @@ impl World {
     {
         let catalogue = Catalogue::new(alloc, n)?;
         let links = Links::new(alloc, n)?;
+        let colours = Colours::new(alloc, n)?;
         Ok(World {
             mode,
             catalogue,
             links,
             last_round: 0,
             running: None,
+            turning: None,
+            colours,
             rounds: Vec::new(alloc),
         })
     }
@@ -98,12 +113,13 @@ impl World {
         self.catalogue.marks()
     }
 
-    /// The completed rounds whose checks no recovery has cut, the oldest first.
+    /// The completed rounds whose checks no recovery has cut, by number.
     ///
     /// Each is a snapshot (Chandy and Lamport, ACM TOCS 3(1), 1985): its checks make a consistent line, and each channel has the messages in transit there, by number. It stays so until a recovery cuts one of its checks, and then it leaves the list.
     pub fn rounds(&self) -> &[Round]
         ensures value { result.now ≡ self.now.rounds }
         ensures snapshots { All (IsSnapshotOf self.now.history) self.now.rounds }
+        ensures ascending { AllPairs (λ (a b : Listed). a.number < b.number) self.now.rounds }
     {
         &self.rounds
     }
@@ -160,9 +176,113 @@ impl World {
         Ok(Reply::Sent { message })
     }
 
+    /// The round of the check that a message has its receiver take first.
+    fn forced_round(&self, to: ProcId, message: &MsgName) -> Option<u32>
+        requires from { message.now.from < length self.now.history }
+        requires to { to < length self.now.history }
+        requires taken { fate_of self.now.mode self.now.history to message.now ≡ IsTaken }
+        ensures { result ≡ forced_round self.now.mode self.now.history to message.now }
+    {
+        match self.mode {
+            Mode::Fifo => None,
+            Mode::Unordered => self.colours.before_receive(to, message),
+        }
+    }
+
+    /// Takes a message that forces no check.
+    fn take(
+        &mut self,
+        from: ProcId,
+        to: ProcId,
+        pick: u64,
+        _state: &State,
+        message: &MsgName,
+    ) -> Result<Reply, StepError>
+        requires passed { first_cause (link_causes self.old from to pick _state.now) ≡ None }
+        requires picked { slice_get (items_on self.old from to) pick ≡ Some (Message message.now) }
+        requires taken { fate_of self.old.mode self.old.history to message.now ≡ IsTaken }
+        requires unforced { forced_round self.old.mode self.old.history to message.now ≡ None }
+        ensures done { IfOk result (λ reply. Takes self.old (Deliver from to pick _state.now) (Done reply) self.new) }
+        ensures refused { IfErr result (λ e. e ≢ StepError.OutOfMemory
+            → Takes self.old (Deliver from to pick _state.now) (Refused e) self.new) }
+        ensures memory { IsErrOf result StepError.OutOfMemory → self.new ≡ self.old }
+    {
+        let _history = self.catalogue.history();
+        if self.is_full(to, 1) {
+            return Err(StepError::TapeFull);
+        }
+        take_message(
+            self.mode,
+            &mut self.catalogue,
+            &mut self.links,
+            &mut self.running,
+            from,
+            to,
+            message,
+        )?;
+        Ok(Reply::Took {
+            message: *message,
+            forced: None,
+        })
+    }
+
+    /// Takes a copy of a message of a greater colour, after the check that it forces.
+    fn take_forced(
+        &mut self,
+        alloc: Global,
+        from: ProcId,
+        to: ProcId,
+        pick: u64,
+        state: &State,
+        message: &MsgName,
+        round: u32,
+    ) -> Result<Reply, StepError>
+        requires mode { self.old.mode ≡ Unordered }
+        requires passed { first_cause (link_causes self.old from to pick state.now) ≡ None }
+        requires picked { slice_get (items_on self.old from to) pick ≡ Some (Message message.now) }
+        requires taken { fate_of self.old.mode self.old.history to message.now ≡ IsTaken }
+        requires forced { forced_round self.old.mode self.old.history to message.now ≡ Some round }
+        ensures done { IfOk result (λ reply. Takes self.old (Deliver from to pick state.now) (Done reply) self.new) }
+        ensures refused { IfErr result (λ e. e ≢ StepError.OutOfMemory
+            → Takes self.old (Deliver from to pick state.now) (Refused e) self.new) }
+        ensures memory { IsErrOf result StepError.OutOfMemory → self.new ≡ self.old }
+    {
+        let _history = self.catalogue.history();
+        if self.is_full(to, 2) {
+            return Err(StepError::TapeFull);
+        }
+        self.rounds.reserve(1)?;
+        let (_check, channels) = match &mut self.turning {
+            Some(turning) => take_turn(
+                alloc,
+                &mut self.catalogue,
+                &mut self.colours,
+                turning,
+                to,
+                state,
+                1,
+            )?,
+            None => unreachable!(),
+        };
+        let turning = self.turning.take();
+        self.turning = still_turning(
+            alloc,
+            turning,
+            channels,
+            self.catalogue.history(),
+            &mut self.rounds,
+        );
+        add_receipt(&mut self.catalogue, to, message);
+        Ok(Reply::Took {
+            message: *message,
+            forced: Some(round),
+        })
+    }
+
     /// Takes the message that stands at a place of a link, or finds its copy stale or repeated.
     fn deliver_message(
         &mut self,
+        alloc: Global,
         from: ProcId,
         to: ProcId,
         pick: u64,
@@ -178,24 +298,10 @@ impl World {
     {
         let _n = self.catalogue.n();
         match fate_of(self.mode, self.catalogue.history(), to, message) {
-            Fate::Taken => {
-                if self.is_full(to, 1) {
-                    return Err(StepError::TapeFull);
-                }
-                take_message(
-                    self.mode,
-                    &mut self.catalogue,
-                    &mut self.links,
-                    &mut self.running,
-                    from,
-                    to,
-                    message,
-                )?;
-                Ok(Reply::Took {
-                    message: *message,
-                    forced: None,
-                })
-            }
+            Fate::Taken => match self.forced_round(to, message) {
+                Some(round) => self.take_forced(alloc, from, to, pick, state, message, round),
+                None => self.take(from, to, pick, state, message),
+            },
             Fate::Stale => Ok(Reply::Stale { message: *message }),
             Fate::Repeated => Ok(Reply::Repeated { message: *message }),
         }
@@ -261,7 +367,9 @@ impl World {
         let _n = self.catalogue.n();
         let item = self.item_at(from, to, pick);
         match item {
-            Item::Message(message) => self.deliver_message(from, to, pick, state, &message),
+            Item::Message(message) => {
+                self.deliver_message(alloc, from, to, pick, state, &message)
+            }
             Item::Marker(round) => match self.mode {
                 Mode::Fifo => self.deliver_marker(alloc, from, to, state, round),
                 Mode::Unordered => Ok(Reply::Marked {
@@ -286,15 +394,19 @@ impl World {
         Ok(Reply::Checked { at, check })
     }
 
-    /// Begins a round.
-    fn begin(&mut self, alloc: Global, at: ProcId, state: &State) -> Result<Reply, StepError>
+    /// Begins a round of markers.
+    fn begin_markers(
+        &mut self,
+        alloc: Global,
+        at: ProcId,
+        state: &State,
+    ) -> Result<Reply, StepError>
+        requires mode { self.old.mode ≡ Fifo }
+        requires passed { refusal_of self.old (Begin at state.now) ≡ None }
         ensures done { IfOk result (λ reply. Takes self.old (Begin at state.now) (Done reply) self.new) }
         ensures refused { IfErr result (λ e. e ≢ StepError.OutOfMemory → Takes self.old (Begin at state.now) (Refused e) self.new) }
         ensures memory { IsErrOf result StepError.OutOfMemory → self.new ≡ self.old }
     {
-        if let Some(e) = self.begin_refusal(at, state) {
-            return Err(e);
-        }
         self.rounds.reserve(1)?;
         let (begun, check) = begin_round(
             alloc,
@@ -313,13 +425,96 @@ impl World {
         })
     }
 
-    /// Refuses a turn: there are no rounds of colours yet.
-    fn turn(&mut self, at: ProcId, state: &State) -> Result<Reply, StepError>
+    /// Begins a round of colours.
+    fn begin_colours(
+        &mut self,
+        alloc: Global,
+        at: ProcId,
+        state: &State,
+    ) -> Result<Reply, StepError>
+        requires mode { self.old.mode ≡ Unordered }
+        requires passed { refusal_of self.old (Begin at state.now) ≡ None }
+        ensures done { IfOk result (λ reply. Takes self.old (Begin at state.now) (Done reply) self.new) }
+        ensures refused { IfErr result (λ e. e ≢ StepError.OutOfMemory → Takes self.old (Begin at state.now) (Refused e) self.new) }
+        ensures memory { IsErrOf result StepError.OutOfMemory → self.new ≡ self.old }
+    {
+        let n = self.catalogue.n();
+        self.rounds.reserve(1)?;
+        let mut turning = Turning::new(alloc, n, self.last_round + 1)?;
+        let (check, channels) = take_turn(
+            alloc,
+            &mut self.catalogue,
+            &mut self.colours,
+            &mut turning,
+            at,
+            state,
+            0,
+        )?;
+        self.last_round += 1;
+        self.turning = still_turning(
+            alloc,
+            Some(turning),
+            channels,
+            self.catalogue.history(),
+            &mut self.rounds,
+        );
+        Ok(Reply::Begun {
+            at,
+            check,
+            round: self.last_round,
+        })
+    }
+
+    /// Begins a round.
+    fn begin(&mut self, alloc: Global, at: ProcId, state: &State) -> Result<Reply, StepError>
+        ensures done { IfOk result (λ reply. Takes self.old (Begin at state.now) (Done reply) self.new) }
+        ensures refused { IfErr result (λ e. e ≢ StepError.OutOfMemory → Takes self.old (Begin at state.now) (Refused e) self.new) }
+        ensures memory { IsErrOf result StepError.OutOfMemory → self.new ≡ self.old }
+    {
+        if let Some(e) = self.begin_refusal(at, state) {
+            return Err(e);
+        }
+        match self.mode {
+            Mode::Fifo => self.begin_markers(alloc, at, state),
+            Mode::Unordered => self.begin_colours(alloc, at, state),
+        }
+    }
+
+    /// Turns to the round of colours that is open.
+    fn turn(&mut self, alloc: Global, at: ProcId, state: &State) -> Result<Reply, StepError>
         ensures done { IfOk result (λ reply. Takes self.old (Turn at state.now) (Done reply) self.new) }
         ensures refused { IfErr result (λ e. e ≢ StepError.OutOfMemory → Takes self.old (Turn at state.now) (Refused e) self.new) }
         ensures memory { IsErrOf result StepError.OutOfMemory → self.new ≡ self.old }
     {
-        Err(self.turn_refusal(at, state))
+        if let Some(e) = self.turn_refusal(at, state) {
+            return Err(e);
+        }
+        self.rounds.reserve(1)?;
+        let (check, channels) = match &mut self.turning {
+            Some(turning) => take_turn(
+                alloc,
+                &mut self.catalogue,
+                &mut self.colours,
+                turning,
+                at,
+                state,
+                0,
+            )?,
+            None => unreachable!(),
+        };
+        let turning = self.turning.take();
+        self.turning = still_turning(
+            alloc,
+            turning,
+            channels,
+            self.catalogue.history(),
+            &mut self.rounds,
+        );
+        Ok(Reply::Turned {
+            at,
+            check,
+            round: self.last_round,
+        })
     }
 
     /// Marks a check as damaged.
@@ -338,11 +533,12 @@ impl World {
         Ok(Reply::Damaged { at, check })
     }
 
-    /// The latest line that the processes could go on from, if those of the set failed.
+    /// The latest line that the processes could go on from, if those of the set failed. Where the checks of a listed round survive, no process falls behind its own.
     ///
     /// It looks at each event before the latest surviving choices, once for each time that a process is visited.
     pub fn plan_for(&self, alloc: Global, failed: &ProcSet) -> Result<Plan, StepError>
         ensures plan { IfOk result (λ plan. IsPlan self.now failed.now plan) }
+        ensures rounds { IfOk result (λ plan. All (IsReached self.now.history self.now.marks failed.now plan.line) self.now.rounds) }
         ensures stranger { IsErrOf result StepError.NoSuchProcess ↔ IsTrue (has_stranger self.now failed.now) }
         ensures others { IfErr result (λ e. (e ≡ StepError.NoSuchProcess) ⊎ (e ≡ StepError.OutOfMemory)) }
     {
@@ -370,6 +566,8 @@ impl World {
         self.catalogue.restart(&plan.line);
         self.links = links;
         self.running = None;
+        self.turning = None;
+        self.colours.clear();
         keep_rounds(&mut self.rounds, &plan.line);
         Ok(Reply::Recovered {
             plan,
@@ -380,7 +578,7 @@ impl World {
 
     /// Takes one step.
     ///
-    /// Sending, delivering a message and taking a check cost the same however much was done before. A marker looks at its receiver's channels, and the last one of a process at all channels of the round. A check of a round, begun or forced by a marker, copies what the links from its process hold. Recovering costs what a plan does, and looks at each event and at each copy.
+    /// Sending, delivering a message and taking a check cost the same however much was done before; a message that forces a check searches its sender's checks of rounds by halves. A marker looks at its receiver's channels, and the last one of a process at all channels of the round. A check of a round, begun or forced by a marker, copies what the links from its process hold; the last one of a round of colours looks at each event before the round's checks. Recovering costs what a plan does, and looks at each event and at each copy.
     pub fn step(&mut self, alloc: Global, step: &Step) -> Result<Reply, StepError>
         ensures done { IfOk result (λ reply. Takes self.old step.now (Done reply) self.new) }
         ensures refused { IfErr result (λ e. e ≢ StepError.OutOfMemory → Takes self.old step.now (Refused e) self.new) }
@@ -396,7 +594,7 @@ impl World {
             } => self.deliver(alloc, *from, *to, *pick, state),
             Step::Check { at, state } => self.check(alloc, *at, state),
             Step::Begin { at, state } => self.begin(alloc, *at, state),
-            Step::Turn { at, state } => self.turn(*at, state),
+            Step::Turn { at, state } => self.turn(alloc, *at, state),
             Step::Damage { at, check } => self.damage(*at, *check),
             Step::Recover { failed } => self.recover(alloc, failed),
         }

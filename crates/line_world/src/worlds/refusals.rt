@@ -1,7 +1,8 @@
 //! What refuses a step of a world.
 ghost use Rattle.std.specs.Prelude.{◌≡◌, ◌<◌, ◌≤◌, ℕ, List, Some, length};
+ghost use Rattle.line_world.specs.declared.steps.Mode.TheVariants.{Unordered};
 ghost use Rattle.line_world.specs.declared.steps.Step.TheVariants.{Send, Check, Begin, Turn};
-ghost use Rattle.line_world.specs.Refusals.{first_cause, link_causes, refusal_of, has_stranger, is_bad_pick, is_full};
+ghost use Rattle.line_world.specs.Refusals.{first_cause, link_causes, may_turn, refusal_of, has_stranger, is_bad_pick, is_full};
 ghost use Rattle.line_world.specs.Machine.{is_open, items_on};
 
 use super::World;
@@ -99,9 +100,9 @@ impl World {
     fn is_open(&self) -> bool
         ensures { result ≡ is_open self.now }
     {
-        match &self.running {
-            Some(_round) => true,
-            None => false,
+        match self.mode {
+            Mode::Fifo => self.running.is_some(),
+            Mode::Unordered => self.turning.is_some(),
         }
     }
 
@@ -115,9 +116,6 @@ impl World {
         if state.bytes().len() > MOST_STATE {
             return Some(StepError::StateTooLong);
         }
-        if !self.mode.is_fifo() {
-            return Some(StepError::WrongMode);
-        }
         if self.is_open() {
             return Some(StepError::RoundOpen);
         }
@@ -130,20 +128,38 @@ impl World {
         None
     }
 
+    /// Whether a round of colours is open of which a process has no check yet.
+    fn may_turn(&self, at: ProcId) -> bool
+        requires at { at < length self.now.history }
+        requires mode { self.now.mode ≡ Unordered }
+        ensures { result ≡ may_turn self.now at }
+    {
+        match &self.turning {
+            Some(turning) => !turning.has_check(at),
+            None => false,
+        }
+    }
+
     /// Why a process may not turn to a round now.
-    pub(super) fn turn_refusal(&self, at: ProcId, state: &State) -> StepError
-        ensures { refusal_of self.now (Turn at state.now) ≡ Some result }
+    pub(super) fn turn_refusal(&self, at: ProcId, state: &State) -> Option<StepError>
+        ensures { result ≡ refusal_of self.now (Turn at state.now) }
     {
         if at.get() >= self.catalogue.n() {
-            return StepError::NoSuchProcess;
+            return Some(StepError::NoSuchProcess);
         }
         if self.mode.is_fifo() {
-            return StepError::WrongMode;
+            return Some(StepError::WrongMode);
         }
         if state.bytes().len() > MOST_STATE {
-            return StepError::StateTooLong;
+            return Some(StepError::StateTooLong);
         }
-        StepError::NothingToTurn
+        if !self.may_turn(at) {
+            return Some(StepError::NothingToTurn);
+        }
+        if self.is_full(at, 1) {
+            return Some(StepError::TapeFull);
+        }
+        None
     }
 
     /// Whether a member of the set is no process.

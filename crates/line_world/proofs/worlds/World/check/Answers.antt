@@ -1,5 +1,5 @@
 -- No queue changes, and no link does; and no round is completed.
-use Rattle.std.proofs.Common.{◌≡◌, ◌<◌, ℕ, List, [], ◌∷◌, None, refl, sym, subst, ap, ◌∙◌, length, arith}
+use Rattle.std.proofs.Common.{◌≡◌, ◌<◌, ℕ, List, [], ◌∷◌, None, refl, sym, subst, ap, ◌∙◌, length, arith, Option}
 use Rattle.line_tape.specs.declared.events.Event.{Event}
 use Rattle.line_tape.specs.declared.events.Event.TheVariants.{Check as CheckEvent}
 use Rattle.line_tape.specs.History.{Process, with_event}
@@ -10,15 +10,18 @@ use Rattle.line_world.specs.Listed.{Listed}
 use Rattle.line_world.specs.Machine.{Machine}
 use Rattle.line_world.specs.Refusals.{refusal_of}
 use Rattle.line_world.specs.Steps.{Checks}
-use Rattle.line_world.specs.Worlds.{AreRounds, IsWorld}
+use Rattle.line_world.specs.Openings.{OpenView, opened}
+use Rattle.line_world.specs.Worlds.{ArePainted, AreRounds, IsWorld}
 use Rattle.line_world.proofs.DeliverLemmas.{quiet_seen}
 use Rattle.line_world.proofs.OpeningLemmas.{AreRounds-kept, IsOpening-kept, none_listed}
+use Rattle.line_world.proofs.PaintLemmas.{ArePainted-check}
 use Rattle.line_world.proofs.StepLemmas.{may_check}
 use Rattle.line_world.proofs.WorldLemmas.{IsWorld-check, seen}
 use Rattle.line_world.proofs.worlds.World.check.Goals as goal
 
 pub invariant_of-self-2 : goal.invariant_of-self-2
 invariant_of-self-2 c =
+    let running : Option OpenView = opened c.self.inside.mode c.self.inside.running c.self.inside.turning in
     let may = may_check c.args.self.now c.args.at c.args.state.now (sym c.check_refusal.ensures ∙ c.in_default.is) in
     let history : List Process = c.self.inside.catalogue.processes in
     let mode : Mode = c.self.inside.mode in
@@ -26,9 +29,11 @@ invariant_of-self-2 c =
     let within : c.args.at < length history = omega (arith, may.within, ap (λ (m : Machine). length m.history) c.self.view_is) in (
       subst (λ (h : List Process). IsWorld mode h c.self.inside.links) (sym c.in_ok-check.ensures.checked)
           (IsWorld-check history c.self.inside.links mode c.self.invariant.0 c.args.at c.in_ok-state.state within),
-      subst (λ (h : List Process). AreRounds mode h c.self.inside.last_round c.self.inside.running c.self.inside.rounds.items) (sym c.in_ok-check.ensures.checked)
-          (AreRounds-kept history c.args.at e within (λ r. refl) (λ r p. refl) mode c.self.inside.last_round c.self.inside.running c.self.inside.running c.self.inside.rounds.items refl
-          (IsOpening-kept history c.args.at e within (λ r. refl) mode c.self.inside.running (λ r p. refl) (λ r p. refl) c.self.invariant.1.opening) c.self.invariant.1),
+      subst (λ (h : List Process). AreRounds mode h c.self.inside.last_round running c.self.inside.rounds.items) (sym c.in_ok-check.ensures.checked)
+          (AreRounds-kept history c.args.at e within (λ r. refl) (λ r p. refl) mode c.self.inside.last_round running running c.self.inside.rounds.items refl
+          (IsOpening-kept history c.args.at e within (λ r. refl) mode running (λ r p. refl) (λ r p. refl) c.self.invariant.1.opening) c.self.invariant.1),
+      subst (λ (h : List Process). ArePainted mode h c.self.inside.colours) (sym c.in_ok-check.ensures.checked)
+          (ArePainted-check history c.self.inside.links c.self.inside.colours mode c.self.invariant.0 c.args.at c.in_ok-state.state within c.self.invariant.2),
     )
 
 pub returns-clause-done : goal.returns-clause-done

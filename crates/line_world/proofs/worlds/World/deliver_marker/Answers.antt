@@ -15,10 +15,10 @@ use Rattle.line_world.specs.declared.steps.Step.TheVariants.{Deliver}
 use Rattle.line_world.specs.Fates.{events_taken, is_forced, marker_events, reply_taken}
 use Rattle.line_world.specs.Listed.{Listed}
 use Rattle.line_world.specs.Machine.{Machine, copies_in, newly_listed, with_events, with_step}
-use Rattle.line_world.specs.Openings.{OpenView, left_open, newly_closed, IsOpening}
+use Rattle.line_world.specs.Openings.{OpenView, left_open, newly_closed, opened, IsOpening}
 use Rattle.line_world.specs.Refusals.{is_full}
 use Rattle.line_world.specs.Runs.{Takes}
-use Rattle.line_world.specs.Worlds.{AreRounds, IsWorld}
+use Rattle.line_world.specs.Worlds.{ArePainted, AreRounds, IsWorld}
 use Rattle.line_world.proofs.DeliverLemmas.{from_within, picked_at, step_seen, to_within, Takes-delivered}
 use Rattle.line_world.proofs.MarkerFacts.{marker_listed, marker_settled}
 use Rattle.line_world.proofs.OpeningLemmas.{AreRounds-renewed}
@@ -40,7 +40,7 @@ is_forced-forced-requires-clause-sent c =
     let round : ℕ = c.args.round in
     let in_order : mode ≡ Fifo = ap (λ (v : Machine). v.mode) view ∙ c.requires.mode in
     let world : IsWorld Fifo history links = subst (λ (v : Mode). IsWorld v history links) in_order c.self.invariant.0 in
-    let are : AreRounds Fifo history last c.self.inside.running rounds = subst (λ (v : Mode). AreRounds v history last c.self.inside.running rounds) in_order c.self.invariant.1 in
+    let are : AreRounds Fifo history last c.self.inside.running rounds = subst (λ (v : Mode). AreRounds v history last (opened v c.self.inside.running c.self.inside.turning) rounds) in_order c.self.invariant.1 in
     let at = picked_at mode history marks last rounds links c.args.self.now view c.self.invariant.0 from to 0 c.args.state.now (Marker round) c.requires.passed c.requires.picked in
     let f_in : from < length history = from_within mode history marks last rounds links c.args.self.now view c.self.invariant.0 from to 0 c.args.state.now (Marker round) c.requires.passed c.requires.picked in
     let t_in : to < length history = to_within mode history marks last rounds links c.args.self.now view c.self.invariant.0 from to 0 c.args.state.now (Marker round) c.requires.passed c.requires.picked in
@@ -61,7 +61,7 @@ invariant_of-self-in_err-take_marker c =
     let round : ℕ = c.args.round in
     let in_order : mode ≡ Fifo = ap (λ (v : Machine). v.mode) view ∙ c.requires.mode in
     let world : IsWorld Fifo history links = subst (λ (v : Mode). IsWorld v history links) in_order c.self.invariant.0 in
-    let are : AreRounds Fifo history last c.self.inside.running rounds = subst (λ (v : Mode). AreRounds v history last c.self.inside.running rounds) in_order c.self.invariant.1 in
+    let are : AreRounds Fifo history last c.self.inside.running rounds = subst (λ (v : Mode). AreRounds v history last (opened v c.self.inside.running c.self.inside.turning) rounds) in_order c.self.invariant.1 in
     let at = picked_at mode history marks last rounds links c.args.self.now view c.self.invariant.0 from to 0 c.args.state.now (Marker round) c.requires.passed c.requires.picked in
     let f_in : from < length history = from_within mode history marks last rounds links c.args.self.now view c.self.invariant.0 from to 0 c.args.state.now (Marker round) c.requires.passed c.requires.picked in
     let t_in : to < length history = to_within mode history marks last rounds links c.args.self.now view c.self.invariant.0 from to 0 c.args.state.now (Marker round) c.requires.passed c.requires.picked in
@@ -69,10 +69,11 @@ invariant_of-self-in_err-take_marker c =
     let same : c.take_marker.new.catalogue.processes ≡ history = c.in_err-take_marker.ensures.err in
     let opening : IsOpening Fifo history c.take_marker.new.running = subst (λ (h : List Process). IsOpening Fifo h c.take_marker.new.running) same c.in_err-take_marker.ensures.opening in (
       subst (λ (v : Mode). IsWorld v c.take_marker.new.catalogue.processes c.take_marker.new.links) (sym in_order) c.in_err-take_marker.ensures.world,
-      subst (λ (v : Mode). AreRounds v c.take_marker.new.catalogue.processes last c.take_marker.new.running c.reserve.new.self.items) (sym in_order)
+      subst (λ (v : Mode). AreRounds v c.take_marker.new.catalogue.processes last (opened v c.take_marker.new.running c.self.inside.turning) c.reserve.new.self.items) (sym in_order)
           (subst (λ (h : List Process). AreRounds Fifo h last c.take_marker.new.running c.reserve.new.self.items) (sym same)
           (subst (λ (ls : List Listed). AreRounds Fifo history last c.take_marker.new.running ls) (sym c.reserve.ensures.items)
           (AreRounds-renewed Fifo history last c.self.inside.running c.take_marker.new.running rounds c.in_err-take_marker.ensures.number opening are))),
+      subst (λ (v : Mode). ArePainted v c.take_marker.new.catalogue.processes c.self.inside.colours) (sym in_order) tt,
     )
 
 pub invariant_of-self-2 : goal.invariant_of-self-2
@@ -89,7 +90,7 @@ invariant_of-self-2 c =
     let round : ℕ = c.args.round in
     let in_order : mode ≡ Fifo = ap (λ (v : Machine). v.mode) view ∙ c.requires.mode in
     let world : IsWorld Fifo history links = subst (λ (v : Mode). IsWorld v history links) in_order c.self.invariant.0 in
-    let are : AreRounds Fifo history last c.self.inside.running rounds = subst (λ (v : Mode). AreRounds v history last c.self.inside.running rounds) in_order c.self.invariant.1 in
+    let are : AreRounds Fifo history last c.self.inside.running rounds = subst (λ (v : Mode). AreRounds v history last (opened v c.self.inside.running c.self.inside.turning) rounds) in_order c.self.invariant.1 in
     let at = picked_at mode history marks last rounds links c.args.self.now view c.self.invariant.0 from to 0 c.args.state.now (Marker round) c.requires.passed c.requires.picked in
     let f_in : from < length history = from_within mode history marks last rounds links c.args.self.now view c.self.invariant.0 from to 0 c.args.state.now (Marker round) c.requires.passed c.requires.picked in
     let t_in : to < length history = to_within mode history marks last rounds links c.args.self.now view c.self.invariant.0 from to 0 c.args.state.now (Marker round) c.requires.passed c.requires.picked in
@@ -110,11 +111,12 @@ invariant_of-self-2 c =
     let left : c.still_open.result ≡ left_open Fifo after running =
     c.still_open.ensures.left ∙ ap (λ (h : List Process). left_open Fifo h c.take-running.result) told ∙ ap (λ (o : Option OpenView). left_open Fifo after o) c.take-running.ensures.value in (
       subst (λ (v : Mode). IsWorld v c.take_marker.new.catalogue.processes c.take_marker.new.links) (sym in_order) c.in_ok-take_marker.ensures.world,
-      subst (λ (v : Mode). AreRounds v c.take_marker.new.catalogue.processes last c.still_open.result c.still_open.new.rounds.items) (sym in_order)
+      subst (λ (v : Mode). AreRounds v c.take_marker.new.catalogue.processes last (opened v c.still_open.result c.self.inside.turning) c.still_open.new.rounds.items) (sym in_order)
           (subst (λ (h : List Process). AreRounds Fifo h last c.still_open.result c.still_open.new.rounds.items) (sym taken)
           (subst (λ (o : Option OpenView). AreRounds Fifo after last o c.still_open.new.rounds.items) (sym left)
           (subst (λ (ls : List Listed). AreRounds Fifo after last (left_open Fifo after running) ls) (sym listed)
           (marker_settled history last c.self.inside.running rounds are from to round state t_in sent forced running world_after.linked.fit c.in_ok-take_marker.ensures.number opening)))),
+      subst (λ (v : Mode). ArePainted v c.take_marker.new.catalogue.processes c.self.inside.colours) (sym in_order) tt,
     )
 
 pub returns-clause-done : goal.returns-clause-done
@@ -131,7 +133,7 @@ returns-clause-done c =
     let round : ℕ = c.args.round in
     let in_order : mode ≡ Fifo = ap (λ (v : Machine). v.mode) view ∙ c.requires.mode in
     let world : IsWorld Fifo history links = subst (λ (v : Mode). IsWorld v history links) in_order c.self.invariant.0 in
-    let are : AreRounds Fifo history last c.self.inside.running rounds = subst (λ (v : Mode). AreRounds v history last c.self.inside.running rounds) in_order c.self.invariant.1 in
+    let are : AreRounds Fifo history last c.self.inside.running rounds = subst (λ (v : Mode). AreRounds v history last (opened v c.self.inside.running c.self.inside.turning) rounds) in_order c.self.invariant.1 in
     let at = picked_at mode history marks last rounds links c.args.self.now view c.self.invariant.0 from to 0 c.args.state.now (Marker round) c.requires.passed c.requires.picked in
     let f_in : from < length history = from_within mode history marks last rounds links c.args.self.now view c.self.invariant.0 from to 0 c.args.state.now (Marker round) c.requires.passed c.requires.picked in
     let t_in : to < length history = to_within mode history marks last rounds links c.args.self.now view c.self.invariant.0 from to 0 c.args.state.now (Marker round) c.requires.passed c.requires.picked in

@@ -1,28 +1,15 @@
--- The message is taken off its link and put on the tape, or its copy adds nothing.
-use Rattle.std.proofs.Common.{◌≡◌, ◌<◌, ℕ, List, [], ◌∷◌, length, Option, refl, sym, ap, ◌∙◌, subst, arith}
+-- The names of processes, and what the two ways to take a message ask.
+use Rattle.std.proofs.Common.{◌≡◌, ◌<◌, ℕ, List, length, ap, arith}
 use Rattle.line_names.specs.declared.messages.MsgName.{MsgName}
-use Rattle.line_tape.specs.declared.events.Event.{Event}
-use Rattle.line_tape.specs.declared.events.Event.TheVariants.{Recv}
 use Rattle.line_tape.specs.declared.items.Item.{Item}
 use Rattle.line_tape.specs.declared.items.Item.TheVariants.{Message}
-use Rattle.line_tape.specs.History.{Process, with_event}
+use Rattle.line_tape.specs.History.{Process}
 use Rattle.line_tape.specs.Views.{MarksView}
-use Rattle.line_world.specs.declared.fates.Fate.{Fate}
-use Rattle.line_world.specs.declared.fates.Fate.TheVariants.{Taken}
-use Rattle.line_world.specs.declared.replies.Answer.TheVariants.{Done}
-use Rattle.line_world.specs.declared.replies.Reply.{Reply}
 use Rattle.line_world.specs.declared.steps.Mode.{Mode}
-use Rattle.line_world.specs.declared.steps.Step.TheVariants.{Deliver}
-use Rattle.line_world.specs.Fates.{events_of, fate_of, reply_of}
 use Rattle.line_world.specs.Listed.{Listed}
-use Rattle.line_world.specs.Machine.{Machine, copies_in, with_step}
-use Rattle.line_world.specs.Openings.{OpenView, IsOpening}
-use Rattle.line_world.specs.Refusals.{is_full}
-use Rattle.line_world.specs.Runs.{Takes}
-use Rattle.line_world.specs.Worlds.{AreRounds, IsWorld}
-use Rattle.line_world.proofs.DeliverLemmas.{copies_off, first_in_order, from_within, picked_at, picked_of, quiet_seen, to_within, Takes-delivered}
-use Rattle.line_world.proofs.OpeningLemmas.{none_listed, AreRounds-kept, AreRounds-renewed}
-use Rattle.line_world.proofs.WorldLemmas.{seen, IsWorld-held, IsWorld-take}
+use Rattle.line_world.specs.Machine.{Machine}
+use Rattle.line_world.proofs.DeliverLemmas.{from_within, picked_of}
+use Rattle.line_world.proofs.WorldLemmas.{seen}
 use Rattle.line_world.proofs.worlds.World.deliver_message.Goals as goal
 
 pub fate_of-requires-clause-from : goal.fate_of-requires-clause-from
@@ -38,14 +25,11 @@ fate_of-requires-clause-from c =
     let view : seen mode history marks last rounds links ≡ c.args.self.now = c.self.view_is in
     let m : MsgName = c.args.message.now in
     let named : m.from ≡ from = picked_of mode history marks last rounds links c.args.self.now view c.self.invariant.0 from to c.args.pick c.args.state.now (Message m) c.requires.passed c.requires.picked in
-    let at = picked_at mode history marks last rounds links c.args.self.now view c.self.invariant.0 from to c.args.pick c.args.state.now (Message m) c.requires.passed c.requires.picked in
     let f_in : from < length history = from_within mode history marks last rounds links c.args.self.now view c.self.invariant.0 from to c.args.pick c.args.state.now (Message m) c.requires.passed c.requires.picked in
-    let t_in : to < length history = to_within mode history marks last rounds links c.args.self.now view c.self.invariant.0 from to c.args.pick c.args.state.now (Message m) c.requires.passed c.requires.picked in
-    let first = first_in_order mode history marks last rounds links c.args.self.now view c.self.invariant.0 from to c.args.pick c.args.state.now (Message m) c.requires.passed c.requires.picked in
     omega (arith, named, f_in, ap (λ (h : List Process). length h) c.history.ensures.processes)
 
-pub take_message-requires-clause-named : goal.take_message-requires-clause-named
-take_message-requires-clause-named c =
+pub forced_round-requires-clause-from : goal.forced_round-requires-clause-from
+forced_round-requires-clause-from c =
     let mode : Mode = c.self.inside.mode in
     let history : List Process = c.self.inside.catalogue.processes in
     let marks : MarksView = c.self.inside.catalogue.marks in
@@ -57,101 +41,5 @@ take_message-requires-clause-named c =
     let view : seen mode history marks last rounds links ≡ c.args.self.now = c.self.view_is in
     let m : MsgName = c.args.message.now in
     let named : m.from ≡ from = picked_of mode history marks last rounds links c.args.self.now view c.self.invariant.0 from to c.args.pick c.args.state.now (Message m) c.requires.passed c.requires.picked in
-    let at = picked_at mode history marks last rounds links c.args.self.now view c.self.invariant.0 from to c.args.pick c.args.state.now (Message m) c.requires.passed c.requires.picked in
     let f_in : from < length history = from_within mode history marks last rounds links c.args.self.now view c.self.invariant.0 from to c.args.pick c.args.state.now (Message m) c.requires.passed c.requires.picked in
-    let t_in : to < length history = to_within mode history marks last rounds links c.args.self.now view c.self.invariant.0 from to c.args.pick c.args.state.now (Message m) c.requires.passed c.requires.picked in
-    let first = first_in_order mode history marks last rounds links c.args.self.now view c.self.invariant.0 from to c.args.pick c.args.state.now (Message m) c.requires.passed c.requires.picked in
-    named
-
-pub take_message-requires-clause-held : goal.take_message-requires-clause-held
-take_message-requires-clause-held c =
-    let mode : Mode = c.self.inside.mode in
-    let history : List Process = c.self.inside.catalogue.processes in
-    let marks : MarksView = c.self.inside.catalogue.marks in
-    let last : ℕ = c.self.inside.last_round in
-    let rounds : List Listed = c.self.inside.rounds.items in
-    let links : List (List (List Item)) = c.self.inside.links in
-    let from : ℕ = c.args.from in
-    let to : ℕ = c.args.to in
-    let view : seen mode history marks last rounds links ≡ c.args.self.now = c.self.view_is in
-    let m : MsgName = c.args.message.now in
-    let named : m.from ≡ from = picked_of mode history marks last rounds links c.args.self.now view c.self.invariant.0 from to c.args.pick c.args.state.now (Message m) c.requires.passed c.requires.picked in
-    let at = picked_at mode history marks last rounds links c.args.self.now view c.self.invariant.0 from to c.args.pick c.args.state.now (Message m) c.requires.passed c.requires.picked in
-    let f_in : from < length history = from_within mode history marks last rounds links c.args.self.now view c.self.invariant.0 from to c.args.pick c.args.state.now (Message m) c.requires.passed c.requires.picked in
-    let t_in : to < length history = to_within mode history marks last rounds links c.args.self.now view c.self.invariant.0 from to c.args.pick c.args.state.now (Message m) c.requires.passed c.requires.picked in
-    let first = first_in_order mode history marks last rounds links c.args.self.now view c.self.invariant.0 from to c.args.pick c.args.state.now (Message m) c.requires.passed c.requires.picked in
-    let fate_here : fate_of mode history to m ≡ Taken = ap (λ (h : List Process). fate_of mode h to m) (sym c.history.ensures.processes) ∙ sym c.fate_of.ensures ∙ c.in-Taken.is in
-    IsWorld-held history links from to f_in t_in m named c.args.pick at mode c.self.invariant.0 first fate_here
-
-pub invariant_of-self : goal.invariant_of-self
-invariant_of-self c =
-    let mode : Mode = c.self.inside.mode in
-    let history : List Process = c.self.inside.catalogue.processes in
-    let same : c.take_message.new.catalogue.processes ≡ history = c.in_err-take_message-in-Taken.ensures.err in
-    let opening : IsOpening mode history c.take_message.new.running = subst (λ (h : List Process). IsOpening mode h c.take_message.new.running) same c.in_err-take_message-in-Taken.ensures.opening in (
-      subst (λ (h : List Process). IsWorld mode h c.take_message.new.links) (sym same)
-          (subst (λ (q : List (List (List Item))). IsWorld mode history q) (sym c.in_err-take_message-in-Taken.ensures.kept) c.self.invariant.0),
-      subst (λ (h : List Process). AreRounds mode h c.self.inside.last_round c.take_message.new.running c.self.inside.rounds.items) (sym same)
-          (AreRounds-renewed mode history c.self.inside.last_round c.self.inside.running c.take_message.new.running c.self.inside.rounds.items c.in_err-take_message-in-Taken.ensures.number opening c.self.invariant.1),
-    )
-
-pub invariant_of-self-in-Taken : goal.invariant_of-self-in-Taken
-invariant_of-self-in-Taken c =
-    let mode : Mode = c.self.inside.mode in
-    let history : List Process = c.self.inside.catalogue.processes in
-    let marks : MarksView = c.self.inside.catalogue.marks in
-    let last : ℕ = c.self.inside.last_round in
-    let rounds : List Listed = c.self.inside.rounds.items in
-    let links : List (List (List Item)) = c.self.inside.links in
-    let from : ℕ = c.args.from in
-    let to : ℕ = c.args.to in
-    let view : seen mode history marks last rounds links ≡ c.args.self.now = c.self.view_is in
-    let m : MsgName = c.args.message.now in
-    let named : m.from ≡ from = picked_of mode history marks last rounds links c.args.self.now view c.self.invariant.0 from to c.args.pick c.args.state.now (Message m) c.requires.passed c.requires.picked in
-    let at = picked_at mode history marks last rounds links c.args.self.now view c.self.invariant.0 from to c.args.pick c.args.state.now (Message m) c.requires.passed c.requires.picked in
-    let f_in : from < length history = from_within mode history marks last rounds links c.args.self.now view c.self.invariant.0 from to c.args.pick c.args.state.now (Message m) c.requires.passed c.requires.picked in
-    let t_in : to < length history = to_within mode history marks last rounds links c.args.self.now view c.self.invariant.0 from to c.args.pick c.args.state.now (Message m) c.requires.passed c.requires.picked in
-    let first = first_in_order mode history marks last rounds links c.args.self.now view c.self.invariant.0 from to c.args.pick c.args.state.now (Message m) c.requires.passed c.requires.picked in
-    let fate_here : fate_of mode history to m ≡ Taken = ap (λ (h : List Process). fate_of mode h to m) (sym c.history.ensures.processes) ∙ sym c.fate_of.ensures ∙ c.in-Taken.is in
-    let e : Event = Recv m in
-    let new : Option OpenView = c.take_message.new.running in
-    let taken : c.take_message.new.catalogue.processes ≡ with_event history to e = c.in_ok-take_message-in-Taken.ensures.taken in
-    let opening : IsOpening mode (with_event history to e) new = subst (λ (h : List Process). IsOpening mode h new) taken c.in_ok-take_message-in-Taken.ensures.opening in (
-      subst (λ (h : List Process). IsWorld mode h c.take_message.new.links) (sym taken)
-          (subst (λ (q : List (List (List Item))). IsWorld mode (with_event history to e) q) (sym c.in_ok-take_message-in-Taken.ensures.off)
-          (IsWorld-take history links from to f_in t_in m named c.args.pick at mode c.self.invariant.0 first fate_here)),
-      subst (λ (h : List Process). AreRounds mode h last new rounds) (sym taken)
-          (AreRounds-kept history to e t_in (λ r. refl) (λ r p. refl) mode last c.self.inside.running new rounds c.in_ok-take_message-in-Taken.ensures.number opening c.self.invariant.1),
-    )
-
-pub returns-in_ok-take_message-in-Taken-clause-done : goal.returns-in_ok-take_message-in-Taken-clause-done
-returns-in_ok-take_message-in-Taken-clause-done c =
-    let mode : Mode = c.self.inside.mode in
-    let history : List Process = c.self.inside.catalogue.processes in
-    let marks : MarksView = c.self.inside.catalogue.marks in
-    let last : ℕ = c.self.inside.last_round in
-    let rounds : List Listed = c.self.inside.rounds.items in
-    let links : List (List (List Item)) = c.self.inside.links in
-    let from : ℕ = c.args.from in
-    let to : ℕ = c.args.to in
-    let view : seen mode history marks last rounds links ≡ c.args.self.now = c.self.view_is in
-    let m : MsgName = c.args.message.now in
-    let named : m.from ≡ from = picked_of mode history marks last rounds links c.args.self.now view c.self.invariant.0 from to c.args.pick c.args.state.now (Message m) c.requires.passed c.requires.picked in
-    let at = picked_at mode history marks last rounds links c.args.self.now view c.self.invariant.0 from to c.args.pick c.args.state.now (Message m) c.requires.passed c.requires.picked in
-    let f_in : from < length history = from_within mode history marks last rounds links c.args.self.now view c.self.invariant.0 from to c.args.pick c.args.state.now (Message m) c.requires.passed c.requires.picked in
-    let t_in : to < length history = to_within mode history marks last rounds links c.args.self.now view c.self.invariant.0 from to c.args.pick c.args.state.now (Message m) c.requires.passed c.requires.picked in
-    let first = first_in_order mode history marks last rounds links c.args.self.now view c.self.invariant.0 from to c.args.pick c.args.state.now (Message m) c.requires.passed c.requires.picked in
-    let fate_here : fate_of mode history to m ≡ Taken = ap (λ (h : List Process). fate_of mode h to m) (sym c.history.ensures.processes) ∙ sym c.fate_of.ensures ∙ c.in-Taken.is in
-    let e : Event = Recv m in
-    let machine : Machine = c.args.self.now in
-    let fate_now : fate_of machine.mode machine.history to m ≡ Taken = ap (λ (v : Machine). fate_of v.mode v.history to m) (sym view) ∙ fate_here in
-    let events : events_of (fate_of machine.mode machine.history to m) m ≡ e ∷ [] = ap (λ (f : Fate). events_of f m) fate_now in
-    let new : Machine = seen mode c.take_message.new.catalogue.processes c.take_message.new.catalogue.marks last rounds c.take_message.new.links in
-    let is : new ≡ with_step machine to (events_of (fate_of machine.mode machine.history to m) m) machine.last_round =
-    quiet_seen mode history c.take_message.new.catalogue.processes marks c.take_message.new.catalogue.marks last rounds links c.take_message.new.links to (e ∷ []) c.in_ok-take_message-in-Taken.ensures.taken c.in_ok-take_message-in-Taken.ensures.marks
-    (ap (copies_in mode) c.in_ok-take_message-in-Taken.ensures.off ∙ copies_off mode links from to) (none_listed history to e t_in (λ r. refl) (λ r p. refl) mode last)
-    ∙ ap (λ (v : Machine). with_step v to (e ∷ []) v.last_round) view
-    ∙ ap (λ (es : List Event). with_step machine to es machine.last_round) (sym events) in
-    subst (λ (r : Reply). Takes machine (Deliver from to c.args.pick c.args.state.now) (Done r) new) (ap (λ (f : Fate). reply_of f m) fate_now)
-    (Takes-delivered machine from to c.args.pick c.args.state.now (Message m) c.requires.passed c.requires.picked new
-    (ap (λ (es : List Event). is_full machine to (length es)) events ∙ sym c.is_full.ensures ∙ c.if-is_full.false) is)
+    omega (arith, named, f_in, ap (λ (v : Machine). length v.history) view)

@@ -1,5 +1,5 @@
 -- All go on from the latest line, or it takes back a process that has no further incarnation.
-use Rattle.std.proofs.Common.{◌≡◌, ◌<◌, ◌++◌, ℕ, List, length, map, None, refl, sym, ap, ◌∙◌, subst}
+use Rattle.std.proofs.Common.{◌≡◌, ◌<◌, ◌++◌, ℕ, List, length, map, Option, None, refl, sym, ap, ◌∙◌, subst}
 use Rattle.std.proofs.lemmas.Bool.{both_ways, false_from_ne_true}
 use Rattle.line_names.specs.declared.choices.Choice.{Choice}
 use Rattle.line_tape.specs.declared.items.Item.{Item}
@@ -16,7 +16,10 @@ use Rattle.line_world.specs.Machine.{Machine, copies_in}
 use Rattle.line_world.specs.Queues.{queue_at}
 use Rattle.line_world.specs.Refusals.{refusal_of, has_stranger, IsRefused}
 use Rattle.line_world.specs.Steps.{restored_states, restarted_machine}
-use Rattle.line_world.specs.Worlds.{AreRounds, IsWorld, AreQueues}
+use Rattle.line_world.specs.Openings.{OpenView, opened}
+use Rattle.line_world.proofs.PaintLemmas.{ArePainted-restart}
+use Rattle.line_world.proofs.StartLemmas.{none_opened}
+use Rattle.line_world.specs.Worlds.{ArePainted, AreRounds, IsWorld, AreQueues}
 use Rattle.std.specs.List.{filter}
 use Rattle.line_world.specs.Listed.{Listed, stays}
 use Rattle.line_world.proofs.OpeningLemmas.{AreRounds-restarted}
@@ -85,9 +88,12 @@ invariant_of-self c =
       subst (λ (h : List Process). IsWorld mode h new) (sym c.restart.ensures.processes)
           (IsWorld-restart old links new line size consistent queued mode c.self.invariant.0
           (subst (λ (h : List Process). (p q : ℕ) → p < length h → q < length h → queue_at new p q ≡ queue_at (copies_in mode links) p q ++ map (λ m. Message m) (in_transit_between h line p q)) c.history-history.ensures.processes c.in_ok-links.ensures.put)),
-      subst (λ (h : List Process). AreRounds mode h c.self.inside.last_round None c.keep_rounds.new.rounds.items) (sym c.restart.ensures.processes)
-          (subst (λ (rounds : List Listed). AreRounds mode (restarted old line) c.self.inside.last_round None rounds) (sym c.keep_rounds.ensures)
-          (AreRounds-restarted mode old line c.self.inside.last_round c.self.inside.running c.self.inside.rounds.items size c.self.invariant.1)),
+      subst (λ (h : List Process). AreRounds mode h c.self.inside.last_round (opened mode None None) c.keep_rounds.new.rounds.items) (sym c.restart.ensures.processes)
+          (subst (λ (rounds : List Listed). AreRounds mode (restarted old line) c.self.inside.last_round (opened mode None None) rounds) (sym c.keep_rounds.ensures)
+          (subst (λ (o : Option OpenView). AreRounds mode (restarted old line) c.self.inside.last_round o (filter (stays line) c.self.inside.rounds.items)) (sym (none_opened mode))
+          (AreRounds-restarted mode old line c.self.inside.last_round (opened mode c.self.inside.running c.self.inside.turning) c.self.inside.rounds.items size c.self.invariant.1))),
+      subst (λ (h : List Process). ArePainted mode h c.clear.new.self) (sym c.restart.ensures.processes)
+          (ArePainted-restart mode old line c.self.inside.colours c.clear.new.self size (c.clear.ensures.restart old line size) c.self.invariant.2),
     )
 
 pub returns-clause-done : goal.returns-clause-done

@@ -1,5 +1,5 @@
 -- The first cause refuses, or the message is put.
-use Rattle.std.proofs.Common.{◌≡◌, ◌<◌, ℕ, List, [], length, None, refl, sym, ap, ◌∙◌, subst, arith}
+use Rattle.std.proofs.Common.{◌≡◌, ◌<◌, ℕ, List, [], length, None, refl, sym, ap, ◌∙◌, subst, arith, Option}
 use Rattle.line_tape.specs.declared.items.Item.{Item}
 use Rattle.line_tape.specs.declared.events.Event.TheVariants.{Send as SendEvent}
 use Rattle.line_tape.specs.History.{Process, tape_at, incarnation_at, with_event}
@@ -8,11 +8,13 @@ use Rattle.line_world.specs.declared.steps.Step.TheVariants.{Send}
 use Rattle.line_world.specs.Machine.{Machine}
 use Rattle.line_world.specs.Refusals.{refusal_of}
 use Rattle.line_world.specs.Steps.{Sends}
-use Rattle.line_world.specs.Worlds.{AreRounds, IsWorld}
+use Rattle.line_world.specs.Openings.{OpenView, opened}
+use Rattle.line_world.specs.Worlds.{ArePainted, AreRounds, IsWorld}
 use Rattle.line_world.specs.Listed.{Listed}
 use Rattle.line_world.specs.declared.steps.Mode.{Mode}
 use Rattle.line_tape.specs.declared.events.Event.{Event}
 use Rattle.line_world.proofs.OpeningLemmas.{AreRounds-kept, IsOpening-kept, none_listed}
+use Rattle.line_world.proofs.PaintLemmas.{ArePainted-send}
 use Rattle.line_world.proofs.StepLemmas.{Takes-refused, may_send}
 use Rattle.line_world.proofs.WorldLemmas.{IsWorld-send, Sends-seen, seen}
 use Rattle.line_world.proofs.worlds.World.send.Goals as goal
@@ -38,6 +40,7 @@ put_message-requires-clause-few c =
 
 pub invariant_of-self-2 : goal.invariant_of-self-2
 invariant_of-self-2 c =
+    let running : Option OpenView = opened c.self.inside.mode c.self.inside.running c.self.inside.turning in
     let may = may_send c.args.self.now c.args.from c.args.to [] (sym (c.send_refusal.ensures []) ∙ c.in_default.is) in
     let history : List Process = c.self.inside.catalogue.processes in
     let mode : Mode = c.self.inside.mode in
@@ -47,9 +50,11 @@ invariant_of-self-2 c =
       subst (λ (h : List Process). IsWorld mode h c.put_message.new.links) (sym c.in_ok-message.ensures.sent)
           (subst (λ (q : List (List (List Item))). IsWorld mode (with_event history c.args.from e) q) (sym c.in_ok-message.ensures.put)
           (IsWorld-send history c.self.inside.links c.args.from c.args.to from_within to_within mode c.self.invariant.0 c.args.body.now)),
-      subst (λ (h : List Process). AreRounds mode h c.self.inside.last_round c.self.inside.running c.self.inside.rounds.items) (sym c.in_ok-message.ensures.sent)
-          (AreRounds-kept history c.args.from e from_within (λ r. refl) (λ r p. refl) mode c.self.inside.last_round c.self.inside.running c.self.inside.running c.self.inside.rounds.items refl
-          (IsOpening-kept history c.args.from e from_within (λ r. refl) mode c.self.inside.running (λ r p. refl) (λ r p. refl) c.self.invariant.1.opening) c.self.invariant.1),
+      subst (λ (h : List Process). AreRounds mode h c.self.inside.last_round running c.self.inside.rounds.items) (sym c.in_ok-message.ensures.sent)
+          (AreRounds-kept history c.args.from e from_within (λ r. refl) (λ r p. refl) mode c.self.inside.last_round running running c.self.inside.rounds.items refl
+          (IsOpening-kept history c.args.from e from_within (λ r. refl) mode running (λ r p. refl) (λ r p. refl) c.self.invariant.1.opening) c.self.invariant.1),
+      subst (λ (h : List Process). ArePainted mode h c.self.inside.colours) (sym c.in_ok-message.ensures.sent)
+          (ArePainted-send history c.self.inside.links c.self.inside.colours mode c.self.invariant.0 c.args.from c.args.to c.args.body.now from_within c.self.invariant.2),
     )
 
 pub returns-clause-done : goal.returns-clause-done
