@@ -15,7 +15,7 @@ use Rattle.line_claims.specs.Events.{send_of, recv_of, check_of, mark_of}
 use Rattle.line_claims.specs.Histories.{Tapes, added, begins_claim, count_of, step, tape_of}
 use Rattle.line_claims.specs.Numbers.{plain, incarnation, round, round_or_none, process}
 use Rattle.line_claims.specs.Ranges.{AreBytes, IsInRange, IsRound}
-use Rattle.line_claims.specs.Records.{event_record, history_record, round_text, tape_record}
+use Rattle.line_claims.specs.Records.{event_record, history_record, number_text, tape_record}
 use Rattle.line_claims.proofs.EntryLemmas.{is_below}
 
 pub plain_again : (n : ℕ) → n ≤ 4294967295 → plain (decimal n) ≡ Ok n
@@ -37,7 +37,7 @@ not_word n word fits h = elim (cases_Bool (bytes_eq (decimal n) word)) [
   | inr e ↦ e
 ]
 
-pub round_or_none_again : (r : Option ℕ) → IsRound r → round_or_none (round_text r) ≡ Ok r
+pub round_or_none_again : (r : Option ℕ) → IsRound r → round_or_none (number_text r) ≡ Ok r
 round_or_none_again None h = refl
 round_or_none_again (Some r) h =
     let low : 1 ≤ r = h.0 in

@@ -12,7 +12,7 @@ use Rattle.line_tape.specs.declared.events.Event.TheVariants.{Send, Recv, Check,
 use Rattle.line_tape.specs.History.{Process}
 use Rattle.line_claims.specs.declared.faults.TextFault.{TextFault}
 use Rattle.line_claims.specs.Ranges.{IsHistoryInRange, IsInRange, IsRound, IsTapeInRange}
-use Rattle.line_claims.specs.Records.{event_record, history_records, round_text, tape_records, tapes_records}
+use Rattle.line_claims.specs.Records.{event_record, history_records, number_text, tape_records, tapes_records}
 use Rattle.line_claims.specs.Texts.{history_of_text}
 use Rattle.line_claims.proofs.AgainLemmas.{history_again}
 
@@ -21,7 +21,7 @@ byte_at [] fit i = omega arith
 byte_at (byte ∷ rest) fit zero = fit.0
 byte_at (byte ∷ rest) fit (suc i) = byte_at rest fit.1 i
 
-round_is_plain : (r : Option ℕ) → IsRound r → is_plain_field (round_text r) ≡ true
+round_is_plain : (r : Option ℕ) → IsRound r → is_plain_field (number_text r) ≡ true
 round_is_plain None h = refl
 round_is_plain (Some r) h = let high : r ≤ 65535 = h.1 in plain_decimal r (omega arith)
 

@@ -1,7 +1,7 @@
 -- The names that stand beside the numbers of refusals and faults.
 use Rattle.std.specs.Prelude.{ℕ, List, [], ◌==◌, if◌then◌else◌, codes}
 
--- the name of a number, and none where nothing has it
+-- the name of a refusal or a fault, by its number; none for a number that none of them has
 abbrev pub name_of : ℕ → List ℕ
 name_of code =
     if code == 0 then codes "OutOfMemory"

@@ -8,13 +8,15 @@ use Rattle.line_fields.specs.declared.faults.Fault.TheVariants as faults
 use Rattle.line_fields.specs.Fields.{◌>>=◌, want, num}
 use Rattle.line_fields.specs.Records.{Record}
 
--- a number in its widest range, an incarnation, and a round
+-- a number that has no range of its own
 abbrev pub plain : List ℕ → Result ℕ Fault
 plain text = num 0 4294967295 text
 
+-- an incarnation
 abbrev pub incarnation : List ℕ → Result ℕ Fault
 incarnation text = num 0 65535 text
 
+-- a round, from 1 on
 abbrev pub round : List ℕ → Result ℕ Fault
 round text = num 1 65535 text
 

@@ -4,6 +4,7 @@ use Rattle.std.specs.List.{range_with_len}
 use Rattle.line_names.specs.declared.certificates.Passed.{Passed}
 use Rattle.line_names.specs.declared.choices.Choice.{Choice}
 use Rattle.line_names.specs.declared.choices.Choice.TheVariants.{Check as AtCheck, Now}
+use Rattle.line_names.specs.declared.messages.MsgName.{MsgName}
 use Rattle.line_names.specs.Sets.{is_member}
 use Rattle.line_fields.specs.Records.{Record}
 use Rattle.line_fields.specs.Texts.{hex_text}
@@ -16,21 +17,25 @@ use Rattle.line_tape.specs.Views.{MarksView}
 use Rattle.line_claims.specs.Claims.{Claim}
 use Rattle.line_claims.specs.Numbers.{none_text, now_text}
 
--- a round, or none
-abbrev pub round_text : Option ℕ → List ℕ
-round_text None = none_text
-round_text (Some round) = decimal round
+-- a number, or `-` where there is none
+abbrev pub number_text : Option ℕ → List ℕ
+number_text None = none_text
+number_text (Some number) = decimal number
 
 -- a choice: the number of a check, or now
 abbrev pub choice_text : Choice → List ℕ
 choice_text (AtCheck check) = decimal check
 choice_text Now = now_text
 
+-- the three fields that name a message
+abbrev pub name_fields : MsgName → List (List ℕ)
+name_fields m = decimal m.from ∷ decimal m.inc ∷ decimal m.number ∷ []
+
 -- send,TO,INC,HEX, recv,FROM,INC,NUMBER, check,HEX,ROUND or mark,FROM,ROUND
 abbrev pub event_record : Event → Record
 event_record (Send to inc body) = codes "send" ∷ decimal to ∷ decimal inc ∷ hex_text body ∷ []
-event_record (Recv message) = codes "recv" ∷ decimal message.from ∷ decimal message.inc ∷ decimal message.number ∷ []
-event_record (Check state round) = codes "check" ∷ hex_text state ∷ round_text round ∷ []
+event_record (Recv message) = codes "recv" ∷ name_fields message
+event_record (Check state round) = codes "check" ∷ hex_text state ∷ number_text round ∷ []
 event_record (Mark from round) = codes "mark" ∷ decimal from ∷ decimal round ∷ []
 
 -- tape,P,INC
@@ -77,8 +82,7 @@ line_record line = codes "line" ∷ map choice_text line
 
 -- pass,P,CHOICE,FROM,INC,NUMBER
 abbrev pub pass_record : Passed → Record
-pass_record entry =
-    codes "pass" ∷ decimal entry.at ∷ choice_text entry.choice ∷ decimal entry.message.from ∷ decimal entry.message.inc ∷ decimal entry.message.number ∷ []
+pass_record entry = codes "pass" ∷ decimal entry.at ∷ choice_text entry.choice ∷ name_fields entry.message
 
 -- end
 abbrev pub end_record : Record

@@ -47,12 +47,14 @@ check_of records = do
   claim ← claim_from (nothing (length front.history)) front.number front.left
   Ok (record { history = front.history; claim = claim })
 
--- the history, the claim, or both that a text spells
+-- the history that a text spells
 abbrev pub history_of_text : List ℕ → Result (List Process) TextFault
 history_of_text text = records_in text >>= history_of
 
+-- the claim that a text spells, among n processes
 abbrev pub certificate_of_text : ℕ → List ℕ → Result Claim TextFault
 certificate_of_text n text = records_in text >>= certificate_of n
 
+-- the history and the claim on it that a text spells
 abbrev pub check_of_text : List ℕ → Result Check TextFault
 check_of_text text = records_in text >>= check_of

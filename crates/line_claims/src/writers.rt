@@ -49,7 +49,7 @@ fn put_recv(
 
 // Adds a round, or `-`.
 fn add_round(draft: &mut Draft, round: Option<u32>) -> Result<(), AllocError>
-    ensures { OnOk result (draft.new ≡ draft.old ++ spec.round_text round ∷ []) }
+    ensures { OnOk result (draft.new ≡ draft.old ++ spec.number_text round ∷ []) }
 {
     match round {
         None => draft.word(b"-"),

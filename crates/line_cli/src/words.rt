@@ -1,5 +1,5 @@
 //! The command line.
-ghost use Rattle.std.specs.Prelude.{◌≡◌, IfOk, IfErr, Some, true, map};
+ghost use Rattle.std.specs.Prelude.{◌≡◌, ◌∷◌, [], IfOk, IfErr, Some, codes, true, map};
 ghost use Rattle.clap.specs.Words.{kind_of, subcommand_of, subcommand_rows_of, takes};
 ghost use Rattle.line_cli.specs.Words.{recline, named, word_of};
 
@@ -46,7 +46,9 @@ fn matches_of_words<'a>(alloc: Global, words: &'a [&'a str]) -> Result<ArgMatche
 }
 
 /// What a failed look at the words tells.
-fn fault_of(alloc: Global, error: &Error) -> LineFault {
+fn fault_of(alloc: Global, error: &Error) -> LineFault
+    ensures { kind_of error.now ≡ ErrorKind.OutOfMemory → result ≡ LineFault.OutOfMemory }
+{
     match error.kind() {
         ErrorKind::DisplayHelp => match format!(in alloc; "{error}") {
             Ok(text) => LineFault::Help(text),
@@ -59,7 +61,11 @@ fn fault_of(alloc: Global, error: &Error) -> LineFault {
 
 /// The job that the words ask for, the program's name first.
 pub fn command_of<'a>(alloc: Global, words: &'a [&'a str]) -> Result<Job, LineFault>
-    ensures { IfOk result (λ job. named (map (λ w. w.now) words.entry.now) ≡ Some (word_of job)) }
+    ensures ok { IfOk result (λ job. named (map (λ w. w.now) words.entry.now) ≡ Some (word_of job)) }
+
+    // A command line that names a job is refused for want of memory alone.
+    ensures err { IfErr result (λ fault. (job : Job) → takes recline (map (λ w. w.now) words.entry.now) ≡ true
+        → named (map (λ w. w.now) words.entry.now) ≡ Some (word_of job) → fault ≡ LineFault.OutOfMemory) }
 {
     match matches_of_words(alloc, words) {
         Ok(matches) => match matches.subcommand_name() {
@@ -70,6 +76,11 @@ pub fn command_of<'a>(alloc: Global, words: &'a [&'a str]) -> Result<Job, LineFa
         Err(error) => Err(fault_of(alloc, &error)),
     }
 }
+
+/// A command line of the program's name and a job is taken, and names that job.
+pub fn jobs_are_taken()
+    ensures { (job : Job) → (takes recline (codes "recline" ∷ word_of job ∷ []) ≡ true) × (named (codes "recline" ∷ word_of job ∷ []) ≡ Some (word_of job)) }
+{}
 
 #[cfg(test)]
 mod tests {

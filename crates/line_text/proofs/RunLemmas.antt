@@ -229,7 +229,7 @@ stops_front first commands i old new h =
 
 -- the text of commands that stopped, seen otherwise
 pub stops_with : (first : Machine) (commands : List Command) (i : ℕ) (P Q : List ℕ → Type 0) → ((text : List ℕ) → P text → Q text) → StopsAt first commands i P → StopsAt first commands i Q
-stops_with first commands i P Q f h = record { done = h.done; told = h.told; end = h.end; own = h.own; at = h.at; run = h.run; next = h.next; text = f (text_of h.told ++ h.own) h.text }
+stops_with first commands i P Q f h = record { done = h.done; told = h.told; end = h.end; own = h.own; at = h.at; there = h.there; run = h.run; next = h.next; text = f (text_of h.told ++ h.own) h.text }
 
 -- no command was done yet
 pub starts : (first : Machine) (commands : List Command) (taken : Option (List ℕ)) (held : List ℕ) → held ≡ [] → IsRunTo first commands 0 first 0 taken taken held
@@ -285,6 +285,7 @@ stops_at first mid commands i command refused old now held written lt is before 
       end = mid;
       own = wrote.own;
       at = refl;
+      there = lt;
       run = before.run;
       next = record { told = next.told; end = next.end; rest = next.rest; one = next.one; run = subst (λ (cs : List Command). TellsAll mid cs next.told next.end) (sym same) next.run; text = next.text };
       text = subst (λ (t : List ℕ). PutsButEnd old now t (text_of before.told ++ wrote.own)) (sym wrote.written) (holds_more old now held (text_of before.told) wrote.own before.text);

@@ -6,6 +6,7 @@ use Rattle.line_check.specs.declared.faults.FaultCode.TheVariants as faults
 use Rattle.line_check.specs.Shape.{HasShape}
 use Rattle.line_check.specs.Verdict.{IsFirstFault}
 use Rattle.line_claims.specs.Faults.{name_of}
+use Rattle.line_claims.specs.Records.{number_text}
 use Rattle.line_claims.specs.Texts.{Check, check_of_text}
 use Rattle.line_devices.specs.Devices.{Puts, PutsFront}
 use Rattle.line_fields.specs.Records.{Record}
@@ -13,7 +14,7 @@ use Rattle.line_fields.specs.Texts.{record_text}
 use Rattle.line_tape.specs.Chain.{IsChain}
 use Rattle.line_tape.specs.Survival.{IsLatest}
 
--- a claim names only what its history has, and its entries lead to its line
+-- a claim names only what its history has, its entries are a chain that is valid for its line, and so that line is the latest
 pub record IsValid (check : Check) : Type 0 where
   pub shape : HasShape check.history check.claim.marks check.claim.failed check.claim.certificate check.claim.line
   pub chain : IsChain check.history check.claim.marks check.claim.failed check.claim.certificate check.claim.line
@@ -33,15 +34,10 @@ fault_code faults.LineDiffers = 14
 fault_code faults.NotConsistent = 15
 fault_code faults.BadShape = 16
 
--- the entry that a fault is of, counted from 0, where it is of one
-abbrev pub entry_text : Option ℕ → List ℕ
-entry_text None = codes "-"
-entry_text (Some entry) = decimal entry
-
--- valid, or invalid,ENTRY,CODE,NAME
+-- valid, or invalid,ENTRY,CODE,NAME: the entry that the fault is of, counted from 0, where it is of one
 abbrev pub verdict_record : Option CertFault → Record
 verdict_record None = codes "valid" ∷ []
-verdict_record (Some fault) = codes "invalid" ∷ entry_text fault.entry ∷ decimal (fault_code fault.code) ∷ name_of (fault_code fault.code) ∷ []
+verdict_record (Some fault) = codes "invalid" ∷ number_text fault.entry ∷ decimal (fault_code fault.code) ∷ name_of (fault_code fault.code) ∷ []
 
 -- the text spells a history and a claim on it, which are told this, and the record of that was put
 pub record JudgesText (text : List ℕ) (verdict : Option CertFault) (old new : Option (List ℕ)) : Type 0 where

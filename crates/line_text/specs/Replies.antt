@@ -3,7 +3,6 @@ use Rattle.std.specs.Prelude.{ℕ, Bool, if◌then◌else◌, List, [], ◌∷�
 use Rattle.std.specs.List.{range_with_len}
 use Rattle.line_names.specs.declared.certificates.Passed.{Passed}
 use Rattle.line_names.specs.declared.choices.Choice.{Choice}
-use Rattle.line_names.specs.declared.choices.Choice.TheVariants.{Check, Now}
 use Rattle.line_names.specs.declared.messages.MsgName.{MsgName}
 use Rattle.line_names.specs.Lines.{choice_at}
 use Rattle.line_fields.specs.Records.{Record}
@@ -15,31 +14,24 @@ use Rattle.line_world.specs.declared.replies.StepError.TheVariants as errors
 use Rattle.line_world.specs.declared.replies.Answer.{Answer}
 use Rattle.line_world.specs.declared.replies.Answer.TheVariants as answers
 use Rattle.line_claims.specs.Faults.{name_of}
-
--- what stands where there is nothing
-abbrev pub none_text : List ℕ
-none_text = codes "-"
+use Rattle.line_claims.specs.Numbers.{none_text}
+use Rattle.line_claims.specs.Records.{choice_text, name_fields, number_text, pass_record}
 
 -- sent,FROM,INC,NUMBER
 abbrev pub sent : MsgName → Record
-sent m = codes "sent" ∷ decimal m.from ∷ decimal m.inc ∷ decimal m.number ∷ []
+sent m = codes "sent" ∷ name_fields m
 
 -- stale,FROM,INC,NUMBER
 abbrev pub stale : MsgName → Record
-stale m = codes "stale" ∷ decimal m.from ∷ decimal m.inc ∷ decimal m.number ∷ []
+stale m = codes "stale" ∷ name_fields m
 
 -- repeated,FROM,INC,NUMBER
 abbrev pub repeated : MsgName → Record
-repeated m = codes "repeated" ∷ decimal m.from ∷ decimal m.inc ∷ decimal m.number ∷ []
+repeated m = codes "repeated" ∷ name_fields m
 
--- the round of a forced check, where one was taken
-abbrev pub round_text : Option ℕ → List ℕ
-round_text None = none_text
-round_text (Some round) = decimal round
-
--- took,FROM,INC,NUMBER,ROUND
+-- took,FROM,INC,NUMBER,ROUND: the round of a forced check, where one was taken
 abbrev pub took : MsgName → Option ℕ → Record
-took m forced = codes "took" ∷ decimal m.from ∷ decimal m.inc ∷ decimal m.number ∷ round_text forced ∷ []
+took m forced = codes "took" ∷ name_fields m ++ number_text forced ∷ []
 
 -- marked,ROUND,forced or marked,ROUND,closed
 abbrev pub marked : ℕ → Bool → Record
@@ -65,11 +57,6 @@ damaged p check = codes "damaged" ∷ decimal p ∷ decimal check ∷ []
 abbrev pub recovered : ℕ → ℕ → ℕ → Record
 recovered sweeps entries replays = codes "recovered" ∷ decimal sweeps ∷ decimal entries ∷ decimal replays ∷ []
 
--- a choice: the number of a check, or now
-abbrev pub choice_text : Choice → List ℕ
-choice_text (Check check) = decimal check
-choice_text Now = codes "now"
-
 -- the state that a process goes on from, where it is a stored one
 abbrev pub state_text : Option (List ℕ) → List ℕ
 state_text None = none_text
@@ -87,17 +74,13 @@ line_of choices incarnations states p = line p (choice_at choices p) (slice_inde
 abbrev pub lines : List Choice → List ℕ → List (Option (List ℕ)) → List Record
 lines choices incarnations states = map (line_of choices incarnations states) (range_with_len 0 (length choices))
 
--- pass,P,CHOICE,FROM,INC,NUMBER
-abbrev pub pass : Passed → Record
-pass entry = codes "pass" ∷ decimal entry.at ∷ choice_text entry.choice ∷ decimal entry.message.from ∷ decimal entry.message.inc ∷ decimal entry.message.number ∷ []
-
 -- the records of a certificate, in its order
 abbrev pub passes : List Passed → List Record
-passes entries = map pass entries
+passes entries = map pass_record entries
 
 -- replay,FROM,INC,NUMBER
 abbrev pub replay : MsgName → Record
-replay m = codes "replay" ∷ decimal m.from ∷ decimal m.inc ∷ decimal m.number ∷ []
+replay m = codes "replay" ∷ name_fields m
 
 -- the records of the messages that are replayed, in their order
 abbrev pub replays_of : List MsgName → List Record

@@ -33,6 +33,6 @@ channels_of n round = flat_map (channels_from n round) (range_with_len 0 n)
 abbrev pub round_records : ℕ → Listed → List Record
 round_records n round = round_record n round ∷ channels_of n round
 
--- the rounds, in their order
+-- the rounds, in the order in which they were completed, which is that of their numbers
 abbrev pub rounds_records : ℕ → List Listed → List Record
 rounds_records n rounds = rounds_record (length rounds) ∷ flat_map (round_records n) rounds

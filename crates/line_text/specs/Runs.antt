@@ -1,5 +1,5 @@
 -- What commands are told, and the text of a run.
-use Rattle.std.specs.Prelude.{IsTrue, ◌≡◌, ◌≤◌, ℕ, ◌+◌, ◌++◌, Bool, true, false, List, [], ◌∷◌, Option, drop, length, take, Ok}
+use Rattle.std.specs.Prelude.{IsTrue, ◌≡◌, ◌<◌, ◌≤◌, ℕ, ◌+◌, ◌++◌, Bool, true, false, List, [], ◌∷◌, Option, drop, length, take, Ok}
 use Rattle.std.specs.List.{count_by, flat_map}
 use Rattle.line_devices.specs.Devices.{Puts, PutsFront, one_more}
 use Rattle.line_claims.specs.Claims.{Claim}
@@ -118,6 +118,7 @@ pub record StopsAt (first : Machine) (commands : List Command) (record_number : 
   pub end : Machine
   pub own : List ℕ
   pub at : record_number ≡ done + 2
+  pub there : done < length commands
   pub run : TellsAll first (take done commands) told end
   pub next : BeginsReply end (drop done commands) own
   pub text : Holds (text_of told ++ own)

@@ -22,9 +22,9 @@ use Rattle.line_claims.specs.Entries.{failed_of}
 use Rattle.line_claims.specs.Numbers.{plain}
 use Rattle.line_claims.specs.Reads.{fault_at, numbered}
 
--- the place of an item on a link
-abbrev pub place : List ℕ → Result ℕ Fault
-place text = num 0 18446744073709551615 text
+-- a pick: the place of an item on a link
+abbrev pub pick : List ℕ → Result ℕ Fault
+pick text = num 0 18446744073709551615 text
 
 -- how links deliver
 abbrev pub mode_named : List ℕ → Result Mode Fault
@@ -70,9 +70,9 @@ unfoldable pub deliver_of : ℕ → Record → Result Command Fault
 deliver_of n r = do
   from ← plain (field r 1)
   to ← plain (field r 2)
-  pick ← place (field r 3)
+  picked ← pick (field r 3)
   state ← hex (field r 4)
-  Ok (below n (from ∷ to ∷ []) (Do (Deliver from to pick state)))
+  Ok (below n (from ∷ to ∷ []) (Do (Deliver from to picked state)))
 
 -- check,P,HEX
 unfoldable pub check_of : ℕ → Record → Result Command Fault

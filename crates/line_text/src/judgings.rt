@@ -2,6 +2,7 @@
 
 ghost use Rattle.std.specs.Prelude.{◌≡◌, ◌++◌, ◌∷◌, ◌≤◌, ◌⊎◌, [], ℕ, List, Err, Some, IfErr, IfOk, OnOk};
 ghost use Rattle.line_claims.specs.Reads.{IsOfText};
+ghost use Rattle.line_claims.specs.Records.{number_text};
 ghost use Rattle.line_claims.specs.Texts.{check_of_text, seen_check};
 ghost use Rattle.line_devices.specs.Devices.{one_more};
 ghost use Rattle.line_fields.specs.Texts.{record_text};
@@ -42,7 +43,7 @@ fn code_of(code: FaultCode) -> u32
 
 // Adds the entry that a fault is of, or `-`.
 fn add_entry(draft: &mut Draft, entry: Option<u32>) -> Result<(), AllocError>
-    ensures { OnOk result (draft.new ≡ draft.old ++ spec.entry_text entry ∷ []) }
+    ensures { OnOk result (draft.new ≡ draft.old ++ number_text entry ∷ []) }
 {
     match entry {
         None => draft.word(b"-"),

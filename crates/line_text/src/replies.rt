@@ -1,6 +1,7 @@
 //! The records that are written for what the machine answers.
 
 ghost use Rattle.std.specs.Prelude.{◌≡◌, ◌<◌, ◌++◌, ◌∷◌, [], None, Some, IfOk, IsTrue, OnErr, OnOk, decimal, length, slice_index_or};
+ghost use Rattle.line_claims.specs.Records.{choice_text, name_fields, number_text, pass_record};
 ghost use Rattle.line_devices.specs.Devices.{PutsFront};
 ghost use Rattle.line_fields.specs.Texts.{is_plain_field, record_text, records_text};
 ghost use Rattle.line_text.specs.Replies as spec;
@@ -15,7 +16,7 @@ use std::alloc::{AllocError, Global};
 
 // Adds the name of a message.
 fn add_message(draft: &mut Draft, message: MsgName) -> Result<(), AllocError>
-    ensures { OnOk result (draft.new ≡ draft.old ++ decimal message.from ∷ decimal message.inc ∷ decimal message.number ∷ []) }
+    ensures { OnOk result (draft.new ≡ draft.old ++ name_fields message) }
 {
     draft.number(u64::from(message.from.get()))?;
     draft.number(u64::from(message.inc))?;
@@ -25,7 +26,7 @@ fn add_message(draft: &mut Draft, message: MsgName) -> Result<(), AllocError>
 // Begins a record with its name and the name of a message.
 fn begin(draft: &mut Draft, word: &[u8], message: MsgName) -> Result<(), AllocError>
     requires { IsTrue (is_plain_field word.now) }
-    ensures { OnOk result (draft.new ≡ word.now ∷ decimal message.from ∷ decimal message.inc ∷ decimal message.number ∷ []) }
+    ensures { OnOk result (draft.new ≡ word.now ∷ name_fields message) }
 {
     draft.clear();
     draft.word(word)?;
@@ -73,7 +74,7 @@ fn put_repeated(
 
 // Adds the round of a forced check, or `-`.
 fn add_round(draft: &mut Draft, forced: Option<u32>) -> Result<(), AllocError>
-    ensures { OnOk result (draft.new ≡ draft.old ++ spec.round_text forced ∷ []) }
+    ensures { OnOk result (draft.new ≡ draft.old ++ number_text forced ∷ []) }
 {
     match forced {
         None => draft.word(b"-"),
@@ -214,7 +215,7 @@ fn put_recovered(
 
 // Adds a choice.
 fn add_choice(draft: &mut Draft, choice: Choice) -> Result<(), AllocError>
-    ensures { OnOk result (draft.new ≡ draft.old ++ spec.choice_text choice ∷ []) }
+    ensures { OnOk result (draft.new ≡ draft.old ++ choice_text choice ∷ []) }
 {
     match choice {
         Choice::Check(check) => draft.number(u64::from(check)),
@@ -284,7 +285,7 @@ fn put_lines(
 
 // Writes `pass,P,CHOICE,FROM,INC,NUMBER`.
 fn put_pass(writer: &mut RecordWriter, draft: &mut Draft, entry: Passed) -> Result<(), AllocError>
-    ensures ok { OnOk result (writer.new ≡ writer.old ++ record_text (spec.pass entry)) }
+    ensures ok { OnOk result (writer.new ≡ writer.old ++ record_text (pass_record entry)) }
     ensures err { OnErr result (writer.new ≡ writer.old) }
 {
     draft.clear();

@@ -71,7 +71,7 @@ fn recoverable_lines(
     Ok(lines)
 }
 
-/// The recoverable line of two processes that is at both as late as each of them, if one is.
+/// The recoverable line of two processes that is at both at least as late as each of them, if one is.
 pub fn latest_of_two(
     rt: &impl Abort,
     alloc: Global,
