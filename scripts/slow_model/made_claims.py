@@ -11,9 +11,9 @@ from .made_texts import odd_first, one_in, text_of
 from .texts import NOW
 
 
-def some_check_text(chance, unknown):
-    """A check text of a claim after a script without the commands that are unknown."""
-    player = Player(chance, unknown, [TALK, ROUNDS, DOMINOES, DOMINOES, DOMINOES]).play()
+def some_check_text(chance):
+    """A check text of a claim after a script."""
+    player = Player(chance, [TALK, ROUNDS, DOMINOES, DOMINOES, DOMINOES]).play()
     failed = {p for p in player.processes(0, 1, 1, 2, 3) if p < player.n}
     claim = Claim(player.world.history, player.world.marks, failed)
     if one_in(chance, 2):

@@ -24,7 +24,7 @@ CARE = 90  # one in so many values is an odd one; in a careless command every ot
 class Player:
     """Makes the commands of a script one by one, and runs them meanwhile."""
 
-    def __init__(self, chance, unknown, moods):
+    def __init__(self, chance, moods):
         self.chance = chance
         self.n = chance.choice([63, 64] if one_in(chance, 100) else PROCESSES)
         self.mode = chance.choice(["fifo", "unordered"])
@@ -32,9 +32,7 @@ class Player:
         self.commands = []
         self.care = CARE
         self.holder = 0  # the process that the last relay went to
-        if "turn" in unknown and self.mode == "unordered":
-            unknown = unknown | {"begin"}  # a program without colours begins no round there
-        self.weights = {kind: weight for kind, weight in chance.choice(moods).items() if kind not in unknown}
+        self.weights = chance.choice(moods)
 
     def is_odd(self):
         return one_in(self.chance, self.care)
@@ -125,12 +123,12 @@ class Player:
         return self
 
 
-def some_script(chance, unknown):
-    """A script without the commands that are unknown."""
-    player = Player(chance, unknown, [TALK, ROUNDS, ROUNDS, DOMINOES]).play()
+def some_script(chance):
+    """A script."""
+    player = Player(chance, [TALK, ROUNDS, ROUNDS, DOMINOES]).play()
     bundle, recover = ["bundle", *player.processes(0, 1, 2)], ["recover", *player.processes(1, 1, 2)]
     for end in [["rounds"], ["history"], bundle, recover, ["rounds"]]:
-        if end[0] not in unknown and one_in(chance, 2):
+        if one_in(chance, 2):
             player.add(*end)
     first = ("world", 1, player.n, player.mode)
     if one_in(chance, 80):

@@ -26,17 +26,17 @@ def world_of(fields):
     return n, fields[3]
 
 
-def command_of(fields, unknown=()):
+def command_of(fields):
     """The name of a command and its values."""
     name, rest = fields[0], fields[1:]
-    want(name not in unknown and (name in READERS or name in OF_FAILED), 32)
+    want(name in READERS or name in OF_FAILED, 32)
     return name, fields_of([number] * len(rest) if name in OF_FAILED else READERS[name], rest)
 
 
-def read_script(text, unknown=()):
+def read_script(text):
     records = records_of(text)
     n, mode = numbered(1, world_of, records[0])
-    return n, mode, [numbered(i, command_of, fields, unknown) for i, fields in enumerate(records[1:], 2)]
+    return n, mode, [numbered(i, command_of, fields) for i, fields in enumerate(records[1:], 2)]
 
 
 def answer(world, name, values):
@@ -47,10 +47,10 @@ def answer(world, name, values):
         return [("refused", refusal.code, NAMES[refusal.code])], True
 
 
-def run(text, unknown=()):
+def run(text):
     """What the program has to write, say and answer."""
     try:
-        n, mode, commands = read_script(text, unknown)
+        n, mode, commands = read_script(text)
     except Fault as fault:
         return told(fault)
     world = World(n, mode)
