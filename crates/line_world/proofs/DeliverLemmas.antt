@@ -107,7 +107,7 @@ module _ (mode : Mode) (history : List Process) (marks : MarksView) (last : ℕ)
   -- the item on its queue
   pub picked_at : slice_get (queue_at queues from to) pick ≡ Some item
   picked_at =
-      ap (λ (items : List Item). slice_get items pick) (items-world mode history queues world from to from_within to_within)
+      ap (λ (items : List Item). slice_get items pick) (items-world mode history queues world from to from_within to_within may.apart)
       ∙ ap (λ (m : Machine). slice_get (items_on m from to) pick) view ∙ picked
 
   pub picked_of : IsItemOf from item

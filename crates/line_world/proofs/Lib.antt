@@ -1,3 +1,4 @@
+pub mod RoomLemmas
 pub mod QueueLemmas
 pub mod LinkLemmas
 pub mod FateLemmas

@@ -70,7 +70,7 @@ module _ (n : ℕ) where
       rounds = λ p. subst (λ (v : List Event). AreDistinct (rounds_checked v)) (sym (tape-start p)) (λ i j d near far. absurd (omega (arith, far)));
       marks = λ p. subst MarksFollow (sym (tape-start p)) (λ i from round e. absurd (cc));
     };
-    links = λ p q p_within q_within. queue-start p q ∙ sym (link-start p q (tape_at (replicate n fresh) p) (tape_at (replicate n fresh) q) (sym (tape-start p)) (sym (tape-start q)));
+    links = λ p q p_within q_within apart. queue-start p q ∙ sym (link-start p q (tape_at (replicate n fresh) p) (tape_at (replicate n fresh) q) (sym (tape-start p)) (sym (tape-start q)));
   }
 
   pub IsWorld-start : (mode : Mode) → IsWorld mode (replicate n fresh) (replicate n (replicate n []))

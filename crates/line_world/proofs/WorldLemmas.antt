@@ -4,8 +4,8 @@ use Rattle.std.specs.Prelude.{◌==◌, ◌&&◌, not, if◌then◌else◌}
 use Rattle.std.specs.List.{All, Contains, filter_map, range_with_len, slice_get}
 use Rattle.std.specs.Cmp.Derive.{both_true}
 use Rattle.std.proofs.lemmas.Bool.{cases_eq, cases_lt, eq-eqb, ne_eqb}
-use Rattle.std.proofs.lemmas.List.{append-nil, length-map, length-set, get_or-map, get_or-set_same, get_or-set_other, get_or_past}
-use Rattle.std.proofs.lemmas.List.FromFn.{fill_by_all}
+use Rattle.std.proofs.lemmas.List.{append-nil, length-set, get_or-set_same, get_or-set_other, get_or_past}
+use Rattle.std.proofs.lemmas.List.FromFn.{fill_by_all, get_or-map-range_with_len, length-map-range_with_len}
 use Rattle.std.proofs.lemmas.List.Elements.{All-nil, All-push, filter_map-append, Contains-append_right}
 use Rattle.line_names.specs.declared.choices.Choice.{Choice}
 use Rattle.line_names.specs.declared.messages.MsgName.{MsgName}
@@ -38,7 +38,7 @@ use Rattle.line_world.specs.declared.steps.Mode.TheVariants.{Fifo, Unordered}
 use Rattle.line_world.specs.Fates.{fate_of, is_held}
 use Rattle.line_world.specs.Machine.{Machine, IsFitIn, copies_in, items_in, newly_listed}
 use Rattle.line_world.specs.Listed.{Listed}
-use Rattle.line_world.specs.Queues.{queue_at, with_queue, with_on_each, taken_off, IsSquare}
+use Rattle.line_world.specs.Queues.{queue_at, with_queue, with_on_each, with_on_others, taken_off, IsSquare}
 use Rattle.line_world.specs.Steps.{Sends, restarted_copies}
 use Rattle.line_world.specs.Worlds.{IsItemOf, message_of, messages_at, AreQueues, IsLinked, IsWorld}
 use Rattle.line_world.proofs.FateLemmas.{held-true}
@@ -51,9 +51,9 @@ IsFit-world Fifo history queues world = world.linked.fit
 IsFit-world Unordered history queues world = world.linked.fit
 
 -- a queue is what its link holds
-pub items-world : (mode : Mode) (history : List Process) (queues : List (List (List Item))) → IsWorld mode history queues → (p q : ℕ) → p < length history → q < length history → queue_at queues p q ≡ items_in mode history (copies_in mode queues) p q
-items-world Fifo history queues world p q p_within q_within = world.linked.links p q p_within q_within
-items-world Unordered history queues world p q p_within q_within = refl
+pub items-world : (mode : Mode) (history : List Process) (queues : List (List (List Item))) → IsWorld mode history queues → (p q : ℕ) → p < length history → q < length history → p ≢ q → queue_at queues p q ≡ items_in mode history (copies_in mode queues) p q
+items-world Fifo history queues world p q p_within q_within apart = world.linked.links p q p_within q_within apart
+items-world Unordered history queues world p q p_within q_within apart = refl
 
 -- what is taken of copies is held, and new
 taken-means : (held received : Bool) → (if not held then Stale else if received then Repeated else Taken) ≡ Taken → (held ≡ true) × (received ≡ false)
@@ -173,12 +173,12 @@ module _ (history : List Process) (queues : List (List (List Item))) where
 
     module _ (message : MsgName) (named : message.from ≡ from) (pick : ℕ) (at : slice_get (queue_at queues from to) pick ≡ Some (Message message)) where
       -- what is taken is held by its sender
-      pub IsWorld-held : (mode : Mode) → IsWorld mode history queues → (mode ≡ Fifo → pick ≡ 0) → fate_of mode history to message ≡ Taken → Holds (tape_at history message.from) message.inc message.number
-      IsWorld-held Fifo world first taken =
+      pub IsWorld-held : from ≢ to → (mode : Mode) → IsWorld mode history queues → (mode ≡ Fifo → pick ≡ 0) → fate_of mode history to message ≡ Taken → Holds (tape_at history message.from) message.inc message.number
+      IsWorld-held apart Fifo world first taken =
           let here : slice_get (queue_at queues from to) 0 ≡ Some (Message message) = ap (λ (k : ℕ). slice_get (queue_at queues from to) k) (sym (first refl)) ∙ at in
           subst (λ (v : ℕ). Holds (tape_at history v) message.inc message.number) (sym named)
-          (first-held history world.linked.fit from to message (drop 1 (queue_at queues from to)) (sym (world.linked.links from to from_within to_within) ∙ first_rest (queue_at queues from to) (Message message) here))
-      IsWorld-held Unordered world first taken = held-true history message (taken-means (is_held history message) (has_received (tape_at history to) message) taken).0
+          (first-held history world.linked.fit from to message (drop 1 (queue_at queues from to)) (sym (world.linked.links from to from_within to_within apart) ∙ first_rest (queue_at queues from to) (Message message) here))
+      IsWorld-held apart Unordered world first taken = held-true history message (taken-means (is_held history message) (has_received (tape_at history to) message) taken).0
 
       -- where links keep no order, it may come next
       pub next_receipt : IsWorld Unordered history queues → fate_of Unordered history to message ≡ Taken → IsNextUnordered history to (Recv message)
@@ -186,13 +186,13 @@ module _ (history : List Process) (queues : List (List (List Item))) where
           let means = taken-means (is_held history message) (has_received (tape_at history to) message) taken in
           (copy_addressed history (messages_at queues) from to message world.linked from_within to_within (among-messages (queue_at queues from to) pick message at) (held-true history message means.0), means.1)
 
-      pub IsWorld-take : (mode : Mode) → IsWorld mode history queues → (mode ≡ Fifo → pick ≡ 0) → fate_of mode history to message ≡ Taken
+      pub IsWorld-take : from ≢ to → (mode : Mode) → IsWorld mode history queues → (mode ≡ Fifo → pick ≡ 0) → fate_of mode history to message ≡ Taken
           → IsWorld mode (with_event history to (Recv message)) (taken_off mode queues from to)
-      IsWorld-take Fifo world first taken = record {
+      IsWorld-take apart Fifo world first taken = record {
         queued = AreQueues-kept history (taken_off Fifo queues from to) to (Recv message) (AreQueues-off history queues world.queued from to from_within to_within);
-        linked = IsOrdered-take history queues world.queued world.linked from to from_within to_within message (ap (λ (k : ℕ). slice_get (queue_at queues from to) k) (sym (first refl)) ∙ at) named;
+        linked = IsOrdered-take history queues world.queued world.linked from to from_within to_within apart message (ap (λ (k : ℕ). slice_get (queue_at queues from to) k) (sym (first refl)) ∙ at) named;
       }
-      IsWorld-take Unordered world first taken = record {
+      IsWorld-take apart Unordered world first taken = record {
         queued = AreQueues-kept history queues to (Recv message) world.queued;
         linked = unordered_event history to (Recv message) (messages_at queues) (messages_at queues) world.linked to_within (next_receipt world taken) (λ p q p_within q_within. sym (append-nil (messages_at queues p q)));
       }
@@ -212,44 +212,49 @@ module _ (history : List Process) (queues : List (List (List Item))) where
 
 -- the world once a marker has come
 module _ (history : List Process) (queues : List (List (List Item))) (world : IsWorld Fifo history queues) where
-  pub IsWorld-mark : (from to r : ℕ) → from < length history → to < length history → slice_get (queue_at queues from to) 0 ≡ Some (Marker r) → has_check_of r (tape_at history to) ≡ true
+  pub IsWorld-mark : (from to r : ℕ) → from < length history → to < length history → from ≢ to → slice_get (queue_at queues from to) 0 ≡ Some (Marker r) → has_check_of r (tape_at history to) ≡ true
       → IsWorld Fifo (with_event history to (Mark from r)) (with_queue queues from to (drop 1 (queue_at queues from to)))
-  IsWorld-mark from to r from_within to_within first begun = record {
+  IsWorld-mark from to r from_within to_within apart first begun = record {
     queued = AreQueues-kept history (taken_off Fifo queues from to) to (Mark from r) (AreQueues-off history queues world.queued from to from_within to_within);
-    linked = IsOrdered-mark history queues world.queued world.linked from to from_within to_within r first begun;
+    linked = IsOrdered-mark history queues world.queued world.linked from to from_within to_within apart r first begun;
   }
 
--- the world once a check of a round has put its marker on each link
+-- the world once a check of a round has put its marker on the link to each other process
 module _ (history : List Process) (queues : List (List (List Item))) (world : IsWorld Fifo history queues) where
   AreQueues-each : (at r : ℕ) → at < length history → AreQueues history (with_on_each queues at (Marker r))
   AreQueues-each at r within =
       let are = world.queued in
-      let f : List Item → List Item = λ items. items ++ Marker r ∷ [] in
+      let old : List (List Item) = get_or queues at [] in
+      let new : List (List Item) = with_on_others old at (Marker r) in
       let row : at < length queues = omega (arith, within, are.shape.rows) in
-      let here : get_or (with_on_each queues at (Marker r)) at [] ≡ map f (get_or queues at []) = get_or-set_same queues at (map f (get_or queues at [])) [] row in
+      let here : get_or (with_on_each queues at (Marker r)) at [] ≡ new = get_or-set_same queues at new [] row in
       record {
         shape = record {
-          rows = length-set queues at (map f (get_or queues at [])) ∙ are.shape.rows;
+          rows = length-set queues at new ∙ are.shape.rows;
           columns = λ a a_within. elim (cases_eq a at) [
             | inl same ↦ ap (λ (v : ℕ). length (get_or (with_on_each queues at (Marker r)) v [])) same ∙ ap (λ (xs : List (List Item)). length xs) here
-                ∙ length-map (get_or queues at []) f ∙ are.shape.columns at within
-            | inr other ↦ ap (λ (xs : List (List Item)). length xs) (get_or-set_other queues at a (map f (get_or queues at [])) [] other) ∙ are.shape.columns a a_within
+                ∙ length-map-range_with_len (λ k. get_or old k [] ++ (if at == k then [] else Marker r ∷ [])) 0 (length old) ∙ are.shape.columns at within
+            | inr other ↦ ap (λ (xs : List (List Item)). length xs) (get_or-set_other queues at a new [] other) ∙ are.shape.columns a a_within
           ];
         };
         messages = λ a b. elim (cases_eq a at) [
           | inl same ↦ subst (λ (v : ℕ). All (IsItemOf v) (queue_at (with_on_each queues at (Marker r)) v b)) (sym same)
               (subst (λ (xs : List (List Item)). All (IsItemOf at) (get_or xs b [])) (sym here) (marked at r b))
-          | inr other ↦ subst (λ (xs : List (List Item)). All (IsItemOf a) (get_or xs b [])) (sym (get_or-set_other queues at a (map f (get_or queues at [])) [] other)) (are.messages a b)
+          | inr other ↦ subst (λ (xs : List (List Item)). All (IsItemOf a) (get_or xs b [])) (sym (get_or-set_other queues at a new [] other)) (are.messages a b)
         ];
       }
     where
-      marked : (at r b : ℕ) → All (IsItemOf at) (get_or (map (λ items. items ++ Marker r ∷ []) (get_or queues at [])) b [])
+      put : (at r b : ℕ) → (own : Bool) → All (IsItemOf at) (queue_at queues at b ++ cond own [] (Marker r ∷ []))
+      put at r b true = subst (λ (xs : List Item). All (IsItemOf at) xs) (sym (append-nil (queue_at queues at b))) (world.queued.messages at b)
+      put at r b false = All-push (IsItemOf at) (queue_at queues at b) (Marker r) (world.queued.messages at b) tt
+
+      marked : (at r b : ℕ) → All (IsItemOf at) (get_or (with_on_others (get_or queues at []) at (Marker r)) b [])
       marked at r b =
           let row : List (List Item) = get_or queues at [] in
-          let f : List Item → List Item = λ items. items ++ Marker r ∷ [] in
+          let f : ℕ → List Item = λ k. get_or row k [] ++ (if at == k then [] else Marker r ∷ []) in
           elim (cases_lt b (length row)) [
-            | inl below ↦ subst (λ (xs : List Item). All (IsItemOf at) xs) (sym (get_or-map f row b [] [] below)) (All-push (IsItemOf at) (get_or row b []) (Marker r) (world.queued.messages at b) tt)
-            | inr past ↦ subst (λ (xs : List Item). All (IsItemOf at) xs) (sym (get_or_past (map f row) b [] (omega (arith, past, length-map row f)))) (All-nil (IsItemOf at))
+            | inl below ↦ subst (λ (xs : List Item). All (IsItemOf at) xs) (sym (get_or-map-range_with_len f 0 (length row) b b [] below (omega arith))) (put at r b (at == b))
+            | inr past ↦ subst (λ (xs : List Item). All (IsItemOf at) xs) (sym (get_or_past (with_on_others row at (Marker r)) b [] (omega (arith, past, length-map-range_with_len f 0 (length row))))) (All-nil (IsItemOf at))
           ]
 
   pub IsWorld-round : (at : ℕ) (state : List ℕ) (r : ℕ) → at < length history → has_check_of r (tape_at history at) ≡ false
@@ -260,16 +265,15 @@ module _ (history : List Process) (queues : List (List (List Item))) (world : Is
   }
 
   -- its sender has the check of the round
-  pub marker_sent : (from to r : ℕ) → from < length history → to < length history → slice_get (queue_at queues from to) 0 ≡ Some (Marker r) → has_check_of r (tape_at history from) ≡ true
-  marker_sent from to r from_within to_within first =
-      marker_checked history from to r (subst (λ (xs : List Item). Contains xs (Marker r)) (world.linked.links from to from_within to_within)
+  pub marker_sent : (from to r : ℕ) → from < length history → to < length history → from ≢ to → slice_get (queue_at queues from to) 0 ≡ Some (Marker r) → has_check_of r (tape_at history from) ≡ true
+  marker_sent from to r from_within to_within apart first =
+      marker_checked history from to r (subst (λ (xs : List Item). Contains xs (Marker r)) (world.linked.links from to from_within to_within apart)
       (subst (λ (xs : List Item). Contains xs (Marker r)) (sym (first_rest (queue_at queues from to) (Marker r) first)) (zero, omega arith, refl)))
 
   -- the first item of another link is still first
   pub first_still : (at from to r s : ℕ) → at < length history → from ≢ at → slice_get (queue_at queues from to) 0 ≡ Some (Marker r) → slice_get (queue_at (with_on_each queues at (Marker s)) from to) 0 ≡ Some (Marker r)
   first_still at from to r s within apart first =
-      let f : List Item → List Item = λ items. items ++ Marker s ∷ [] in
-      ap (λ (xs : List (List Item)). slice_get (get_or xs to []) 0) (get_or-set_other queues at from (map f (get_or queues at [])) [] apart) ∙ first
+      ap (λ (xs : List (List Item)). slice_get (get_or xs to []) 0) (get_or-set_other queues at from (with_on_others (get_or queues at []) at (Marker s)) [] apart) ∙ first
 
   -- the marker that has a process take its check first
   pub IsWorld-forced : (from to r : ℕ) (state : List ℕ) → from < length history → to < length history → from ≢ to → has_check_of r (tape_at history to) ≡ false → slice_get (queue_at queues from to) 0 ≡ Some (Marker r)
@@ -278,7 +282,7 @@ module _ (history : List Process) (queues : List (List (List Item))) (world : Is
   IsWorld-forced from to r state from_within to_within apart none first =
       let e : Event = Check state (Some r) in
       let size = length-with_event history to e in
-      IsWorld-mark (with_event history to e) (with_on_each queues to (Marker r)) (IsWorld-round to state r to_within none) from to r (omega (arith, from_within, size)) (omega (arith, to_within, size))
+      IsWorld-mark (with_event history to e) (with_on_each queues to (Marker r)) (IsWorld-round to state r to_within none) from to r (omega (arith, from_within, size)) (omega (arith, to_within, size)) apart
       (first_still to from to r r to_within apart first)
       (ap (has_check_of r) (tape_same history to e to to_within refl) ∙ is_checked_now r (tape_at history to) e (eq-eqb r r refl))
 
@@ -342,7 +346,7 @@ module _ (history : List Process) (queues new : List (List (List Item))) (line :
           → IsLinked m (restarted history line) new
       linked Fifo is put = record {
         fit = restart_fit history line is.fit consistent length_is;
-        links = λ p q p_within q_within.
+        links = λ p q p_within q_within apart.
             put p q (omega (arith, p_within, length_restarted history line length_is)) (omega (arith, q_within, length_restarted history line length_is)) ∙ sym (restart_link history line is.fit consistent length_is p q);
       }
       linked Unordered is put = unordered_restarted history line (messages_at queues) (messages_at new) is consistent length_is (λ p q p_within q_within.

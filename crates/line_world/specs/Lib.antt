@@ -1,4 +1,5 @@
 pub mod Queues
+pub mod Rooms
 pub mod Listed
 pub mod Openings
 pub mod Fates

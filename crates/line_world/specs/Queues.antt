@@ -1,5 +1,6 @@
 -- Queues from each process to each.
-use Rattle.std.specs.Prelude.{◌≡◌, ℕ, ◌<◌, List, [], ◌∷◌, ◌++◌, length, map, drop, slice_index_or, slice_set}
+use Rattle.std.specs.Prelude.{◌≡◌, ℕ, ◌<◌, ◌==◌, if◌then◌else◌, List, [], ◌∷◌, ◌++◌, length, map, drop, slice_index_or, slice_set}
+use Rattle.std.specs.List.{range_with_len}
 use Rattle.line_tape.specs.declared.items.Item.{Item}
 use Rattle.line_world.specs.declared.steps.Mode.{Mode}
 use Rattle.line_world.specs.declared.steps.Mode.TheVariants.{Fifo, Unordered}
@@ -22,6 +23,10 @@ pub record IsSquare (n : ℕ) (queues : List (List (List Item))) : Type 0 where
   pub rows : length queues ≡ n
   pub columns : (p : ℕ) → p < n → length (slice_index_or queues p []) ≡ n
 
--- the queues with an item more on each from process p
+-- the queues from process p with an item more on each, but not on its own
+abbrev pub with_on_others : List (List Item) → ℕ → Item → List (List Item)
+with_on_others row p item = map (λ q. slice_index_or row q [] ++ (if p == q then [] else item ∷ [])) (range_with_len 0 (length row))
+
+-- the queues with an item more on each from process p to another
 abbrev pub with_on_each : List (List (List Item)) → ℕ → Item → List (List (List Item))
-with_on_each queues p item = slice_set queues p (map (λ items. items ++ item ∷ []) (slice_index_or queues p []))
+with_on_each queues p item = slice_set queues p (with_on_others (slice_index_or queues p []) p item)

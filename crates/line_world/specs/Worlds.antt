@@ -1,5 +1,5 @@
 -- What a world keeps true of its queues and of its rounds.
-use Rattle.std.specs.Prelude.{◌≡◌, ℕ, ◌<◌, ◌≤◌, true, List, length, All, AllPairs, Option, Some, None}
+use Rattle.std.specs.Prelude.{◌≡◌, ◌≢◌, ℕ, ◌<◌, ◌≤◌, true, List, length, All, AllPairs, Option, Some, None}
 use Rattle.std.specs.List.{filter_map}
 use Rattle.line_names.specs.declared.messages.MsgName.{MsgName}
 use Rattle.line_tape.specs.declared.items.Item.{Item}
@@ -35,10 +35,10 @@ pub record AreQueues (history : List Process) (queues : List (List (List Item)))
   pub shape : IsSquare (length history) queues
   pub messages : (p q : ℕ) → All (IsItemOf p) (queue_at queues p q)
 
--- in order: the history fits, and each queue is what its link holds
+-- in order: the history fits, and the queue from each process to another is what its link holds
 pub record IsOrderedWorld (history : List Process) (queues : List (List (List Item))) : Type 0 where
   pub fit : IsFitFifo history
-  pub links : (p q : ℕ) → p < length history → q < length history → queue_at queues p q ≡ link history p q
+  pub links : (p q : ℕ) → p < length history → q < length history → p ≢ q → queue_at queues p q ≡ link history p q
 
 -- what a world keeps true in each mode of its history and its queues
 abbrev pub IsLinked : Mode → List Process → List (List (List Item)) → Type 0

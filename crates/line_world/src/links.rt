@@ -1,6 +1,7 @@
 //! The queues of all links.
-ghost use Rattle.std.specs.Prelude.{◌≡◌, ◌<◌, ◌++◌, ◌∷◌, [], length, map, replicate, drop, slice_index_or, slice_get, IfOk, OnOk, OnErr};
-ghost use Rattle.line_world.specs.Queues.{queue_at, with_queue, with_on_each};
+ghost use Rattle.std.specs.Prelude.{◌≡◌, ◌<◌, ◌++◌, ◌∷◌, [], All, length, map, replicate, drop, slice_index_or, slice_set, slice_get, IfOk, OnOk, OnErr};
+ghost use Rattle.line_world.specs.Queues.{queue_at, with_queue, with_on_each, with_on_others};
+ghost use Rattle.line_world.specs.Rooms.{QueueView, items_of};
 
 use line_names::ProcId;
 use line_tape::Item;
@@ -15,18 +16,19 @@ struct Queue {
 }
 
 impl Model for Queue {
-    ghost use Rattle.std.specs.Prelude.{List};
-    ghost use Rattle.line_tape.specs.declared.items.Item.{Item};
+    ghost use Rattle.std.specs.Prelude.{◌-◌};
+    ghost use Rattle.std.proofs.Common.{deque_len, deque_capacity};
+    ghost use Rattle.line_world.specs.Rooms.{QueueView};
 
-    ghost Value = { List Item };
+    ghost Value = { QueueView };
 
-    ghost view = { λ q. q.items.items };
+    ghost view = { λ q. record { held = q.items.items; room = deque_capacity q.items - deque_len q.items } };
 }
 
 impl Queue {
     /// The same items in memory of their own.
     fn copy(&self, alloc: Global) -> Result<Queue, AllocError>
-        ensures { IfOk result (λ queue. queue ≡ self.now) }
+        ensures { IfOk result (λ queue. queue.held ≡ self.now.held) }
     {
         let (first, rest) = self.items.as_slices();
         let mut items = Vec::from_slice(alloc, first)?;
@@ -34,15 +36,6 @@ impl Queue {
         Ok(Queue {
             items: VecDeque::from_vec(items),
         })
-    }
-
-    /// The same items and one more, in memory of their own.
-    fn copy_with(&self, alloc: Global, item: Item) -> Result<Queue, AllocError>
-        ensures { IfOk result (λ queue. queue ≡ self.now ++ item ∷ []) }
-    {
-        let mut queue = self.copy(alloc)?;
-        queue.items.push_back(item)?;
-        Ok(queue)
     }
 }
 
@@ -54,17 +47,30 @@ struct Row {
 
 impl Model for Row {
     ghost use Rattle.std.specs.Prelude.{List};
-    ghost use Rattle.line_tape.specs.declared.items.Item.{Item};
+    ghost use Rattle.line_world.specs.Rooms.{QueueView};
 
-    ghost Value = { List (List Item) };
+    ghost Value = { List QueueView };
 
     ghost view = { λ r. r.queues.items };
 }
 
 impl Row {
+    /// The links from a process that has sent nothing yet, to `n` processes.
+    fn new(alloc: Global, n: u32) -> Result<Row, AllocError>
+        ensures { IfOk result (λ row. items_of row ≡ replicate n []) }
+    {
+        let mut queues = Vec::with_capacity(alloc, n as usize)?;
+        for _q in 0..n {
+            queues.push(Queue {
+                items: VecDeque::new(alloc),
+            })?;
+        }
+        Ok(Row { queues })
+    }
+
     /// The same queues in memory of their own.
     fn copy(&self, alloc: Global) -> Result<Row, AllocError>
-        ensures { IfOk result (λ row. row ≡ self.now) }
+        ensures { IfOk result (λ row. items_of row ≡ items_of self.now) }
     {
         let mut queues = Vec::with_capacity(alloc, self.queues.len())?;
         for queue in &self.queues {
@@ -73,15 +79,49 @@ impl Row {
         Ok(Row { queues })
     }
 
-    /// The same queues with an item more on each, in memory of their own.
-    fn copy_with(&self, alloc: Global, item: Item) -> Result<Row, AllocError>
-        ensures { IfOk result (λ row. row ≡ map (λ items. items ++ item ∷ []) self.now) }
+    /// Puts an item at the end of the link to a process.
+    fn push(&mut self, to: ProcId, item: Item) -> Result<(), AllocError>
+        requires { to < length self.old }
+        ensures ok { OnOk result (items_of self.new ≡ slice_set (items_of self.old) to (slice_index_or (items_of self.old) to [] ++ item ∷ [])) }
+        ensures err { OnErr result (items_of self.new ≡ items_of self.old) }
     {
-        let mut queues = Vec::with_capacity(alloc, self.queues.len())?;
-        for queue in &self.queues {
-            queues.push(queue.copy_with(alloc, item)?)?;
+        let queue = &mut self.queues[to.get() as usize];
+        queue.items.push_back(item)?;
+        Ok(())
+    }
+
+    /// Makes room for an item more on each link.
+    fn reserve(&mut self) -> Result<(), AllocError>
+        ensures same { items_of self.new ≡ items_of self.old }
+        ensures ok { OnOk result (All (λ (queue : QueueView). 0 < queue.room) self.new) }
+    {
+        for q in 0..self.queues.len() {
+            let queue = &mut self.queues[q];
+            queue.items.reserve(1)?;
         }
-        Ok(Row { queues })
+        Ok(())
+    }
+
+    /// Puts an item at the end of each link but that to the process itself, in room made for it.
+    fn push_to_others(&mut self, own: ProcId, item: &Item)
+        requires { All (λ (queue : QueueView). 0 < queue.room) self.old }
+        ensures { items_of self.new ≡ with_on_others (items_of self.old) own item.now }
+    {
+        for q in 0..self.queues.len() {
+            if q != own.get() as usize {
+                let queue = &mut self.queues[q];
+                queue.items.push_back_reserved(*item);
+            }
+        }
+    }
+
+    /// Takes the first item off the link to a process, if it holds one.
+    fn drop_first(&mut self, to: ProcId)
+        requires { to < length self.old }
+        ensures { items_of self.new ≡ slice_set (items_of self.old) to (drop 1 (slice_index_or (items_of self.old) to [])) }
+    {
+        let queue = &mut self.queues[to.get() as usize];
+        let _first = queue.items.pop_front();
     }
 }
 
@@ -92,25 +132,13 @@ pub struct Links {
 }
 
 impl Model for Links {
-    ghost use Rattle.std.specs.Prelude.{List};
+    ghost use Rattle.std.specs.Prelude.{List, map};
     ghost use Rattle.line_tape.specs.declared.items.Item.{Item};
+    ghost use Rattle.line_world.specs.Rooms.{items_of};
 
     ghost Value = { List (List (List Item)) };
 
-    ghost view = { λ l. l.rows.items };
-}
-
-/// The links from a process that has sent nothing yet, to `n` processes.
-fn fresh_row(alloc: Global, n: u32) -> Result<Row, AllocError>
-    ensures { IfOk result (λ row. row ≡ replicate n []) }
-{
-    let mut queues = Vec::with_capacity(alloc, n as usize)?;
-    for _q in 0..n {
-        queues.push(Queue {
-            items: VecDeque::new(alloc),
-        })?;
-    }
-    Ok(Row { queues })
+    ghost view = { λ l. map items_of l.rows.items };
 }
 
 impl Links {
@@ -120,7 +148,7 @@ impl Links {
     {
         let mut rows = Vec::with_capacity(alloc, n as usize)?;
         for _p in 0..n {
-            rows.push(fresh_row(alloc, n)?)?;
+            rows.push(Row::new(alloc, n)?)?;
         }
         Ok(Links { rows })
     }
@@ -136,15 +164,22 @@ impl Links {
         Ok(Links { rows })
     }
 
+    /// What a link holds.
+    fn items(&self, from: ProcId, to: ProcId) -> &VecDeque<Item>
+        requires from { from < length self.now }
+        requires to { to < length (slice_index_or self.now from []) }
+        ensures { result.now.items ≡ queue_at self.now from to }
+    {
+        &self.rows[from.get() as usize].queues[to.get() as usize].items
+    }
+
     /// How many items a link holds.
     pub fn len(&self, from: ProcId, to: ProcId) -> usize
         requires from { from < length self.now }
         requires to { to < length (slice_index_or self.now from []) }
         ensures { result ≡ length (queue_at self.now from to) }
     {
-        self.rows[from.get() as usize].queues[to.get() as usize]
-            .items
-            .len()
+        self.items(from, to).len()
     }
 
     /// The item of a link behind `i` others.
@@ -153,10 +188,7 @@ impl Links {
         requires to { to < length (slice_index_or self.now from []) }
         ensures { result ≡ slice_get (queue_at self.now from to) i }
     {
-        match self.rows[from.get() as usize].queues[to.get() as usize]
-            .items
-            .get(i)
-        {
+        match self.items(from, to).get(i) {
             Some(item) => Some(*item),
             None => None,
         }
@@ -169,20 +201,21 @@ impl Links {
         ensures ok { OnOk result (self.new ≡ with_queue self.old from to (queue_at self.old from to ++ item ∷ [])) }
         ensures err { OnErr result (self.new ≡ self.old) }
     {
-        self.rows[from.get() as usize].queues[to.get() as usize]
-            .items
-            .push_back(item)?;
-        Ok(())
+        let row = &mut self.rows[from.get() as usize];
+        row.push(to, item)
     }
 
-    /// Puts an item at the end of each link from a process, or on none where memory doesn't suffice. It copies what these links hold.
-    pub fn push_each(&mut self, alloc: Global, from: ProcId, item: Item) -> Result<(), AllocError>
+    /// Puts an item at the end of each link from a process to another, or on none where memory doesn't suffice.
+    ///
+    /// It makes room on each of them first, and then pushes once on each: no link is copied.
+    pub fn push_each(&mut self, from: ProcId, item: Item) -> Result<(), AllocError>
         requires { from < length self.old }
         ensures ok { OnOk result (self.new ≡ with_on_each self.old from item) }
         ensures err { OnErr result (self.new ≡ self.old) }
     {
-        let row = self.rows[from.get() as usize].copy_with(alloc, item)?;
-        self.rows[from.get() as usize] = row;
+        let row = &mut self.rows[from.get() as usize];
+        row.reserve()?;
+        row.push_to_others(from, &item);
         Ok(())
     }
 
@@ -192,8 +225,7 @@ impl Links {
         requires to { to < length (slice_index_or self.old from []) }
         ensures { self.new ≡ with_queue self.old from to (drop 1 (queue_at self.old from to)) }
     {
-        let _first = self.rows[from.get() as usize].queues[to.get() as usize]
-            .items
-            .pop_front();
+        let row = &mut self.rows[from.get() as usize];
+        row.drop_first(to);
     }
 }

@@ -151,7 +151,7 @@ pub fn take_message(
     Ok(())
 }
 
-/// Begins the round after the last one: the check on the tape of a process, and a marker on each link from it.
+/// Begins the round after the last one: the check on the tape of a process, and a marker on each link from it to another.
 pub fn begin_round(
     alloc: Global,
     catalogue: &mut Catalogue,
@@ -179,7 +179,7 @@ pub fn begin_round(
     catalogue.reserve(at, 1)?;
     let mut running = OpenRound::new(alloc, catalogue.history(), last)?;
     running.reserve(at)?;
-    links.push_each(alloc, at, Item::Marker(last + 1))?;
+    links.push_each(at, Item::Marker(last + 1))?;
     let check = catalogue.history().tape(at).checks() + 1;
     running.begin(catalogue.history(), at);
     let round = Some(last + 1);
@@ -187,7 +187,7 @@ pub fn begin_round(
     Ok((running, check))
 }
 
-/// The marker of the open round has a process take its check: the check and the mark on its tape, a marker on each link from it, and the marker that came off its link.
+/// The marker of the open round has a process take its check: the check and the mark on its tape, a marker on each link from it to another, and the marker that came off its link.
 fn force_round(
     alloc: Global,
     catalogue: &mut Catalogue,
@@ -218,7 +218,7 @@ fn force_round(
     let state = state.copy(alloc)?;
     catalogue.reserve(to, 2)?;
     running.reserve(to)?;
-    links.push_each(alloc, to, Item::Marker(number))?;
+    links.push_each(to, Item::Marker(number))?;
     links.drop_first(from, to);
     running.force(catalogue.history(), from, to);
     let round = Some(number);

@@ -132,19 +132,21 @@ impl World {
         self.catalogue.history().incarnation(p)
     }
 
-    /// How many items the link between two processes holds.
+    /// How many items the link from a process to another holds.
     pub fn link_len(&self, from: ProcId, to: ProcId) -> usize
         requires from { from < length self.now.history }
         requires to { to < length self.now.history }
+        requires other { from ≢ to }
         ensures { result ≡ length (items_on self.now from to) }
     {
         self.links.len(from, to)
     }
 
-    /// The item behind `i` others on the link between two processes, the oldest being first.
+    /// The item behind `i` others on the link from a process to another, the oldest being first.
     pub fn link_item(&self, from: ProcId, to: ProcId, i: usize) -> Option<Item>
         requires from { from < length self.now.history }
         requires to { to < length self.now.history }
+        requires other { from ≢ to }
         ensures { result ≡ slice_get (items_on self.now from to) i }
     {
         self.links.item(from, to, i)
@@ -154,6 +156,7 @@ impl World {
     fn item_at(&self, from: ProcId, to: ProcId, pick: u64) -> Item
         requires from { from < length self.now.history }
         requires to { to < length self.now.history }
+        requires other { from ≢ to }
         requires pick { pick < length (items_on self.now from to) }
         ensures { slice_get (items_on self.now from to) pick ≡ Some result }
     {
@@ -578,7 +581,7 @@ impl World {
 
     /// Takes one step.
     ///
-    /// Sending, delivering a message and taking a check cost the same however much was done before; a message that forces a check searches its sender's checks of rounds by halves. A marker looks at its receiver's channels, and the last one of a process at all channels of the round. A check of a round, begun or forced by a marker, copies what the links from its process hold; the last one of a round of colours looks at each event before the round's checks. Recovering costs what a plan does, and looks at each event and at each copy.
+    /// Sending, delivering a message and taking a check cost the same however much was done before; a message that forces a check searches its sender's checks of rounds by halves. A marker looks at its receiver's channels, and the last one of a process at all channels of the round. A check of a round, begun or forced by a marker, puts a marker on the link to each other process; the last one of a round of colours looks at each event before the round's checks. Recovering costs what a plan does, and looks at each event and at each copy.
     pub fn step(&mut self, alloc: Global, step: &Step) -> Result<Reply, StepError>
         ensures done { IfOk result (λ reply. Takes self.old step.now (Done reply) self.new) }
         ensures refused { IfErr result (λ e. e ≢ StepError.OutOfMemory → Takes self.old step.now (Refused e) self.new) }

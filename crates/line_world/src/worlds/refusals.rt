@@ -1,5 +1,5 @@
 //! What refuses a step of a world.
-ghost use Rattle.std.specs.Prelude.{◌≡◌, ◌<◌, ◌≤◌, ℕ, List, Some, length};
+ghost use Rattle.std.specs.Prelude.{◌≡◌, ◌≢◌, ◌<◌, ◌≤◌, ℕ, List, Some, length};
 ghost use Rattle.line_world.specs.declared.steps.Mode.TheVariants.{Unordered};
 ghost use Rattle.line_world.specs.declared.steps.Step.TheVariants.{Send, Check, Begin, Turn};
 ghost use Rattle.line_world.specs.Refusals.{first_cause, link_causes, may_turn, refusal_of, has_stranger, is_bad_pick, is_full};
@@ -43,6 +43,7 @@ impl World {
     fn is_bad_pick(&self, from: ProcId, to: ProcId, pick: u64) -> bool
         requires from { from < length self.now.history }
         requires to { to < length self.now.history }
+        requires other { from ≢ to }
         ensures { result ≡ is_bad_pick self.now.mode (items_on self.now from to) pick }
     {
         match self.mode {

@@ -19,4 +19,4 @@ returns-clause-world c =
     let after = c.add_event.ensures.processes ∙ ap (λ (h : List Process). with_event h c.args.to (Mark c.args.from c.args.round)) c.in_ok-reserve.ensures.processes in
     subst (λ (h : List Process). IsWorld Fifo h c.drop_first.new.self) (sym after)
     (subst (λ (q : List (List (List Item))). IsWorld Fifo (with_event history c.args.to (Mark c.args.from c.args.round)) q) (sym c.drop_first.ensures)
-    (IsWorld-mark history c.args.links.now c.requires.world c.args.from c.args.to c.args.round c.requires.from c.requires.to c.requires.marker c.requires.begun))
+    (IsWorld-mark history c.args.links.now c.requires.world c.args.from c.args.to c.args.round c.requires.from c.requires.to c.requires.other c.requires.marker c.requires.begun))

@@ -18,7 +18,7 @@ force_round-requires-clause-first c =
     let history : List Process = c.args.catalogue.now.processes in
     let none = forced_none history c.args.to c.args.round (sym c.requires.forced ∙ c.if-forced.true) in
     let opening : IsRunning Fifo history c.in-Some.kept = subst (IsOpening Fifo history) c.in-Some.is c.requires.opening in
-    let sent = marker_sent history c.args.links.now c.requires.world c.args.from c.args.to c.args.round c.requires.from c.requires.to c.requires.marker in
+    let sent = marker_sent history c.args.links.now c.requires.world c.args.from c.args.to c.args.round c.requires.from c.requires.to c.requires.other c.requires.marker in
     ap (λ (v : ℕ). has_check_of v (tape_at history c.args.to)) (forced_number history c.in-Some.kept c.args.from c.args.to c.args.round opening sent none c.requires.to) ∙ none
 
 pub force_round-requires-clause-marker : goal.force_round-requires-clause-marker
@@ -26,7 +26,7 @@ force_round-requires-clause-marker c =
     let history : List Process = c.args.catalogue.now.processes in
     let none = forced_none history c.args.to c.args.round (sym c.requires.forced ∙ c.if-forced.true) in
     let opening : IsRunning Fifo history c.in-Some.kept = subst (IsOpening Fifo history) c.in-Some.is c.requires.opening in
-    let sent = marker_sent history c.args.links.now c.requires.world c.args.from c.args.to c.args.round c.requires.from c.requires.to c.requires.marker in
+    let sent = marker_sent history c.args.links.now c.requires.world c.args.from c.args.to c.args.round c.requires.from c.requires.to c.requires.other c.requires.marker in
     c.requires.marker ∙ ap (λ (v : ℕ). Some (Marker v)) (sym (forced_number history c.in-Some.kept c.args.from c.args.to c.args.round opening sent none c.requires.to))
 
 pub unreachable-requires : goal.unreachable-requires
@@ -34,7 +34,7 @@ unreachable-requires c =
     let history : List Process = c.args.catalogue.now.processes in
     let none = forced_none history c.args.to c.args.round (sym c.requires.forced ∙ c.if-forced.true) in
     let opening : IsOpening Fifo history None = subst (IsOpening Fifo history) c.in-None.is c.requires.opening in
-    let sent = marker_sent history c.args.links.now c.requires.world c.args.from c.args.to c.args.round c.requires.from c.requires.to c.requires.marker in
+    let sent = marker_sent history c.args.links.now c.requires.world c.args.from c.args.to c.args.round c.requires.from c.requires.to c.requires.other c.requires.marker in
     forced_open history c.args.from c.args.to c.args.round opening sent none c.requires.to
 
 pub returns-in-Some-clause-taken : goal.returns-in-Some-clause-taken
@@ -43,7 +43,7 @@ returns-in-Some-clause-taken c =
     let forced : is_forced history c.args.to c.args.round ≡ true = sym c.requires.forced ∙ c.if-forced.true in
     let none = forced_none history c.args.to c.args.round forced in
     let opening : IsRunning Fifo history c.in-Some.kept = subst (IsOpening Fifo history) c.in-Some.is c.requires.opening in
-    let sent = marker_sent history c.args.links.now c.requires.world c.args.from c.args.to c.args.round c.requires.from c.requires.to c.requires.marker in
+    let sent = marker_sent history c.args.links.now c.requires.world c.args.from c.args.to c.args.round c.requires.from c.requires.to c.requires.other c.requires.marker in
     let number = forced_number history c.in-Some.kept c.args.from c.args.to c.args.round opening sent none c.requires.to in
     on_ok_weaker c.force_round.result (λ taken. taken
     ∙ ap (λ (v : ℕ). with_events history c.args.to (Check c.args.state.now (Some v) ∷ Mark c.args.from v ∷ [])) number

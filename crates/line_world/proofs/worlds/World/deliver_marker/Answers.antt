@@ -1,5 +1,5 @@
 -- The marker is off its link, and the round is listed if it is completed now.
-use Rattle.std.proofs.Common.{◌≡◌, ◌<◌, ◌++◌, ℕ, Bool, List, length, Option, refl, sym, ap, ◌∙◌, subst}
+use Rattle.std.proofs.Common.{◌≡◌, ◌≢◌, ◌<◌, ◌++◌, ℕ, Bool, List, length, Option, refl, sym, ap, ◌∙◌, subst}
 use Rattle.line_tape.specs.declared.events.Event.{Event}
 use Rattle.line_tape.specs.declared.items.Item.{Item}
 use Rattle.line_tape.specs.declared.items.Item.TheVariants.{Marker}
@@ -22,6 +22,7 @@ use Rattle.line_world.specs.Worlds.{ArePainted, AreRounds, IsWorld}
 use Rattle.line_world.proofs.DeliverLemmas.{from_within, picked_at, step_seen, to_within, Takes-delivered}
 use Rattle.line_world.proofs.MarkerFacts.{marker_listed, marker_settled}
 use Rattle.line_world.proofs.OpeningLemmas.{AreRounds-renewed}
+use Rattle.line_world.proofs.StepLemmas.{may_deliver}
 use Rattle.line_world.proofs.WorldLemmas.{marker_sent, seen}
 use Rattle.line_world.proofs.worlds.World.deliver_marker.Goals.{then-forced, else-forced}
 use Rattle.line_world.proofs.worlds.World.deliver_marker.Goals as goal
@@ -44,7 +45,8 @@ is_forced-forced-requires-clause-sent c =
     let at = picked_at mode history marks last rounds links c.args.self.now view c.self.invariant.0 from to 0 c.args.state.now (Marker round) c.requires.passed c.requires.picked in
     let f_in : from < length history = from_within mode history marks last rounds links c.args.self.now view c.self.invariant.0 from to 0 c.args.state.now (Marker round) c.requires.passed c.requires.picked in
     let t_in : to < length history = to_within mode history marks last rounds links c.args.self.now view c.self.invariant.0 from to 0 c.args.state.now (Marker round) c.requires.passed c.requires.picked in
-    let sent = marker_sent history links world from to round f_in t_in at in
+    let apart : from ≢ to = (may_deliver c.args.self.now from to 0 c.args.state.now c.requires.passed).apart in
+    let sent = marker_sent history links world from to round f_in t_in apart at in
     ap (λ (h : List Process). has_check_of round (tape_at h from)) c.history.ensures.processes ∙ sent
 
 pub invariant_of-self-in_err-take_marker : goal.invariant_of-self-in_err-take_marker
@@ -65,7 +67,8 @@ invariant_of-self-in_err-take_marker c =
     let at = picked_at mode history marks last rounds links c.args.self.now view c.self.invariant.0 from to 0 c.args.state.now (Marker round) c.requires.passed c.requires.picked in
     let f_in : from < length history = from_within mode history marks last rounds links c.args.self.now view c.self.invariant.0 from to 0 c.args.state.now (Marker round) c.requires.passed c.requires.picked in
     let t_in : to < length history = to_within mode history marks last rounds links c.args.self.now view c.self.invariant.0 from to 0 c.args.state.now (Marker round) c.requires.passed c.requires.picked in
-    let sent = marker_sent history links world from to round f_in t_in at in
+    let apart : from ≢ to = (may_deliver c.args.self.now from to 0 c.args.state.now c.requires.passed).apart in
+    let sent = marker_sent history links world from to round f_in t_in apart at in
     let same : c.take_marker.new.catalogue.processes ≡ history = c.in_err-take_marker.ensures.err in
     let opening : IsOpening Fifo history c.take_marker.new.running = subst (λ (h : List Process). IsOpening Fifo h c.take_marker.new.running) same c.in_err-take_marker.ensures.opening in (
       subst (λ (v : Mode). IsWorld v c.take_marker.new.catalogue.processes c.take_marker.new.links) (sym in_order) c.in_err-take_marker.ensures.world,
@@ -94,7 +97,8 @@ invariant_of-self-2 c =
     let at = picked_at mode history marks last rounds links c.args.self.now view c.self.invariant.0 from to 0 c.args.state.now (Marker round) c.requires.passed c.requires.picked in
     let f_in : from < length history = from_within mode history marks last rounds links c.args.self.now view c.self.invariant.0 from to 0 c.args.state.now (Marker round) c.requires.passed c.requires.picked in
     let t_in : to < length history = to_within mode history marks last rounds links c.args.self.now view c.self.invariant.0 from to 0 c.args.state.now (Marker round) c.requires.passed c.requires.picked in
-    let sent = marker_sent history links world from to round f_in t_in at in
+    let apart : from ≢ to = (may_deliver c.args.self.now from to 0 c.args.state.now c.requires.passed).apart in
+    let sent = marker_sent history links world from to round f_in t_in apart at in
     let state : List ℕ = c.args.state.now in
     let forced : Bool = c.is_forced-forced.result in
     let forced_is : forced ≡ is_forced history to round = c.is_forced-forced.ensures ∙ ap (λ (h : List Process). is_forced h to round) c.history.ensures.processes in
@@ -137,7 +141,8 @@ returns-clause-done c =
     let at = picked_at mode history marks last rounds links c.args.self.now view c.self.invariant.0 from to 0 c.args.state.now (Marker round) c.requires.passed c.requires.picked in
     let f_in : from < length history = from_within mode history marks last rounds links c.args.self.now view c.self.invariant.0 from to 0 c.args.state.now (Marker round) c.requires.passed c.requires.picked in
     let t_in : to < length history = to_within mode history marks last rounds links c.args.self.now view c.self.invariant.0 from to 0 c.args.state.now (Marker round) c.requires.passed c.requires.picked in
-    let sent = marker_sent history links world from to round f_in t_in at in
+    let apart : from ≢ to = (may_deliver c.args.self.now from to 0 c.args.state.now c.requires.passed).apart in
+    let sent = marker_sent history links world from to round f_in t_in apart at in
     let state : List ℕ = c.args.state.now in
     let forced : Bool = c.is_forced-forced.result in
     let forced_is : forced ≡ is_forced history to round = c.is_forced-forced.ensures ∙ ap (λ (h : List Process). is_forced h to round) c.history.ensures.processes in

@@ -1,5 +1,5 @@
 -- The message is taken off its link and put on the tape, or its copy adds nothing.
-use Rattle.std.proofs.Common.{◌≡◌, ◌<◌, ℕ, List, [], ◌∷◌, length, Option, None, refl, sym, ap, ◌∙◌, subst}
+use Rattle.std.proofs.Common.{◌≡◌, ◌≢◌, ◌<◌, ℕ, List, [], ◌∷◌, length, Option, None, refl, sym, ap, ◌∙◌, subst}
 use Rattle.line_names.specs.declared.messages.MsgName.{MsgName}
 use Rattle.line_tape.specs.declared.events.Event.{Event}
 use Rattle.line_tape.specs.declared.events.Event.TheVariants.{Recv}
@@ -24,6 +24,7 @@ use Rattle.line_world.specs.Worlds.{ArePainted, AreRounds, IsWorld}
 use Rattle.line_world.proofs.DeliverLemmas.{copies_off, first_in_order, from_within, picked_at, picked_of, quiet_seen, to_within, Takes-delivered}
 use Rattle.line_world.proofs.OpeningLemmas.{none_listed, AreRounds-kept, AreRounds-renewed}
 use Rattle.line_world.proofs.PaintLemmas.{ArePainted-take}
+use Rattle.line_world.proofs.StepLemmas.{may_deliver}
 use Rattle.line_world.proofs.WorldLemmas.{seen, IsWorld-held, IsWorld-take}
 use Rattle.line_world.proofs.worlds.World.take.Goals as goal
 
@@ -63,8 +64,9 @@ take_message-requires-clause-held c =
     let f_in : from < length history = from_within mode history marks last rounds links c.args.self.now view c.self.invariant.0 from to c.args.pick c.args._state.now (Message m) c.requires.passed c.requires.picked in
     let t_in : to < length history = to_within mode history marks last rounds links c.args.self.now view c.self.invariant.0 from to c.args.pick c.args._state.now (Message m) c.requires.passed c.requires.picked in
     let first = first_in_order mode history marks last rounds links c.args.self.now view c.self.invariant.0 from to c.args.pick c.args._state.now (Message m) c.requires.passed c.requires.picked in
+    let apart : from ≢ to = (may_deliver c.args.self.now from to c.args.pick c.args._state.now c.requires.passed).apart in
     let fate_here : fate_of mode history to m ≡ Taken = ap (λ (v : Machine). fate_of v.mode v.history to m) view ∙ c.requires.taken in
-    IsWorld-held history links from to f_in t_in m named c.args.pick at mode c.self.invariant.0 first fate_here
+    IsWorld-held history links from to f_in t_in m named c.args.pick at apart mode c.self.invariant.0 first fate_here
 
 pub invariant_of-self : goal.invariant_of-self
 invariant_of-self c =
@@ -99,6 +101,7 @@ invariant_of-self-2 c =
     let f_in : from < length history = from_within mode history marks last rounds links c.args.self.now view c.self.invariant.0 from to c.args.pick c.args._state.now (Message m) c.requires.passed c.requires.picked in
     let t_in : to < length history = to_within mode history marks last rounds links c.args.self.now view c.self.invariant.0 from to c.args.pick c.args._state.now (Message m) c.requires.passed c.requires.picked in
     let first = first_in_order mode history marks last rounds links c.args.self.now view c.self.invariant.0 from to c.args.pick c.args._state.now (Message m) c.requires.passed c.requires.picked in
+    let apart : from ≢ to = (may_deliver c.args.self.now from to c.args.pick c.args._state.now c.requires.passed).apart in
     let fate_here : fate_of mode history to m ≡ Taken = ap (λ (v : Machine). fate_of v.mode v.history to m) view ∙ c.requires.taken in
     let e : Event = Recv m in
     let turning : Option TurningView = c.self.inside.turning in
@@ -108,7 +111,7 @@ invariant_of-self-2 c =
     let opening : IsOpening mode (with_event history to e) new = subst (λ (h : List Process). IsOpening mode h new) taken (c.in_ok-take_message.ensures.opening turning c.self.invariant.1.opening) in (
       subst (λ (h : List Process). IsWorld mode h c.take_message.new.links) (sym taken)
           (subst (λ (q : List (List (List Item))). IsWorld mode (with_event history to e) q) (sym c.in_ok-take_message.ensures.off)
-          (IsWorld-take history links from to f_in t_in m named c.args.pick at mode c.self.invariant.0 first fate_here)),
+          (IsWorld-take history links from to f_in t_in m named c.args.pick at apart mode c.self.invariant.0 first fate_here)),
       subst (λ (h : List Process). AreRounds mode h last new rounds) (sym taken)
           (AreRounds-kept history to e t_in (λ r. refl) (λ r p. refl) mode last old new rounds (c.in_ok-take_message.ensures.number turning) opening c.self.invariant.1),
       subst (λ (h : List Process). ArePainted mode h c.self.inside.colours) (sym taken)
