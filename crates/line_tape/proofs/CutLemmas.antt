@@ -1,5 +1,6 @@
 -- What a restart leaves of the events of one tape, and that it is no more than there was.
 use Rattle.std.proofs.Common.{◌≡◌, ℕ, zero, suc, ◌+◌, ◌<◌, ◌≤◌, Bool, true, false, cond, List, [], ◌∷◌, ◌++◌, length, take, drop, get_or, Option, Some, None, refl, sym, ap, ◌∙◌, subst, arith, ◌⊎◌, inl, inr}
+use Rattle.std.specs.Prelude.{◌-◌, min}
 use Rattle.std.specs.List.{All, Contains, filter_map, cons_option}
 use Rattle.std.specs.List.Retain.{RetainsInTurn}
 use Rattle.std.proofs.lemmas.List.{length-take, length_push, take_more, take-append-drop}
@@ -146,3 +147,11 @@ IsTape-take events n t = record { few = omega (arith, t.few, length-take n event
 -- what is received in a front is received
 pub received_take : (events : List Event) (n : ℕ) (m : MsgName) → Contains (take n events) (Recv m) → Contains events (Recv m)
 received_take events n m c = subst (λ (xs : List Event). Contains xs (Recv m)) (take-append-drop n events) (Contains-append_left (take n events) (drop n events) (Recv m) c)
+
+-- no less is left where there is no less and no more of it is taken
+pub left_more : (all taken all' taken' : ℕ) → all ≤ all' → taken' ≤ taken → all - taken ≤ all' - taken'
+left_more all taken all' taken' more fewer = omega arith
+
+-- the lesser of two does not fall where neither does
+pub min_more : (a b a' b' : ℕ) → a ≤ a' → b ≤ b' → min a b ≤ min a' b'
+min_more a b a' b' h k = omega arith

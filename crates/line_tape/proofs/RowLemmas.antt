@@ -1,6 +1,6 @@
 -- How places, sends and rows grow with the events.
-use Rattle.std.proofs.Common.{◌≡◌, ◌≢◌, ℕ, zero, suc, ◌+◌, ◌-◌, ◌<◌, ◌≤◌, true, false, cond, List, [], ◌∷◌, ◌++◌, length, take, drop, get_or, Some, None, refl, sym, ap, ◌∙◌, subst, arith, inl, inr}
-use Rattle.std.specs.List.{cons_option, slice_get}
+use Rattle.std.proofs.Common.{◌≡◌, ◌≢◌, ℕ, zero, suc, ◌+◌, ◌-◌, ◌<◌, ◌≤◌, true, false, cond, List, [], ◌∷◌, ◌++◌, length, take, drop, get_or, Option, Some, None, refl, sym, ap, ◌∙◌, subst, arith, inl, inr}
+use Rattle.std.specs.List.{cons_option, filter_map, slice_get}
 use Rattle.std.proofs.lemmas.Bool.{cases_lt}
 use Rattle.std.proofs.lemmas.List.{length_push, get_or-take, take-append-drop, take_at, take_all, take-append-le, get_or_append_left, get_or_push, append-nil}
 use Rattle.std.proofs.lemmas.List.Elements.{filter_map-append}
@@ -11,6 +11,7 @@ use Rattle.line_tape.specs.declared.tapes.CheckRow.{CheckRow}
 use Rattle.line_tape.specs.Event.{is_check, checks, incarnations_sent, incarnation_of, state_of, stored_state}
 use Rattle.line_tape.specs.Front.{check_place}
 use Rattle.line_tape.specs.Kept.{IsRow, AreRows}
+use Rattle.line_tape.specs.Transit.{addressee_of}
 use Rattle.line_tape.proofs.FrontLemmas.{check_place-le}
 
 -- a tape has no more sends than events
@@ -71,46 +72,54 @@ IsRow-push events e c row h r =
       sends_is = r.sends_is ∙ ap (λ xs. length (incarnations_sent xs)) (sym front_same) ∙ ap (λ n. length (incarnations_sent (take n (events ++ e ∷ [])))) (sym same);
     }
 
+-- what is told of the events, once one is added that tells nothing
+told-none : {X : Type 0} (tell : Event → Option X) (events : List Event) (e : Event) → tell e ≡ None → filter_map tell (events ++ e ∷ []) ≡ filter_map tell events
+told-none tell events e none = filter_map-append tell events (e ∷ []) ∙ ap (λ o. filter_map tell events ++ cons_option o []) none ∙ append-nil (filter_map tell events)
+
+-- and once one is added that does
+told-some : {X : Type 0} (tell : Event → Option X) (events : List Event) (e : Event) (x : X) → tell e ≡ Some x → filter_map tell (events ++ e ∷ []) ≡ filter_map tell events ++ x ∷ []
+told-some tell events e x some = filter_map-append tell events (e ∷ []) ∙ ap (λ o. filter_map tell events ++ cons_option o []) some
+
 -- the row of a check that is added
 pub IsRow-last : (events : List Event) (e : Event) (row : CheckRow) → is_check e ≡ true → incarnation_of e ≡ None → row.place ≡ length events + 1 → row.sends ≡ length (incarnations_sent events) → IsRow (events ++ e ∷ []) (checks events) row
 IsRow-last events e row h none p s =
     let last = check_place-last events e h in
     let whole : take (check_place (events ++ e ∷ []) (suc (checks events))) (events ++ e ∷ []) ≡ events ++ e ∷ [] = take_all _ (events ++ e ∷ []) (omega (arith, last, length_push events e)) in
-    let sent : incarnations_sent (events ++ e ∷ []) ≡ incarnations_sent events = filter_map-append incarnation_of events (e ∷ []) ∙ ap (λ o. incarnations_sent events ++ cons_option o []) none ∙ append-nil (incarnations_sent events) in
+    let sent : incarnations_sent (events ++ e ∷ []) ≡ incarnations_sent events = told-none incarnation_of events e none in
     record {
       place_is = p ∙ sym last;
       sends_is = s ∙ ap length (sym sent) ∙ ap (λ xs. length (incarnations_sent xs)) (sym whole);
     }
 
 -- an event that is no check and no send
-pub AreRows-other : (events : List Event) (e : Event) (rows : List CheckRow) (incarnations : List ℕ) → is_check e ≡ false → incarnation_of e ≡ None → AreRows events rows incarnations → AreRows (events ++ e ∷ []) rows incarnations
-AreRows-other events e rows incarnations h none r =
-    let sent : incarnations_sent (events ++ e ∷ []) ≡ incarnations_sent events = filter_map-append incarnation_of events (e ∷ []) ∙ ap (λ o. incarnations_sent events ++ cons_option o []) none ∙ append-nil (incarnations_sent events) in
+pub AreRows-other : (events : List Event) (e : Event) (rows : List CheckRow) (incarnations addressed : List ℕ) → is_check e ≡ false → incarnation_of e ≡ None → addressee_of e ≡ None → AreRows events rows incarnations addressed → AreRows (events ++ e ∷ []) rows incarnations addressed
+AreRows-other events e rows incarnations addressed h none no_one r =
     let more : checks (events ++ e ∷ []) ≡ checks events + 0 = checks-push events e ∙ ap (λ b. checks events + cond b 1 0) h in
     record {
-      sent = r.sent ∙ sym sent;
+      sent = r.sent ∙ sym (told-none incarnation_of events e none);
+      named = r.named ∙ sym (told-none addressee_of events e no_one);
       count = omega (arith, r.count, more);
       each = λ c d k. IsRow-push events e c (get_or rows c d) (omega (arith, r.count)) (r.each c d k);
     }
 
 -- a send
-pub AreRows-send : (events : List Event) (e : Event) (rows : List CheckRow) (incarnations : List ℕ) (inc : ℕ) → is_check e ≡ false → incarnation_of e ≡ Some inc → AreRows events rows incarnations → AreRows (events ++ e ∷ []) rows (incarnations ++ inc ∷ [])
-AreRows-send events e rows incarnations inc h some r =
-    let sent : incarnations_sent (events ++ e ∷ []) ≡ incarnations_sent events ++ inc ∷ [] = filter_map-append incarnation_of events (e ∷ []) ∙ ap (λ o. incarnations_sent events ++ cons_option o []) some in
+pub AreRows-send : (events : List Event) (e : Event) (rows : List CheckRow) (incarnations addressed : List ℕ) (inc to : ℕ) → is_check e ≡ false → incarnation_of e ≡ Some inc → addressee_of e ≡ Some to → AreRows events rows incarnations addressed → AreRows (events ++ e ∷ []) rows (incarnations ++ inc ∷ []) (addressed ++ to ∷ [])
+AreRows-send events e rows incarnations addressed inc to h some one r =
     let more : checks (events ++ e ∷ []) ≡ checks events + 0 = checks-push events e ∙ ap (λ b. checks events + cond b 1 0) h in
     record {
-      sent = ap (λ xs. xs ++ inc ∷ []) r.sent ∙ sym sent;
+      sent = ap (λ xs. xs ++ inc ∷ []) r.sent ∙ sym (told-some incarnation_of events e inc some);
+      named = ap (λ xs. xs ++ to ∷ []) r.named ∙ sym (told-some addressee_of events e to one);
       count = omega (arith, r.count, more);
       each = λ c d k. IsRow-push events e c (get_or rows c d) (omega (arith, r.count)) (r.each c d k);
     }
 
 -- a check
-pub AreRows-check : (events : List Event) (e : Event) (rows : List CheckRow) (incarnations : List ℕ) (row : CheckRow) → is_check e ≡ true → incarnation_of e ≡ None → row.place ≡ length events + 1 → row.sends ≡ length incarnations → AreRows events rows incarnations → AreRows (events ++ e ∷ []) (rows ++ row ∷ []) incarnations
-AreRows-check events e rows incarnations row h none p s r =
-    let sent : incarnations_sent (events ++ e ∷ []) ≡ incarnations_sent events = filter_map-append incarnation_of events (e ∷ []) ∙ ap (λ o. incarnations_sent events ++ cons_option o []) none ∙ append-nil (incarnations_sent events) in
+pub AreRows-check : (events : List Event) (e : Event) (rows : List CheckRow) (incarnations addressed : List ℕ) (row : CheckRow) → is_check e ≡ true → incarnation_of e ≡ None → addressee_of e ≡ None → row.place ≡ length events + 1 → row.sends ≡ length incarnations → AreRows events rows incarnations addressed → AreRows (events ++ e ∷ []) (rows ++ row ∷ []) incarnations addressed
+AreRows-check events e rows incarnations addressed row h none no_one p s r =
     let more : checks (events ++ e ∷ []) ≡ checks events + 1 = checks-push events e ∙ ap (λ b. checks events + cond b 1 0) h in
     record {
-      sent = r.sent ∙ sym sent;
+      sent = r.sent ∙ sym (told-none incarnation_of events e none);
+      named = r.named ∙ sym (told-none addressee_of events e no_one);
       count = omega (arith, r.count, more, length_push rows row);
       each = λ c d k. elim (cases_lt c (length rows)) [
         | inl l ↦ subst (IsRow (events ++ e ∷ []) c) (sym (get_or_append_left rows (row ∷ []) d c l)) (IsRow-push events e c (get_or rows c d) (omega (arith, r.count)) (r.each c d l))
@@ -148,21 +157,21 @@ state_at (Check state round ∷ es) (suc c) d h =
     ap state_of (get_or-behind (Check state round) es (check_place es (suc c)) d (check_place-some es c within)) ∙ state_at es c d within
 
 -- the row of a check
-pub row_of : (events : List Event) (rows : List CheckRow) (incarnations : List ℕ) (check : ℕ) (row : CheckRow) → check ≢ 0 → check ≤ checks events → AreRows events rows incarnations → row ≡ get_or rows (check - 1) row → row.place ≡ check_place events check
-row_of events rows incarnations zero row some within are is = absurd (some refl)
-row_of events rows incarnations (suc c) row some within are is =
+pub row_of : (events : List Event) (rows : List CheckRow) (incarnations addressed : List ℕ) (check : ℕ) (row : CheckRow) → check ≢ 0 → check ≤ checks events → AreRows events rows incarnations addressed → row ≡ get_or rows (check - 1) row → row.place ≡ check_place events check
+row_of events rows incarnations addressed zero row some within are is = absurd (some refl)
+row_of events rows incarnations addressed (suc c) row some within are is =
     let index : suc c - 1 ≡ c = omega arith in
     let at : row ≡ get_or rows c row = is ∙ ap (λ k. get_or rows k row) index in
     subst (λ (r : CheckRow). r.place ≡ check_place events (suc c)) (sym at) ((are.each c row (omega (arith, are.count))).place_is)
 
 -- the row of a check leads to an event
-pub row_within : (events : List Event) (rows : List CheckRow) (incarnations : List ℕ) (check : ℕ) (row : CheckRow) → check ≢ 0 → check ≤ checks events → AreRows events rows incarnations → row ≡ get_or rows (check - 1) row → row.place - 1 < length events
-row_within events rows incarnations zero row some within are is = absurd (some refl)
-row_within events rows incarnations (suc c) row some within are is =
-    omega (arith, row_of events rows incarnations (suc c) row some within are is, check_place-le events (suc c), check_place-some events c within)
+pub row_within : (events : List Event) (rows : List CheckRow) (incarnations addressed : List ℕ) (check : ℕ) (row : CheckRow) → check ≢ 0 → check ≤ checks events → AreRows events rows incarnations addressed → row ≡ get_or rows (check - 1) row → row.place - 1 < length events
+row_within events rows incarnations addressed zero row some within are is = absurd (some refl)
+row_within events rows incarnations addressed (suc c) row some within are is =
+    omega (arith, row_of events rows incarnations addressed (suc c) row some within are is, check_place-le events (suc c), check_place-some events c within)
 
 -- that event stores what is stored with the check
-pub row_state : (events : List Event) (rows : List CheckRow) (incarnations : List ℕ) (check : ℕ) (row : CheckRow) (event : Event) → check ≢ 0 → check ≤ checks events → AreRows events rows incarnations → row ≡ get_or rows (check - 1) row → event ≡ get_or events (row.place - 1) event → state_of event ≡ Some (stored_state events check)
-row_state events rows incarnations zero row event some within are is at = absurd (some refl)
-row_state events rows incarnations (suc c) row event some within are is at =
-    ap state_of (at ∙ ap (λ k. get_or events (k - 1) event) (row_of events rows incarnations (suc c) row some within are is)) ∙ state_at events c event within
+pub row_state : (events : List Event) (rows : List CheckRow) (incarnations addressed : List ℕ) (check : ℕ) (row : CheckRow) (event : Event) → check ≢ 0 → check ≤ checks events → AreRows events rows incarnations addressed → row ≡ get_or rows (check - 1) row → event ≡ get_or events (row.place - 1) event → state_of event ≡ Some (stored_state events check)
+row_state events rows incarnations addressed zero row event some within are is at = absurd (some refl)
+row_state events rows incarnations addressed (suc c) row event some within are is at =
+    ap state_of (at ∙ ap (λ k. get_or events (k - 1) event) (row_of events rows incarnations addressed (suc c) row some within are is)) ∙ state_at events c event within

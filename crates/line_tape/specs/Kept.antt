@@ -10,15 +10,17 @@ use Rattle.line_tape.specs.declared.tapes.CheckRow.{CheckRow}
 use Rattle.line_tape.specs.Event.{checks, incarnations_sent, sends}
 use Rattle.line_tape.specs.Front.{check_place}
 use Rattle.line_tape.specs.History.{IsTape}
+use Rattle.line_tape.specs.Transit.{addressees}
 
 -- the row of the check that stands at this index, counted from 0
 pub record IsRow (events : List Event) (index : ℕ) (row : CheckRow) : Type 0 where
   pub place_is : row.place ≡ check_place events (suc index)
   pub sends_is : row.sends ≡ sends (take (check_place events (suc index)) events)
 
--- one row for each check, and the incarnation of each send
-pub record AreRows (events : List Event) (rows : List CheckRow) (incarnations : List ℕ) : Type 0 where
+-- one row for each check, and the incarnation and the addressee of each send
+pub record AreRows (events : List Event) (rows : List CheckRow) (incarnations addressed : List ℕ) : Type 0 where
   pub sent : incarnations ≡ incarnations_sent events
+  pub named : addressed ≡ addressees events
   pub count : length rows ≡ checks events
   pub each : (index : ℕ) (d : CheckRow) → index < length rows → IsRow events index (slice_index_or rows index d)
 
@@ -49,7 +51,7 @@ abbrev pub AreApart : Receipts → Type 0
 AreApart receipts = IsUnique is_name receipts.first
 
 -- the events of a tape, and an index that answers for them
-pub record IsIndexed (events : List Event) (rows : List CheckRow) (incarnations : List ℕ) (receipts : Receipts) : Type 0 where
+pub record IsIndexed (events : List Event) (rows : List CheckRow) (incarnations addressed : List ℕ) (receipts : Receipts) : Type 0 where
   pub tape : IsTape events
-  pub checked : AreRows events rows incarnations
+  pub checked : AreRows events rows incarnations addressed
   pub received : AreFirst events (first_place receipts)

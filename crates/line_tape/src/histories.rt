@@ -3,6 +3,7 @@ ghost use Rattle.std.specs.Prelude.{◌≡◌, ◌≢◌, ◌<◌, ◌≤◌, �
 ghost use Rattle.line_tape.specs.Event.{HasLongState, NamesBelow};
 ghost use Rattle.line_tape.specs.History.{fresh, process_at, tape_at, incarnation_at, with_event, with_incarnation, IsProcess, IsHistory};
 ghost use Rattle.line_tape.specs.Plain.{plain};
+ghost use Rattle.line_tape.specs.Transit.{addressee};
 ghost use Rattle.line_tape.specs.Views.{room_at};
 
 mod restarts;
@@ -10,7 +11,7 @@ mod restarts;
 use crate::events::Event;
 use crate::limits::{MOST_EVENTS, MOST_STATE};
 use crate::tapes::{Tape, TapeError};
-use line_names::{MOST_PROCESSES, ProcId};
+use line_names::{MOST_PROCESSES, MsgName, ProcId};
 use std::alloc::{AllocError, Global};
 use std::error::Error;
 use std::fmt;
@@ -88,6 +89,16 @@ impl History {
         ensures limits { IsProcess (length self.now.processes) (process_at self.now.processes p) }
     {
         &self.processes[p.get() as usize].tape
+    }
+
+    /// The process that a message's send names; none where the sender's tape has no send of that number.
+    pub fn addressee(&self, message: &MsgName) -> Option<ProcId>
+        ensures { result ≡ addressee self.now.processes message.now }
+    {
+        match self.processes.get(message.from.get() as usize) {
+            Some(process) => process.tape.addressee(message.number),
+            None => None,
+        }
     }
 
     /// The incarnation under which a process goes on.

@@ -7,13 +7,14 @@ ghost use Rattle.line_tape.specs.Event.{is_check, incarnation_of, checks, sends,
 ghost use Rattle.line_tape.specs.Front.{place, front, HasChoice};
 ghost use Rattle.line_tape.specs.History.{IsTape};
 ghost use Rattle.line_tape.specs.Kept.{AreRows};
+ghost use Rattle.line_tape.specs.Transit.{addressees};
 
 mod cuts;
 
 use crate::events::Event;
 use crate::limits::{MOST_EVENTS, MOST_STATE};
 use crate::receipts::Receipts;
-use line_names::{Choice, MOST_BODY, MsgName};
+use line_names::{Choice, MOST_BODY, MsgName, ProcId};
 use std::alloc::{AllocError, Global};
 use std::error::Error;
 use std::fmt;
@@ -28,12 +29,13 @@ pub struct CheckRow {
 
 /// The events of one process, in their order.
 ///
-/// Beside them it keeps where its checks stand, the incarnations of its sends and where each message was first received, so that no question scans the events.
+/// Beside them it keeps where its checks stand, the incarnations and the addressees of its sends and where each message was first received, so that no question scans the events.
 #[derive(Drop)]
 pub struct Tape {
     events: Vec<Event>,
     checks: Vec<CheckRow>,
     incarnations: Vec<u16>,
+    addressees: Vec<ProcId>,
     receipts: Receipts,
 }
 
@@ -48,10 +50,11 @@ impl Model for Tape {
     ghost view = { λ t. record {
       events = t.events.items;
       room = min (min (vec_capacity t.events - vec_len t.events) (receipts_room t.receipts))
-          (min (vec_capacity t.checks - vec_len t.checks) (vec_capacity t.incarnations - vec_len t.incarnations));
+          (min (vec_capacity t.checks - vec_len t.checks)
+          (min (vec_capacity t.incarnations - vec_len t.incarnations) (vec_capacity t.addressees - vec_len t.addressees)));
     } };
 
-    ghost invariant = { λ t. IsIndexed t.events.items t.checks.items t.incarnations.items t.receipts };
+    ghost invariant = { λ t. IsIndexed t.events.items t.checks.items t.incarnations.items t.addressees.items t.receipts };
 }
 
 /// Whether the event stores or carries more than a tape takes. A body never does.
@@ -68,24 +71,28 @@ fn is_too_long(event: &Event) -> bool
 }
 
 #[tactic(auto, using(crate::proofs::RowLemmas::sends_le))]
-/// Keeps the rows and the incarnations right for an event that is added, where there is room for it.
+/// Keeps the rows, the incarnations and the addressees right for an event that is added, where there is room for it.
 fn note_event(
     event: &Event,
     events: &[Event],
     checks: &mut Vec<CheckRow>,
     incarnations: &mut Vec<u16>,
+    addressees: &mut Vec<ProcId>,
 )
-    requires rows { AreRows events.now checks.old.items incarnations.old.items }
+    requires rows { AreRows events.now checks.old.items incarnations.old.items addressees.old.items }
     requires few { length events.now < MOST_EVENTS }
     requires checks_room { is_check event.now ≡ true → vec_len checks.old < vec_capacity checks.old }
-    requires sends_room { (inc : ℕ) → incarnation_of event.now ≡ Some inc → vec_len incarnations.old < vec_capacity incarnations.old }
-    ensures rows { AreRows (events.now ++ event.now ∷ []) checks.new.items incarnations.new.items }
+    requires sends_room { (inc : ℕ) → incarnation_of event.now ≡ Some inc
+        → (vec_len incarnations.old < vec_capacity incarnations.old) × (vec_len addressees.old < vec_capacity addressees.old) }
+    ensures rows { AreRows (events.now ++ event.now ∷ []) checks.new.items incarnations.new.items addressees.new.items }
     ensures checks_room { (vec_capacity checks.old ≤ vec_capacity checks.new) × (vec_len checks.new ≤ vec_len checks.old + 1) }
     ensures sends_room { (vec_capacity incarnations.old ≤ vec_capacity incarnations.new) × (vec_len incarnations.new ≤ vec_len incarnations.old + 1) }
+    ensures addressees_room { (vec_capacity addressees.old ≤ vec_capacity addressees.new) × (vec_len addressees.new ≤ vec_len addressees.old + 1) }
 {
     match event {
-        Event::Send { inc, .. } => {
+        Event::Send { to, inc, .. } => {
             incarnations.push(*inc).unwrap();
+            addressees.push(*to).unwrap();
         }
         Event::Check { .. } => {
             let row = CheckRow {
@@ -108,6 +115,7 @@ impl Tape {
             events: Vec::new(alloc),
             checks: Vec::new(alloc),
             incarnations: Vec::new(alloc),
+            addressees: Vec::new(alloc),
             receipts: Receipts::new(alloc),
         }
     }
@@ -133,6 +141,13 @@ impl Tape {
         ensures { slice_get self.now.events i ≡ Some result.now }
     {
         &self.events[i as usize]
+    }
+
+    /// The process that the send of that number, counted from 0, names.
+    pub fn addressee(&self, number: u32) -> Option<ProcId>
+        ensures { result ≡ slice_get (addressees self.now.events) number }
+    {
+        self.addressees.get(number as usize).copied()
     }
 
     /// How many sends it has.
@@ -238,6 +253,7 @@ impl Tape {
         self.events.reserve(k as usize)?;
         self.checks.reserve(k as usize)?;
         self.incarnations.reserve(k as usize)?;
+        self.addressees.reserve(k as usize)?;
         self.receipts.reserve(k as usize)
     }
 
@@ -255,6 +271,7 @@ impl Tape {
             &self.events,
             &mut self.checks,
             &mut self.incarnations,
+            &mut self.addressees,
         );
         self.receipts.note(&event, place);
         self.events.push(event).unwrap();

@@ -10,7 +10,7 @@ ghost use Rattle.line_tape.specs.Restart.{restarted_event};
 use super::{CheckRow, Tape, note_event};
 use crate::events::Event;
 use crate::limits::MOST_EVENTS;
-use line_names::Choice;
+use line_names::{Choice, ProcId};
 
 /// Takes the round off a check, and tells whether the event stays: marks don't.
 fn restart_event(event: &mut Event) -> bool
@@ -36,19 +36,27 @@ fn restart_events(events: &mut Vec<Event>)
     events.retain_mut(|event| restart_event(event));
 }
 
-/// Keeps the rows and the incarnations of these events in place of others, in the room that those leave.
-fn note_events(events: &[Event], rows: &mut Vec<CheckRow>, incarnations: &mut Vec<u16>)
+/// Keeps the rows, the incarnations and the addressees of these events in place of others, in the room that those leave.
+fn note_events(
+    events: &[Event],
+    rows: &mut Vec<CheckRow>,
+    incarnations: &mut Vec<u16>,
+    addressees: &mut Vec<ProcId>,
+)
     requires few { length events.now ≤ MOST_EVENTS }
     requires rows_room { checks events.now ≤ vec_capacity rows.old }
     requires sends_room { sends events.now ≤ vec_capacity incarnations.old }
-    ensures rows { AreRows events.now rows.new.items incarnations.new.items }
+    requires addressees_room { sends events.now ≤ vec_capacity addressees.old }
+    ensures rows { AreRows events.now rows.new.items incarnations.new.items addressees.new.items }
     ensures rows_room { vec_capacity rows.old ≤ vec_capacity rows.new }
     ensures sends_room { vec_capacity incarnations.old ≤ vec_capacity incarnations.new }
+    ensures addressees_room { vec_capacity addressees.old ≤ vec_capacity addressees.new }
 {
     rows.clear();
     incarnations.clear();
+    addressees.clear();
     for i in 0..events.len() {
-        note_event(&events[i], &events[..i], rows, incarnations);
+        note_event(&events[i], &events[..i], rows, incarnations, addressees);
     }
 }
 
@@ -65,7 +73,12 @@ impl Tape {
         let end = self.front(choice).len();
         self.events.truncate(end);
         restart_events(&mut self.events);
-        note_events(&self.events, &mut self.checks, &mut self.incarnations);
+        note_events(
+            &self.events,
+            &mut self.checks,
+            &mut self.incarnations,
+            &mut self.addressees,
+        );
         self.receipts.restart(&self.events);
     }
 }

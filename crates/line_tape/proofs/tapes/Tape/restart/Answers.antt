@@ -10,7 +10,8 @@ use Rattle.line_tape.specs.History.{IsTape}
 use Rattle.line_tape.specs.Kept.{AreRows, AreFirst, first_place, receipts_room}
 use Rattle.line_tape.specs.Restart.{restarted_event}
 use Rattle.line_tape.specs.Views.{TapeView}
-use Rattle.line_tape.proofs.CutLemmas.{take_length-take, checks_left, sent_left, checks_take, sends_take, IsTape-take, IsTape-restarted, received_left, received_take}
+use Rattle.line_tape.proofs.CopyLemmas.{length_addressees}
+use Rattle.line_tape.proofs.CutLemmas.{left_more, min_more, take_length-take, checks_left, sent_left, checks_take, sends_take, IsTape-take, IsTape-restarted, received_left, received_take}
 use Rattle.line_tape.proofs.RoomLemmas.{place_kept}
 use Rattle.line_tape.proofs.tapes.Tape.restart.Goals as goal
 
@@ -28,6 +29,13 @@ note_events-requires-clause-sends_room c =
     let left : c.deref.result.now ≡ filter_map restarted_event (take n items) = c.deref.ensures.value ∙ c.restart_events.ensures.items ∙ ap (filter_map restarted_event) c.truncate.ensures.items in
     omega (arith, ap (λ (xs : List Event). sends xs) left, ap length (sent_left (take n items)), sends_take items n, ap length c.self.invariant.checked.sent, c.self.inside.incarnations.ok.0, c.self.inside.incarnations.ok.1)
 
+pub note_events-requires-clause-addressees_room : goal.note_events-requires-clause-addressees_room
+note_events-requires-clause-addressees_room c =
+    let items : List Event = c.self.inside.events.items in
+    let n : ℕ = length c.front-end.result.now in
+    let left : c.deref.result.now ≡ filter_map restarted_event (take n items) = c.deref.ensures.value ∙ c.restart_events.ensures.items ∙ ap (filter_map restarted_event) c.truncate.ensures.items in
+    omega (arith, ap (λ (xs : List Event). sends xs) left, ap length (sent_left (take n items)), sends_take items n, length_addressees items, ap length c.self.invariant.checked.named, c.self.inside.addressees.ok.0, c.self.inside.addressees.ok.1)
+
 pub restart-requires-clause-known : goal.restart-requires-clause-known
 restart-requires-clause-known c = λ message received.
     let items : List Event = c.self.inside.events.items in
@@ -42,7 +50,7 @@ invariant_of-self c =
     let left : c.restart_events.new.events.items ≡ filter_map restarted_event (take n items) = c.restart_events.ensures.items ∙ ap (filter_map restarted_event) c.truncate.ensures.items in
     record {
       tape = subst IsTape (sym left) (IsTape-restarted (take n items) (IsTape-take items n c.self.invariant.tape));
-      checked = subst (λ (xs : List Event). AreRows xs c.note_events.new.rows.items c.note_events.new.incarnations.items) c.deref.ensures.value c.note_events.ensures.rows;
+      checked = subst (λ (xs : List Event). AreRows xs c.note_events.new.rows.items c.note_events.new.incarnations.items c.note_events.new.addressees.items) c.deref.ensures.value c.note_events.ensures.rows;
       received = subst (λ (xs : List Event). AreFirst xs (first_place c.restart.new.self)) c.deref-2.ensures.value c.restart.ensures.first;
     }
 
@@ -58,10 +66,12 @@ returns-clause-room c =
     let items : List Event = c.self.inside.events.items in
     let n : ℕ = length c.front-end.result.now in
     let left : c.deref.result.now ≡ filter_map restarted_event (take n items) = c.deref.ensures.value ∙ c.restart_events.ensures.items ∙ ap (filter_map restarted_event) c.truncate.ensures.items in
-    let room : c.args.self.now.room ≡ min (min (vec_capacity c.self.inside.events - vec_len c.self.inside.events) (receipts_room c.self.inside.receipts)) (min (vec_capacity c.self.inside.checks - vec_len c.self.inside.checks) (vec_capacity c.self.inside.incarnations - vec_len c.self.inside.incarnations)) = ap (λ (t : TapeView). t.room) (sym c.self.view_is) in
+    let room : c.args.self.now.room ≡ min (min (vec_capacity c.self.inside.events - vec_len c.self.inside.events) (receipts_room c.self.inside.receipts)) (min (vec_capacity c.self.inside.checks - vec_len c.self.inside.checks) (min (vec_capacity c.self.inside.incarnations - vec_len c.self.inside.incarnations) (vec_capacity c.self.inside.addressees - vec_len c.self.inside.addressees))) = ap (λ (t : TapeView). t.room) (sym c.self.view_is) in
     let fewer_checks : vec_len c.note_events.new.rows ≤ vec_len c.self.inside.checks = omega (arith, ap checks left, checks_left (take n items), checks_take items n, c.self.invariant.checked.count, c.self.inside.checks.ok.0, c.note_events.ensures.rows.count, c.note_events.new.rows.ok.0) in
     let fewer_sends : vec_len c.note_events.new.incarnations ≤ vec_len c.self.inside.incarnations = omega (arith, ap (λ (xs : List Event). sends xs) left, ap length (sent_left (take n items)), sends_take items n, ap length c.self.invariant.checked.sent, c.self.inside.incarnations.ok.0, ap length c.note_events.ensures.rows.sent, c.note_events.new.incarnations.ok.0) in
-    omega (arith, room, fewer_checks, fewer_sends, c.truncate.ensures.len, c.truncate.ensures.capacity, c.restart_events.ensures.few, c.restart_events.ensures.capacity, c.note_events.ensures.rows_room, c.note_events.ensures.sends_room, c.restart.ensures.room)
+    let fewer_named : vec_len c.note_events.new.addressees ≤ vec_len c.self.inside.addressees = omega (arith, ap (λ (xs : List Event). sends xs) left, ap length (sent_left (take n items)), sends_take items n, length_addressees items, length_addressees c.deref.result.now, ap length c.self.invariant.checked.named, c.self.inside.addressees.ok.0, ap length c.note_events.ensures.rows.named, c.note_events.new.addressees.ok.0) in
+    let events : vec_capacity c.self.inside.events - vec_len c.self.inside.events ≤ vec_capacity c.restart_events.new.events - vec_len c.restart_events.new.events = left_more _ _ _ _ (omega (arith, c.truncate.ensures.capacity, c.restart_events.ensures.capacity)) (omega (arith, c.truncate.ensures.len, c.restart_events.ensures.few)) in
+    subst (λ (r : ℕ). r ≤ min (min (vec_capacity c.restart_events.new.events - vec_len c.restart_events.new.events) (receipts_room c.restart.new.self)) (min (vec_capacity c.note_events.new.rows - vec_len c.note_events.new.rows) (min (vec_capacity c.note_events.new.incarnations - vec_len c.note_events.new.incarnations) (vec_capacity c.note_events.new.addressees - vec_len c.note_events.new.addressees)))) (sym room) (min_more _ _ _ _ (min_more _ _ _ _ events c.restart.ensures.room) (min_more _ _ _ _ (left_more _ _ _ _ c.note_events.ensures.rows_room fewer_checks) (min_more _ _ _ _ (left_more _ _ _ _ c.note_events.ensures.sends_room fewer_sends) (left_more _ _ _ _ c.note_events.ensures.addressees_room fewer_named))))
 
 pub returns-clause-events : goal.returns-clause-events
 returns-clause-events c =

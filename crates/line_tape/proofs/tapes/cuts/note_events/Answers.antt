@@ -1,7 +1,8 @@
 -- There is room, since no more is noted than there are checks and sends.
-use Rattle.std.proofs.Common.{◌<◌, List, length, sym, ap, ◌∙◌, arith}
+use Rattle.std.proofs.Common.{◌<◌, List, length, take, sym, ap, ◌∙◌, arith}
 use Rattle.line_tape.specs.declared.events.Event.{Event}
 use Rattle.line_tape.specs.Event.{is_check, incarnation_of}
+use Rattle.line_tape.proofs.CopyLemmas.{length_addressees}
 use Rattle.line_tape.proofs.CutLemmas.{checks_further, sends_further}
 use Rattle.line_tape.proofs.tapes.cuts.note_events.Goals as goal
 
@@ -15,4 +16,5 @@ pub note_event-requires-clause-sends_room : goal.note_event-requires-clause-send
 note_event-requires-clause-sends_room c = λ inc is.
     let events : List Event = c.args.events.now in
     let within : c.loop-i.i < length events = omega arith in
-    omega (arith, ap length c.loop-i.invariant.0.sent, c.loop-i.invariant.2, c.loop-i.incarnations.ok.0, c.requires.sends_room, sends_further events c.loop-i.i inc c.index-events-i.result within (ap incarnation_of (sym c.index-events-i.is) ∙ is))
+    let further = sends_further events c.loop-i.i inc c.index-events-i.result within (ap incarnation_of (sym c.index-events-i.is) ∙ is) in
+    (omega (arith, ap length c.loop-i.invariant.0.sent, c.loop-i.invariant.2, c.loop-i.incarnations.ok.0, c.requires.sends_room, further), omega (arith, ap length c.loop-i.invariant.0.named, length_addressees (take c.loop-i.i events), c.loop-i.invariant.3, c.loop-i.addressees.ok.0, c.requires.addressees_room, further))

@@ -5,4 +5,4 @@ use Rattle.line_tape.proofs.tapes.cuts.note_events.Given as goal
 
 abbrev pub invariant-loop-i : goal.invariant-loop-i
 invariant-loop-i l =
-    AreRows (take l.i l.events) l.rows.items l.incarnations.items × (vec_capacity l.fn.rows ≤ vec_capacity l.rows) × (vec_capacity l.fn.incarnations ≤ vec_capacity l.incarnations)
+    AreRows (take l.i l.events) l.rows.items l.incarnations.items l.addressees.items × (vec_capacity l.fn.rows ≤ vec_capacity l.rows) × (vec_capacity l.fn.incarnations ≤ vec_capacity l.incarnations) × (vec_capacity l.fn.addressees ≤ vec_capacity l.addressees)
