@@ -13,9 +13,10 @@ use Rattle.line_tape.specs.Line.{IsLine}
 use Rattle.line_tape.specs.Rounds.{has_check_of, check_of}
 use Rattle.line_tape.proofs.RoundLines.{check_of_within}
 use Rattle.line_tape.proofs.RoundTransit.{round_transit}
-use Rattle.line_turns.specs.Channels.{channels_at, channel_between}
+use Rattle.line_turns.specs.Channels.{channels_at}
+use Rattle.line_turns.specs.Tables.{between}
 use Rattle.line_turns.specs.Turning.{TurningView, IsTurning, IsLastLine}
-use Rattle.line_turns.proofs.ChannelLemmas.{channel_between-at}
+use Rattle.line_turns.proofs.ChannelLemmas.{channel-at}
 
 module _ (history : List Process) (turning : TurningView) (p : ℕ) (line : List Choice) (within : p < length history) (is : IsTurning history turning) (at : IsLastLine turning p line)
     (others : (q : ℕ) → q < length history → q ≢ p → has_check_of turning.number (tape_at history q) ≡ true) where
@@ -40,6 +41,6 @@ module _ (history : List Process) (turning : TurningView) (p : ℕ) (line : List
 
   -- and what is in transit at it are the channels of the round once the last check is taken
   pub channels-last : (state : List ℕ) → has_check_of turning.number (tape_at history p) ≡ false → (a b : ℕ) → a < length history → b < length history
-      → channel_unordered (with_event history p (Check state (Some turning.number))) turning.number a b ≡ channel_between (channels_at history line) a b
+      → channel_unordered (with_event history p (Check state (Some turning.number))) turning.number a b ≡ between (channels_at history line) a b
   channels-last state none a b a_within b_within =
-      round_transit history p state turning.number line within none at.now line_choice a b a_within b_within ∙ sym (channel_between-at history line a b a_within b_within)
+      round_transit history p state turning.number line within none at.now line_choice a b a_within b_within ∙ sym (channel-at history line a b a_within b_within)

@@ -1,4 +1,5 @@
 pub mod TurnedLemmas
 pub mod TurningLemmas
+pub mod TableLemmas
 pub mod ChannelLemmas
 pub mod CompletedLemmas

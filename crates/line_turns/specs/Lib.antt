@@ -1,3 +1,4 @@
 pub mod Kept
 pub mod Turning
+pub mod Tables
 pub mod Channels

@@ -1,11 +1,11 @@
 //! What is in transit at a line, from each process to each.
 ghost use Rattle.std.specs.Prelude.{◌≡◌, ◌<◌, ◌++◌, [], ◌∷◌, length, replicate, slice_index_or, slice_set, IfOk, OnOk, OnErr};
 ghost use Rattle.line_tape.specs.Line.{IsLine};
-ghost use Rattle.line_tape.specs.Transit.{Letter, is_open};
-ghost use Rattle.line_turns.specs.Channels.{channel_between, channels_at, channels_from, IsTable};
+ghost use Rattle.line_turns.specs.Channels.{channels_at};
+ghost use Rattle.line_turns.specs.Tables.{between, with_list, IsTable};
 
 use line_names::{Line, MsgName, ProcId};
-use line_tape::{Event, History};
+use line_tape::History;
 use std::alloc::{AllocError, Global};
 use std::marker::Model;
 
@@ -64,47 +64,6 @@ impl Row {
     }
 }
 
-/// Whether the process that the send names has not received the message before its choice of the line.
-fn is_open(history: &History, line: &Line, to: ProcId, message: &MsgName) -> bool
-    requires line { IsLine history.now.processes line.now }
-    requires process { to < length history.now.processes }
-    ensures { (letter : Letter) → letter.message ≡ message.now → letter.to ≡ to
-        → result ≡ is_open history.now.processes line.now letter }
-{
-    !history.tape(to).received_before(line.at(to), message)
-}
-
-/// The channels from one process at a line, in one pass over its events before the line.
-fn row_at(alloc: Global, history: &History, line: &Line, p: ProcId) -> Result<Row, AllocError>
-    requires line { IsLine history.now.processes line.now }
-    requires process { p < length history.now.processes }
-    ensures { IfOk result (λ row. row ≡ channels_from history.now.processes line.now p) }
-{
-    let n = history.n();
-    let mut row = Row::new(alloc, n)?;
-    let events = history.tape(p).front(line.at(p));
-    let mut number = 0;
-    for event in events {
-        match event {
-            Event::Send { to, inc, .. } => {
-                let message = MsgName {
-                    from: p,
-                    inc: *inc,
-                    number,
-                };
-                if is_open(history, line, *to, &message) {
-                    row.push(*to, message)?;
-                }
-                number += 1;
-            }
-            Event::Recv { .. } => {}
-            Event::Check { .. } => {}
-            Event::Mark { .. } => {}
-        }
-    }
-    Ok(row)
-}
-
 /// What is in transit at a line, from each process to each, by number: what the channels of a round of colours hold at its line.
 #[derive(Drop)]
 pub struct Channels {
@@ -121,28 +80,50 @@ impl Model for Channels {
 }
 
 impl Channels {
+    /// The channels between `n` processes, with nothing on them.
+    fn new(alloc: Global, n: u32) -> Result<Channels, AllocError>
+        ensures { IfOk result (λ channels. channels ≡ replicate n (replicate n [])) }
+    {
+        let mut rows = Vec::with_capacity(alloc, n as usize)?;
+        for _p in 0..n {
+            rows.push(Row::new(alloc, n)?)?;
+        }
+        Ok(Channels { rows })
+    }
+
+    /// Puts a message at the end of the channel from one process to another.
+    fn push(&mut self, from: ProcId, to: ProcId, message: MsgName) -> Result<(), AllocError>
+        requires from { from < length self.old }
+        requires to { to < length (slice_index_or self.old from []) }
+        ensures { OnOk result (self.new ≡ with_list self.old from to (between self.old from to ++ message ∷ [])) }
+    {
+        self.rows[from.get() as usize].push(to, message)
+    }
+
     /// What is in transit at a line of a history, from each process to each.
     ///
-    /// It looks once at each event before the line, and asks the receipts of a tape for each send, which is expected to take constant time. It takes memory for each two processes and for each message in transit, and fails without.
+    /// It counts what is in transit, and puts each message on the channel to the process that its send names. So it looks once at each event before the line, and asks the receipts of a tape for each send, which is expected to take constant time. It takes memory for each two processes and for each message in transit, and fails without.
     pub fn at(alloc: Global, history: &History, line: &Line) -> Result<Channels, AllocError>
         requires { IsLine history.now.processes line.now }
         ensures transit { IfOk result (λ channels. channels ≡ channels_at history.now.processes line.now) }
         ensures table { IfOk result (λ channels. IsTable (length history.now.processes) channels) }
     {
         let n = history.n();
-        let mut rows = Vec::with_capacity(alloc, n as usize)?;
-        for q in 0..n {
-            let p = ProcId::try_new(q, n).unwrap();
-            rows.push(row_at(alloc, history, line, p)?)?;
+        let messages = history.transit(alloc, line)?;
+        let mut channels = Channels::new(alloc, n)?;
+        for message in &messages {
+            if let Some(to) = history.addressee(message) {
+                channels.push(message.from, to, *message)?;
+            }
         }
-        Ok(Channels { rows })
+        Ok(channels)
     }
 
     /// The channel from one process to another, by number. It takes constant time.
     pub fn between(&self, from: ProcId, to: ProcId) -> &[MsgName]
         requires from { from < length self.now }
         requires to { to < length (slice_index_or self.now from []) }
-        ensures { result.now ≡ channel_between self.now from to }
+        ensures { result.now ≡ between self.now from to }
     {
         self.rows[from.get() as usize].channels[to.get() as usize]
             .messages

@@ -8,8 +8,9 @@ ghost use Rattle.line_tape.specs.History.{Process, tape_at, with_event};
 ghost use Rattle.line_tape.specs.Line.{IsLine};
 ghost use Rattle.line_tape.specs.Rounds.{checked_round, checks_of, has_check_of, is_check_of, is_checked};
 ghost use Rattle.line_tape.specs.Transit.{in_transit_between};
-ghost use Rattle.line_turns.specs.Channels.{channel_between, channels_at, IsTable};
+ghost use Rattle.line_turns.specs.Channels.{channels_at};
 ghost use Rattle.line_turns.specs.Kept.{Turned, AreTurned};
+ghost use Rattle.line_turns.specs.Tables.{between, IsTable};
 ghost use Rattle.line_turns.specs.Turning.{TurningView, IsLastLine, IsTurning};
 
 /// What is kept goes on following the tapes by each event that is no check of a round, and what is kept of one round by each that is no check of it.
@@ -31,10 +32,10 @@ pub fn last_check_completes()
     ensures channels { (history : List Process) (turning : TurningView) (p : ℕ) (line : List Choice) (state : List ℕ) → p < length history → IsTurning history turning → IsLastLine turning p line
         → ((q : ℕ) → q < length history → q ≢ p → IsTrue (has_check_of turning.number (tape_at history q))) → has_check_of turning.number (tape_at history p) ≡ false
         → (a b : ℕ) → a < length history → b < length history
-        → channel_unordered (with_event history p (Check state (Some turning.number))) turning.number a b ≡ channel_between (channels_at history line) a b }
+        → channel_unordered (with_event history p (Check state (Some turning.number))) turning.number a b ≡ between (channels_at history line) a b }
     ensures checks { (history : List Process) (turning : TurningView) → IsTurning history turning → IsTrue (is_checked history turning.number)
         → turning.checks ≡ checks_of history turning.number }
     ensures between { (history : List Process) (line : List Choice) (p q : ℕ) → p < length history → q < length history
-        → channel_between (channels_at history line) p q ≡ in_transit_between history line p q }
+        → between (channels_at history line) p q ≡ in_transit_between history line p q }
     ensures table { (history : List Process) (line : List Choice) → IsTable (length history) (channels_at history line) }
 {}

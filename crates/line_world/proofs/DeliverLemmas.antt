@@ -18,7 +18,8 @@ use Rattle.line_world.specs.Listed.{Listed}
 use Rattle.line_world.specs.declared.steps.Mode.TheVariants.{Fifo, Unordered}
 use Rattle.std.specs.List.{All}
 use Rattle.std.proofs.lemmas.List.Elements.{All-head, All-tail}
-use Rattle.line_world.specs.Queues.{queue_at, taken_off}
+use Rattle.line_world.specs.Queues.{taken_off}
+use Rattle.line_turns.specs.Tables.{between}
 use Rattle.line_world.specs.Worlds.{IsItemOf, IsWorld}
 use Rattle.line_world.specs.Machine.{Machine, copies_in, items_on, newly_listed, with_events, with_step}
 use Rattle.line_world.specs.Refusals.{first_cause, link_causes, is_full, is_full_for}
@@ -105,13 +106,13 @@ module _ (mode : Mode) (history : List Process) (marks : MarksView) (last : ℕ)
   to_within = omega (arith, may.named.to_within, size)
 
   -- the item on its queue
-  pub picked_at : slice_get (queue_at queues from to) pick ≡ Some item
+  pub picked_at : slice_get (between queues from to) pick ≡ Some item
   picked_at =
       ap (λ (items : List Item). slice_get items pick) (items-world mode history queues world from to from_within to_within may.apart)
       ∙ ap (λ (m : Machine). slice_get (items_on m from to) pick) view ∙ picked
 
   pub picked_of : IsItemOf from item
-  picked_of = at_place (IsItemOf from) (queue_at queues from to) pick item (world.queued.messages from to) picked_at
+  picked_of = at_place (IsItemOf from) (between queues from to) pick item (world.queued.messages from to) picked_at
 
   pub first_in_order : mode ≡ Fifo → pick ≡ 0
   first_in_order e = may.first (ap (λ (m : Machine). m.mode) (sym view) ∙ e)

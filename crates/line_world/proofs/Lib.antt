@@ -1,5 +1,4 @@
 pub mod RoomLemmas
-pub mod QueueLemmas
 pub mod LinkLemmas
 pub mod FateLemmas
 pub mod RecordingLemmas
@@ -8,7 +7,6 @@ pub mod OpenFacts
 pub mod MarkerFacts
 pub mod TurnFacts
 pub mod WorldLemmas
-pub mod TransitFacts
 pub mod StartLemmas
 pub mod AgreeLemmas
 pub mod LineFacts

@@ -1,5 +1,5 @@
 -- What is kept of the open round follows the tapes, step by step.
-use Rattle.std.proofs.Common.{◌≡◌, ◌≢◌, ℕ, zero, suc, ◌<◌, ◌≤◌, ◌+◌, Bool, true, false, cond, List, [], ◌∷◌, ◌++◌, length, get_or, map, Option, Some, None, refl, sym, ap, ◌∙◌, subst, arith, inl, inr}
+use Rattle.std.proofs.Common.{◌≡◌, ◌≢◌, ℕ, zero, suc, ◌<◌, ◌≤◌, ◌+◌, Bool, true, false, cond, List, [], ◌∷◌, ◌++◌, length, get_or, Option, Some, None, refl, sym, ap, ◌∙◌, subst, arith, inl, inr}
 use Rattle.std.specs.Option.{is_some}
 use Rattle.std.specs.Prelude.{◌==◌, ◌||◌, ◌&&◌, not}
 use Rattle.std.specs.List.{All, filter, list_any, range_with_len}
@@ -24,8 +24,10 @@ use Rattle.line_tape.specs.Transit.{names_received}
 use Rattle.line_tape.proofs.CompletionLemmas.{no_check_restarted, check_stays, checked_idle, completed_idle}
 use Rattle.line_tape.proofs.GrowthLemmas.{has_check_push, checked_event, completed_event}
 use Rattle.line_tape.proofs.NextLemmas.{tape_same, tape_other}
-use Rattle.line_tape.proofs.RoundLines.{in_range, get_range, checked_has, completed_checked, marker_snapshot}
+use Rattle.line_tape.proofs.RoundLines.{in_range, checked_has, completed_checked, marker_snapshot}
 use Rattle.line_tape.proofs.SnapshotLemmas.{snapshot_event, snapshot_restarted}
+use Rattle.line_turns.specs.Tables.{between}
+use Rattle.line_turns.proofs.TableLemmas.{between-of}
 use Rattle.line_world.specs.declared.steps.Mode.{Mode}
 use Rattle.line_world.specs.declared.steps.Mode.TheVariants.{Fifo, Unordered}
 use Rattle.line_world.specs.Listed.{Listed, channel, channel_in, channel_table, check_in, is_begun, is_completed, listed, stays, IsSnapshotOf}
@@ -203,16 +205,10 @@ module _ (history : List Process) (at : ℕ) (e : Event) (within : at < length h
           never true xs = refl
           never false xs = refl
 
--- a cell of a table of channels
-pub table_cell : (n : ℕ) (channels : ℕ → ℕ → List MsgName) (p q : ℕ) → p < n → q < n → p ≢ q → get_or (get_or (channel_table n channels) p []) q [] ≡ channels p q
+-- a channel of a table of channels
+pub table_cell : (n : ℕ) (channels : ℕ → ℕ → List MsgName) (p q : ℕ) → p < n → q < n → p ≢ q → between (channel_table n channels) p q ≡ channels p q
 table_cell n channels p q p_within q_within apart =
-    let cell : ℕ → ℕ → List MsgName = λ a b. cond (a == b) [] (channels a b) in
-    let p_is : 0 + p ≡ p = omega arith in
-    let q_is : 0 + q ≡ q = omega arith in
-    ap (λ (row : List (List MsgName)). get_or row q []) (get_range (λ a. map (cell a) (range_with_len 0 n)) 0 n p [] p_within)
-    ∙ get_range (cell (0 + p)) 0 n q [] q_within
-    ∙ ap (λ (v : ℕ). cell v (0 + q)) p_is ∙ ap (cell p) q_is
-    ∙ ap (λ b. cond b [] (channels p q)) (ne_eqb p q apart)
+    between-of n (λ a b. cond (a == b) [] (channels a b)) p q p_within q_within ∙ ap (λ b. cond b [] (channels p q)) (ne_eqb p q apart)
 
 -- the channels that are listed
 pub listed_channel : (mode : Mode) (history : List Process) (r p q : ℕ) → p < length history → q < length history → p ≢ q → channel_in (listed mode history r) p q ≡ channel mode history r p q

@@ -20,7 +20,7 @@ use Rattle.line_tape.specs.declared.items.Item.TheVariants.{Message}
 use Rattle.line_world.specs.declared.steps.Mode.{Mode}
 use Rattle.line_world.specs.declared.steps.Mode.TheVariants.{Fifo, Unordered}
 use Rattle.line_world.specs.Fates.{fate_of, forced_round}
-use Rattle.line_world.specs.Queues.{queue_at}
+use Rattle.line_turns.specs.Tables.{between}
 use Rattle.line_world.specs.Worlds.{ArePainted, IsPainted, IsWorld}
 use Rattle.line_world.proofs.WorldLemmas.{next_receipt}
 
@@ -72,7 +72,7 @@ module _ (history : List Process) (queues : List (List (List Item))) (colours : 
   ArePainted-check Unordered world at state within is = painted_event history at (Check state None) colours within world.linked.fit refl tt tt is
 
 module _ (history : List Process) (queues : List (List (List Item))) (colours : List Turned) (from to : ℕ) (from_within : from < length history) (to_within : to < length history)
-    (message : MsgName) (named : message.from ≡ from) (pick : ℕ) (at : slice_get (queue_at queues from to) pick ≡ Some (Message message)) where
+    (message : MsgName) (named : message.from ≡ from) (pick : ℕ) (at : slice_get (between queues from to) pick ≡ Some (Message message)) where
   -- a message that forces no check
   pub ArePainted-take : (mode : Mode) → IsWorld mode history queues → fate_of mode history to message ≡ Taken → forced_round mode history to message ≡ None → ArePainted mode history colours
       → ArePainted mode (with_event history to (Recv message)) colours

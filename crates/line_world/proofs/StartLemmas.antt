@@ -13,9 +13,10 @@ use Rattle.line_tape.proofs.CopyLemmas.{unordered_start}
 use Rattle.line_tape.specs.Rounds.{has_check_of, rounds_checked}
 use Rattle.line_world.specs.declared.steps.Mode.{Mode}
 use Rattle.line_world.specs.declared.steps.Mode.TheVariants.{Fifo, Unordered}
-use Rattle.line_world.specs.Queues.{queue_at, IsSquare}
+use Rattle.line_turns.specs.Tables.{between, IsTable}
 use Rattle.line_turns.specs.Kept.{Turned, AreTurned}
 use Rattle.line_world.specs.Openings.{OpenView, opened}
+use Rattle.line_turns.proofs.TableLemmas.{between-none, IsTable-none}
 use Rattle.line_world.specs.Worlds.{IsItemOf, message_of, messages_at, AreQueues, ArePainted, AreRounds, IsOrderedWorld, IsLinked, IsWorld}
 use Rattle.line_world.specs.Listed.{Listed, IsSnapshotOf}
 
@@ -34,11 +35,8 @@ module _ (n : ℕ) where
   tape-start : (p : ℕ) → tape_at (replicate n fresh) p ≡ []
   tape-start p = ap (λ (v : Process). v.tape) (get_or-replicate_self n p fresh)
 
-  queue-start : (p q : ℕ) → queue_at (replicate n (replicate n [])) p q ≡ []
-  queue-start p q = elim (cases_lt p n) [
-    | inl below ↦ ap (λ (xs : List (List Item)). get_or xs q []) (get_or-replicate n p (replicate n []) [] below) ∙ get_or-replicate_self n q []
-    | inr past ↦ ap (λ (xs : List (List Item)). get_or xs q []) (get_or_past (replicate n (replicate n [])) p [] (omega (arith, past, length-replicate n (let row : List (List Item) = replicate n [] in row))))
-  ]
+  queue-start : (p q : ℕ) → between {A = Item} (replicate n (replicate n [])) p q ≡ []
+  queue-start = between-none n
 
   order-start : (p q : ℕ) → (s t : List Event) → [] ≡ s → [] ≡ t → IsPrefix (filter_map (item_received p) t) (items_sent p q 0 s)
   order-start p q s t e f =
@@ -50,12 +48,8 @@ module _ (n : ℕ) where
       let P : List Event → List Event → Type 0 = λ s t. drop (length (filter_map (item_received p) t)) (items_sent p q 0 s) ≡ [] in
       subst (λ (v : List Event). P v t) e (subst (λ (v : List Event). P [] v) f refl)
 
-  shape-start : IsSquare (length (replicate n fresh)) (replicate n (replicate n []))
-  shape-start = record {
-    rows = length-replicate n (replicate n []) ∙ sym (length-replicate n fresh);
-    columns = λ p within. ap (λ (xs : List (List Item)). length xs) (get_or-replicate n p (replicate n []) [] (omega (arith, within, length-replicate n fresh)))
-        ∙ length-replicate n [] ∙ sym (length-replicate n fresh);
-  }
+  shape-start : IsTable {A = Item} (length (replicate n fresh)) (replicate n (replicate n []))
+  shape-start = subst (λ (v : ℕ). IsTable {A = Item} v (replicate n (replicate n []))) (sym (length-replicate n fresh)) (IsTable-none n)
 
   AreQueues-start : AreQueues (replicate n fresh) (replicate n (replicate n []))
   AreQueues-start = record {

@@ -15,10 +15,11 @@ use Rattle.line_tape.proofs.CompletionLemmas.{checked_from}
 use Rattle.line_tape.proofs.NextLemmas.{tape_same, tape_other}
 use Rattle.line_tape.proofs.RoundLines.{checked_has}
 use Rattle.line_tape.proofs.RoundTransit.{round_transit}
-use Rattle.line_turns.proofs.ChannelLemmas.{channel_between-at}
+use Rattle.line_turns.proofs.ChannelLemmas.{channel-at}
 use Rattle.line_turns.proofs.CompletedLemmas.{line_choice}
 use Rattle.line_turns.proofs.TurningLemmas.{IsTurning-checked}
-use Rattle.line_turns.specs.Channels.{channel_between, channels_at}
+use Rattle.line_turns.specs.Channels.{channels_at}
+use Rattle.line_turns.specs.Tables.{between}
 use Rattle.line_turns.specs.Turning.{TurningView, IsLastLine, IsTurning}
 use Rattle.line_world.specs.declared.steps.Mode.{Mode}
 use Rattle.line_world.specs.declared.steps.Mode.TheVariants.{Unordered}
@@ -86,21 +87,21 @@ module _ (history : List Process) (turning : TurningView) (is : IsTurning histor
 -- the round of colours that is completed, as it is listed
 pub counted_is : (history : List Process) (turning : TurningView) → IsTurning history turning → is_completed_unordered history turning.number ≡ true → (indices : List ℕ) (table : List (List (List MsgName))) (number : ℕ)
     → indices ≡ turning.checks → number ≡ turning.number → table ≡ channels_at history (round_line history turning.number)
-    → (let round : Listed = record { number = number; checks = indices; channels = channel_table (length indices) (channel_between table) } in round) ≡ listed Unordered history turning.number
+    → (let round : Listed = record { number = number; checks = indices; channels = channel_table (length indices) (between table) } in round) ≡ listed Unordered history turning.number
 counted_is history turning is completed indices table number indices_are number_is table_is =
     let n : ℕ = length history in
     let r : ℕ = turning.number in
     let line : List Choice = round_line history r in
     let checks_are : indices ≡ checks_of history r = indices_are ∙ IsTurning-checked history turning is completed in
     let count : length indices ≡ n = ap (λ (v : List ℕ). length v) indices_are ∙ is.count in
-    let f : ℕ → ℕ → List MsgName = channel_between (channels_at history line) in
+    let f : ℕ → ℕ → List MsgName = between (channels_at history line) in
     let g : ℕ → ℕ → List MsgName = channel Unordered history r in
-    let same_channels : channel_table (length indices) (channel_between table) ≡ channel_table n g =
-    ap (λ (v : ℕ). channel_table v (channel_between table)) count
-    ∙ ap (λ (t : List (List (List MsgName))). channel_table n (channel_between t)) table_is
+    let same_channels : channel_table (length indices) (between table) ≡ channel_table n g =
+    ap (λ (v : ℕ). channel_table v (between table)) count
+    ∙ ap (λ (t : List (List (List MsgName))). channel_table n (between t)) table_is
     ∙ map_cells (λ p. map (λ q. cond (p == q) [] (f p q)) (range_with_len 0 n)) (λ p. map (λ q. cond (p == q) [] (g p q)) (range_with_len 0 n)) 0 n (λ p p_low p_high.
     map_cells (λ q. cond (p == q) [] (f p q)) (λ q. cond (p == q) [] (g p q)) 0 n (λ q q_low q_high.
-    ap (λ (ms : List MsgName). cond (p == q) [] ms) (channel_between-at history line p q (omega (arith, p_high)) (omega (arith, q_high))))) in
-    ap (λ (v : ℕ). let l : Listed = record { number = v; checks = indices; channels = channel_table (length indices) (channel_between table) } in l) number_is
-    ∙ ap (λ (v : List ℕ). let l : Listed = record { number = r; checks = v; channels = channel_table (length indices) (channel_between table) } in l) checks_are
+    ap (λ (ms : List MsgName). cond (p == q) [] ms) (channel-at history line p q (omega (arith, p_high)) (omega (arith, q_high))))) in
+    ap (λ (v : ℕ). let l : Listed = record { number = v; checks = indices; channels = channel_table (length indices) (between table) } in l) number_is
+    ∙ ap (λ (v : List ℕ). let l : Listed = record { number = r; checks = v; channels = channel_table (length indices) (between table) } in l) checks_are
     ∙ ap (λ (v : List (List (List MsgName))). let l : Listed = record { number = r; checks = checks_of history r; channels = v } in l) same_channels

@@ -28,7 +28,7 @@ use Rattle.line_world.specs.Fates.{fate_of, forced_round}
 use Rattle.line_world.specs.Listed.{Listed, channel_table, is_begun, is_completed, listed}
 use Rattle.line_world.specs.Machine.{newly_listed}
 use Rattle.line_world.specs.Openings.{OpenView, left_open, newly_closed, opened_by, opened_turning, IsRunning}
-use Rattle.line_world.specs.Queues.{queue_at}
+use Rattle.line_turns.specs.Tables.{between}
 use Rattle.line_world.specs.Worlds.{AreRounds, IsPainted, IsWorld}
 use Rattle.line_world.proofs.LinkLemmas.{length-with_event}
 use Rattle.line_world.proofs.MarkerFacts.{begun_listed, begun_running, begun_settled, turned_listed, turned_running, turned_settled}
@@ -142,7 +142,7 @@ module _ (history : List Process) (queues : List (List (List Item))) (colours : 
       turned_newly = turned_listed history last (opened_by turning) rounds are at state within (opened_by new) number
 
   -- a message of a greater colour has a process turn to the round that is open, and is taken then
-  module _ (from to : ℕ) (from_within : from < length history) (to_within : to < length history) (message : MsgName) (named : message.from ≡ from) (pick : ℕ) (at : slice_get (queue_at queues from to) pick ≡ Some (Message message))
+  module _ (from to : ℕ) (from_within : from < length history) (to_within : to < length history) (message : MsgName) (named : message.from ≡ from) (pick : ℕ) (at : slice_get (between queues from to) pick ≡ Some (Message message))
       (taken : fate_of Unordered history to message ≡ Taken) (round : ℕ) (forced : forced_round Unordered history to message ≡ Some round) where
     greater : colour (tape_at history to) < message_colour history message
     greater = let f = forced_by history to message round forced in omega (arith, f.0, f.1)

@@ -1,11 +1,11 @@
 -- Each kind of step keeps what a world keeps true, in each mode.
 use Rattle.std.proofs.Common.{◌≡◌, ◌≢◌, ℕ, zero, suc, ◌<◌, Bool, true, false, cond, List, [], ◌∷◌, ◌++◌, length, drop, get_or, map, Some, None, refl, sym, ap, ◌∙◌, subst, arith, inl, inr}
 use Rattle.std.specs.Prelude.{◌==◌, ◌&&◌, not, if◌then◌else◌}
-use Rattle.std.specs.List.{All, Contains, filter_map, range_with_len, slice_get}
+use Rattle.std.specs.List.{All, Contains, filter_map, slice_get}
 use Rattle.std.specs.Cmp.Derive.{both_true}
 use Rattle.std.proofs.lemmas.Bool.{cases_eq, cases_lt, eq-eqb, ne_eqb}
 use Rattle.std.proofs.lemmas.List.{append-nil, length-set, get_or-set_same, get_or-set_other, get_or_past}
-use Rattle.std.proofs.lemmas.List.FromFn.{fill_by_all, get_or-map-range_with_len, length-map-range_with_len}
+use Rattle.std.proofs.lemmas.List.FromFn.{get_or-map-range_with_len, length-map-range_with_len}
 use Rattle.std.proofs.lemmas.List.Elements.{All-nil, All-push, filter_map-append, Contains-append_right}
 use Rattle.line_names.specs.declared.choices.Choice.{Choice}
 use Rattle.line_names.specs.declared.messages.MsgName.{MsgName}
@@ -38,12 +38,13 @@ use Rattle.line_world.specs.declared.steps.Mode.TheVariants.{Fifo, Unordered}
 use Rattle.line_world.specs.Fates.{fate_of, is_held}
 use Rattle.line_world.specs.Machine.{Machine, IsFitIn, copies_in, items_in, newly_listed}
 use Rattle.line_world.specs.Listed.{Listed}
-use Rattle.line_world.specs.Queues.{queue_at, with_queue, with_on_each, with_on_others, taken_off, IsSquare}
+use Rattle.line_world.specs.Queues.{with_on_each, with_on_others, taken_off}
+use Rattle.line_turns.specs.Tables.{between, with_list, IsTable}
 use Rattle.line_world.specs.Steps.{Sends, restarted_copies}
 use Rattle.line_world.specs.Worlds.{IsItemOf, message_of, messages_at, AreQueues, IsLinked, IsWorld}
 use Rattle.line_world.proofs.FateLemmas.{held-true}
 use Rattle.line_world.proofs.LinkLemmas.{length-with_event, first_rest, IsOrdered-check, IsOrdered-mark, IsOrdered-round, IsOrdered-send, IsOrdered-take}
-use Rattle.line_world.proofs.QueueLemmas.{queue-same, queue-other, IsSquare-written}
+use Rattle.line_turns.proofs.TableLemmas.{between-other, between-same, table_of-all, IsTable-written}
 
 -- the history fits
 pub IsFit-world : (mode : Mode) (history : List Process) (queues : List (List (List Item))) → IsWorld mode history queues → IsFitIn mode history
@@ -51,7 +52,7 @@ IsFit-world Fifo history queues world = world.linked.fit
 IsFit-world Unordered history queues world = world.linked.fit
 
 -- a queue is what its link holds
-pub items-world : (mode : Mode) (history : List Process) (queues : List (List (List Item))) → IsWorld mode history queues → (p q : ℕ) → p < length history → q < length history → p ≢ q → queue_at queues p q ≡ items_in mode history (copies_in mode queues) p q
+pub items-world : (mode : Mode) (history : List Process) (queues : List (List (List Item))) → IsWorld mode history queues → (p q : ℕ) → p < length history → q < length history → p ≢ q → between queues p q ≡ items_in mode history (copies_in mode queues) p q
 items-world Fifo history queues world p q p_within q_within apart = world.linked.links p q p_within q_within apart
 items-world Unordered history queues world p q p_within q_within apart = refl
 
@@ -79,7 +80,7 @@ first-held history fit p q message rest first =
 -- the queues stay as a tape grows
 AreQueues-kept : (history : List Process) (queues : List (List (List Item))) (at : ℕ) (event : Event) → AreQueues history queues → AreQueues (with_event history at event) queues
 AreQueues-kept history queues at event are = record {
-  shape = subst (λ (n : ℕ). IsSquare n queues) (sym (length-with_event history at event)) are.shape;
+  shape = subst (λ (n : ℕ). IsTable n queues) (sym (length-with_event history at event)) are.shape;
   messages = are.messages;
 }
 
@@ -92,48 +93,48 @@ module _ (history : List Process) (queues : List (List (List Item))) (are : AreQ
   column = omega (arith, are.shape.columns p p_within)
 
   -- another queue of messages in place of one
-  AreQueues-written : (items : List Item) → All (IsItemOf p) items → AreQueues history (with_queue queues p q items)
+  AreQueues-written : (items : List Item) → All (IsItemOf p) items → AreQueues history (with_list queues p q items)
   AreQueues-written items all = record {
-    shape = IsSquare-written queues p q items row (length history) are.shape;
+    shape = IsTable-written queues p q items row (length history) are.shape;
     messages = λ a b. elim (cases_eq a p) [
       | inl a_same ↦ elim (cases_eq b q) [
-        | inl b_same ↦ subst (λ (v : ℕ). All (IsItemOf v) (queue_at (with_queue queues p q items) v b)) (sym a_same)
-            (subst (λ (v : ℕ). All (IsItemOf p) (queue_at (with_queue queues p q items) p v)) (sym b_same)
-            (subst (λ (xs : List Item). All (IsItemOf p) xs) (sym (queue-same queues p q items row column)) all))
-        | inr b_other ↦ subst (λ (xs : List Item). All (IsItemOf a) xs) (sym (queue-other queues p q items row a b (λ e. b_other e.1))) (are.messages a b)
+        | inl b_same ↦ subst (λ (v : ℕ). All (IsItemOf v) (between (with_list queues p q items) v b)) (sym a_same)
+            (subst (λ (v : ℕ). All (IsItemOf p) (between (with_list queues p q items) p v)) (sym b_same)
+            (subst (λ (xs : List Item). All (IsItemOf p) xs) (sym (between-same queues p q items row column)) all))
+        | inr b_other ↦ subst (λ (xs : List Item). All (IsItemOf a) xs) (sym (between-other queues p q items row a b (λ e. b_other e.1))) (are.messages a b)
       ]
-      | inr a_other ↦ subst (λ (xs : List Item). All (IsItemOf a) xs) (sym (queue-other queues p q items row a b (λ e. a_other e.0))) (are.messages a b)
+      | inr a_other ↦ subst (λ (xs : List Item). All (IsItemOf a) xs) (sym (between-other queues p q items row a b (λ e. a_other e.0))) (are.messages a b)
     ];
   }
 
   -- a queue with one more message
-  pub AreQueues-put : (message : MsgName) → message.from ≡ p → AreQueues history (with_queue queues p q (queue_at queues p q ++ Message message ∷ []))
-  AreQueues-put message from = AreQueues-written (queue_at queues p q ++ Message message ∷ []) (All-push (IsItemOf p) (queue_at queues p q) (Message message) (are.messages p q) from)
+  pub AreQueues-put : (message : MsgName) → message.from ≡ p → AreQueues history (with_list queues p q (between queues p q ++ Message message ∷ []))
+  AreQueues-put message from = AreQueues-written (between queues p q ++ Message message ∷ []) (All-push (IsItemOf p) (between queues p q) (Message message) (are.messages p q) from)
 
   -- a queue without its first
-  AreQueues-off : AreQueues history (with_queue queues p q (drop 1 (queue_at queues p q)))
-  AreQueues-off = AreQueues-written (drop 1 (queue_at queues p q)) (dropped (queue_at queues p q) (are.messages p q))
+  AreQueues-off : AreQueues history (with_list queues p q (drop 1 (between queues p q)))
+  AreQueues-off = AreQueues-written (drop 1 (between queues p q)) (dropped (between queues p q) (are.messages p q))
     where
       dropped : (xs : List Item) → All (IsItemOf p) xs → All (IsItemOf p) (drop 1 xs)
       dropped [] all = all
       dropped (x ∷ xs) all = λ k d within. all (suc k) d (omega (arith, within))
 
   -- the messages on the queues, with one more
-  pub messages-put : (message : MsgName) (a b : ℕ) → messages_at (with_queue queues p q (queue_at queues p q ++ Message message ∷ [])) a b ≡ messages_at queues a b ++ (if (a == p) && (b == q) then message ∷ [] else [])
+  pub messages-put : (message : MsgName) (a b : ℕ) → messages_at (with_list queues p q (between queues p q ++ Message message ∷ [])) a b ≡ messages_at queues a b ++ (if (a == p) && (b == q) then message ∷ [] else [])
   messages-put message a b =
-      let items : List Item = queue_at queues p q ++ Message message ∷ [] in
+      let items : List Item = between queues p q ++ Message message ∷ [] in
       let none : List MsgName = [] in
       elim (cases_eq a p) [
         | inl a_same ↦ elim (cases_eq b q) [
-          | inl b_same ↦ subst (λ (v : ℕ). messages_at (with_queue queues p q items) v b ≡ messages_at queues v b ++ (if (v == p) && (b == q) then message ∷ [] else [])) (sym a_same)
-              (subst (λ (v : ℕ). messages_at (with_queue queues p q items) p v ≡ messages_at queues p v ++ (if (p == p) && (v == q) then message ∷ [] else [])) (sym b_same)
-              (ap (filter_map message_of) (queue-same queues p q items row column)
-              ∙ filter_map-append message_of (queue_at queues p q) (Message message ∷ [])
+          | inl b_same ↦ subst (λ (v : ℕ). messages_at (with_list queues p q items) v b ≡ messages_at queues v b ++ (if (v == p) && (b == q) then message ∷ [] else [])) (sym a_same)
+              (subst (λ (v : ℕ). messages_at (with_list queues p q items) p v ≡ messages_at queues p v ++ (if (p == p) && (v == q) then message ∷ [] else [])) (sym b_same)
+              (ap (filter_map message_of) (between-same queues p q items row column)
+              ∙ filter_map-append message_of (between queues p q) (Message message ∷ [])
               ∙ ap (λ t. messages_at queues p q ++ cond t (message ∷ []) none) (sym (both_true (eq-eqb p p refl) (eq-eqb q q refl)))))
-          | inr b_other ↦ ap (filter_map message_of) (queue-other queues p q items row a b (λ e. b_other e.1)) ∙ sym (append-nil (messages_at queues a b))
+          | inr b_other ↦ ap (filter_map message_of) (between-other queues p q items row a b (λ e. b_other e.1)) ∙ sym (append-nil (messages_at queues a b))
               ∙ ap (λ t. messages_at queues a b ++ cond t (message ∷ []) none) (sym (and-false (a == p) (b == q) (ne_eqb b q b_other)))
         ]
-        | inr a_other ↦ ap (filter_map message_of) (queue-other queues p q items row a b (λ e. a_other e.0)) ∙ sym (append-nil (messages_at queues a b))
+        | inr a_other ↦ ap (filter_map message_of) (between-other queues p q items row a b (λ e. a_other e.0)) ∙ sym (append-nil (messages_at queues a b))
             ∙ ap (λ t. messages_at queues a b ++ cond (t && (b == q)) (message ∷ []) none) (sym (ne_eqb a p a_other))
       ]
     where
@@ -158,39 +159,39 @@ module _ (history : List Process) (queues : List (List (List Item))) where
 
   module _ (from to : ℕ) (from_within : from < length history) (to_within : to < length history) where
     pub IsWorld-send : (mode : Mode) → IsWorld mode history queues → (body : List ℕ)
-        → IsWorld mode (with_event history from (Send to (incarnation_at history from) body)) (with_queue queues from to (queue_at queues from to ++ Message (next_name history from) ∷ []))
+        → IsWorld mode (with_event history from (Send to (incarnation_at history from) body)) (with_list queues from to (between queues from to ++ Message (next_name history from) ∷ []))
     IsWorld-send mode world body = record {
-      queued = AreQueues-kept history (with_queue queues from to (queue_at queues from to ++ Message (next_name history from) ∷ [])) from (Send to (incarnation_at history from) body)
+      queued = AreQueues-kept history (with_list queues from to (between queues from to ++ Message (next_name history from) ∷ [])) from (Send to (incarnation_at history from) body)
           (AreQueues-put history queues world.queued from to from_within to_within (next_name history from) refl);
       linked = linked mode world.linked;
     }
       where
-        linked : (m : Mode) → IsLinked m history queues → IsLinked m (with_event history from (Send to (incarnation_at history from) body)) (with_queue queues from to (queue_at queues from to ++ Message (next_name history from) ∷ []))
+        linked : (m : Mode) → IsLinked m history queues → IsLinked m (with_event history from (Send to (incarnation_at history from) body)) (with_list queues from to (between queues from to ++ Message (next_name history from) ∷ []))
         linked Fifo is = IsOrdered-send history queues world.queued is from to from_within to_within (incarnation_at history from) body
         linked Unordered is = unordered_event history from (Send to (incarnation_at history from) body) (messages_at queues)
-            (messages_at (with_queue queues from to (queue_at queues from to ++ Message (next_name history from) ∷ []))) is from_within refl
+            (messages_at (with_list queues from to (between queues from to ++ Message (next_name history from) ∷ []))) is from_within refl
             (λ p q p_within q_within. messages-put history queues world.queued from to from_within to_within (next_name history from) p q)
 
-    module _ (message : MsgName) (named : message.from ≡ from) (pick : ℕ) (at : slice_get (queue_at queues from to) pick ≡ Some (Message message)) where
+    module _ (message : MsgName) (named : message.from ≡ from) (pick : ℕ) (at : slice_get (between queues from to) pick ≡ Some (Message message)) where
       -- what is taken is held by its sender
       pub IsWorld-held : from ≢ to → (mode : Mode) → IsWorld mode history queues → (mode ≡ Fifo → pick ≡ 0) → fate_of mode history to message ≡ Taken → Holds (tape_at history message.from) message.inc message.number
       IsWorld-held apart Fifo world first taken =
-          let here : slice_get (queue_at queues from to) 0 ≡ Some (Message message) = ap (λ (k : ℕ). slice_get (queue_at queues from to) k) (sym (first refl)) ∙ at in
+          let here : slice_get (between queues from to) 0 ≡ Some (Message message) = ap (λ (k : ℕ). slice_get (between queues from to) k) (sym (first refl)) ∙ at in
           subst (λ (v : ℕ). Holds (tape_at history v) message.inc message.number) (sym named)
-          (first-held history world.linked.fit from to message (drop 1 (queue_at queues from to)) (sym (world.linked.links from to from_within to_within apart) ∙ first_rest (queue_at queues from to) (Message message) here))
+          (first-held history world.linked.fit from to message (drop 1 (between queues from to)) (sym (world.linked.links from to from_within to_within apart) ∙ first_rest (between queues from to) (Message message) here))
       IsWorld-held apart Unordered world first taken = held-true history message (taken-means (is_held history message) (has_received (tape_at history to) message) taken).0
 
       -- where links keep no order, it may come next
       pub next_receipt : IsWorld Unordered history queues → fate_of Unordered history to message ≡ Taken → IsNextUnordered history to (Recv message)
       next_receipt world taken =
           let means = taken-means (is_held history message) (has_received (tape_at history to) message) taken in
-          (copy_addressed history (messages_at queues) from to message world.linked from_within to_within (among-messages (queue_at queues from to) pick message at) (held-true history message means.0), means.1)
+          (copy_addressed history (messages_at queues) from to message world.linked from_within to_within (among-messages (between queues from to) pick message at) (held-true history message means.0), means.1)
 
       pub IsWorld-take : from ≢ to → (mode : Mode) → IsWorld mode history queues → (mode ≡ Fifo → pick ≡ 0) → fate_of mode history to message ≡ Taken
           → IsWorld mode (with_event history to (Recv message)) (taken_off mode queues from to)
       IsWorld-take apart Fifo world first taken = record {
         queued = AreQueues-kept history (taken_off Fifo queues from to) to (Recv message) (AreQueues-off history queues world.queued from to from_within to_within);
-        linked = IsOrdered-take history queues world.queued world.linked from to from_within to_within apart message (ap (λ (k : ℕ). slice_get (queue_at queues from to) k) (sym (first refl)) ∙ at) named;
+        linked = IsOrdered-take history queues world.queued world.linked from to from_within to_within apart message (ap (λ (k : ℕ). slice_get (between queues from to) k) (sym (first refl)) ∙ at) named;
       }
       IsWorld-take apart Unordered world first taken = record {
         queued = AreQueues-kept history queues to (Recv message) world.queued;
@@ -212,8 +213,8 @@ module _ (history : List Process) (queues : List (List (List Item))) where
 
 -- the world once a marker has come
 module _ (history : List Process) (queues : List (List (List Item))) (world : IsWorld Fifo history queues) where
-  pub IsWorld-mark : (from to r : ℕ) → from < length history → to < length history → from ≢ to → slice_get (queue_at queues from to) 0 ≡ Some (Marker r) → has_check_of r (tape_at history to) ≡ true
-      → IsWorld Fifo (with_event history to (Mark from r)) (with_queue queues from to (drop 1 (queue_at queues from to)))
+  pub IsWorld-mark : (from to r : ℕ) → from < length history → to < length history → from ≢ to → slice_get (between queues from to) 0 ≡ Some (Marker r) → has_check_of r (tape_at history to) ≡ true
+      → IsWorld Fifo (with_event history to (Mark from r)) (with_list queues from to (drop 1 (between queues from to)))
   IsWorld-mark from to r from_within to_within apart first begun = record {
     queued = AreQueues-kept history (taken_off Fifo queues from to) to (Mark from r) (AreQueues-off history queues world.queued from to from_within to_within);
     linked = IsOrdered-mark history queues world.queued world.linked from to from_within to_within apart r first begun;
@@ -238,15 +239,15 @@ module _ (history : List Process) (queues : List (List (List Item))) (world : Is
           ];
         };
         messages = λ a b. elim (cases_eq a at) [
-          | inl same ↦ subst (λ (v : ℕ). All (IsItemOf v) (queue_at (with_on_each queues at (Marker r)) v b)) (sym same)
+          | inl same ↦ subst (λ (v : ℕ). All (IsItemOf v) (between (with_on_each queues at (Marker r)) v b)) (sym same)
               (subst (λ (xs : List (List Item)). All (IsItemOf at) (get_or xs b [])) (sym here) (marked at r b))
           | inr other ↦ subst (λ (xs : List (List Item)). All (IsItemOf a) (get_or xs b [])) (sym (get_or-set_other queues at a new [] other)) (are.messages a b)
         ];
       }
     where
-      put : (at r b : ℕ) → (own : Bool) → All (IsItemOf at) (queue_at queues at b ++ cond own [] (Marker r ∷ []))
-      put at r b true = subst (λ (xs : List Item). All (IsItemOf at) xs) (sym (append-nil (queue_at queues at b))) (world.queued.messages at b)
-      put at r b false = All-push (IsItemOf at) (queue_at queues at b) (Marker r) (world.queued.messages at b) tt
+      put : (at r b : ℕ) → (own : Bool) → All (IsItemOf at) (between queues at b ++ cond own [] (Marker r ∷ []))
+      put at r b true = subst (λ (xs : List Item). All (IsItemOf at) xs) (sym (append-nil (between queues at b))) (world.queued.messages at b)
+      put at r b false = All-push (IsItemOf at) (between queues at b) (Marker r) (world.queued.messages at b) tt
 
       marked : (at r b : ℕ) → All (IsItemOf at) (get_or (with_on_others (get_or queues at []) at (Marker r)) b [])
       marked at r b =
@@ -265,20 +266,20 @@ module _ (history : List Process) (queues : List (List (List Item))) (world : Is
   }
 
   -- its sender has the check of the round
-  pub marker_sent : (from to r : ℕ) → from < length history → to < length history → from ≢ to → slice_get (queue_at queues from to) 0 ≡ Some (Marker r) → has_check_of r (tape_at history from) ≡ true
+  pub marker_sent : (from to r : ℕ) → from < length history → to < length history → from ≢ to → slice_get (between queues from to) 0 ≡ Some (Marker r) → has_check_of r (tape_at history from) ≡ true
   marker_sent from to r from_within to_within apart first =
       marker_checked history from to r (subst (λ (xs : List Item). Contains xs (Marker r)) (world.linked.links from to from_within to_within apart)
-      (subst (λ (xs : List Item). Contains xs (Marker r)) (sym (first_rest (queue_at queues from to) (Marker r) first)) (zero, omega arith, refl)))
+      (subst (λ (xs : List Item). Contains xs (Marker r)) (sym (first_rest (between queues from to) (Marker r) first)) (zero, omega arith, refl)))
 
   -- the first item of another link is still first
-  pub first_still : (at from to r s : ℕ) → at < length history → from ≢ at → slice_get (queue_at queues from to) 0 ≡ Some (Marker r) → slice_get (queue_at (with_on_each queues at (Marker s)) from to) 0 ≡ Some (Marker r)
+  pub first_still : (at from to r s : ℕ) → at < length history → from ≢ at → slice_get (between queues from to) 0 ≡ Some (Marker r) → slice_get (between (with_on_each queues at (Marker s)) from to) 0 ≡ Some (Marker r)
   first_still at from to r s within apart first =
       ap (λ (xs : List (List Item)). slice_get (get_or xs to []) 0) (get_or-set_other queues at from (with_on_others (get_or queues at []) at (Marker s)) [] apart) ∙ first
 
   -- the marker that has a process take its check first
-  pub IsWorld-forced : (from to r : ℕ) (state : List ℕ) → from < length history → to < length history → from ≢ to → has_check_of r (tape_at history to) ≡ false → slice_get (queue_at queues from to) 0 ≡ Some (Marker r)
+  pub IsWorld-forced : (from to r : ℕ) (state : List ℕ) → from < length history → to < length history → from ≢ to → has_check_of r (tape_at history to) ≡ false → slice_get (between queues from to) 0 ≡ Some (Marker r)
       → IsWorld Fifo (with_event (with_event history to (Check state (Some r))) to (Mark from r))
-      (with_queue (with_on_each queues to (Marker r)) from to (drop 1 (queue_at (with_on_each queues to (Marker r)) from to)))
+      (with_list (with_on_each queues to (Marker r)) from to (drop 1 (between (with_on_each queues to (Marker r)) from to)))
   IsWorld-forced from to r state from_within to_within apart none first =
       let e : Event = Check state (Some r) in
       let size = length-with_event history to e in
@@ -292,7 +293,7 @@ seen mode history marks last rounds queues = record { mode = mode; history = his
 
 -- a copy more is seen
 copy_kept : (mode : Mode) (queues : List (List (List Item))) (p q : ℕ) (item : Item)
-    → copies_in mode (with_queue queues p q (queue_at queues p q ++ item ∷ [])) ≡ copies_in mode (with_queue (copies_in mode queues) p q (queue_at (copies_in mode queues) p q ++ item ∷ []))
+    → copies_in mode (with_list queues p q (between queues p q ++ item ∷ [])) ≡ copies_in mode (with_list (copies_in mode queues) p q (between (copies_in mode queues) p q ++ item ∷ []))
 copy_kept Fifo queues p q item = refl
 copy_kept Unordered queues p q item = refl
 
@@ -302,7 +303,7 @@ pub Sends-seen : (mode : Mode) (history : List Process) (marks : MarksView) (las
     → message ≡ next_name history from
     → after ≡ with_event history from (Send to (incarnation_at history from) body)
     → marks_after ≡ marks
-    → queues_after ≡ with_queue queues from to (queue_at queues from to ++ Message (next_name history from) ∷ [])
+    → queues_after ≡ with_list queues from to (between queues from to ++ Message (next_name history from) ∷ [])
     → newly_listed mode history (with_event history from (Send to (incarnation_at history from) body)) last ≡ []
     → Sends (seen mode history marks last rounds queues) from to body (Sent message) (seen mode after marks_after last rounds queues_after)
 Sends-seen mode history marks last rounds queues from to body message after marks_after queues_after name sent marked put none = record {
@@ -318,7 +319,7 @@ Sends-seen mode history marks last rounds queues from to body message after mark
         marks = marks;
         last_round = last;
         rounds = listed;
-        copies = copies_in mode (with_queue (copies_in mode queues) from to (queue_at (copies_in mode queues) from to ++ Message (next_name history from) ∷ []));
+        copies = copies_in mode (with_list (copies_in mode queues) from to (between (copies_in mode queues) from to ++ Message (next_name history from) ∷ []));
       } in m)
       (sym (append-nil rounds) ∙ ap (λ (new : List Listed). rounds ++ new) (sym none));
 }
@@ -331,18 +332,18 @@ messages-back (m ∷ ms) = ap (λ (xs : List MsgName). m ∷ xs) (messages-back 
 module _ (history : List Process) (queues new : List (List (List Item))) (line : List Choice) (length_is : length line ≡ length history) (consistent : IsConsistent history line) (queued : AreQueues history new) where
   -- after a restart at a consistent line
   pub IsWorld-restart : (mode : Mode) → IsWorld mode history queues
-      → ((p q : ℕ) → p < length history → q < length history → queue_at new p q ≡ queue_at (copies_in mode queues) p q ++ map (λ m. Message m) (in_transit_between history line p q))
+      → ((p q : ℕ) → p < length history → q < length history → between new p q ≡ between (copies_in mode queues) p q ++ map (λ m. Message m) (in_transit_between history line p q))
       → IsWorld mode (restarted history line) new
   IsWorld-restart mode world put = record {
     queued = record {
-      shape = subst (λ (n : ℕ). IsSquare n new) (sym (length_restarted history line length_is)) queued.shape;
+      shape = subst (λ (n : ℕ). IsTable n new) (sym (length_restarted history line length_is)) queued.shape;
       messages = queued.messages;
     };
     linked = linked mode world.linked put;
   }
     where
       linked : (m : Mode) → IsLinked m history queues
-          → ((p q : ℕ) → p < length history → q < length history → queue_at new p q ≡ queue_at (copies_in m queues) p q ++ map (λ m. Message m) (in_transit_between history line p q))
+          → ((p q : ℕ) → p < length history → q < length history → between new p q ≡ between (copies_in m queues) p q ++ map (λ m. Message m) (in_transit_between history line p q))
           → IsLinked m (restarted history line) new
       linked Fifo is put = record {
         fit = restart_fit history line is.fit consistent length_is;
@@ -351,16 +352,13 @@ module _ (history : List Process) (queues new : List (List (List Item))) (line :
       }
       linked Unordered is put = unordered_restarted history line (messages_at queues) (messages_at new) is consistent length_is (λ p q p_within q_within.
           ap (filter_map message_of) (put p q p_within q_within)
-          ∙ filter_map-append message_of (queue_at queues p q) (map (λ m. Message m) (in_transit_between history line p q))
+          ∙ filter_map-append message_of (between queues p q) (map (λ m. Message m) (in_transit_between history line p q))
           ∙ ap (λ (ms : List MsgName). messages_at queues p q ++ ms) (messages-back (in_transit_between history line p q)))
 
   -- what callers see then
   pub seen-restart : (mode : Mode)
-      → ((p q : ℕ) → p < length history → q < length history → queue_at new p q ≡ queue_at (copies_in mode queues) p q ++ map (λ m. Message m) (in_transit_between history line p q))
+      → ((p q : ℕ) → p < length history → q < length history → between new p q ≡ between (copies_in mode queues) p q ++ map (λ m. Message m) (in_transit_between history line p q))
       → copies_in mode new ≡ restarted_copies mode history line (copies_in mode queues)
   seen-restart Fifo put = refl
   seen-restart Unordered put =
-      let n : ℕ = length history in
-      let f : ℕ → ℕ → List Item = λ p q. queue_at queues p q ++ map (λ m. Message m) (in_transit_between history line p q) in
-      fill_by_all (λ (p : ℕ). map (f p) (range_with_len 0 n)) new n [] queued.shape.rows
-      (λ p p_within. fill_by_all (f p) (get_or new p []) n [] (queued.shape.columns p p_within) (λ q q_within. put p q p_within q_within))
+      table_of-all (length history) (λ p q. between queues p q ++ map (λ m. Message m) (in_transit_between history line p q)) new queued.shape put

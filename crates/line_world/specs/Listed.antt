@@ -1,5 +1,5 @@
 -- Rounds: which of them are completed, and what is listed of one that is.
-use Rattle.std.specs.Prelude.{ℕ, ◌<◌, Bool, IsTrue, ◌==◌, if◌then◌else◌, List, [], length, map, slice_index_or}
+use Rattle.std.specs.Prelude.{ℕ, ◌<◌, Bool, IsTrue, ◌==◌, if◌then◌else◌, List, [], length, slice_index_or}
 use Rattle.std.specs.List.{list_all, list_any, range_with_len}
 use Rattle.line_names.specs.declared.choices.Choice.{Choice}
 use Rattle.line_names.specs.declared.messages.MsgName.{MsgName}
@@ -11,6 +11,7 @@ use Rattle.line_tape.specs.Restart.{is_kept}
 use Rattle.line_tape.specs.Survival.{survives}
 use Rattle.line_tape.specs.Views.{MarksView}
 use Rattle.line_tape.specs.Rounds.{has_check_of, checks_of, is_completed_fifo, channel_fifo, check_line, IsSnapshot}
+use Rattle.line_turns.specs.Tables.{between, table_of}
 use Rattle.line_world.specs.declared.steps.Mode.{Mode}
 use Rattle.line_world.specs.declared.steps.Mode.TheVariants.{Fifo, Unordered}
 
@@ -32,7 +33,7 @@ channel Unordered history r p q = channel_unordered history r p q
 
 -- the channels between n processes, from each to each other
 abbrev pub channel_table : ℕ → (ℕ → ℕ → List MsgName) → List (List (List MsgName))
-channel_table n channels = map (λ p. map (λ q. if p == q then [] else channels p q) (range_with_len 0 n)) (range_with_len 0 n)
+channel_table n channels = table_of n (λ p q. if p == q then [] else channels p q)
 
 -- round r with its checks and its channels
 abbrev pub listed : Mode → List Process → ℕ → Listed
@@ -48,7 +49,7 @@ check_in round p = slice_index_or round.checks p 0
 
 -- the channel of a listed round from process p to q
 abbrev pub channel_in : Listed → ℕ → ℕ → List MsgName
-channel_in round p q = slice_index_or (slice_index_or round.channels p []) q []
+channel_in round p q = between round.channels p q
 
 -- the listed round is a snapshot of the history: its checks make a consistent line, and its channels are what is in transit there
 abbrev pub IsSnapshotOf : List Process → Listed → Type 0

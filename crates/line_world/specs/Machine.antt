@@ -8,7 +8,7 @@ use Rattle.line_tape.specs.Views.{MarksView}
 use Rattle.line_world.specs.declared.steps.Mode.{Mode}
 use Rattle.line_world.specs.declared.steps.Mode.TheVariants.{Fifo, Unordered}
 use Rattle.line_world.specs.Listed.{Listed, is_begun, is_completed, listed}
-use Rattle.line_world.specs.Queues.{queue_at, with_queue}
+use Rattle.line_turns.specs.Tables.{between, with_list}
 
 -- a state of the machine
 pub record Machine : Type 0 where
@@ -41,7 +41,7 @@ start n mode = record {
 -- what the link from process p to q holds, in each mode
 abbrev pub items_in : Mode → List Process → List (List (List Item)) → ℕ → ℕ → List Item
 items_in Fifo history copies p q = link history p q
-items_in Unordered history copies p q = queue_at copies p q
+items_in Unordered history copies p q = between copies p q
 
 -- what the link from process p to q holds, the oldest first
 abbrev pub items_on : Machine → ℕ → ℕ → List Item
@@ -83,4 +83,4 @@ is_open machine = is_begun machine.history machine.last_round && not (is_complet
 -- the machine with one more copy from process p to q, which isn't kept in `Fifo`
 abbrev pub with_copy : Machine → ℕ → ℕ → Item → Machine
 with_copy machine p q item =
-    record machine { copies = copies_in machine.mode (with_queue machine.copies p q (queue_at machine.copies p q ++ item ∷ [])) }
+    record machine { copies = copies_in machine.mode (with_list machine.copies p q (between machine.copies p q ++ item ∷ [])) }

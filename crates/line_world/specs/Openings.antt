@@ -7,7 +7,8 @@ use Rattle.line_tape.specs.declared.events.Event.{Event}
 use Rattle.line_tape.specs.History.{Process, tape_at}
 use Rattle.line_tape.specs.Colours.{is_completed_unordered}
 use Rattle.line_tape.specs.Rounds.{has_check_of, has_mark_of, channel_on, round_line}
-use Rattle.line_turns.specs.Channels.{channel_between, channels_at, IsTable}
+use Rattle.line_turns.specs.Channels.{channels_at}
+use Rattle.line_turns.specs.Tables.{between, IsTable}
 use Rattle.line_turns.specs.Turning.{TurningView, check_or_none, IsTurning}
 use Rattle.line_world.specs.declared.steps.Mode.{Mode}
 use Rattle.line_world.specs.declared.steps.Mode.TheVariants.{Fifo, Unordered}
@@ -141,7 +142,7 @@ opened Unordered running turning = opened_turning turning
 -- the channels of a round that is completed, between n processes: by the markers, or as they were counted
 abbrev pub channels_kept : Option (List (List (List MsgName))) → ℕ → List MarkerView → ℕ → List (List (List MsgName))
 channels_kept None n markers r = recorded_table markers r
-channels_kept (Some table) n markers r = channel_table n (channel_between table)
+channels_kept (Some table) n markers r = channel_table n (between table)
 
 -- they are there for each two of n processes
 abbrev pub AreChannels : Option (List (List (List MsgName))) → ℕ → List MarkerView → Type 0

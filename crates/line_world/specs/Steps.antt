@@ -25,7 +25,7 @@ use Rattle.line_world.specs.declared.replies.Reply.TheVariants.{Sent, Checked, B
 use Rattle.line_world.specs.Fates.{events_taken, reply_taken}
 use Rattle.line_world.specs.Listed.{stays}
 use Rattle.line_world.specs.Machine.{Machine, copies_in, items_on, with_copy, with_step}
-use Rattle.line_world.specs.Queues.{queue_at}
+use Rattle.line_turns.specs.Tables.{between, table_of}
 
 -- the index of the next check of process p
 abbrev pub next_check : List Process → ℕ → ℕ
@@ -83,8 +83,7 @@ pub record IsPlan (machine : Machine) (failed : List Bool) (plan : Plan) : Type 
 -- what the links hold after a restart at a line: each has one more copy of what is in transit on it; none are kept in `Fifo`
 abbrev pub restarted_copies : Mode → List Process → List Choice → List (List (List Item)) → List (List (List Item))
 restarted_copies mode history line copies =
-    let processes = range_with_len 0 (length history) in
-    copies_in mode (map (λ p. map (λ q. queue_at copies p q ++ map (λ m. Message m) (in_transit_between history line p q)) processes) processes)
+    copies_in mode (table_of (length history) (λ p q. between copies p q ++ map (λ m. Message m) (in_transit_between history line p q)))
 
 -- the machine that goes on from a line: no round is open then, and a listed one stays unless one of its checks is cut
 abbrev pub restarted_machine : Machine → List Choice → Machine

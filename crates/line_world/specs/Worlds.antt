@@ -14,7 +14,7 @@ use Rattle.line_world.specs.declared.steps.Mode.{Mode}
 use Rattle.line_world.specs.declared.steps.Mode.TheVariants.{Fifo, Unordered}
 use Rattle.line_world.specs.Listed.{Listed, IsSnapshotOf}
 use Rattle.line_world.specs.Openings.{OpenView, first_unlisted, IsOpening, IsLast}
-use Rattle.line_world.specs.Queues.{queue_at, IsSquare}
+use Rattle.line_turns.specs.Tables.{between, IsTable}
 
 -- the item is a message of process p, or a marker
 abbrev pub IsItemOf : ℕ → Item → Type 0
@@ -28,17 +28,17 @@ message_of (Marker round) = None
 
 -- the messages on the queue from process p to q
 abbrev pub messages_at : List (List (List Item)) → ℕ → ℕ → List MsgName
-messages_at queues p q = filter_map message_of (queue_at queues p q)
+messages_at queues p q = filter_map message_of (between queues p q)
 
 -- there is a queue for each pair of processes, and the messages that it holds are of its sender
 pub record AreQueues (history : List Process) (queues : List (List (List Item))) : Type 0 where
-  pub shape : IsSquare (length history) queues
-  pub messages : (p q : ℕ) → All (IsItemOf p) (queue_at queues p q)
+  pub shape : IsTable (length history) queues
+  pub messages : (p q : ℕ) → All (IsItemOf p) (between queues p q)
 
 -- in order: the history fits, and the queue from each process to another is what its link holds
 pub record IsOrderedWorld (history : List Process) (queues : List (List (List Item))) : Type 0 where
   pub fit : IsFitFifo history
-  pub links : (p q : ℕ) → p < length history → q < length history → p ≢ q → queue_at queues p q ≡ link history p q
+  pub links : (p q : ℕ) → p < length history → q < length history → p ≢ q → between queues p q ≡ link history p q
 
 -- what a world keeps true in each mode of its history and its queues
 abbrev pub IsLinked : Mode → List Process → List (List (List Item)) → Type 0

@@ -1,6 +1,7 @@
 //! The queues of all links.
 ghost use Rattle.std.specs.Prelude.{◌≡◌, ◌<◌, ◌++◌, ◌∷◌, [], All, length, map, replicate, drop, slice_index_or, slice_set, slice_get, IfOk, OnOk, OnErr};
-ghost use Rattle.line_world.specs.Queues.{queue_at, with_queue, with_on_each, with_on_others};
+ghost use Rattle.line_world.specs.Queues.{with_on_each, with_on_others};
+ghost use Rattle.line_turns.specs.Tables.{between, with_list};
 ghost use Rattle.line_world.specs.Rooms.{QueueView, items_of};
 
 use line_names::ProcId;
@@ -168,7 +169,7 @@ impl Links {
     fn items(&self, from: ProcId, to: ProcId) -> &VecDeque<Item>
         requires from { from < length self.now }
         requires to { to < length (slice_index_or self.now from []) }
-        ensures { result.now.items ≡ queue_at self.now from to }
+        ensures { result.now.items ≡ between self.now from to }
     {
         &self.rows[from.get() as usize].queues[to.get() as usize].items
     }
@@ -177,7 +178,7 @@ impl Links {
     pub fn len(&self, from: ProcId, to: ProcId) -> usize
         requires from { from < length self.now }
         requires to { to < length (slice_index_or self.now from []) }
-        ensures { result ≡ length (queue_at self.now from to) }
+        ensures { result ≡ length (between self.now from to) }
     {
         self.items(from, to).len()
     }
@@ -186,7 +187,7 @@ impl Links {
     pub fn item(&self, from: ProcId, to: ProcId, i: usize) -> Option<Item>
         requires from { from < length self.now }
         requires to { to < length (slice_index_or self.now from []) }
-        ensures { result ≡ slice_get (queue_at self.now from to) i }
+        ensures { result ≡ slice_get (between self.now from to) i }
     {
         match self.items(from, to).get(i) {
             Some(item) => Some(*item),
@@ -198,7 +199,7 @@ impl Links {
     pub fn push(&mut self, from: ProcId, to: ProcId, item: Item) -> Result<(), AllocError>
         requires from { from < length self.old }
         requires to { to < length (slice_index_or self.old from []) }
-        ensures ok { OnOk result (self.new ≡ with_queue self.old from to (queue_at self.old from to ++ item ∷ [])) }
+        ensures ok { OnOk result (self.new ≡ with_list self.old from to (between self.old from to ++ item ∷ [])) }
         ensures err { OnErr result (self.new ≡ self.old) }
     {
         let row = &mut self.rows[from.get() as usize];
@@ -223,7 +224,7 @@ impl Links {
     pub fn drop_first(&mut self, from: ProcId, to: ProcId)
         requires from { from < length self.old }
         requires to { to < length (slice_index_or self.old from []) }
-        ensures { self.new ≡ with_queue self.old from to (drop 1 (queue_at self.old from to)) }
+        ensures { self.new ≡ with_list self.old from to (drop 1 (between self.old from to)) }
     {
         let row = &mut self.rows[from.get() as usize];
         row.drop_first(to);

@@ -15,7 +15,8 @@ ghost use Rattle.line_world.specs.declared.steps.Mode.TheVariants.{Fifo};
 ghost use Rattle.line_world.specs.Fates.{is_forced, marker_events};
 ghost use Rattle.line_world.specs.Machine.{with_events};
 ghost use Rattle.line_world.specs.Openings.{completed_channels, open_number, opened, IsOpening, IsRecording};
-ghost use Rattle.line_world.specs.Queues.{queue_at, with_queue, taken_off, IsSquare};
+ghost use Rattle.line_world.specs.Queues.{taken_off};
+ghost use Rattle.line_turns.specs.Tables.{between, with_list, IsTable};
 ghost use Rattle.line_world.specs.Steps.{next_check};
 ghost use Rattle.line_world.specs.Worlds.{IsWorld};
 
@@ -51,7 +52,7 @@ pub fn put_message(
     to: ProcId,
     body: &Body,
 ) -> Result<MsgName, AllocError>
-    requires shape { IsSquare (length catalogue.old.processes) links.old }
+    requires shape { IsTable (length catalogue.old.processes) links.old }
     requires from { from < length catalogue.old.processes }
     requires to { to < length catalogue.old.processes }
     requires few { length (tape_at catalogue.old.processes from) < MOST_EVENTS }
@@ -59,7 +60,7 @@ pub fn put_message(
     ensures sent { OnOk result (catalogue.new.processes
         ≡ with_event catalogue.old.processes from (SendEvent to (incarnation_at catalogue.old.processes from) body.now)) }
     ensures put { OnOk result (links.new
-        ≡ with_queue links.old from to (queue_at links.old from to ++ Message (next_name catalogue.old.processes from) ∷ [])) }
+        ≡ with_list links.old from to (between links.old from to ++ Message (next_name catalogue.old.processes from) ∷ [])) }
     ensures err { OnErr result (catalogue.new.processes ≡ catalogue.old.processes) }
     ensures marks { catalogue.new.marks ≡ catalogue.old.marks }
     ensures kept { OnErr result (links.new ≡ links.old) }
@@ -126,7 +127,7 @@ pub fn take_message(
     to: ProcId,
     message: &MsgName,
 ) -> Result<(), AllocError>
-    requires shape { IsSquare (length catalogue.old.processes) links.old }
+    requires shape { IsTable (length catalogue.old.processes) links.old }
     requires from { from < length catalogue.old.processes }
     requires to { to < length catalogue.old.processes }
     requires other { from ≢ to }
@@ -203,7 +204,7 @@ fn force_round(
     requires short { length state.now ≤ MOST_STATE }
     requires few { length (tape_at catalogue.old.processes to) + 1 < MOST_EVENTS }
     requires first { has_check_of running.old.number (tape_at catalogue.old.processes to) ≡ false }
-    requires marker { slice_get (queue_at links.old from to) 0 ≡ Some (Marker running.old.number) }
+    requires marker { slice_get (between links.old from to) 0 ≡ Some (Marker running.old.number) }
     requires world { IsWorld Fifo catalogue.old.processes links.old }
     requires recording { IsRecording catalogue.old.processes running.old }
     ensures taken { OnOk result (catalogue.new.processes
@@ -242,7 +243,7 @@ fn hear_round(
     requires other { from ≢ to }
     requires few { length (tape_at catalogue.old.processes to) < MOST_EVENTS }
     requires begun { has_check_of round (tape_at catalogue.old.processes to) ≡ true }
-    requires marker { slice_get (queue_at links.old from to) 0 ≡ Some (Marker round) }
+    requires marker { slice_get (between links.old from to) 0 ≡ Some (Marker round) }
     requires world { IsWorld Fifo catalogue.old.processes links.old }
     requires opening { IsOpening Fifo catalogue.old.processes running.old }
     ensures taken { OnOk result (catalogue.new.processes ≡ with_event catalogue.old.processes to (MarkEvent from round)) }
@@ -277,7 +278,7 @@ pub fn take_marker(
     requires short { length state.now ≤ MOST_STATE }
     requires forced { forced ≡ is_forced catalogue.old.processes to round }
     requires few { length (tape_at catalogue.old.processes to) + length (marker_events (is_forced catalogue.old.processes to round) from state.now round) ≤ MOST_EVENTS }
-    requires marker { slice_get (queue_at links.old from to) 0 ≡ Some (Marker round) }
+    requires marker { slice_get (between links.old from to) 0 ≡ Some (Marker round) }
     requires world { IsWorld Fifo catalogue.old.processes links.old }
     requires opening { IsOpening Fifo catalogue.old.processes running.old }
     ensures taken { OnOk result (catalogue.new.processes

@@ -565,7 +565,14 @@ impl World {
         }
         let states = restored_states(alloc, history, &plan.line)?;
         let incarnations = restarted_incarnations(alloc, history, &plan.line)?;
-        let links = restarted_links(alloc, self.mode, history, &self.links, &plan.line)?;
+        let links = restarted_links(
+            alloc,
+            self.mode,
+            history,
+            &self.links,
+            &plan.line,
+            &plan.replays,
+        )?;
         self.catalogue.restart(&plan.line);
         self.links = links;
         self.running = None;

@@ -1,4 +1,4 @@
-use Rattle.line_turns.proofs.ChannelLemmas.{channel_between-at, IsTable-at}
+use Rattle.line_turns.proofs.ChannelLemmas.{channel-at, IsTable-at}
 use Rattle.line_turns.proofs.CompletedLemmas.{IsLine-last, channels-last}
 use Rattle.line_turns.proofs.TurningLemmas.{IsTurning-checked}
 use Rattle.line_turns.proofs.laws.last_check_completes.Goals as goal
@@ -13,7 +13,7 @@ pub returns-clause-checks : goal.returns-clause-checks
 returns-clause-checks c = IsTurning-checked
 
 pub returns-clause-between : goal.returns-clause-between
-returns-clause-between c = channel_between-at
+returns-clause-between c = channel-at
 
 pub returns-clause-table : goal.returns-clause-table
 returns-clause-table c = IsTable-at

@@ -8,7 +8,8 @@ use Rattle.line_tape.specs.History.{Process, tape_at, with_event}
 use Rattle.line_tape.specs.Rounds.{has_check_of}
 use Rattle.line_catalogue.specs.Agreement.{Agrees}
 use Rattle.line_world.specs.declared.steps.Mode.TheVariants.{Fifo}
-use Rattle.line_world.specs.Queues.{queue_at, with_on_each, with_queue}
+use Rattle.line_world.specs.Queues.{with_on_each}
+use Rattle.line_turns.specs.Tables.{between, with_list}
 use Rattle.line_world.specs.Worlds.{IsWorld}
 use Rattle.line_world.proofs.AgreeLemmas.{AgreesNext-check, AgreesNext-mark}
 use Rattle.line_world.proofs.LinkLemmas.{length-with_event}
@@ -41,8 +42,8 @@ returns-clause-world c =
     let number : r ≡ c.args.running.now.number = c.number-number.ensures in
     let after : c.add_event-2.new.catalogue.processes ≡ with_event (with_event history to e) to f =
     c.add_event-2.ensures.processes ∙ ap (λ (h : List Process). with_event h to f) (c.add_event.ensures.processes ∙ ap (λ (h : List Process). with_event h to e) c.in_ok-reserve.ensures.processes) in
-    let queues : c.drop_first.new.self ≡ with_queue (with_on_each links to (Marker r)) from to (drop 1 (queue_at (with_on_each links to (Marker r)) from to)) =
-    c.drop_first.ensures ∙ ap (λ (q : List (List (List Item))). with_queue q from to (drop 1 (queue_at q from to))) c.in_ok-push_each.ensures.ok in
+    let queues : c.drop_first.new.self ≡ with_list (with_on_each links to (Marker r)) from to (drop 1 (between (with_on_each links to (Marker r)) from to)) =
+    c.drop_first.ensures ∙ ap (λ (q : List (List (List Item))). with_list q from to (drop 1 (between q from to))) c.in_ok-push_each.ensures.ok in
     subst (λ (h : List Process). IsWorld Fifo h c.drop_first.new.self) (sym after)
     (subst (λ (q : List (List (List Item))). IsWorld Fifo (with_event (with_event history to e) to f) q) (sym queues)
     (IsWorld-forced history links c.requires.world from to r c.in_ok-state.state c.requires.from c.requires.to c.requires.other

@@ -2,7 +2,7 @@
 use Rattle.std.proofs.Common.{◌≡◌, ◌<◌, [], List, ℕ, length, get_or, set, drop, map, ap, ◌∙◌, arith}
 use Rattle.std.proofs.lemmas.List.{length-map}
 use Rattle.line_tape.specs.declared.items.Item.{Item}
-use Rattle.line_world.specs.Queues.{queue_at, with_queue}
+use Rattle.line_turns.specs.Tables.{between, with_list}
 use Rattle.line_world.specs.Rooms.{QueueView, items_of}
 use Rattle.line_world.proofs.RoomLemmas.{map-changed}
 use Rattle.line_world.proofs.links.Links.drop_first.Goals as goal
@@ -16,5 +16,5 @@ returns c =
     let within : c.get.result < length rows = omega (arith, c.requires.from, length-map rows items_of, ap (λ (xs : List (List (List Item))). length xs) seen) in
     let without : List (List Item) → List (List Item) = λ row. set row to (drop 1 (get_or row to [])) in
     map-changed items_of rows c.get.result [] c.index_mut-row.result.now c.drop_first.new.self without within c.index_mut-row.ensures.value c.drop_first.ensures
-    ∙ ap (λ (from : ℕ). with_queue (map items_of rows) from to (drop 1 (queue_at (map items_of rows) from to))) at
-    ∙ ap (λ (queues : List (List (List Item))). with_queue queues c.args.from to (drop 1 (queue_at queues c.args.from to))) seen
+    ∙ ap (λ (from : ℕ). with_list (map items_of rows) from to (drop 1 (between (map items_of rows) from to))) at
+    ∙ ap (λ (queues : List (List (List Item))). with_list queues c.args.from to (drop 1 (between queues c.args.from to))) seen

@@ -4,7 +4,7 @@ use Rattle.std.proofs.lemmas.List.{length-map}
 use Rattle.std.proofs.lemmas.Result.{on_err_weaker, on_ok_weaker}
 use Rattle.std.proofs.Math.Seq.{map-set_same}
 use Rattle.line_tape.specs.declared.items.Item.{Item}
-use Rattle.line_world.specs.Queues.{queue_at, with_queue}
+use Rattle.line_turns.specs.Tables.{between, with_list}
 use Rattle.line_world.specs.Rooms.{QueueView, items_of}
 use Rattle.line_world.proofs.RoomLemmas.{map-changed}
 use Rattle.line_world.proofs.links.Links.push.Goals as goal
@@ -20,8 +20,8 @@ returns-clause-ok c =
     let with_item : List (List Item) → List (List Item) = λ row. set row to (get_or row to [] ++ item ∷ []) in
     on_ok_weaker c.push.result (λ put.
     map-changed items_of rows c.get.result [] c.index_mut-row.result.now c.push.new.self with_item within c.index_mut-row.ensures.value put
-    ∙ ap (λ (from : ℕ). with_queue (map items_of rows) from to (queue_at (map items_of rows) from to ++ item ∷ [])) at
-    ∙ ap (λ (queues : List (List (List Item))). with_queue queues c.args.from to (queue_at queues c.args.from to ++ item ∷ [])) seen) c.push.ensures.ok
+    ∙ ap (λ (from : ℕ). with_list (map items_of rows) from to (between (map items_of rows) from to ++ item ∷ [])) at
+    ∙ ap (λ (queues : List (List (List Item))). with_list queues c.args.from to (between queues c.args.from to ++ item ∷ [])) seen) c.push.ensures.ok
 
 pub returns-clause-err : goal.returns-clause-err
 returns-clause-err c =

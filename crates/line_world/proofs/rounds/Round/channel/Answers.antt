@@ -4,7 +4,7 @@ use Rattle.std.proofs.Common.{◌≡◌, ℕ, List, [], length, get_or, Option, 
 use Rattle.std.proofs.lemmas.List.{get_or_default}
 use Rattle.line_marker.specs.Recording.{MarkerView, messages_by, round_of}
 use Rattle.line_names.specs.declared.messages.MsgName.{MsgName}
-use Rattle.line_turns.specs.Channels.{channel_between}
+use Rattle.line_turns.specs.Tables.{between}
 use Rattle.line_world.specs.Listed.{Listed, channel_in}
 use Rattle.line_world.specs.Openings.{channels_kept, marker_at, no_marker, recorded_channel, AreChannels, AreMarkers}
 use Rattle.line_world.proofs.OpeningLemmas.{table_cell}
@@ -18,7 +18,7 @@ returns-in-Some c =
     let kept : Option (List (List (List MsgName))) → List MsgName = λ o.
     get_or (get_or (channels_kept o (length indices) c.self.inside.markers.items c.self.inside.number) c.args.from []) c.args.to [] in
     c.between.ensures
-    ∙ sym (table_cell (length indices) (channel_between table) c.args.from c.args.to (omega (arith, c.requires.from, count)) (omega (arith, c.requires.to, count)) c.requires.other)
+    ∙ sym (table_cell (length indices) (between table) c.args.from c.args.to (omega (arith, c.requires.from, count)) (omega (arith, c.requires.to, count)) c.requires.other)
     ∙ ap kept (sym c.in-Some.is)
     ∙ ap (λ (v : Listed). channel_in v c.args.from c.args.to) c.self.view_is
 

@@ -3,7 +3,7 @@ use Rattle.std.proofs.Common.{ℕ, List, length, ap, ◌∙◌, sym, subst}
 use Rattle.line_names.specs.declared.choices.Choice.{Choice}
 use Rattle.line_tape.specs.History.{Process}
 use Rattle.line_tape.specs.Rounds.{round_line}
-use Rattle.line_turns.specs.Channels.{IsTable}
+use Rattle.line_turns.specs.Tables.{IsTable}
 use Rattle.line_turns.proofs.ChannelLemmas.{IsTable-at}
 use Rattle.line_world.proofs.TurnFacts.{counted_is}
 use Rattle.line_world.proofs.rounds.Round.of_turning.Goals as goal

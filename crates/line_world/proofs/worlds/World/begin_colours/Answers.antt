@@ -14,7 +14,7 @@ use Rattle.line_world.specs.declared.steps.Mode.TheVariants.{Unordered}
 use Rattle.line_world.specs.declared.steps.Step.TheVariants.{Begin}
 use Rattle.line_world.specs.Listed.{Listed}
 use Rattle.line_world.specs.Machine.{Machine, is_open, newly_listed}
-use Rattle.line_world.specs.Openings.{OpenView, left_open, newly_closed, opened_by, opened_turning, IsRunning}
+use Rattle.line_world.specs.Openings.{OpenView, completed_channels, left_open, newly_closed, opened_by, opened_turning, IsRunning}
 use Rattle.line_world.specs.Refusals.{refusal_of}
 use Rattle.line_world.specs.Steps.{Begins}
 use Rattle.line_world.specs.Worlds.{ArePainted, AreRounds, IsPainted, IsWorld}
@@ -221,3 +221,7 @@ returns-clause-done c =
             ∙ step_seen mode history c.take_turn.new.catalogue.processes marks c.take_turn.new.catalogue.marks last (last + 1) rounds fresh links links at (e ∷ []) done c.in_ok-check.ensures.marks refl newly;
       }),
     )
+
+pub still_turning-requires-clause-channels : goal.still_turning-requires-clause-channels
+still_turning-requires-clause-channels c =
+    c.in_ok-check.ensures.channels ∙ ap (λ (h : List Process). completed_channels h (Some c.take_turn.new.turning)) (sym c.history.ensures.processes)

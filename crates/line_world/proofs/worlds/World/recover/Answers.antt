@@ -7,13 +7,13 @@ use Rattle.line_tape.specs.declared.items.Item.TheVariants.{Message}
 use Rattle.line_tape.specs.History.{Process}
 use Rattle.line_tape.specs.Line.{IsLine, IsConsistent}
 use Rattle.line_tape.specs.Restart.{HaveFurther, restarted, restarted_marks}
-use Rattle.line_tape.specs.Transit.{in_transit_between}
+use Rattle.line_tape.specs.Transit.{in_transit, in_transit_between}
 use Rattle.line_tape.specs.Views.{MarksView}
 use Rattle.line_world.specs.declared.replies.StepError.TheVariants.{NoMoreIncarnations}
 use Rattle.line_world.specs.declared.steps.Step.TheVariants.{Recover}
 use Rattle.line_world.specs.declared.steps.Mode.{Mode}
 use Rattle.line_world.specs.Machine.{Machine, copies_in}
-use Rattle.line_world.specs.Queues.{queue_at}
+use Rattle.line_turns.specs.Tables.{between}
 use Rattle.line_world.specs.Refusals.{refusal_of, has_stranger, IsRefused}
 use Rattle.line_world.specs.Steps.{restored_states, restarted_machine}
 use Rattle.line_world.specs.Openings.{OpenView, opened}
@@ -52,11 +52,12 @@ pub restarted_incarnations-requires-clause-line : goal.restarted_incarnations-re
 restarted_incarnations-requires-clause-line c =
     c.in_ok-plan.ensures.plan.latest.recoverable.length_is ∙ ap (λ (m : Machine). length m.history) (sym c.self.view_is) ∙ ap (λ (h : List Process). length h) (sym c.history-history.ensures.processes)
 
-pub restarted_links-requires-clause-line : goal.restarted_links-requires-clause-line
-restarted_links-requires-clause-line c =
+pub restarted_links-requires-clause-transit : goal.restarted_links-requires-clause-transit
+restarted_links-requires-clause-transit c =
     let same : c.history-history.result.now.processes ≡ c.args.self.now.history = c.history-history.ensures.processes ∙ ap (λ (m : Machine). m.history) c.self.view_is in
-    subst (λ (h : List Process). IsLine h c.in_ok-plan.plan.line) (sym same)
-    (IsLine-latest c.args.self.now.history c.args.self.now.marks c.args.failed.now c.in_ok-plan.plan.line c.in_ok-plan.ensures.plan.latest)
+    c.deref.ensures.value
+    ∙ c.in_ok-plan.ensures.plan.replays
+    ∙ ap (λ (h : List Process). in_transit h c.in_ok-plan.plan.line) (sym same)
 
 pub restarted_links-requires-clause-queued : goal.restarted_links-requires-clause-queued
 restarted_links-requires-clause-queued c =
@@ -87,7 +88,7 @@ invariant_of-self c =
     let queued : AreQueues old new = subst (λ (h : List Process). AreQueues h new) c.history-history.ensures.processes c.in_ok-links.ensures.queued in (
       subst (λ (h : List Process). IsWorld mode h new) (sym c.restart.ensures.processes)
           (IsWorld-restart old links new line size consistent queued mode c.self.invariant.0
-          (subst (λ (h : List Process). (p q : ℕ) → p < length h → q < length h → queue_at new p q ≡ queue_at (copies_in mode links) p q ++ map (λ m. Message m) (in_transit_between h line p q)) c.history-history.ensures.processes c.in_ok-links.ensures.put)),
+          (subst (λ (h : List Process). (p q : ℕ) → p < length h → q < length h → between new p q ≡ between (copies_in mode links) p q ++ map (λ m. Message m) (in_transit_between h line p q)) c.history-history.ensures.processes c.in_ok-links.ensures.put)),
       subst (λ (h : List Process). AreRounds mode h c.self.inside.last_round (opened mode None None) c.keep_rounds.new.rounds.items) (sym c.restart.ensures.processes)
           (subst (λ (rounds : List Listed). AreRounds mode (restarted old line) c.self.inside.last_round (opened mode None None) rounds) (sym c.keep_rounds.ensures)
           (subst (λ (o : Option OpenView). AreRounds mode (restarted old line) c.self.inside.last_round o (filter (stays line) c.self.inside.rounds.items)) (sym (none_opened mode))
@@ -123,7 +124,7 @@ returns-clause-done c =
             ∙ ap (λ (rounds : List Listed). seen mode (restarted old line) (restarted_marks marks line) last rounds new) c.keep_rounds.ensures
             ∙ ap (λ (copies : List (List (List Item))). let m : Machine = record { mode = mode; history = restarted old line; marks = restarted_marks marks line; last_round = last; rounds = filter (stays line) c.self.inside.rounds.items; copies = copies } in m)
             (seen-restart old links new line size consistent queued mode
-            (subst (λ (h : List Process). (p q : ℕ) → p < length h → q < length h → queue_at new p q ≡ queue_at (copies_in mode links) p q ++ map (λ m. Message m) (in_transit_between h line p q)) c.history-history.ensures.processes c.in_ok-links.ensures.put))
+            (subst (λ (h : List Process). (p q : ℕ) → p < length h → q < length h → between new p q ≡ between (copies_in mode links) p q ++ map (λ m. Message m) (in_transit_between h line p q)) c.history-history.ensures.processes c.in_ok-links.ensures.put))
             ∙ ap (λ (m : Machine). restarted_machine m line) c.self.view_is;
       },
     )
