@@ -3,3 +3,4 @@ pub mod CheckLemmas
 pub mod CatalogueLemmas
 pub mod RestartLemmas
 pub mod TableLemmas
+pub mod CutLemmas

@@ -6,7 +6,7 @@ ghost use Rattle.line_names.specs.Order.{IsNoLater};
 ghost use Rattle.line_tape.specs.Chain.{latest_check, next_lower};
 ghost use Rattle.line_tape.specs.Event.{checks, HasLongState, NamesBelow};
 ghost use Rattle.line_tape.specs.History.{fresh, tape_at, with_event, IsHistory};
-ghost use Rattle.line_tape.specs.Line.{IsLine, IsConsistent};
+ghost use Rattle.line_tape.specs.Line.{events_before, IsLine, IsConsistent, IsFoundAmong};
 ghost use Rattle.line_tape.specs.Restart.{restarted, restarted_marks, HaveFurther};
 ghost use Rattle.line_tape.specs.Survival.{survives, is_damaged};
 ghost use Rattle.line_tape.specs.Views.{with_mark};
@@ -17,10 +17,11 @@ ghost use Rattle.line_catalogue.specs.Views.{room_at};
 
 use crate::additions::{row_added, test_event};
 use crate::agreement::{agrees, are_on_checks};
+use crate::cuts::Cut;
 use crate::refusals::{AddError, CatalogueError, DamageError};
 use crate::rows::{Row, RowTable};
-use line_names::{Choice, Line, MOST_PROCESSES, ProcId, ProcSet};
-use line_tape::{CountError, Event, History, MOST_EVENTS, Marks};
+use line_names::{Choice, Line, MOST_PROCESSES, MsgName, ProcId, ProcSet};
+use line_tape::{CountError, Event, History, MOST_EVENTS, Marks, orphan_among};
 use std::alloc::{AllocError, Global};
 use std::marker::Model;
 
@@ -32,6 +33,8 @@ pub struct Catalogue {
     history: History,
     marks: Marks,
     rows: RowTable,
+    /// What the last restart left, and nothing before the first one: no message is received there that isn't sent there.
+    cut: Cut,
 }
 
 impl Model for Catalogue {
@@ -39,6 +42,7 @@ impl Model for Catalogue {
 
     ghost Value = { CatalogueView };
 
+    ghost use Rattle.line_catalogue.specs.Cuts.{IsConsistentCut};
     ghost use Rattle.line_catalogue.specs.Kept.{IsCatalogue};
 
     ghost view = { λ c. record {
@@ -47,7 +51,7 @@ impl Model for Catalogue {
       rooms = lesser_rooms c.history.rooms c.rows.rooms;
     } };
 
-    ghost invariant = { λ c. IsCatalogue c.history.processes c.marks c.rows.rows };
+    ghost invariant = { λ c. IsCatalogue c.history.processes c.marks c.rows.rows × IsConsistentCut c.history.processes c.cut };
 }
 
 impl Catalogue {
@@ -60,10 +64,12 @@ impl Catalogue {
         let history = History::new(alloc, n)?;
         let marks = Marks::new(alloc, n)?;
         let rows = RowTable::of(alloc, &history, &marks)?;
+        let cut = Cut::new(alloc, n)?;
         Ok(Catalogue {
             history,
             marks,
             rows,
+            cut,
         })
     }
 
@@ -89,10 +95,12 @@ impl Catalogue {
         let rows = RowTable::of(alloc, history, marks)?;
         let history = history.copy(alloc)?;
         let marks = marks.copy(alloc)?;
+        let cut = Cut::new(alloc, history.n())?;
         Ok(Catalogue {
             history,
             marks,
             rows,
+            cut,
         })
     }
 
@@ -173,6 +181,22 @@ impl Catalogue {
             Choice::Check(0) => None,
             Choice::Check(c) => Some(self.latest_check(p, c - 1, failed)),
             Choice::Now => Some(self.latest_check(p, self.history.tape(p).checks(), failed)),
+        }
+    }
+
+    /// An orphan at a process, if there is one: of several that of the lowest sender, and of that sender the one with the greatest number.
+    ///
+    /// It looks once at each process, and at each event before the choice that came since the last restart; at all of them where a choice of the line is before what that restart left.
+    pub fn orphan_at(&self, line: &Line, p: ProcId) -> Option<MsgName>
+        requires line { IsLine self.now.processes line.now }
+        requires process { p < length self.now.processes }
+        ensures { IsFoundAmong self.now.processes line.now (events_before self.now.processes line.now p) result }
+    {
+        let events = self.history.tape(p).front(line.at(p));
+        if self.cut.is_before(&self.history, line) {
+            orphan_among(&self.history, line, &events[self.cut.events(p) as usize..])
+        } else {
+            orphan_among(&self.history, line, events)
         }
     }
 
@@ -278,5 +302,6 @@ impl Catalogue {
         self.history.restart(line);
         self.marks.restart(line);
         self.rows.restart(&self.history, &self.marks);
+        self.cut.move_to_end(&self.history);
     }
 }

@@ -6,6 +6,7 @@
 mod additions;
 mod agreement;
 mod catalogues;
+mod cuts;
 mod refusals;
 mod rows;
 

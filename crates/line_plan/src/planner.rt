@@ -2,7 +2,7 @@
 ghost use Rattle.std.specs.Prelude.{◌≡◌, ◌<◌, ◌≤◌, ◌+◌, false, length, vec_len, OnOk, IfOk};
 ghost use Rattle.line_tape.specs.Chain.{latest_choice, first_ceilings, IsChain};
 ghost use Rattle.line_tape.specs.Height.{IsLed, height};
-ghost use Rattle.line_tape.specs.Line.{events_before, IsLine, IsOrphan, AreSentBefore, IsFoundAmong};
+ghost use Rattle.line_tape.specs.Line.{events_before, IsOrphan, AreSentBefore};
 ghost use Rattle.line_tape.specs.Survival.{IsLatest};
 ghost use Rattle.line_tape.specs.Transit.{in_transit};
 ghost use Rattle.line_plan.specs.Search.{IsMoved, AreSentBelow};
@@ -10,7 +10,6 @@ ghost use Rattle.line_plan.specs.Search.{IsMoved, AreSentBelow};
 use crate::plans::{Plan, PlanError};
 use line_catalogue::Catalogue;
 use line_names::{Choice, Line, MsgName, Passed, ProcId, ProcSet};
-use line_tape::orphan_at;
 use std::alloc::{AllocError, Global};
 
 /// The latest surviving choice of a process. It looks at one check for each that does not survive.
@@ -35,17 +34,6 @@ fn first_ceilings(catalogue: &Catalogue, failed: &ProcSet) -> Line
         line.push(latest_choice(catalogue, failed, p));
     }
     line
-}
-
-/// An orphan at a process, if there is one: of several that of the lowest sender, and of that sender the one with the greatest number.
-///
-/// It looks once at each event before the process's choice.
-fn find_orphan(catalogue: &Catalogue, line: &Line, at: ProcId) -> Option<MsgName>
-    requires line { IsLine catalogue.now.processes line.now }
-    requires process { at < length catalogue.now.processes }
-    ensures { IsFoundAmong catalogue.now.processes line.now (events_before catalogue.now.processes line.now at) result }
-{
-    orphan_at(catalogue.history(), line, at)
 }
 
 /// Passes the choice of a process over, for an orphan that it has received.
@@ -92,7 +80,7 @@ fn visit(
 {
     let mut lowered = false;
     'orphans: loop {
-        match find_orphan(catalogue, line, at) {
+        match catalogue.orphan_at(line, at) {
             Some(message) => {
                 pass_over(catalogue, failed, at, message, line, certificate)?;
                 lowered = true;
@@ -130,7 +118,7 @@ fn sweep(
 ///
 /// The ceilings start at each process's latest surviving choice. A sweep visits the processes in the order of their numbers; at a visit a process is lowered to its next lower surviving choice while it has received an orphan, and each choice passed over is written down with the orphan from the lowest sender, of its messages the one with the greatest number. Sweeps go on until one lowers nothing.
 ///
-/// A visit looks at each event before the process's ceiling. At the end each event before the line is looked at once more, for what is in transit there.
+/// A visit looks at each process, and at each event before the ceiling of the one visited that came since the last restart; at all of them where a ceiling is before what that restart left. At the end each event before the line is looked at once more, for what is in transit there.
 pub fn plan(alloc: Global, catalogue: &Catalogue, failed: &ProcSet) -> Result<Plan, PlanError>
     ensures latest { IfOk result (λ plan. IsLatest catalogue.now.processes catalogue.now.marks failed.now plan.line) }
     ensures chain { IfOk result (λ plan.

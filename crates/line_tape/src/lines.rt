@@ -79,6 +79,20 @@ fn with_event(
     }
 }
 
+/// An orphan among these events, if there is one: of several that of the lowest sender, and of that sender the one with the greatest number.
+///
+/// It looks once at each event.
+pub fn orphan_among(history: &History, line: &Line, events: &[Event]) -> Option<MsgName>
+    requires { IsLine history.now.processes line.now }
+    ensures { IsFoundAmong history.now.processes line.now events.now result }
+{
+    let mut best = None;
+    for event in events {
+        best = with_event(history, line, event, best);
+    }
+    best
+}
+
 /// An orphan at a process, if there is one: of several that of the lowest sender, and of that sender the one with the greatest number.
 ///
 /// It looks once at each event before the process's choice.
@@ -87,12 +101,7 @@ pub fn orphan_at(history: &History, line: &Line, q: ProcId) -> Option<MsgName>
     requires process { q < length history.now.processes }
     ensures { IsFoundAmong history.now.processes line.now (events_before history.now.processes line.now q) result }
 {
-    let events = history.tape(q).front(line.at(q));
-    let mut best = None;
-    for event in events {
-        best = with_event(history, line, event, best);
-    }
-    best
+    orphan_among(history, line, history.tape(q).front(line.at(q)))
 }
 
 /// Whether no message is received before the line that is not sent before it.

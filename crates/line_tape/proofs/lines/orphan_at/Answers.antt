@@ -1,23 +1,12 @@
--- The events looked at grow by one, up to the whole front.
-use Rattle.std.proofs.Common.{◌≡◌, ◌+◌, List, ℕ, [], ◌∷◌, ◌++◌, take, sym, ap, ◌∙◌, subst, arith}
-use Rattle.std.proofs.lemmas.List.{take_more, take_all}
+-- The events looked at are the process's front.
+use Rattle.std.proofs.Common.{◌≡◌, List, ap, ◌∙◌, subst}
 use Rattle.line_tape.specs.declared.events.Event.{Event}
 use Rattle.line_tape.specs.Front.{front}
 use Rattle.line_tape.specs.History.{tape_at}
 use Rattle.line_tape.specs.Line.{IsFoundAmong, events_before}
 use Rattle.line_tape.proofs.lines.orphan_at.Goals as goal
 
-pub loop-event-preserved : goal.loop-event-preserved
-loop-event-preserved c =
-    let events : List Event = c.front-events.result.now in
-    let i : ℕ = c.loop-event.event-index in
-    let item : Event = c.event-item.result in
-    let more : take (i + 1) events ≡ take i events ++ item ∷ [] = take_more events i item (omega arith) ∙ ap (λ (e : Event). take i events ++ e ∷ []) (sym c.event-item.is) in
-    subst (λ (xs : List Event). IsFoundAmong c.args.history.now.processes c.args.line.now xs c.with_event-best.result) (sym more) (c.with_event-best.ensures (take i events) c.loop-event.invariant)
-
 pub returns : goal.returns
 returns c =
-    let events : List Event = c.front-events.result.now in
-    let all : take c.loop-event.event-index events ≡ events = take_all c.loop-event.event-index events (omega arith) in
-    let front : events ≡ events_before c.args.history.now.processes c.args.line.now c.args.q = c.front-events.ensures ∙ ap (λ (t : List Event). front t c.at.result) c.tape.ensures.events ∙ ap (front (tape_at c.args.history.now.processes c.args.q)) c.at.ensures in
-    subst (λ (xs : List Event). IsFoundAmong c.args.history.now.processes c.args.line.now xs c.loop-event.best) (all ∙ front) c.loop-event.invariant
+    let front : c.front.result.now ≡ events_before c.args.history.now.processes c.args.line.now c.args.q = c.front.ensures ∙ ap (λ (t : List Event). front t c.at.result) c.tape.ensures.events ∙ ap (front (tape_at c.args.history.now.processes c.args.q)) c.at.ensures in
+    subst (λ (xs : List Event). IsFoundAmong c.args.history.now.processes c.args.line.now xs c.orphan_among.result) front c.orphan_among.ensures

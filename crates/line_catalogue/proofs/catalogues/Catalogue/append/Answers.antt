@@ -10,10 +10,12 @@ use Rattle.line_tape.specs.Event.{NamesBelow}
 use Rattle.line_tape.specs.History.{Process, tape_at, with_event}
 use Rattle.line_catalogue.specs.declared.rows.Row.{Row}
 use Rattle.line_catalogue.specs.Agreement.{AgreesNext}
+use Rattle.line_catalogue.specs.Cuts.{IsConsistentCut}
 use Rattle.line_catalogue.specs.Kept.{IsCatalogue}
 use Rattle.line_catalogue.specs.Rows.{IsRowAdded}
 use Rattle.line_catalogue.specs.Views.{CatalogueView, room_at}
 use Rattle.line_catalogue.proofs.CatalogueLemmas.{IsCatalogue-event, lesser_at}
+use Rattle.line_catalogue.proofs.CutLemmas.{IsConsistentCut-event}
 use Rattle.line_catalogue.proofs.catalogues.Catalogue.append.Goals as goal
 
 -- what is refused for no reason is taken
@@ -46,5 +48,7 @@ invariant_of-self c =
     let within : c.args.p < length history = omega (arith, c.requires.process, ap (λ (xs : List Process). length xs) seen) in
     let next : AgreesNext history c.args.p c.args.event = subst (λ (xs : List Process). AgreesNext xs c.args.p c.args.event) (sym seen) c.requires.agrees in
     let added : IsRowAdded (tape_at history c.args.p) c.args.event c.row_added-row.result = subst (λ (tape : List Event). IsRowAdded tape c.args.event c.row_added-row.result) c.tape.ensures.events c.row_added-row.ensures in
-    let grown : c.push.new.self.processes ≡ with_event history c.args.p c.args.event = IfOk-at_ok (λ x. c.push.new.self.processes ≡ with_event history c.args.p c.args.event) c.unwrap.ensures c.push.ensures.ok in
-    subst (λ (xs : List Process). IsCatalogue xs c.self.inside.marks c.append.new.self.rows) (sym grown) (subst (IsCatalogue (with_event history c.args.p c.args.event) c.self.inside.marks) (sym c.append.ensures.rows) (IsCatalogue-event history c.self.inside.marks rows c.args.p within c.args.event c.row_added-row.result next added c.self.invariant))
+    let grown : c.push.new.self.processes ≡ with_event history c.args.p c.args.event = IfOk-at_ok (λ x. c.push.new.self.processes ≡ with_event history c.args.p c.args.event) c.unwrap.ensures c.push.ensures.ok in (
+      subst (λ (xs : List Process). IsCatalogue xs c.self.inside.marks c.append.new.self.rows) (sym grown) (subst (IsCatalogue (with_event history c.args.p c.args.event) c.self.inside.marks) (sym c.append.ensures.rows) (IsCatalogue-event history c.self.inside.marks rows c.args.p within c.args.event c.row_added-row.result next added c.self.invariant.0)),
+      subst (λ (xs : List Process). IsConsistentCut xs c.self.inside.cut) (sym grown) (IsConsistentCut-event history c.self.inside.cut c.self.invariant.1 c.args.p c.args.event within),
+    )

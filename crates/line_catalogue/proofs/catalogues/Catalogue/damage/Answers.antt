@@ -15,5 +15,5 @@ invariant_of-self-2 c =
     let marks : MarksView = c.self.inside.marks in
     let rows : List (List Row) = c.self.inside.rows.rows in
     let within : c.args.p < length history = omega (arith, c.requires, ap (λ (v : CatalogueView). length v.processes) c.self.view_is) in
-    let there : c.args.check ≤ checks (tape_at history c.args.p) = omega (arith, c.if-check-at.false, ap (λ (xs : List Row). length xs) c.at.ensures, (c.self.invariant.shown c.args.p within).count) in
-    subst (λ (m : MarksView). IsCatalogue history m c.damage.new.self.rows) (sym c.in_ok-mark.ensures.ok) (subst (IsCatalogue history (with_mark marks c.args.p c.args.check)) (sym c.damage.ensures.rows) (IsCatalogue-mark history marks rows c.args.p within c.args.check there c.self.invariant))
+    let there : c.args.check ≤ checks (tape_at history c.args.p) = omega (arith, c.if-check-at.false, ap (λ (xs : List Row). length xs) c.at.ensures, (c.self.invariant.0.shown c.args.p within).count) in
+    (subst (λ (m : MarksView). IsCatalogue history m c.damage.new.self.rows) (sym c.in_ok-mark.ensures.ok) (subst (IsCatalogue history (with_mark marks c.args.p c.args.check)) (sym c.damage.ensures.rows) (IsCatalogue-mark history marks rows c.args.p within c.args.check there c.self.invariant.0)), c.self.invariant.1)
