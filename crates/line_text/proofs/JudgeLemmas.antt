@@ -21,8 +21,3 @@ code_is faults.BadShape code a b c d e f = f refl
 pub judges_text : (text : List ℕ) (check : Check) (verdict : Option CertFault) (old new : Option (List ℕ)) (bytes : List ℕ) → check_of_text text ≡ Ok check → IsVerdict check verdict → bytes ≡ record_text (verdict_record verdict) → Puts old new bytes
     → JudgesText text verdict old new
 judges_text text check verdict old new bytes spelt judged is put = record { check = check; spelt = spelt; judged = judged; put = subst (λ (t : List ℕ). Puts old new t) is put }
-
--- a front of it was put
-pub judges_front : (text : List ℕ) (check : Check) (verdict : Option CertFault) (old new : Option (List ℕ)) (bytes : List ℕ) → check_of_text text ≡ Ok check → IsVerdict check verdict → bytes ≡ record_text (verdict_record verdict) → PutsFront old new bytes
-    → JudgesTextFront text old new
-judges_front text check verdict old new bytes spelt judged is put = record { check = check; verdict = verdict; spelt = spelt; judged = judged; put = subst (λ (t : List ℕ). PutsFront old new t) is put }

@@ -21,6 +21,7 @@ use Rattle.line_claims.specs.declared.faults.TextFault.{TextFault}
 use Rattle.line_claims.specs.Entries.{failed_of}
 use Rattle.line_claims.specs.Numbers.{plain}
 use Rattle.line_claims.specs.Reads.{fault_at, numbered}
+use Rattle.line_claims.specs.Texts.{records_in}
 
 -- a pick: the place of an item on a link
 abbrev pub pick : List ℕ → Result ℕ Fault
@@ -187,6 +188,4 @@ script_of (first ∷ rest) = do
 
 -- the script that a text spells
 unfoldable pub script_of_text : List ℕ → Result Script TextFault
-script_of_text text =
-    if is_input_text text then script_of (records_of_text text)
-    else Err (fault_at 0 faults.BadRecord)
+script_of_text text = records_in text >>= script_of
