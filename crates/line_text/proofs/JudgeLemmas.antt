@@ -4,9 +4,9 @@ use Rattle.line_check.specs.declared.faults.CertFault.{CertFault}
 use Rattle.line_check.specs.declared.faults.FaultCode.{FaultCode}
 use Rattle.line_check.specs.declared.faults.FaultCode.TheVariants as faults
 use Rattle.line_claims.specs.Texts.{Check, check_of_text}
-use Rattle.line_devices.specs.Devices.{Puts, PutsFront}
+use Rattle.line_devices.specs.Devices.{Puts}
 use Rattle.line_fields.specs.Texts.{record_text}
-use Rattle.line_text.specs.Judgings.{IsVerdict, JudgesText, JudgesTextFront, fault_code, verdict_record}
+use Rattle.line_text.specs.Judgings.{IsVerdict, JudgesText, fault_code, verdict_record}
 
 pub code_is : (fault : FaultCode) (code : ℕ) → (fault ≡ faults.NotTop → code ≡ 11) → (fault ≡ faults.NotReceived → code ≡ 12) → (fault ≡ faults.NotOrphan → code ≡ 13) → (fault ≡ faults.LineDiffers → code ≡ 14) → (fault ≡ faults.NotConsistent → code ≡ 15)
     → (fault ≡ faults.BadShape → code ≡ 16) → code ≡ fault_code fault

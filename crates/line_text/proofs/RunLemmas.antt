@@ -1,6 +1,6 @@
 -- A run grows by one command, and so do its text and its count of refusals.
 use Rattle.std.proofs.Common.{◌≡◌, ◌<◌, ◌≤◌, ℕ, ◌+◌, cond, List, [], ◌∷◌, ◌++◌, Option, Some, None, append_assoc, drop, get_or, length, take, refl, sym, ap, ◌∙◌, subst, arith}
-use Rattle.std.specs.Prelude.{Bool, Err, IfErr, IsTrue, Ok, Result}
+use Rattle.std.specs.Prelude.{Bool, IsTrue, Ok}
 use Rattle.std.specs.List.{flat_map}
 use Rattle.std.proofs.lemmas.Grind.{flat_map-append}
 use Rattle.std.proofs.lemmas.List.{append-nil, drop_more, take_more}
