@@ -12,6 +12,7 @@ use Rattle.line_tape.specs.declared.events.Event.{Event}
 use Rattle.line_tape.specs.declared.limits.TheConstants.{MOST_EVENTS}
 use Rattle.line_tape.specs.History.{Process, fresh, tape_at, with_event, with_incarnation}
 use Rattle.line_claims.specs.declared.faults.TextFault.{TextFault}
+use Rattle.line_claims.specs.declared.numbers.TheConstants.{MOST_NUMBER}
 use Rattle.line_claims.specs.Histories.{Front, Tapes, ends_front, front_from, front_of, step}
 use Rattle.line_claims.specs.Ranges.{IsHistoryInRange, IsInRange, IsTapeInRange}
 use Rattle.line_claims.specs.Records.{event_record, history_records, tape_record, tapes_records}
@@ -95,7 +96,7 @@ tapes_again n done (p ∷ others) h b a i more ends is at total few fit =
     let count : length after ≡ length others = length-replicate (length others) fresh in
     let long : length h ≡ n = omega (arith, ap length is, length-append done (fresh ∷ after), count, total) in
     let there : b < length h = omega (arith, at, long, total) in
-    let wide : b ≤ 4294967295 = omega (arith, there, long, few) in
+    let wide : b ≤ MOST_NUMBER = omega (arith, there, long, few) in
     let begun : with_tape t inc ≡ next
     = ap (λ (x : List Process). with_history x (b + 1) b) (incarnation_between done after h b inc is at) ∙ ap (λ (k : ℕ). with_history (between done (process_with inc []) after) (k + 1) k) at in
     let stepped : step t (tape_record b inc) ≡ Ok next = tape_again t inc there wide ok.incarnation ∙ ok_of begun in

@@ -15,6 +15,7 @@ use Rattle.line_tape.specs.Survival.{is_damaged}
 use Rattle.line_tape.specs.Views.{MarksView, with_mark}
 use Rattle.line_claims.specs.declared.claims.Part.{Part}
 use Rattle.line_claims.specs.declared.claims.Part.TheVariants as parts
+use Rattle.line_claims.specs.declared.numbers.TheConstants.{MOST_NUMBER}
 use Rattle.line_claims.specs.Claims.{Claim, Reading, claim_from, nothing, step}
 use Rattle.line_claims.specs.Entries.{failed_of}
 use Rattle.line_claims.specs.Histories.{ends_front}
@@ -33,7 +34,7 @@ marks_of damaged = record { damaged = damaged }
 abbrev marking : ℕ → MarksView → Reading
 marking n marks = so_far n parts.Damages marks nobody [] []
 
-damage_step : (n p check : ℕ) (marks : MarksView) → n ≤ MOST_PROCESSES → p < n → 1 ≤ check → check ≤ 4294967295 → is_damaged marks p check ≡ false
+damage_step : (n p check : ℕ) (marks : MarksView) → n ≤ MOST_PROCESSES → p < n → 1 ≤ check → check ≤ MOST_NUMBER → is_damaged marks p check ≡ false
     → step (marking n marks) (damage_record p check) ≡ Ok (marking n (with_mark marks p check))
 unfolding step
 damage_step n p check marks few there some wide new = rw (damage_again n p check marks few there some wide new) refl

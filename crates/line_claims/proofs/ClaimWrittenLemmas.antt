@@ -12,6 +12,7 @@ use Rattle.line_fields.specs.Texts.{is_plain_field, is_written, records_text}
 use Rattle.line_fields.proofs.PlainLemmas.{plain_decimal}
 use Rattle.line_fields.proofs.ReadAgain.{written_is_input, written_is_read}
 use Rattle.line_tape.specs.History.{Process}
+use Rattle.line_claims.specs.declared.numbers.TheConstants.{MOST_NUMBER}
 use Rattle.line_claims.specs.Claims.{Claim}
 use Rattle.line_claims.specs.Ranges.{AreMarks, IsChoice, IsClaimInRange, IsEntryInRange, IsHistoryInRange}
 use Rattle.line_claims.specs.Records.{choice_text, claim_records, damage_record, damages_records, end_record, history_records, judged_records, members, pass_record}
@@ -20,11 +21,12 @@ use Rattle.line_claims.proofs.AgainLemmas.{front_again}
 use Rattle.line_claims.proofs.ClaimAgainLemmas.{claim_again, claim_ends_front}
 use Rattle.line_claims.proofs.EntryAgainLemmas.{members_below}
 use Rattle.line_claims.proofs.WrittenLemmas.{history_is_written}
+use Rattle.line_tape.specs.declared.limits.TheConstants.{LAST_INCARNATION}
 
 marks_are_written : (p : ℕ) (before checks : List ℕ) → p < 2 ^ 64 → AreMarks before checks → list_all is_written (map (damage_record p) checks) ≡ true
 marks_are_written p before [] small fit = refl
 marks_are_written p before (check ∷ others) small fit =
-    let wide : check ≤ 4294967295 = fit.1 in
+    let wide : check ≤ MOST_NUMBER = fit.1 in
     rw (plain_decimal p small, plain_decimal check (omega arith)) (marks_are_written p (before ++ check ∷ []) others small fit.3)
 
 damages_are_written : (p : ℕ) (damaged : List (List ℕ)) → p + length damaged ≤ MOST_PROCESSES → AllByRecursion (AreMarks []) damaged → list_all is_written (damages_records p damaged) ≡ true
@@ -52,8 +54,8 @@ entry_is_written : (n : ℕ) (entry : Passed) → n ≤ MOST_PROCESSES → IsEnt
 entry_is_written n entry few fit =
     let at : entry.at < n = fit.at in
     let from : entry.message.from < n = fit.from in
-    let small : entry.message.inc ≤ 65535 = fit.inc in
-    let wide : entry.message.number ≤ 4294967295 = fit.number in
+    let small : entry.message.inc ≤ LAST_INCARNATION = fit.inc in
+    let wide : entry.message.number ≤ MOST_NUMBER = fit.number in
     let a : entry.at < 2 ^ 64 = omega arith in
     let b : entry.message.from < 2 ^ 64 = omega arith in
     let c : entry.message.inc < 2 ^ 64 = omega arith in

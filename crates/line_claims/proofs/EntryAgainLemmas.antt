@@ -4,7 +4,7 @@ use Rattle.std.specs.Prelude.{codes, decimal, filter, fold, map, nat_lt, replica
 use Rattle.std.specs.List.{AllByRecursion, list_all, range_with_len}
 use Rattle.std.proofs.Math.ListN.{set}
 use Rattle.std.proofs.Math.Seq.{get_or-append_seam, set-append_seam}
-use Rattle.std.proofs.lemmas.Bool.{cases_Bool}
+use Rattle.std.proofs.lemmas.Bool.{cases_Bool, lt-ltb}
 use Rattle.std.proofs.lemmas.List.{get_or-append-add}
 use Rattle.line_names.specs.declared.certificates.Passed.{Passed}
 use Rattle.line_names.specs.declared.choices.Choice.{Choice}
@@ -14,19 +14,19 @@ use Rattle.line_names.specs.Sets.{is_member, nobody, with_member}
 use Rattle.line_tape.specs.Survival.{is_damaged}
 use Rattle.line_tape.specs.Views.{MarksView, with_mark}
 use Rattle.line_fields.specs.declared.faults.Fault.{Fault}
+use Rattle.line_claims.specs.declared.numbers.TheConstants.{MOST_NUMBER}
 use Rattle.line_claims.specs.Entries.{damage_of, failed_of, line_of, passed_of}
 use Rattle.line_claims.specs.Numbers.{choice, choices, numbers}
 use Rattle.line_claims.specs.Ranges.{IsChoice, IsEntryInRange}
 use Rattle.line_claims.specs.Records.{choice_text, damage_record, failed_record, line_record, members, pass_record}
-use Rattle.line_claims.proofs.EntryLemmas.{is_below}
 use Rattle.line_claims.proofs.SpellLemmas.{incarnation_again, not_word, plain_again}
 
-pub damage_again : (n p check : ℕ) (marks : MarksView) → n ≤ MOST_PROCESSES → p < n → 1 ≤ check → check ≤ 4294967295 → is_damaged marks p check ≡ false
+pub damage_again : (n p check : ℕ) (marks : MarksView) → n ≤ MOST_PROCESSES → p < n → 1 ≤ check → check ≤ MOST_NUMBER → is_damaged marks p check ≡ false
     → damage_of n marks (damage_record p check) ≡ Ok (with_mark marks p check)
 unfolding damage_of
 damage_again n p check marks few there some wide new =
     let later : (check == 0) ≡ false = ne_eqb check 0 (λ e. omega arith) in
-    rw (plain_again p (omega arith), plain_again check wide, is_below p n there, later, new) refl
+    rw (plain_again p (omega arith), plain_again check wide, lt-ltb p n there, later, new) refl
 
 pub choice_again : (c : Choice) → IsChoice c → choice (choice_text c) ≡ Ok c
 choice_again (AtCheck check) h = rw (not_word check (codes "now") (omega arith) refl, plain_again check h) refl
@@ -46,20 +46,20 @@ unfolding passed_of
 pass_again n entry few fit =
     let at : entry.at < n = fit.at in
     let from : entry.message.from < n = fit.from in
-    let who : entry.at ≤ 4294967295 = omega arith in
-    let sender : entry.message.from ≤ 4294967295 = omega arith in
-    rw (plain_again entry.at who, choice_again entry.choice fit.choice, plain_again entry.message.from sender, incarnation_again entry.message.inc fit.inc, plain_again entry.message.number fit.number, is_below entry.at n at, is_below entry.message.from n from) refl
+    let who : entry.at ≤ MOST_NUMBER = omega arith in
+    let sender : entry.message.from ≤ MOST_NUMBER = omega arith in
+    rw (plain_again entry.at who, choice_again entry.choice fit.choice, plain_again entry.message.from sender, incarnation_again entry.message.inc fit.inc, plain_again entry.message.number fit.number, lt-ltb entry.at n at, lt-ltb entry.message.from n from) refl
 
-numbers_again : (ns : List ℕ) → AllByRecursion (λ n. n ≤ 4294967295) ns → numbers (map decimal ns) ≡ Ok ns
+numbers_again : (ns : List ℕ) → AllByRecursion (λ n. n ≤ MOST_NUMBER) ns → numbers (map decimal ns) ≡ Ok ns
 unfolding numbers
 numbers_again [] fit = refl
 numbers_again (n ∷ others) fit = rw (plain_again n fit.0, numbers_again others fit.1) refl
 
 all_below : (n : ℕ) (ns : List ℕ) → AllByRecursion (λ p. p < n) ns → list_all (λ p. nat_lt p n) ns ≡ true
 all_below n [] fit = refl
-all_below n (p ∷ others) fit = rw (is_below p n fit.0, all_below n others fit.1) refl
+all_below n (p ∷ others) fit = rw (lt-ltb p n fit.0, all_below n others fit.1) refl
 
-wide_if_below : (n : ℕ) (ns : List ℕ) → n ≤ MOST_PROCESSES → AllByRecursion (λ p. p < n) ns → AllByRecursion (λ p. p ≤ 4294967295) ns
+wide_if_below : (n : ℕ) (ns : List ℕ) → n ≤ MOST_PROCESSES → AllByRecursion (λ p. p < n) ns → AllByRecursion (λ p. p ≤ MOST_NUMBER) ns
 wide_if_below n [] few fit = tt
 wide_if_below n (p ∷ others) few fit = let there : p < n = fit.0 in (omega arith, wide_if_below n others few fit.1)
 

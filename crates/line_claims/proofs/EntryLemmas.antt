@@ -1,8 +1,7 @@
 -- Reading the processes or the choices of a record, field by field.
-use Rattle.std.proofs.Common.{rules, inl, inr, ◌≡◌, ◌≤◌, ◌<◌, ℕ, ◌+◌, ◌&&◌, Bool, true, false, List, [], ◌∷◌, ◌++◌, length, drop, Result, Ok, Err, refl, sym, ap, ◌∙◌, append_assoc}
+use Rattle.std.proofs.Common.{◌≡◌, ◌≤◌, ◌<◌, ℕ, ◌+◌, ◌&&◌, Bool, true, false, List, [], ◌∷◌, ◌++◌, length, drop, Result, Ok, Err, refl, sym, ap, ◌∙◌, append_assoc}
 use Rattle.std.specs.Prelude.{nat_lt, fold}
 use Rattle.std.specs.List.{list_all}
-use Rattle.std.proofs.lemmas.Bool.{cases_Bool}
 use Rattle.std.proofs.lemmas.List.{append-nil, drop_more, drop_all}
 use Rattle.line_names.specs.declared.choices.Choice.{Choice}
 use Rattle.line_names.specs.Sets.{nobody, with_member}
@@ -20,12 +19,6 @@ failed_with n below set ns = want (below && list_all (λ p. nat_lt p n) ns) faul
 -- the same, with the fields that are left
 abbrev pub failed_from : ℕ → Bool → List Bool → Record → Result (List Bool) Fault
 failed_from n below set rest = numbers rest >>= failed_with n below set
-
-pub is_below : (p n : ℕ) → p < n → nat_lt p n ≡ true
-is_below p n h = search (rules, h)
-
-pub is_not_below : (p n : ℕ) → (p < n → ⊥) → nat_lt p n ≡ false
-is_not_below p n h = elim (cases_Bool (nat_lt p n)) [ inl e ↦ absurd (h (search (rules, e))) | inr e ↦ e ]
 
 pub failed_start : (n : ℕ) (r : Record) → failed_from n true nobody (drop 1 r) ≡ failed_of n r
 unfolding failed_of

@@ -93,7 +93,7 @@ check_faults records =
     (λ front. both_faults (claim_from (nothing (length front.history)) front.number front.left) _ (claim_faults (nothing (length front.history)) front.number front.left) (λ claim. tt))
 
 -- of the records of a text
-records_faults : (text : List ℕ) → OnlyOfText (records_in text)
+pub records_faults : (text : List ℕ) → OnlyOfText (records_in text)
 records_faults text = elim (is_input_text text) as (λ b. OnlyOfText (cond b (Ok (records_of_text text)) (Err (fault_at 0 faults.BadRecord)))) [
   | true ↦ tt
   | false ↦ code_is_of_text 0 faults.BadRecord

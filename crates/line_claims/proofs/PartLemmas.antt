@@ -1,11 +1,12 @@
 -- A text that is written part by part.
-use Rattle.std.proofs.Common.{◌≡◌, ◌<◌, ◌≤◌, ℕ, ◌+◌, List, [], ◌∷◌, ◌++◌, Bool, true, false, Some, get_or, length, take, drop, refl, sym, ap, ◌∙◌, append_assoc, arith}
+use Rattle.std.proofs.Common.{◌≡◌, ◌<◌, ◌≤◌, ℕ, ◌+◌, List, [], ◌∷◌, ◌++◌, Bool, true, false, Some, get_or, length, take, drop, refl, sym, ap, ◌∙◌, subst, append_assoc, arith}
 use Rattle.std.specs.Prelude.{filter, map}
 use Rattle.std.specs.List.{range_with_len}
 use Rattle.std.proofs.lemmas.Grind.{flat_map-append}
-use Rattle.std.proofs.lemmas.List.{append-nil, drop_all, drop_more, map-append, take-append-drop}
+use Rattle.std.proofs.lemmas.List.{append-nil, drop_all, drop_more, map-append, take-append-drop, take_more}
 use Rattle.std.proofs.lemmas.List.FromFn.{get_or-map-range_with_len, get_or-range_with_len, length-map-range_with_len, length-range_with_len}
 use Rattle.line_devices.specs.Devices.{PutsFront}
+use Rattle.line_devices.proofs.PutLemmas.{front_then, puts_both}
 use Rattle.line_fields.specs.Records.{Record}
 use Rattle.line_fields.specs.Texts.{record_text, records_text}
 use Rattle.line_tape.specs.History.{Process, fresh, process_at}
@@ -37,12 +38,8 @@ part_left before now total left other same h = record { done = h.done; now_is = 
 
 -- a front of the next part is written
 pub part_front : (before now later total part left : List ℕ) → IsPart before now total (part ++ left) → PutsFront (Some now) (Some later) part → PutsFront (Some before) (Some later) total
-part_front before now later total part left h (front, rest, parts, k) = (
-  h.done ++ front,
-  rest ++ left,
-  h.parts ∙ ap (λ (t : List ℕ). h.done ++ (t ++ left)) parts ∙ ap (λ (t : List ℕ). h.done ++ t) (append_assoc front rest left) ∙ sym (append_assoc h.done front (rest ++ left)),
-  k ∙ ap (λ (t : List ℕ). t ++ front) h.now_is ∙ append_assoc before h.done front,
-)
+part_front before now later total part left h front =
+    subst (λ (t : List ℕ). PutsFront (Some before) (Some later) t) (sym h.parts) (front_then (Some before) (Some now) (Some later) h.done part left h.now_is front)
 
 -- nothing more is written
 pub part_same : (before now later total left : List ℕ) → IsPart before now total left → later ≡ now → PutsFront (Some before) (Some later) total
@@ -56,12 +53,16 @@ part_all before now total left h none =
 -- two parts
 pub two_parts : (before now later : List ℕ) (ls ps : List Record) → now ≡ before ++ records_text ls → later ≡ now ++ records_text ps → later ≡ before ++ records_text (ls ++ ps)
 two_parts before now later ls ps h k =
-    k ∙ ap (λ (t : List ℕ). t ++ records_text ps) h ∙ append_assoc before (records_text ls) (records_text ps) ∙ ap (λ (t : List ℕ). before ++ t) (sym (flat_map-append record_text ls ps))
+    puts_both (Some before) (Some now) (Some later) (records_text ls) (records_text ps) h k ∙ ap (λ (t : List ℕ). before ++ t) (sym (flat_map-append record_text ls ps))
+
+-- the first of two parts, and no more
+pub first_alone : (before now later : List ℕ) (ls ps : List Record) → now ≡ before ++ records_text ls → later ≡ now → PutsFront (Some before) (Some later) (records_text (ls ++ ps))
+first_alone before now later ls ps h k = (records_text ls, records_text ps, flat_map-append record_text ls ps, k ∙ h)
 
 -- a front of the first of two parts
 pub front_of_first : (before later : List ℕ) (ls ps : List Record) → PutsFront (Some before) (Some later) (records_text ls) → PutsFront (Some before) (Some later) (records_text (ls ++ ps))
-front_of_first before later ls ps (front, rest, parts, k) =
-    (front, rest ++ records_text ps, flat_map-append record_text ls ps ∙ ap (λ (t : List ℕ). t ++ records_text ps) parts ∙ append_assoc front rest (records_text ps), k)
+front_of_first before later ls ps front =
+    part_front before before later (records_text (ls ++ ps)) (records_text ls) (records_text ps) (part_left _ _ _ _ _ (flat_map-append record_text ls ps) (part_none before (records_text (ls ++ ps)))) front
 
 -- the first part, and a front of the second
 pub front_of_second : (before now later : List ℕ) (ls ps : List Record) → now ≡ before ++ records_text ls → PutsFront (Some now) (Some later) (records_text ps) → PutsFront (Some before) (Some later) (records_text (ls ++ ps))
@@ -69,31 +70,40 @@ front_of_second before now later ls ps h (front, rest, parts, k) = (
   records_text ls ++ front,
   rest,
   flat_map-append record_text ls ps ∙ ap (λ (t : List ℕ). records_text ls ++ t) parts ∙ sym (append_assoc (records_text ls) front rest),
-  k ∙ ap (λ (t : List ℕ). t ++ front) h ∙ append_assoc before (records_text ls) front,
+  puts_both (Some before) (Some now) (Some later) (records_text ls) front h k,
 )
+
+-- a record alone
+pub one_record : (before later : List ℕ) (record' : Record) → later ≡ before ++ record_text record' → later ≡ before ++ records_text (record' ∷ [])
+one_record before later record' h = h ∙ ap (λ (t : List ℕ). before ++ t) (sym (append-nil (record_text record')))
+
+-- a record, and those after it
+pub record_behind : (before now later : List ℕ) (record' : Record) (records : List Record) → now ≡ before ++ record_text record' → later ≡ now ++ records_text records → later ≡ before ++ records_text (record' ∷ records)
+record_behind before now later record' records h k = two_parts before now later (record' ∷ []) records (one_record before now record' h) k
 
 -- a record, and a front of those after it
 pub front_behind : (before now later : List ℕ) (record' : Record) (records : List Record) → now ≡ before ++ record_text record' → PutsFront (Some now) (Some later) (records_text records)
     → PutsFront (Some before) (Some later) (records_text (record' ∷ records))
-front_behind before now later record' records h (front, rest, parts, k) = (
-  record_text record' ++ front,
-  rest,
-  ap (λ (t : List ℕ). record_text record' ++ t) parts ∙ sym (append_assoc (record_text record') front rest),
-  k ∙ ap (λ (t : List ℕ). t ++ front) h ∙ append_assoc before (record_text record') front,
-)
+front_behind before now later record' records h front = front_of_second before now later (record' ∷ []) records (one_record before now record' h) front
 
--- a record, and those after it
-pub record_behind : (before now later : List ℕ) (record' : Record) (records : List Record) → now ≡ before ++ record_text record' → later ≡ now ++ records_text records → later ≡ before ++ records_text (record' ∷ records)
-record_behind before now later record' records h k = k ∙ ap (λ (t : List ℕ). t ++ records_text records) h ∙ append_assoc before (record_text record') (records_text records)
+-- records, and one more
+pub one_record_more : (before now later : List ℕ) (records all : List Record) (record' : Record) → all ≡ records ++ record' ∷ [] → now ≡ before ++ records_text records → later ≡ now ++ record_text record' → later ≡ before ++ records_text all
+one_record_more before now later records all record' more h k =
+    two_parts before now later records (record' ∷ []) h (one_record now later record' k) ∙ ap (λ (rs : List Record). before ++ records_text rs) (sym more)
+
+-- the record of one item more
+pub one_item_more : {A : Type 0} (f : A → Record) (before now later : List ℕ) (items : List A) (i : ℕ) (item : A) → i < length items → item ≡ get_or items i item → now ≡ before ++ records_text (map f (take i items))
+    → later ≡ now ++ record_text (f item) → later ≡ before ++ records_text (map f (take (i + 1) items))
+one_item_more {A} f before now later items i item lt is h k =
+    let more : take (i + 1) items ≡ take i items ++ item ∷ [] = take_more items i item lt ∙ ap (λ (x : A). take i items ++ x ∷ []) (sym is) in
+    one_record_more before now later (map f (take i items)) (map f (take (i + 1) items)) (f item) (ap (map f) more ∙ map-append f (take i items) (item ∷ [])) h k
 
 -- the records of some items, and no more, are a front of those of them all
 pub items_front : {A : Type 0} (f : A → Record) (before now later : List ℕ) (items : List A) (i : ℕ) → now ≡ before ++ records_text (map f (take i items)) → later ≡ now
     → PutsFront (Some before) (Some later) (records_text (map f items))
 items_front {A} f before now later items i h k =
-    let parts : records_text (map f items) ≡ records_text (map f (take i items)) ++ records_text (map f (drop i items)) =
-    ap (λ (es : List A). records_text (map f es)) (sym (take-append-drop i items)) ∙ ap records_text (map-append f (take i items) (drop i items))
-    ∙ flat_map-append record_text (map f (take i items)) (map f (drop i items)) in
-    (records_text (map f (take i items)), records_text (map f (drop i items)), parts, k ∙ h)
+    let parts : map f (take i items) ++ map f (drop i items) ≡ map f items = sym (map-append f (take i items) (drop i items)) ∙ ap (map f) (take-append-drop i items) in
+    subst (λ (rs : List Record). PutsFront (Some before) (Some later) (records_text rs)) parts (first_alone before now later (map f (take i items)) (map f (drop i items)) h k)
 
 -- the tapes of a history from process p on: its tape, and those behind it
 pub next_tape : (history : List Process) (p : ℕ) → p < length history
@@ -157,11 +167,3 @@ no_check marks p last i le =
     let long : length all ≡ last = length-range_with_len 1 last in
     let test : ℕ → Bool = λ check. is_damaged marks p check in
     ap (λ (cs : List ℕ). records_text (map (damage_record p) (filter test cs))) (drop_all i all (omega (arith, long, le)))
-
--- a record alone
-pub one_record : (before later : List ℕ) (record' : Record) → later ≡ before ++ record_text record' → later ≡ before ++ records_text (record' ∷ [])
-one_record before later record' h = h ∙ ap (λ (t : List ℕ). before ++ t) (sym (append-nil (record_text record')))
-
--- the first of two parts, and no more
-pub first_alone : (before now later : List ℕ) (ls ps : List Record) → now ≡ before ++ records_text ls → later ≡ now → PutsFront (Some before) (Some later) (records_text (ls ++ ps))
-first_alone before now later ls ps h k = (records_text ls, records_text ps, flat_map-append record_text ls ps, k ∙ h)

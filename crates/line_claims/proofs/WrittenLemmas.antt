@@ -11,10 +11,12 @@ use Rattle.line_tape.specs.declared.events.Event.{Event}
 use Rattle.line_tape.specs.declared.events.Event.TheVariants.{Send, Recv, Check, Mark}
 use Rattle.line_tape.specs.History.{Process}
 use Rattle.line_claims.specs.declared.faults.TextFault.{TextFault}
+use Rattle.line_claims.specs.declared.numbers.TheConstants.{LAST_ROUND, MOST_NUMBER}
 use Rattle.line_claims.specs.Ranges.{IsHistoryInRange, IsInRange, IsRound, IsTapeInRange}
 use Rattle.line_claims.specs.Records.{event_record, history_records, number_text, tape_records, tapes_records}
 use Rattle.line_claims.specs.Texts.{history_of_text}
 use Rattle.line_claims.proofs.AgainLemmas.{history_again}
+use Rattle.line_tape.specs.declared.limits.TheConstants.{LAST_INCARNATION}
 
 byte_at : (bytes : List ℕ) → AllByRecursion (λ byte. byte < 256) bytes → (i : ℕ) → get_or bytes i 0 < 256
 byte_at [] fit i = omega arith
@@ -23,17 +25,17 @@ byte_at (byte ∷ rest) fit (suc i) = byte_at rest fit.1 i
 
 round_is_plain : (r : Option ℕ) → IsRound r → is_plain_field (number_text r) ≡ true
 round_is_plain None h = refl
-round_is_plain (Some r) h = let high : r ≤ 65535 = h.1 in plain_decimal r (omega arith)
+round_is_plain (Some r) h = let high : r ≤ LAST_ROUND = h.1 in plain_decimal r (omega arith)
 
 event_is_written : (n : ℕ) (event : Event) → n ≤ MOST_PROCESSES → IsInRange n event → is_written (event_record event) ≡ true
 event_is_written n (Send to inc body) few h =
     let there : to < n = h.0 in
-    let small : inc ≤ 65535 = h.1 in
+    let small : inc ≤ LAST_INCARNATION = h.1 in
     rw (plain_decimal to (omega arith), plain_decimal inc (omega arith), plain_hex body (byte_at body h.2.fit)) refl
 event_is_written n (Recv m) few h =
     let there : m.from < n = h.0 in
-    let small : m.inc ≤ 65535 = h.1 in
-    let wide : m.number ≤ 4294967295 = h.2 in
+    let small : m.inc ≤ LAST_INCARNATION = h.1 in
+    let wide : m.number ≤ MOST_NUMBER = h.2 in
     let sender : m.from < 2 ^ 64 = omega arith in
     let inc : m.inc < 2 ^ 64 = omega arith in
     let number : m.number < 2 ^ 64 = omega arith in
@@ -49,7 +51,7 @@ events_are_written n (event ∷ others) few fit = rw (event_is_written n event f
 
 tape_is_written : (n p : ℕ) (process : Process) → n ≤ MOST_PROCESSES → p < n → IsTapeInRange n process → list_all is_written (tape_records p process) ≡ true
 tape_is_written n p process few there fit =
-    let small : process.incarnation ≤ 65535 = fit.incarnation in
+    let small : process.incarnation ≤ LAST_INCARNATION = fit.incarnation in
     let inc : process.incarnation < 2 ^ 64 = omega arith in
     rw (plain_decimal p (omega arith), plain_decimal process.incarnation inc) (events_are_written n process.tape few fit.events)
 

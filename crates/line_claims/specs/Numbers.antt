@@ -7,18 +7,20 @@ use Rattle.line_fields.specs.declared.faults.Fault.{Fault}
 use Rattle.line_fields.specs.declared.faults.Fault.TheVariants as faults
 use Rattle.line_fields.specs.Fields.{◌>>=◌, want, num}
 use Rattle.line_fields.specs.Records.{Record}
+use Rattle.line_tape.specs.declared.limits.TheConstants.{LAST_INCARNATION}
+use Rattle.line_claims.specs.declared.numbers.TheConstants.{LAST_ROUND, MOST_NUMBER}
 
 -- a number that has no range of its own
 abbrev pub plain : List ℕ → Result ℕ Fault
-plain text = num 0 4294967295 text
+plain text = num 0 MOST_NUMBER text
 
 -- an incarnation
 abbrev pub incarnation : List ℕ → Result ℕ Fault
-incarnation text = num 0 65535 text
+incarnation text = num 0 LAST_INCARNATION text
 
 -- a round, from 1 on
 abbrev pub round : List ℕ → Result ℕ Fault
-round text = num 1 65535 text
+round text = num 1 LAST_ROUND text
 
 -- what stands where there is nothing
 abbrev pub none_text : List ℕ

@@ -8,8 +8,9 @@ use Rattle.line_names.specs.Sets.{is_member}
 use Rattle.line_names.specs.declared.limits.TheConstants.{MOST_BODY, MOST_PROCESSES}
 use Rattle.line_tape.specs.declared.events.Event.{Event}
 use Rattle.line_tape.specs.declared.events.Event.TheVariants.{Send, Recv, Check, Mark}
-use Rattle.line_tape.specs.declared.limits.TheConstants.{MOST_EVENTS, MOST_STATE}
+use Rattle.line_tape.specs.declared.limits.TheConstants.{LAST_INCARNATION, MOST_EVENTS, MOST_STATE}
 use Rattle.line_tape.specs.History.{Process}
+use Rattle.line_claims.specs.declared.numbers.TheConstants.{LAST_ROUND, MOST_NUMBER}
 use Rattle.line_claims.specs.Claims.{Claim}
 
 -- bytes, and at most so many
@@ -20,18 +21,18 @@ pub record AreBytes (most : ℕ) (bytes : List ℕ) : Type 0 where
 -- a round, if there is one, is from 1 to 65,535
 abbrev pub IsRound : Option ℕ → Type 0
 IsRound None = Unit {0}
-IsRound (Some round) = (1 ≤ round) × (round ≤ 65535)
+IsRound (Some round) = (1 ≤ round) × (round ≤ LAST_ROUND)
 
 -- the numbers of an event, and what it carries; the processes that it names are below n
 abbrev pub IsInRange : ℕ → Event → Type 0
-IsInRange n (Send to inc body) = (to < n) × (inc ≤ 65535) × AreBytes MOST_BODY body
-IsInRange n (Recv message) = (message.from < n) × (message.inc ≤ 65535) × (message.number ≤ 4294967295)
+IsInRange n (Send to inc body) = (to < n) × (inc ≤ LAST_INCARNATION) × AreBytes MOST_BODY body
+IsInRange n (Recv message) = (message.from < n) × (message.inc ≤ LAST_INCARNATION) × (message.number ≤ MOST_NUMBER)
 IsInRange n (Check state round) = AreBytes MOST_STATE state × IsRound round
 IsInRange n (Mark from round) = (from < n) × IsRound (Some round)
 
 -- a process, among n
 pub record IsTapeInRange (n : ℕ) (process : Process) : Type 0 where
-  pub incarnation : process.incarnation ≤ 65535
+  pub incarnation : process.incarnation ≤ LAST_INCARNATION
   pub few : length process.tape ≤ MOST_EVENTS
   pub events : AllByRecursion (IsInRange n) process.tape
 
@@ -43,7 +44,7 @@ pub record IsHistoryInRange (history : List Process) : Type 0 where
 
 -- a choice
 abbrev pub IsChoice : Choice → Type 0
-IsChoice (AtCheck check) = check ≤ 4294967295
+IsChoice (AtCheck check) = check ≤ MOST_NUMBER
 IsChoice Now = Unit {0}
 
 -- an entry, on a history of n processes
@@ -51,13 +52,13 @@ pub record IsEntryInRange (n : ℕ) (entry : Passed) : Type 0 where
   pub at : entry.at < n
   pub choice : IsChoice entry.choice
   pub from : entry.message.from < n
-  pub inc : entry.message.inc ≤ 65535
-  pub number : entry.message.number ≤ 4294967295
+  pub inc : entry.message.inc ≤ LAST_INCARNATION
+  pub number : entry.message.number ≤ MOST_NUMBER
 
 -- further marks of a process, behind these: none of the initial state, and none twice
 abbrev pub AreMarks : List ℕ → List ℕ → Type 0
 AreMarks before [] = Unit {0}
-AreMarks before (check ∷ others) = (1 ≤ check) × (check ≤ 4294967295) × (list_any (λ mark. mark == check) before ≡ false) × AreMarks (before ++ check ∷ []) others
+AreMarks before (check ∷ others) = (1 ≤ check) × (check ≤ MOST_NUMBER) × (list_any (λ mark. mark == check) before ≡ false) × AreMarks (before ++ check ∷ []) others
 
 -- a claim, on a history of as many processes as it has lists of marks
 pub record IsClaimInRange (claim : Claim) : Type 0 where

@@ -1,6 +1,6 @@
 //! The events that the records of a history spell.
 
-ghost use Rattle.std.specs.Prelude.{◌≡◌, ◌≤◌, IfOk};
+ghost use Rattle.std.specs.Prelude.{◌≡◌, ◌≤◌, ℕ, IfOk};
 ghost use Rattle.line_names.specs.declared.limits.TheConstants.{MOST_PROCESSES};
 ghost use Rattle.line_fields.specs.Fields.{Gives};
 ghost use Rattle.line_tape.specs.Event.{HasLongState, NamesBelow};
@@ -48,9 +48,9 @@ pub(crate) fn recv_of(n: u32, row: &Row) -> Result<Event, Fault>
 
 /// The event of `check,HEX,ROUND`.
 #[tactic(auto, unfolding(crate::specs::Events::check_of))]
-pub(crate) fn check_of(alloc: Global, n: u32, row: &Row) -> Result<Event, ReadError>
+pub(crate) fn check_of(alloc: Global, row: &Row) -> Result<Event, ReadError>
     ensures exact { Gives (λ event. event) result (spec.check_of row.now) }
-    ensures named { IfOk result (NamesBelow n) }
+    ensures named { IfOk result (λ event. (n : ℕ) → NamesBelow n event) }
     ensures short { IfOk result (λ event. HasLongState event → ⊥) }
 {
     let bytes = hex(alloc, row.field(1))?;

@@ -190,7 +190,7 @@ impl Tapes {
             Kind::Tape => return self.begin(row),
             Kind::Send => send_of(alloc, n, row)?,
             Kind::Recv => recv_of(n, row)?,
-            Kind::Check => check_of(alloc, n, row)?,
+            Kind::Check => check_of(alloc, row)?,
             Kind::Mark => mark_of(n, row)?,
         };
         self.add(event)

@@ -213,8 +213,8 @@ fn put_chain(
 /// Writes what stands behind the marks of a claim on a history of `n` processes: the failed processes in
 /// order, the line, the entries of its certificate, and the end.
 ///
-/// Where a growth is refused, a front of them may be written. The draft holds the last record afterwards,
-/// and may be used again.
+/// Where a growth is refused, a front of them may be written. The draft is room for one record at a time,
+/// and what it held is lost.
 pub fn put_judged(
     writer: &mut RecordWriter,
     draft: &mut Draft,
@@ -252,7 +252,7 @@ fn put_claim(
 /// these of its checks are damaged, these processes failed, and this is the line with its certificate.
 ///
 /// Where a growth is refused, a front of them may be written. It looks at each mark of a process once for
-/// each of its checks. The draft holds the last record afterwards, and may be used again.
+/// each of its checks. The draft is room for one record at a time, and what it held is lost.
 pub fn put_check_text(
     writer: &mut RecordWriter,
     draft: &mut Draft,

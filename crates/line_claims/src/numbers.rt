@@ -8,10 +8,13 @@ ghost use Rattle.line_claims.specs.Numbers as spec;
 
 use line_fields::{Fault, Row, number};
 use line_names::{Choice, MOST_PROCESSES, ProcId};
+use line_tape::LAST_INCARNATION;
 
-const MOST_NUMBER: u64 = 4_294_967_295;
+/// The greatest number in a field that has no range of its own.
+pub(crate) const MOST_NUMBER: u32 = u32::MAX;
 
-const MOST_SMALL: u64 = 65_535;
+/// The greatest number of a round.
+pub(crate) const LAST_ROUND: u32 = 65_535;
 
 /// A fault unless a test holds.
 pub fn want(holds: bool, fault: Fault) -> Result<(), Fault>
@@ -24,7 +27,7 @@ pub fn want(holds: bool, fault: Fault) -> Result<(), Fault>
 pub fn plain(row: &Row, place: usize) -> Result<u32, Fault>
     ensures { result ≡ spec.plain (records.field row.now place) }
 {
-    let value = number(row.field(place), 0, MOST_NUMBER)?;
+    let value = number(row.field(place), 0, u64::from(MOST_NUMBER))?;
     Ok(value as u32)
 }
 
@@ -32,7 +35,7 @@ pub fn plain(row: &Row, place: usize) -> Result<u32, Fault>
 pub(crate) fn incarnation(row: &Row, place: usize) -> Result<u16, Fault>
     ensures { result ≡ spec.incarnation (records.field row.now place) }
 {
-    let value = number(row.field(place), 0, MOST_SMALL)?;
+    let value = number(row.field(place), 0, u64::from(LAST_INCARNATION))?;
     Ok(value as u16)
 }
 
@@ -40,7 +43,7 @@ pub(crate) fn incarnation(row: &Row, place: usize) -> Result<u16, Fault>
 pub(crate) fn round(row: &Row, place: usize) -> Result<u32, Fault>
     ensures { result ≡ spec.round (records.field row.now place) }
 {
-    let value = number(row.field(place), 1, MOST_SMALL)?;
+    let value = number(row.field(place), 1, u64::from(LAST_ROUND))?;
     Ok(value as u32)
 }
 

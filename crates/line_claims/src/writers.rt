@@ -181,8 +181,8 @@ fn put_count(writer: &mut RecordWriter, draft: &mut Draft, n: u32) -> Result<(),
 
 /// Writes the records of a history behind those that were written before.
 ///
-/// Where a growth is refused, a front of them may be written. The draft holds the
-/// last record afterwards, and may be used again.
+/// Where a growth is refused, a front of them may be written. The draft is room for one record at a time,
+/// and what it held is lost.
 pub fn put_history(
     writer: &mut RecordWriter,
     draft: &mut Draft,

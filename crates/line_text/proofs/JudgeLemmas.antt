@@ -4,9 +4,9 @@ use Rattle.line_check.specs.declared.faults.CertFault.{CertFault}
 use Rattle.line_check.specs.declared.faults.FaultCode.{FaultCode}
 use Rattle.line_check.specs.declared.faults.FaultCode.TheVariants as faults
 use Rattle.line_claims.specs.Texts.{Check, check_of_text}
-use Rattle.line_devices.specs.Devices.{Puts, PutsFront}
+use Rattle.line_devices.specs.Devices.{Puts}
 use Rattle.line_fields.specs.Texts.{record_text}
-use Rattle.line_text.specs.Judgings.{IsVerdict, JudgesText, JudgesTextFront, fault_code, verdict_record}
+use Rattle.line_text.specs.Judgings.{IsVerdict, JudgesText, fault_code, verdict_record}
 
 pub code_is : (fault : FaultCode) (code : ℕ) → (fault ≡ faults.NotTop → code ≡ 11) → (fault ≡ faults.NotReceived → code ≡ 12) → (fault ≡ faults.NotOrphan → code ≡ 13) → (fault ≡ faults.LineDiffers → code ≡ 14) → (fault ≡ faults.NotConsistent → code ≡ 15)
     → (fault ≡ faults.BadShape → code ≡ 16) → code ≡ fault_code fault
@@ -21,8 +21,3 @@ code_is faults.BadShape code a b c d e f = f refl
 pub judges_text : (text : List ℕ) (check : Check) (verdict : Option CertFault) (old new : Option (List ℕ)) (bytes : List ℕ) → check_of_text text ≡ Ok check → IsVerdict check verdict → bytes ≡ record_text (verdict_record verdict) → Puts old new bytes
     → JudgesText text verdict old new
 judges_text text check verdict old new bytes spelt judged is put = record { check = check; spelt = spelt; judged = judged; put = subst (λ (t : List ℕ). Puts old new t) is put }
-
--- a front of it was put
-pub judges_front : (text : List ℕ) (check : Check) (verdict : Option CertFault) (old new : Option (List ℕ)) (bytes : List ℕ) → check_of_text text ≡ Ok check → IsVerdict check verdict → bytes ≡ record_text (verdict_record verdict) → PutsFront old new bytes
-    → JudgesTextFront text old new
-judges_front text check verdict old new bytes spelt judged is put = record { check = check; verdict = verdict; spelt = spelt; judged = judged; put = subst (λ (t : List ℕ). PutsFront old new t) is put }

@@ -1,6 +1,6 @@
 -- A run grows by one command, and so do its text and its count of refusals.
 use Rattle.std.proofs.Common.{◌≡◌, ◌<◌, ◌≤◌, ℕ, ◌+◌, cond, List, [], ◌∷◌, ◌++◌, Option, Some, None, append_assoc, drop, get_or, length, take, refl, sym, ap, ◌∙◌, subst, arith}
-use Rattle.std.specs.Prelude.{Bool, Err, IfErr, IsTrue, Ok, Result}
+use Rattle.std.specs.Prelude.{Bool, IsTrue, Ok}
 use Rattle.std.specs.List.{flat_map}
 use Rattle.std.proofs.lemmas.Grind.{flat_map-append}
 use Rattle.std.proofs.lemmas.List.{append-nil, drop_more, take_more}
@@ -27,22 +27,8 @@ use Rattle.line_text.specs.Rounds.{rounds_records}
 use Rattle.line_text.specs.Runs.{Told, Answered, Refused, Listing, Shown, Claimed, IsClaimFor, told_records, is_refused, Tells, TellsAll, text_of, refusals, IsRunTo, PutsButEnd, Runs, RunsFront, RunsText, RunsTextFront, StopsAt, StopsText, Writes, WritesFront, first_of}
 use Rattle.line_text.specs.Scripts.{Script, script_of_text}
 use Rattle.line_devices.proofs.PutLemmas.{puts_both, front_then}
+use Rattle.line_claims.proofs.PartLemmas.{one_record}
 use Rattle.std.proofs.Math.Seq.{take-add}
-
--- one command more
-pub TellsAll-push : (old mid new : Machine) (commands : List Command) (told : List Told) (command : Command) (one : Told) → TellsAll old commands told mid → Tells mid command one new → TellsAll old (commands ++ command ∷ []) (told ++ one ∷ []) new
-TellsAll-push old mid new [] [] command one run tells = (new, subst (λ (m : Machine). Tells m command one new) run tells, refl)
-TellsAll-push old mid new [] (first ∷ rest) command one run tells = absurd run
-TellsAll-push old mid new (c ∷ commands) [] command one run tells = absurd run
-TellsAll-push old mid new (c ∷ commands) (first ∷ rest) command one (next, is, run) tells =
-    (next, is, TellsAll-push next mid new commands rest command one run tells)
-
--- its text behind the others'
-pub text_of-push : (told : List Told) (one : Told) → text_of (told ++ one ∷ []) ≡ text_of told ++ records_text (told_records one)
-text_of-push told one =
-    let both : flat_map told_records (told ++ one ∷ []) ≡ flat_map told_records told ++ flat_map told_records (one ∷ []) = flat_map-append told_records told (one ∷ []) in
-    let last : flat_map told_records (one ∷ []) ≡ told_records one = append-nil (told_records one) in
-    ap records_text (both ∙ ap (λ rs. flat_map told_records told ++ rs) last) ∙ flat_map-append record_text (flat_map told_records told) (told_records one)
 
 -- runs, one after the other
 pub TellsAll-both : (old mid new : Machine) (commands others : List Command) (told more : List Told) → TellsAll old commands told mid → TellsAll mid others more new → TellsAll old (commands ++ others) (told ++ more) new
@@ -58,24 +44,6 @@ text_of-append told more = ap records_text (flat_map-append told_records told mo
 -- of one answer
 pub text_of-one : (one : Told) → text_of (one ∷ []) ≡ records_text (told_records one)
 text_of-one one = ap records_text (append-nil (told_records one))
-
--- nothing is a front of any bytes
-pub PutsFront-none : (taken : Option (List ℕ)) (bytes : List ℕ) → PutsFront taken taken bytes
-PutsFront-none None bytes = tt
-PutsFront-none (Some xs) bytes = ([], bytes, refl, sym (append-nil xs))
-
--- all bytes are a front of themselves
-pub PutsFront-all : (old new : Option (List ℕ)) (bytes : List ℕ) → Puts old new bytes → PutsFront old new bytes
-PutsFront-all None new bytes h = tt
-PutsFront-all (Some xs) None bytes h = absurd h
-PutsFront-all (Some xs) (Some ys) bytes h = (bytes, [], sym (append-nil bytes), h)
-
--- a put of nothing changes nothing
-pub Puts-same : (old mid new : Option (List ℕ)) (bytes : List ℕ) → Puts old mid bytes → Puts mid new [] → Puts old new bytes
-Puts-same None mid new bytes h k = tt
-Puts-same (Some xs) None new bytes h k = absurd h
-Puts-same (Some xs) (Some ys) None bytes h k = absurd k
-Puts-same (Some xs) (Some ys) (Some zs) bytes h k = k ∙ append-nil ys ∙ h
 
 -- its refusal, if it is one, is one more
 pub refusals-push : (told : List Told) (one : Told) → refusals (told ++ one ∷ []) ≡ refusals told + refusals (one ∷ [])
@@ -111,20 +79,17 @@ pub reply_front : (old new : Machine) (step : Step) (reply : Reply) (text later 
 reply_front old new step reply text later takes front = tells_front old new (commands.Do step) (Answered (answers.Done reply)) text later takes front
 
 -- a refusal that was written
-refusal_text : (code : ℕ) (text later : List ℕ) → later ≡ text ++ record_text (refused_record code) → later ≡ text ++ records_text (refused_record code ∷ [])
-refusal_text code text later h = h ∙ ap (λ (t : List ℕ). text ++ t) (sym (append-nil (record_text (refused_record code))))
-
 pub refusal_written : (old new : Machine) (step : Step) (error : StepError) (code : ℕ) (text later : List ℕ) (refused count : ℕ) → Takes old step (answers.Refused error) new → code ≡ refusal_code error
     → (later ≡ text ++ record_text (refused_record code)) × (count ≡ refused + 1) → Writes old (commands.Do step) new text refused later count
 refusal_written old new step error code text later refused count takes same (written, counted) = record {
   told = Answered (answers.Refused error);
   tells = takes;
-  written = subst (λ (i : ℕ). later ≡ text ++ records_text (refused_record i ∷ [])) same (refusal_text code text later written);
+  written = subst (λ (i : ℕ). later ≡ text ++ records_text (refused_record i ∷ [])) same (one_record text later (refused_record code) written);
   counted = counted;
 }
 
 pub told_written : (old : Machine) (code : ℕ) (text later : List ℕ) (refused count : ℕ) → (later ≡ text ++ record_text (refused_record code)) × (count ≡ refused + 1) → Writes old (commands.Refused code) old text refused later count
-told_written old code text later refused count (written, counted) = record { told = Refused code; tells = (refl, refl); written = refusal_text code text later written; counted = counted }
+told_written old code text later refused count (written, counted) = record { told = Refused code; tells = (refl, refl); written = one_record text later (refused_record code) written; counted = counted }
 
 -- rounds that were written
 pub rounds_written : (old : Machine) (text later : List ℕ) (refused : ℕ) → later ≡ text ++ records_text (rounds_records (length old.history) old.rounds) → Writes old commands.Rounds old text refused later refused
@@ -139,10 +104,6 @@ shown_written old text later refused written = record { told = Shown old.history
 
 pub shown_front : (old : Machine) (text later : List ℕ) → PutsFront (Some text) (Some later) (records_text (history_records old.history)) → WritesFront old commands.History text later
 shown_front old text later front = tells_front old old commands.History (Shown old.history) text later (refl, refl) front
-
--- an answer is no refusal
-pub no_refusal : {A E : Type 0} (x : A) (e : E) → Ok x ≡ Err e → ⊥
-no_refusal {A} {E} x e h = subst (λ (r : Result A E). IfErr r (λ _. ⊥)) h tt
 
 -- the claim of a plan
 abbrev pub claim_of : Machine → List Bool → Plan → Claim
@@ -166,16 +127,12 @@ claim_front old failed plan text later there planned front =
 pub stranger_written : (old : Machine) (failed : List Bool) (code : ℕ) (text later : List ℕ) (refused count : ℕ) → IsTrue (has_stranger old failed) → code ≡ code_of NoSuchProcess
     → (later ≡ text ++ record_text (refused_record code)) × (count ≡ refused + 1) → Writes old (commands.Bundle failed) old text refused later count
 stranger_written old failed code text later refused count stranger same (written, counted) =
-    record { told = Refused code; tells = (stranger, same, refl); written = refusal_text code text later written; counted = counted }
+    record { told = Refused code; tells = (stranger, same, refl); written = one_record text later (refused_record code) written; counted = counted }
 
 -- where nothing was put, all is held
 pub holds_all : (taken : Option (List ℕ)) (held : List ℕ) → PutsButEnd taken taken held held
 holds_all None held = record { front = []; put = tt; parts = refl }
 holds_all (Some xs) held = record { front = []; put = sym (append-nil xs); parts = refl }
-
--- where all was put, nothing is held
-pub holds_nothing : (old new : Option (List ℕ)) (held later : List ℕ) → Puts old new held → later ≡ [] → PutsButEnd old new later held
-holds_nothing old new held later put none = record { front = held; put = put; parts = sym (append-nil held) ∙ ap (λ (t : List ℕ). held ++ t) (sym none) }
 
 -- more is held
 pub holds_more : (old new : Option (List ℕ)) (held text more : List ℕ) → PutsButEnd old new held text → PutsButEnd old new (held ++ more) (text ++ more)
@@ -193,10 +150,6 @@ puts_of_held old mid new held later text h k = record {
   parts = h.parts ∙ ap (λ (t : List ℕ). h.front ++ t) k.parts ∙ sym (append_assoc h.front k.front later);
 }
 
--- what was held was put
-pub puts_held : (old mid new : Option (List ℕ)) (held text : List ℕ) → PutsButEnd old mid held text → Puts mid new held → Puts old new text
-puts_held old mid new held text h put = subst (λ (t : List ℕ). Puts old new t) (sym h.parts) (puts_both old mid new h.front held h.put put)
-
 -- a front of what was held was put
 pub puts_front_of_held : (old mid new : Option (List ℕ)) (held text : List ℕ) → PutsButEnd old mid held text → PutsFront mid new held → PutsFront old new text
 puts_front_of_held old mid new held text h put =
@@ -206,9 +159,7 @@ puts_front_of_held old mid new held text h put =
 -- a front of a front
 pub front_of_front : (old new : Option (List ℕ)) (bytes rest : List ℕ) → PutsFront old new bytes → PutsFront old new (bytes ++ rest)
 front_of_front None new bytes rest h = tt
-front_of_front (Some xs) None bytes rest h = absurd h
-front_of_front (Some xs) (Some ys) bytes rest (front, end, parts, put) =
-    (front, end ++ rest, ap (λ (t : List ℕ). t ++ rest) parts ∙ append_assoc front end rest, put)
+front_of_front (Some xs) new bytes rest h = front_then (Some xs) (Some xs) new [] bytes rest (sym (append-nil xs)) h
 
 -- commands that stopped, of whose text a front was put
 pub stops_front : (first : Machine) (commands : List Command) (i : ℕ) (old new : Option (List ℕ)) → StopsAt first commands i (λ text. PutsFront old new text) → RunsFront first commands old new
@@ -248,11 +199,12 @@ goes_on first mid later commands i command refused count old now new held writte
     let more : take (i + 1) commands ≡ take i commands ++ command ∷ [] = take_more commands i command lt ∙ ap (λ (x : Command). take i commands ++ x ∷ []) (sym is) in
     let told : List Told = before.told ++ wrote.told ∷ [] in
     let now_held : PutsButEnd old now (held ++ records_text (told_records wrote.told)) (text_of before.told ++ records_text (told_records wrote.told)) = holds_more old now held (text_of before.told) (records_text (told_records wrote.told)) before.text in
+    let text : text_of told ≡ text_of before.told ++ records_text (told_records wrote.told) = text_of-append before.told (wrote.told ∷ []) ∙ ap (λ (t : List ℕ). text_of before.told ++ t) (text_of-one wrote.told) in
     let same : PutsButEnd old now written (text_of told) =
-    subst (λ (t : List ℕ). PutsButEnd old now t (text_of told)) (sym wrote.written) (subst (λ (t : List ℕ). PutsButEnd old now (held ++ records_text (told_records wrote.told)) t) (sym (text_of-push before.told wrote.told)) now_held) in
+    subst (λ (t : List ℕ). PutsButEnd old now t (text_of told)) (sym wrote.written) (subst (λ (t : List ℕ). PutsButEnd old now (held ++ records_text (told_records wrote.told)) t) (sym text) now_held) in
     record {
       told = told;
-      run = subst (λ (cs : List Command). TellsAll first cs told later) (sym more) (TellsAll-push first mid later (take i commands) before.told command wrote.told before.run wrote.tells);
+      run = subst (λ (cs : List Command). TellsAll first cs told later) (sym more) (TellsAll-both first mid later (take i commands) (command ∷ []) before.told (wrote.told ∷ []) before.run (later, wrote.tells, refl));
       count = wrote.counted ∙ ap (λ n. n + refusals (wrote.told ∷ [])) before.count ∙ sym (refusals-push before.told wrote.told);
       few = omega (arith, wrote.counted, before.few, refusals_one wrote.told);
       text = puts_of_held old now new written kept (text_of told) same put;

@@ -5,10 +5,9 @@ use Rattle.std.specs.List.{list_all}
 use Rattle.line_names.specs.declared.limits.TheConstants.{MOST_BODY, MOST_PROCESSES}
 use Rattle.line_fields.specs.declared.faults.Fault.{Fault}
 use Rattle.line_fields.specs.declared.faults.Fault.TheVariants as faults
-use Rattle.line_fields.specs.Bytes.{is_input_text}
 use Rattle.line_fields.specs.Faults.{code_of}
 use Rattle.line_fields.specs.Fields.{◌>>=◌, want, num, hex}
-use Rattle.line_fields.specs.Records.{Record, field, records_of_text}
+use Rattle.line_fields.specs.Records.{Record, field}
 use Rattle.line_world.specs.declared.steps.Mode.{Mode}
 use Rattle.line_world.specs.declared.steps.Mode.TheVariants.{Fifo, Unordered}
 use Rattle.line_world.specs.declared.steps.Step.TheVariants.{Send, Deliver, Check, Begin, Turn, Damage, Recover}
@@ -21,6 +20,7 @@ use Rattle.line_claims.specs.declared.faults.TextFault.{TextFault}
 use Rattle.line_claims.specs.Entries.{failed_of}
 use Rattle.line_claims.specs.Numbers.{plain}
 use Rattle.line_claims.specs.Reads.{fault_at, numbered}
+use Rattle.line_claims.specs.Texts.{records_in}
 
 -- a pick: the place of an item on a link
 abbrev pub pick : List ℕ → Result ℕ Fault
@@ -187,6 +187,4 @@ script_of (first ∷ rest) = do
 
 -- the script that a text spells
 unfoldable pub script_of_text : List ℕ → Result Script TextFault
-script_of_text text =
-    if is_input_text text then script_of (records_of_text text)
-    else Err (fault_at 0 faults.BadRecord)
+script_of_text text = records_in text >>= script_of

@@ -373,8 +373,8 @@ fn put_recovery(
 
 /// Writes the records of a reply behind those that were written before.
 ///
-/// Where a growth is refused, a front of the reply may be written. The draft holds the last record
-/// afterwards, and may be used again.
+/// Where a growth is refused, a front of the reply may be written. The draft is room for one record at a
+/// time, and what it held is lost.
 pub fn put_reply(
     writer: &mut RecordWriter,
     draft: &mut Draft,

@@ -206,8 +206,8 @@ fn put_count(writer: &mut RecordWriter, draft: &mut Draft, count: usize) -> Resu
 /// Writes the rounds among `n` processes behind the records that were written before: how many there are,
 /// and then of each its checks and the messages on its channels, by sender and receiver.
 ///
-/// Where a growth is refused, a front of them may be written. The draft holds the last record afterwards,
-/// and may be used again.
+/// Where a growth is refused, a front of them may be written. The draft is room for one record at a time,
+/// and what it held is lost.
 pub(crate) fn put_rounds(
     writer: &mut RecordWriter,
     draft: &mut Draft,

@@ -1,6 +1,7 @@
 use Rattle.std.proofs.Common.{◌∙◌, sym, ◌<◌, ◌≤◌, length, arith}
+use Rattle.std.proofs.lemmas.Bool.{le-ltb, lt-ltb}
 use Rattle.std.proofs.lemmas.Result.{err_from_is_err_and}
-use Rattle.line_claims.proofs.EntryLemmas.{failed_start, failed_more, failed_refused, failed_fault, failed_end, failed_end_refused, is_below, is_not_below}
+use Rattle.line_claims.proofs.EntryLemmas.{failed_start, failed_more, failed_refused, failed_fault, failed_end, failed_end_refused}
 use Rattle.line_claims.proofs.entries.failed_of.Goals.{in-Ok, in-Err}
 use Rattle.line_claims.proofs.entries.failed_of.Goals as goal
 
@@ -17,8 +18,8 @@ pub loop-place-preserved : goal.loop-place-preserved
 loop-place-preserved c =
     let lt : c.loop-place.place < length c.args.row.now = omega arith in
     elim c.match-try_new.branch [
-      | in-Ok w ↦ rw (w.failed-is, w.below-is, w.with-failed.ensures.value, w.in-Ok.ensures.1) (sym (failed_more _ _ _ _ _ _ lt (sym c.in_ok-p.ensures) (is_below _ _ w.in-Ok.ensures.0)) ∙ c.loop-place.invariant)
-      | in-Err w ↦ rw (w.failed-is, w.below-is) (sym (failed_refused _ _ _ _ _ _ lt (sym c.in_ok-p.ensures) (is_not_below _ _ w.in-Err.ensures)) ∙ c.loop-place.invariant)
+      | in-Ok w ↦ rw (w.failed-is, w.below-is, w.with-failed.ensures.value, w.in-Ok.ensures.1) (sym (failed_more _ _ _ _ _ _ lt (sym c.in_ok-p.ensures) (lt-ltb _ _ w.in-Ok.ensures.0)) ∙ c.loop-place.invariant)
+      | in-Err w ↦ rw (w.failed-is, w.below-is) (sym (failed_refused _ _ _ _ _ _ lt (sym c.in_ok-p.ensures) (le-ltb _ _ (omega (arith, w.in-Err.ensures)))) ∙ c.loop-place.invariant)
     ]
 
 pub returns-then-not-below : goal.returns-then-not-below

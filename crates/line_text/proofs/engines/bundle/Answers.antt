@@ -2,19 +2,19 @@
 use Rattle.std.proofs.Common.{rules, ◌≡◌, ◌≢◌, inl, inr, refl}
 use Rattle.std.proofs.lemmas.Result.{on_err_weaker, on_ok_weaker}
 use Rattle.line_world.specs.declared.replies.StepError.TheVariants as errors
-use Rattle.line_text.proofs.RunLemmas.{claim_front, claim_written, no_refusal, stranger_written, tells_nothing}
+use Rattle.line_text.proofs.RunLemmas.{claim_front, claim_written, stranger_written, tells_nothing}
 use Rattle.line_text.proofs.engines.bundle.Goals as goal
 
 pub returns-in-Ok-clause-ok : goal.returns-in-Ok-clause-ok
 returns-in-Ok-clause-ok c =
     on_ok_weaker c.put_check_text.result
-    (λ told. claim_written _ _ c.in-Ok.plan _ _ _ (λ stranger. no_refusal c.in-Ok.plan errors.NoSuchProcess (c.in-Ok.ensures.stranger.1 stranger)) c.in-Ok.ensures.plan (rw (c.history.ensures.value, c.marks.ensures, c.as_slice.ensures.value) at told))
+    (λ told. claim_written _ _ c.in-Ok.plan _ _ _ (λ stranger. let refused = c.in-Ok.ensures.stranger.1 stranger in cc) c.in-Ok.ensures.plan (rw (c.history.ensures.value, c.marks.ensures, c.as_slice.ensures.value) at told))
     c.put_check_text.ensures.ok
 
 pub returns-in-Ok-clause-err : goal.returns-in-Ok-clause-err
 returns-in-Ok-clause-err c =
     on_err_weaker c.put_check_text.result
-    (λ front. claim_front _ _ c.in-Ok.plan _ _ (λ stranger. no_refusal c.in-Ok.plan errors.NoSuchProcess (c.in-Ok.ensures.stranger.1 stranger)) c.in-Ok.ensures.plan (rw (c.history.ensures.value, c.marks.ensures, c.as_slice.ensures.value) at front))
+    (λ front. claim_front _ _ c.in-Ok.plan _ _ (λ stranger. let refused = c.in-Ok.ensures.stranger.1 stranger in cc) c.in-Ok.ensures.plan (rw (c.history.ensures.value, c.marks.ensures, c.as_slice.ensures.value) at front))
     c.put_check_text.ensures.err
 
 pub returns-then-is_out_of_memory-clause-err : goal.returns-then-is_out_of_memory-clause-err

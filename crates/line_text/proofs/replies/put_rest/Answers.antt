@@ -1,6 +1,6 @@
 use Rattle.std.proofs.lemmas.Result.{err_from_is_err_and, on_err_weaker, on_ok_weaker}
 use Rattle.line_text.specs.Replies.{passes, replays_of}
-use Rattle.line_text.proofs.ReplyLemmas.{front_of_first, front_of_second, two_parts}
+use Rattle.line_claims.proofs.PartLemmas.{front_of_first, front_of_second, two_parts}
 use Rattle.line_text.proofs.replies.put_rest.Goals as goal
 
 pub returns-in_err-put_passes-clause-err : goal.returns-in_err-put_passes-clause-err

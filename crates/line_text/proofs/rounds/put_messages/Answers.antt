@@ -1,7 +1,7 @@
 use Rattle.std.proofs.Common.{arith}
 use Rattle.std.proofs.lemmas.Result.{err_from_is_err_and}
 use Rattle.line_text.specs.Rounds.{channel_record}
-use Rattle.line_text.proofs.ReplyLemmas.{items_front, one_item_more}
+use Rattle.line_claims.proofs.PartLemmas.{items_front, one_item_more}
 use Rattle.line_text.proofs.rounds.put_messages.Goals as goal
 
 pub loop-i-preserved : goal.loop-i-preserved
