@@ -35,6 +35,10 @@ addressees_below n (Recv message ∷ rest) k to all named = addressees_below n r
 addressees_below n (Check state round ∷ rest) k to all named = addressees_below n rest k to (All-tail (NamesBelow n) (Check state round) rest all) named
 addressees_below n (Mark from round ∷ rest) k to all named = addressees_below n rest k to (All-tail (NamesBelow n) (Mark from round) rest all) named
 
+never : (b : Bool) → (b && false) ≡ false
+never true = refl
+never false = refl
+
 module _ (history : List Process) (message : MsgName) where
   -- a message that has an addressee goes from a process to a process
   module _ (to : ℕ) (named : addressee history message ≡ Some to) where
@@ -60,18 +64,10 @@ module _ (history : List Process) (message : MsgName) where
           | inl same ↦ ap (λ b. (message.from == p) && b) (ne_eqb to q (λ e. apart (same, sym e))) ∙ never (message.from == p)
           | inr other ↦ ap (λ b. b && (to == q)) (ne_eqb message.from p (λ e. other (sym e)))
         ]
-      where
-        never : (b : Bool) → (b && false) ≡ false
-        never true = refl
-        never false = refl
 
   -- and one that has none goes nowhere
   goes_nowhere : addressee history message ≡ None → (p q : ℕ) → goes_between history p q message ≡ false
   goes_nowhere none p q = ap (λ (o : Option ℕ). (message.from == p) && is_named q o) none ∙ never (message.from == p)
-    where
-      never : (b : Bool) → (b && false) ≡ false
-      never true = refl
-      never false = refl
 
 -- the first i messages stand behind the lists to their addressees, each as f shows it
 pub record ArePut {A : Type 0} (f : MsgName → A) (history : List Process) (old : List (List (List A))) (messages : List MsgName) (i : ℕ) (table : List (List (List A))) : Type 0 where
