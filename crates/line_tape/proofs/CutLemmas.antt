@@ -2,7 +2,6 @@
 use Rattle.std.proofs.Common.{◌≡◌, ℕ, zero, suc, ◌+◌, ◌<◌, ◌≤◌, Bool, true, false, cond, List, [], ◌∷◌, ◌++◌, length, take, drop, get_or, Option, Some, None, refl, sym, ap, ◌∙◌, subst, arith, ◌⊎◌, inl, inr}
 use Rattle.std.specs.Prelude.{◌-◌, min}
 use Rattle.std.specs.List.{All, Contains, filter_map, cons_option}
-use Rattle.std.specs.List.Retain.{RetainsInTurn}
 use Rattle.std.proofs.lemmas.List.{length-take, length_push, take_more, take-append-drop}
 use Rattle.std.proofs.lemmas.List.Elements.{All-take, All-contains, All-contains_itself, All-weaker, Contains-append_cases, Contains-append_left, Contains-append_right, Contains-push, Contains-push_cases, filter_map-append}
 use Rattle.line_names.specs.declared.messages.MsgName.{MsgName}
@@ -12,18 +11,6 @@ use Rattle.line_tape.specs.Event.{is_check, checks, incarnation_of, incarnations
 use Rattle.line_tape.specs.History.{IsTape}
 use Rattle.line_tape.specs.Restart.{restarted_event}
 use Rattle.line_tape.proofs.RowLemmas.{checks-push, sent_front}
-
-cons_kept : {X : Type 0} (b : Bool) (y : X) (zs : List X) → cond b (y ∷ zs) zs ≡ cons_option (cond b (Some y) None) zs
-cons_kept true y zs = refl
-cons_kept false y zs = refl
-
--- elements that are written and kept, or let go
-pub filter_map_from_retain : {S X : Type 0} (R : S → X → Bool → S → X → Type 0) (h : X → Option X) → ((s : S) (x : X) (b : Bool) (t : S) (y : X) → R s x b t y → h x ≡ cond b (Some y) None) → (s : S) (xs ys : List X) → RetainsInTurn R s xs ys → ys ≡ filter_map h xs
-filter_map_from_retain R h says s [] ys r = r
-filter_map_from_retain R h says s (x ∷ xs) ys r =
-    let said = says s x r.0 r.1 r.2 r.3 in
-    let rest = filter_map_from_retain R h says r.1 xs r.4 r.5 in
-    r.6 ∙ cons_kept r.0 r.2 r.4 ∙ ap (λ o. cons_option o r.4) (sym said) ∙ ap (cons_option (h x)) rest
 
 pub contains_nothing : {X : Type 0} (x : X) → Contains [] x → ⊥
 contains_nothing x (k, within, at) = absurd (omega arith)
@@ -118,24 +105,6 @@ checks_take (x ∷ xs) (suc n) =
 pub sends_take : (tape : List Event) (n : ℕ) → sends (take n tape) ≤ sends tape
 sends_take tape n = omega (arith, ap length (sent_front tape n), length-take (sends (take n tape)) (incarnations_sent tape))
 
--- a check further on
-pub checks_further : (tape : List Event) (i : ℕ) (d : Event) → i < length tape → is_check (get_or tape i d) ≡ true → checks (take i tape) < checks tape
-checks_further tape i d within is =
-    let more : checks (take (i + 1) tape) ≡ checks (take i tape) + 1 = ap checks (take_more tape i d within) ∙ checks-push (take i tape) (get_or tape i d) ∙ ap (λ b. checks (take i tape) + cond b 1 0) is in
-    omega (arith, more, checks_take tape (i + 1))
-
--- a send further on
-pub sends_further : (tape : List Event) (i inc : ℕ) (d : Event) → i < length tape → incarnation_of (get_or tape i d) ≡ Some inc → sends (take i tape) < sends tape
-sends_further tape i inc d within is =
-    let more : incarnations_sent (take (i + 1) tape) ≡ incarnations_sent (take i tape) ++ inc ∷ [] = ap incarnations_sent (take_more tape i d within) ∙ filter_map-append incarnation_of (take i tape) (get_or tape i d ∷ []) ∙ ap (λ o. incarnations_sent (take i tape) ++ cons_option o []) is in
-    omega (arith, ap length more, length_push (incarnations_sent (take i tape)) inc, sends_take tape (i + 1))
-
--- the first elements, taken by their number
-pub take_length-take : {X : Type 0} (n : ℕ) (xs : List X) → take (length (take n xs)) xs ≡ take n xs
-take_length-take zero xs = refl
-take_length-take (suc n) [] = refl
-take_length-take (suc n) (x ∷ xs) = ap (λ ys. x ∷ ys) (take_length-take n xs)
-
 -- a tape keeps within the limits where it is cut and restarted
 pub IsTape-restarted : (events : List Event) → IsTape events → IsTape (filter_map restarted_event events)
 IsTape-restarted events t = record { few = omega (arith, t.few, length_left events); short = All-restarted IsShort short_left events t.short }
@@ -143,10 +112,6 @@ IsTape-restarted events t = record { few = omega (arith, t.few, length_left even
 -- so does its front
 pub IsTape-take : (events : List Event) (n : ℕ) → IsTape events → IsTape (take n events)
 IsTape-take events n t = record { few = omega (arith, t.few, length-take n events); short = All-take IsShort n events t.short }
-
--- what is received in a front is received
-pub received_take : (events : List Event) (n : ℕ) (m : MsgName) → Contains (take n events) (Recv m) → Contains events (Recv m)
-received_take events n m c = subst (λ (xs : List Event). Contains xs (Recv m)) (take-append-drop n events) (Contains-append_left (take n events) (drop n events) (Recv m) c)
 
 -- no less is left where there is no less and no more of it is taken
 pub left_more : (all taken all' taken' : ℕ) → all ≤ all' → taken' ≤ taken → all - taken ≤ all' - taken'

@@ -15,7 +15,7 @@ pub mod SpentLemmas
 pub mod CopyLemmas
 pub mod OrderLemmas
 pub mod CutLemmas
-pub mod RoomLemmas
+pub mod IndexLemmas
 pub mod EachLemmas
 pub mod HistoryCuts
 pub mod TransitLemmas

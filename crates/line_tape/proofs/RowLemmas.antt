@@ -11,7 +11,7 @@ use Rattle.line_tape.specs.declared.tapes.CheckRow.{CheckRow}
 use Rattle.line_tape.specs.Event.{is_check, checks, incarnations_sent, incarnation_of, state_of, stored_state}
 use Rattle.line_tape.specs.Front.{check_place}
 use Rattle.line_tape.specs.Kept.{IsRow, AreRows}
-use Rattle.line_tape.specs.Transit.{addressee_of}
+use Rattle.line_tape.specs.Transit.{addressee_of, names_received, received_name}
 use Rattle.line_tape.proofs.FrontLemmas.{check_place-le}
 
 -- a tape has no more sends than events
@@ -22,6 +22,14 @@ sends_le (Recv message ∷ es) = omega (arith, sends_le es)
 sends_le (Check state round ∷ es) = omega (arith, sends_le es)
 sends_le (Mark from round ∷ es) = omega (arith, sends_le es)
 
+-- a tape has no more receipts than events
+pub receipts_le : (tape : List Event) → length (names_received tape) ≤ length tape
+receipts_le [] = omega arith
+receipts_le (Send to inc body ∷ es) = omega (arith, receipts_le es)
+receipts_le (Recv message ∷ es) = omega (arith, receipts_le es)
+receipts_le (Check state round ∷ es) = omega (arith, receipts_le es)
+receipts_le (Mark from round ∷ es) = omega (arith, receipts_le es)
+
 -- a tape has no more checks than events
 pub checks_le : (tape : List Event) → checks tape ≤ length tape
 checks_le [] = omega arith
@@ -30,11 +38,16 @@ checks_le (Recv message ∷ es) = omega (arith, checks_le es)
 checks_le (Check state round ∷ es) = omega (arith, checks_le es)
 checks_le (Mark from round ∷ es) = omega (arith, checks_le es)
 
+-- what the events of a front tell is what comes first of all that the tape tells
+pub told_front : {X : Type 0} (tell : Event → Option X) (tape : List Event) (n : ℕ) → filter_map tell (take n tape) ≡ take (length (filter_map tell (take n tape))) (filter_map tell tape)
+told_front {X} tell tape n =
+    let told : List X = filter_map tell (take n tape) in
+    let parts : filter_map tell tape ≡ told ++ filter_map tell (drop n tape) = ap (filter_map tell) (sym (take-append-drop n tape)) ∙ filter_map-append tell (take n tape) (drop n tape) in
+    sym (ap (take (length told)) parts ∙ take_at told (filter_map tell (drop n tape)) (length told) refl)
+
 -- the sends in a front are the first ones of the tape
 pub sent_front : (tape : List Event) (n : ℕ) → incarnations_sent (take n tape) ≡ take (length (incarnations_sent (take n tape))) (incarnations_sent tape)
-sent_front tape n =
-    let parts : incarnations_sent tape ≡ incarnations_sent (take n tape) ++ incarnations_sent (drop n tape) = ap incarnations_sent (sym (take-append-drop n tape)) ∙ filter_map-append incarnation_of (take n tape) (drop n tape) in
-    sym (ap (take (length (incarnations_sent (take n tape)))) parts ∙ take_at (incarnations_sent (take n tape)) (incarnations_sent (drop n tape)) (length (incarnations_sent (take n tape))) refl)
+sent_front tape n = told_front incarnation_of tape n
 
 -- what a tape says of its first sends, as a read at a place
 pub sent_at : (tape : List Event) (n k inc : ℕ) → k < length (incarnations_sent (take n tape)) → (d : ℕ) → slice_get (incarnations_sent (take n tape)) k ≡ Some (get_or (incarnations_sent tape) k d)
@@ -47,12 +60,16 @@ checks-push (x ∷ xs) e =
     let ih = checks-push xs e in
     elim (is_check x) as (λ v. cond v (suc (checks (xs ++ e ∷ []))) (checks (xs ++ e ∷ [])) ≡ cond v (suc (checks xs)) (checks xs) + cond (is_check e) 1 0) [ true ↦ omega (arith, ih) | false ↦ omega (arith, ih) ]
 
-pub check_place-push : (tape : List Event) (e : Event) (c : ℕ) → c ≤ checks tape → check_place (tape ++ e ∷ []) c ≡ check_place tape c
-check_place-push xs e zero h = refl
-check_place-push [] e (suc c) h = absurd (omega arith)
-check_place-push (x ∷ xs) e (suc c) h =
+-- checks stand where they stood when events are added
+pub check_place-append : (tape more : List Event) (c : ℕ) → c ≤ checks tape → check_place (tape ++ more) c ≡ check_place tape c
+check_place-append xs more zero h = refl
+check_place-append [] more (suc c) h = absurd (omega arith)
+check_place-append (x ∷ xs) more (suc c) h =
     let le : cond (is_check x) c (suc c) ≤ checks xs = elim (is_check x) as (λ v. suc c ≤ cond v (suc (checks xs)) (checks xs) → cond v c (suc c) ≤ checks xs) [ true ↦ λ k. omega arith | false ↦ λ k. k ] h in
-    ap suc (check_place-push xs e (cond (is_check x) c (suc c)) le)
+    ap suc (check_place-append xs more (cond (is_check x) c (suc c)) le)
+
+pub check_place-push : (tape : List Event) (e : Event) (c : ℕ) → c ≤ checks tape → check_place (tape ++ e ∷ []) c ≡ check_place tape c
+check_place-push tape e c h = check_place-append tape (e ∷ []) c h
 
 pub check_place-last : (tape : List Event) (e : Event) → is_check e ≡ true → check_place (tape ++ e ∷ []) (suc (checks tape)) ≡ length tape + 1
 check_place-last [] e h = ap (λ v. suc (check_place [] (cond v 0 1))) h
@@ -62,6 +79,15 @@ check_place-last (x ∷ xs) e h =
     let at = ap (λ c. suc (check_place (xs ++ e ∷ []) c)) step in
     omega (arith, at, ih)
 
+-- a front has the checks up to its own
+pub checks_front : (tape : List Event) (c : ℕ) → c ≤ checks tape → checks (take (check_place tape c) tape) ≡ c
+checks_front tape zero h = refl
+checks_front [] (suc c) h = absurd (omega arith)
+checks_front (Check state round ∷ es) (suc c) h = ap suc (checks_front es c (omega arith))
+checks_front (Send to inc body ∷ es) (suc c) h = checks_front es (suc c) h
+checks_front (Recv message ∷ es) (suc c) h = checks_front es (suc c) h
+checks_front (Mark from round ∷ es) (suc c) h = checks_front es (suc c) h
+
 -- the rows of a tape stay right when an event is added
 pub IsRow-push : (events : List Event) (e : Event) (c : ℕ) (row : CheckRow) → c < checks events → IsRow events c row → IsRow (events ++ e ∷ []) c row
 IsRow-push events e c row h r =
@@ -70,25 +96,27 @@ IsRow-push events e c row h r =
     record {
       place_is = r.place_is ∙ sym same;
       sends_is = r.sends_is ∙ ap (λ xs. length (incarnations_sent xs)) (sym front_same) ∙ ap (λ n. length (incarnations_sent (take n (events ++ e ∷ [])))) (sym same);
+      receipts_is = r.receipts_is ∙ ap (λ xs. length (names_received xs)) (sym front_same) ∙ ap (λ n. length (names_received (take n (events ++ e ∷ [])))) (sym same);
     }
 
 -- what is told of the events, once one is added that tells nothing
-told-none : {X : Type 0} (tell : Event → Option X) (events : List Event) (e : Event) → tell e ≡ None → filter_map tell (events ++ e ∷ []) ≡ filter_map tell events
+pub told-none : {X : Type 0} (tell : Event → Option X) (events : List Event) (e : Event) → tell e ≡ None → filter_map tell (events ++ e ∷ []) ≡ filter_map tell events
 told-none tell events e none = filter_map-append tell events (e ∷ []) ∙ ap (λ o. filter_map tell events ++ cons_option o []) none ∙ append-nil (filter_map tell events)
 
 -- and once one is added that does
-told-some : {X : Type 0} (tell : Event → Option X) (events : List Event) (e : Event) (x : X) → tell e ≡ Some x → filter_map tell (events ++ e ∷ []) ≡ filter_map tell events ++ x ∷ []
+pub told-some : {X : Type 0} (tell : Event → Option X) (events : List Event) (e : Event) (x : X) → tell e ≡ Some x → filter_map tell (events ++ e ∷ []) ≡ filter_map tell events ++ x ∷ []
 told-some tell events e x some = filter_map-append tell events (e ∷ []) ∙ ap (λ o. filter_map tell events ++ cons_option o []) some
 
 -- the row of a check that is added
-pub IsRow-last : (events : List Event) (e : Event) (row : CheckRow) → is_check e ≡ true → incarnation_of e ≡ None → row.place ≡ length events + 1 → row.sends ≡ length (incarnations_sent events) → IsRow (events ++ e ∷ []) (checks events) row
-IsRow-last events e row h none p s =
+pub IsRow-last : (events : List Event) (e : Event) (row : CheckRow) → is_check e ≡ true → incarnation_of e ≡ None → received_name e ≡ None → row.place ≡ length events + 1 → row.sends ≡ length (incarnations_sent events) → row.receipts ≡ length (names_received events) → IsRow (events ++ e ∷ []) (checks events) row
+IsRow-last events e row h none no_receipt p s t =
     let last = check_place-last events e h in
     let whole : take (check_place (events ++ e ∷ []) (suc (checks events))) (events ++ e ∷ []) ≡ events ++ e ∷ [] = take_all _ (events ++ e ∷ []) (omega (arith, last, length_push events e)) in
     let sent : incarnations_sent (events ++ e ∷ []) ≡ incarnations_sent events = told-none incarnation_of events e none in
     record {
       place_is = p ∙ sym last;
       sends_is = s ∙ ap length (sym sent) ∙ ap (λ xs. length (incarnations_sent xs)) (sym whole);
+      receipts_is = t ∙ ap length (sym (told-none received_name events e no_receipt)) ∙ ap (λ xs. length (names_received xs)) (sym whole);
     }
 
 -- an event that is no check and no send
@@ -114,8 +142,8 @@ AreRows-send events e rows incarnations addressed inc to h some one r =
     }
 
 -- a check
-pub AreRows-check : (events : List Event) (e : Event) (rows : List CheckRow) (incarnations addressed : List ℕ) (row : CheckRow) → is_check e ≡ true → incarnation_of e ≡ None → addressee_of e ≡ None → row.place ≡ length events + 1 → row.sends ≡ length incarnations → AreRows events rows incarnations addressed → AreRows (events ++ e ∷ []) (rows ++ row ∷ []) incarnations addressed
-AreRows-check events e rows incarnations addressed row h none no_one p s r =
+pub AreRows-check : (events : List Event) (e : Event) (rows : List CheckRow) (incarnations addressed : List ℕ) (row : CheckRow) → is_check e ≡ true → incarnation_of e ≡ None → addressee_of e ≡ None → received_name e ≡ None → row.place ≡ length events + 1 → row.sends ≡ length incarnations → row.receipts ≡ length (names_received events) → AreRows events rows incarnations addressed → AreRows (events ++ e ∷ []) (rows ++ row ∷ []) incarnations addressed
+AreRows-check events e rows incarnations addressed row h none no_one no_receipt p s t r =
     let more : checks (events ++ e ∷ []) ≡ checks events + 1 = checks-push events e ∙ ap (λ b. checks events + cond b 1 0) h in
     record {
       sent = r.sent ∙ sym (told-none incarnation_of events e none);
@@ -125,7 +153,7 @@ AreRows-check events e rows incarnations addressed row h none no_one p s r =
         | inl l ↦ subst (IsRow (events ++ e ∷ []) c) (sym (get_or_append_left rows (row ∷ []) d c l)) (IsRow-push events e c (get_or rows c d) (omega (arith, r.count)) (r.each c d l))
         | inr g ↦
             let at : c ≡ checks events = omega (arith, r.count, length_push rows row) in
-            subst (λ (x : ℕ). IsRow (events ++ e ∷ []) x (get_or (rows ++ row ∷ []) c d)) (sym at) (subst (IsRow (events ++ e ∷ []) (checks events)) (sym (get_or_push rows row d c (omega (arith, r.count)))) (IsRow-last events e row h none p (s ∙ ap length r.sent)))
+            subst (λ (x : ℕ). IsRow (events ++ e ∷ []) x (get_or (rows ++ row ∷ []) c d)) (sym at) (subst (IsRow (events ++ e ∷ []) (checks events)) (sym (get_or_push rows row d c (omega (arith, r.count)))) (IsRow-last events e row h none no_receipt p (s ∙ ap length r.sent) t))
       ];
     }
 

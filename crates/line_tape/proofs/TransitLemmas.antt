@@ -1,9 +1,12 @@
 -- What is in transit, as the events of a sender are gone through.
 use Rattle.std.proofs.Common.{◌≡◌, ℕ, zero, suc, ◌+◌, ◌<◌, ◌↔◌, Bool, true, false, cond, List, [], ◌∷◌, ◌++◌, length, drop, get_or, map, filter, Option, Some, None, refl, sym, ap, ◌∙◌, subst, arith, ◌⊎◌, inl, inr}
+use Rattle.std.specs.Cmp.{IsEquivalence}
 use Rattle.std.specs.List.{Contains, filter_map, cons_option, range_with_len}
+use Rattle.std.proofs.lemmas.Cmp.{nat_eq_equiv, on_equiv, and_equiv}
 use Rattle.std.proofs.lemmas.List.{append_assoc, drop_more}
 use Rattle.std.proofs.lemmas.List.Elements.{Contains-append_left, Contains-append_right, Contains-push}
 use Rattle.std.proofs.lemmas.Map.Views.{Contains-from_any, list_any-from_Contains}
+use Rattle.line_names.specs.Names.{is_name}
 use Rattle.line_names.specs.declared.choices.Choice.{Choice}
 use Rattle.line_names.specs.declared.messages.MsgName.{MsgName}
 use Rattle.line_names.proofs.NameLemmas.{is_name-true}
@@ -11,9 +14,12 @@ use Rattle.line_tape.specs.declared.events.Event.{Event}
 use Rattle.line_tape.specs.declared.events.Event.TheVariants.{Send, Recv, Check, Mark}
 use Rattle.line_tape.specs.Event.{incarnation_of}
 use Rattle.line_tape.specs.History.{Process}
-use Rattle.line_tape.specs.Transit.{Letter, letters, received_name, has_received, is_open}
+use Rattle.line_tape.specs.Transit.{Letter, letters, received_name, names_received, has_received, is_open}
 use Rattle.line_tape.proofs.CutLemmas.{cons_cases, contains_nothing, comes_from}
-use Rattle.line_tape.proofs.RoomLemmas.{is_name-laws}
+
+-- the test of names is an equivalence
+is_name-laws : IsEquivalence is_name
+is_name-laws = and_equiv (on_equiv (λ (m : MsgName). m.from) nat_eq_equiv) (and_equiv (on_equiv (λ (m : MsgName). m.inc) nat_eq_equiv) (on_equiv (λ (m : MsgName). m.number) nat_eq_equiv))
 
 -- what an element gives stands among what all of them give
 goes_at : {X Y : Type 0} (h : X → Option Y) (x : X) (xs : List X) (y : Y) (o : Option Y) → h x ≡ o → (h x ≡ Some y) ⊎ Contains (filter_map h xs) y → Contains (cons_option o (filter_map h xs)) y
@@ -34,14 +40,19 @@ receipt_of (Recv message) m e = cc e
 receipt_of (Check state round) m e = absurd (cc e)
 receipt_of (Mark from round) m e = absurd (cc e)
 
+-- a message is among the names received where a receipt of it stands
+pub names_contain : (events : List Event) (m : MsgName) → Contains (names_received events) m ↔ Contains events (Recv m)
+names_contain events m = (
+  λ h.
+      let from = comes_from received_name events m h in
+      subst (Contains events) (receipt_of from.source m from.gives) from.among,
+  λ c. goes_to received_name events (Recv m) m refl c,
+)
+
 -- the test says whether a receipt of the message stands there
 pub has_received-iff : (events : List Event) (m : MsgName) → (has_received events m ≡ true) ↔ Contains events (Recv m)
-has_received-iff events m = (
-  λ h.
-      let from = comes_from received_name events m (Contains-from_any is_name-true m (filter_map received_name events) h) in
-      subst (Contains events) (receipt_of from.source m from.gives) from.among,
-  λ c. list_any-from_Contains is_name-laws m (filter_map received_name events) (goes_to received_name events (Recv m) m refl c),
-)
+has_received-iff events m =
+    (λ h. (names_contain events m).0 (Contains-from_any is_name-true m (names_received events) h), λ c. list_any-from_Contains is_name-laws m (names_received events) ((names_contain events m).1 c))
 
 -- a test that says so is that one
 pub has_received-is : (events : List Event) (m : MsgName) (r : Bool) → (r ≡ true) ↔ Contains events (Recv m) → r ≡ has_received events m

@@ -1,6 +1,6 @@
 //! Events, and the states that checks store.
 ghost use Rattle.std.specs.Prelude.{◌≡◌, ◌↔◌, IsTrue, IfOk, MatchOption, Some, None};
-ghost use Rattle.line_tape.specs.Event.{state_of, NamesBelow};
+ghost use Rattle.line_tape.specs.Event.{is_check, state_of, NamesBelow};
 
 use line_names::{Body, MsgName, ProcId};
 use std::alloc::{AllocError, Global};
@@ -76,6 +76,18 @@ impl Event {
             Event::Recv { message } => message.from.get() < n,
             Event::Check { .. } => true,
             Event::Mark { from, .. } => from.get() < n,
+        }
+    }
+
+    /// Whether it is a check.
+    pub(crate) fn is_check(&self) -> bool
+        ensures { result ≡ is_check self.now }
+    {
+        match self {
+            Event::Send { .. } => false,
+            Event::Recv { .. } => false,
+            Event::Check { .. } => true,
+            Event::Mark { .. } => false,
         }
     }
 

@@ -1,9 +1,9 @@
 //! An index of the receipts of one tape.
-ghost use Rattle.std.specs.Prelude.{◌≡◌, ◌<◌, ◌≤◌, ◌+◌, ◌^◌, ◌↔◌, [], ◌∷◌, ◌++◌, List, length, take, OnOk, OnErr, IsOk, IsTrue, IsSome, None, Contains};
+ghost use Rattle.std.specs.Prelude.{◌≡◌, ◌<◌, ◌≤◌, ◌+◌, [], ◌∷◌, ◌++◌, List, is_some, length, OnOk, IsOk};
 ghost use Rattle.line_names.specs.declared.messages.MsgName.{MsgName};
 ghost use Rattle.line_tape.specs.declared.events.Event.{Event};
-ghost use Rattle.line_tape.specs.declared.events.Event.TheVariants.{Recv};
-ghost use Rattle.line_tape.specs.Kept.{AreApart, AreFirst, first_place, receipts_room, whole_room};
+ghost use Rattle.line_tape.specs.Kept.{AreFirst, AreNoted, below, first_place, left_first, receipts_room};
+ghost use Rattle.line_tape.specs.Transit.{names_received};
 
 use crate::events::Event;
 use crate::limits::MOST_EVENTS;
@@ -11,27 +11,37 @@ use line_names::MsgName;
 use std::alloc::{AllocError, Global};
 use std::collections::HashMap;
 
-/// Where each message was first received.
+/// How many receipts there are, and which of them is the first of each message.
 ///
 /// Whatever answers these questions can take its place.
 #[derive(Drop)]
 pub struct Receipts {
     first: HashMap<MsgName, u32>,
+    count: u32,
 }
 
 impl Receipts {
     /// The index of no events.
     pub fn new(alloc: Global) -> Receipts
-        ensures { AreFirst [] (first_place result) }
+        ensures { AreNoted [] result }
     {
         Receipts {
             first: HashMap::new(alloc),
+            count: 0,
         }
+    }
+
+    /// How many receipts there are.
+    pub fn count(&self) -> u32
+        ensures { result ≡ self.now.count }
+    {
+        self.count
     }
 
     /// Makes room for so many further receipts.
     pub fn reserve(&mut self, k: usize) -> Result<(), AllocError>
         ensures same { (message : MsgName) → first_place self.new message ≡ first_place self.old message }
+        ensures count { self.new.count ≡ self.old.count }
         ensures ok { OnOk result (k ≤ receipts_room self.new) }
         ensures succeeds { k ≤ receipts_room self.old → IsOk result }
         ensures room { receipts_room self.old ≤ receipts_room self.new }
@@ -39,20 +49,48 @@ impl Receipts {
         self.first.reserve(k)
     }
 
-    /// Takes in an event that comes to stand behind `place` others. A message's first receipt takes room.
-    pub fn note(&mut self, event: &Event, place: u32)
-        requires { (message : MsgName) → event.now ≡ Recv message → first_place self.old message ≡ None → 0 < receipts_room self.old }
-        ensures first { (events : List Event) → length events ≡ place → AreFirst events (first_place self.old)
-            → AreFirst (events ++ event.now ∷ []) (first_place self.new) }
+    /// Takes in a further receipt, if it is the first of its message.
+    fn add(&mut self, message: &MsgName)
+        requires { 0 < receipts_room self.old }
+        ensures first { (names : List MsgName) → length names ≡ self.old.count → AreFirst names (first_place self.old)
+            → AreFirst (names ++ message.now ∷ []) (first_place self.new) }
+        ensures count { self.new.count ≡ self.old.count }
         ensures room { receipts_room self.old ≤ receipts_room self.new + 1 }
-        ensures whole { whole_room self.old ≤ whole_room self.new }
-        ensures apart { AreApart self.old → AreApart self.new }
+    {
+        if !self.first.contains_key(message) {
+            let added: Result<_, _> = self.first.insert(*message, self.count);
+            added.unwrap();
+        }
+    }
+
+    /// Takes in an event that comes next, in room that was made for it.
+    pub fn note(&mut self, event: &Event)
+        requires few { self.old.count < MOST_EVENTS }
+        requires room { 0 < receipts_room self.old }
+        ensures noted { (events : List Event) → AreNoted (names_received events) self.old → AreNoted (names_received (events ++ event.now ∷ [])) self.new }
+        ensures room { receipts_room self.old ≤ receipts_room self.new + 1 }
     {
         match event {
             Event::Recv { message } => {
-                if !self.first.contains_key(message) {
-                    let added: Result<_, _> = self.first.insert(*message, place);
-                    added.unwrap();
+                self.add(message);
+                self.count += 1;
+            }
+            Event::Send { .. } => {}
+            Event::Check { .. } => {}
+            Event::Mark { .. } => {}
+        }
+    }
+
+    /// Lets go of the message that an event receives, unless one of the first `end` receipts is of it too.
+    fn forget(&mut self, event: &Event, end: u32)
+        ensures first { (message : MsgName) → first_place self.new message
+            ≡ left_first end (names_received (event.now ∷ [])) message (first_place self.old message) }
+        ensures room { receipts_room self.old ≤ receipts_room self.new }
+    {
+        match event {
+            Event::Recv { message } => {
+                if !self.is_before(message, end) {
+                    let _ = self.first.remove(message);
                 }
             }
             Event::Send { .. } => {}
@@ -61,26 +99,26 @@ impl Receipts {
         }
     }
 
-    /// The index of other events, whose messages it has a place for. It takes no memory.
-    pub fn restart(&mut self, events: &[Event])
-        requires known { (message : MsgName) → Contains events.now (Recv message) → IsSome (first_place self.old message) }
-        requires few { length events.now ≤ MOST_EVENTS }
-        ensures first { AreFirst events.now (first_place self.new) }
+    /// Goes back to the first `end` receipts, where the events behind them are these. It takes no memory.
+    ///
+    /// It looks once at each of these events, and not at those before.
+    pub fn cut(&mut self, events: &[Event], end: u32)
+        ensures noted { (kept : List Event) → length (names_received kept) ≡ end → AreNoted (names_received (kept ++ events.now)) self.old
+            → AreNoted (names_received kept) self.new }
         ensures room { receipts_room self.old ≤ receipts_room self.new }
     {
-        self.first.clear();
-        for i in 0..events.len() {
-            self.note(&events[i], i as u32);
+        for event in events {
+            self.forget(event, end);
         }
+        self.count = end;
     }
 
-    /// Whether the message is received among the first `place` events.
-    pub fn is_before(&self, message: &MsgName, place: u32) -> bool
-        ensures { (events : List Event) → AreFirst events (first_place self.now)
-            → IsTrue result ↔ Contains (take place events) (Recv message.now) }
+    /// Whether one of the first `end` receipts is of the message.
+    pub fn is_before(&self, message: &MsgName, end: u32) -> bool
+        ensures { result ≡ is_some (below end (first_place self.now message.now)) }
     {
         match self.first.get(message) {
-            Some(first) => *first < place,
+            Some(first) => *first < end,
             None => false,
         }
     }

@@ -7,7 +7,7 @@ ghost use Rattle.line_tape.specs.Event.{is_check, incarnation_of, checks, sends,
 ghost use Rattle.line_tape.specs.Front.{place, front, HasChoice};
 ghost use Rattle.line_tape.specs.History.{IsTape};
 ghost use Rattle.line_tape.specs.Kept.{AreRows};
-ghost use Rattle.line_tape.specs.Transit.{addressees};
+ghost use Rattle.line_tape.specs.Transit.{addressees, names_received};
 
 mod cuts;
 
@@ -20,16 +20,17 @@ use std::error::Error;
 use std::fmt;
 use std::marker::Model;
 
-/// Where a check stands: how many events, and how many sends, are before the choice of it.
+/// Where a check stands: how many events, sends and receipts are before the choice of it.
 #[derive(Clone, Copy)]
 pub struct CheckRow {
     pub place: u32,
     pub sends: u32,
+    pub receipts: u32,
 }
 
 /// The events of one process, in their order.
 ///
-/// Beside them it keeps where its checks stand, the incarnations and the addressees of its sends and where each message was first received, so that no question scans the events.
+/// Beside them it keeps where its checks stand, the incarnations and the addressees of its sends and which receipt of each message was its first, so that no question scans the events; and how many of its first events a restart would leave as they are, so that none looks at these again.
 #[derive(Drop)]
 pub struct Tape {
     events: Vec<Event>,
@@ -37,6 +38,7 @@ pub struct Tape {
     incarnations: Vec<u16>,
     addressees: Vec<ProcId>,
     receipts: Receipts,
+    settled: u32,
 }
 
 impl Model for Tape {
@@ -54,7 +56,7 @@ impl Model for Tape {
           (min (vec_capacity t.incarnations - vec_len t.incarnations) (vec_capacity t.addressees - vec_len t.addressees)));
     } };
 
-    ghost invariant = { λ t. IsIndexed t.events.items t.checks.items t.incarnations.items t.addressees.items t.receipts };
+    ghost invariant = { λ t. IsIndexed t.events.items t.checks.items t.incarnations.items t.addressees.items t.receipts t.settled };
 }
 
 /// Whether the event stores or carries more than a tape takes. A body never does.
@@ -75,12 +77,14 @@ fn is_too_long(event: &Event) -> bool
 fn note_event(
     event: &Event,
     events: &[Event],
+    receipts: u32,
     checks: &mut Vec<CheckRow>,
     incarnations: &mut Vec<u16>,
     addressees: &mut Vec<ProcId>,
 )
     requires rows { AreRows events.now checks.old.items incarnations.old.items addressees.old.items }
     requires few { length events.now < MOST_EVENTS }
+    requires receipts { receipts ≡ length (names_received events.now) }
     requires checks_room { is_check event.now ≡ true → vec_len checks.old < vec_capacity checks.old }
     requires sends_room { (inc : ℕ) → incarnation_of event.now ≡ Some inc
         → (vec_len incarnations.old < vec_capacity incarnations.old) × (vec_len addressees.old < vec_capacity addressees.old) }
@@ -98,6 +102,7 @@ fn note_event(
             let row = CheckRow {
                 place: events.len() as u32 + 1,
                 sends: incarnations.len() as u32,
+                receipts,
             };
             checks.push(row).unwrap();
         }
@@ -117,6 +122,7 @@ impl Tape {
             incarnations: Vec::new(alloc),
             addressees: Vec::new(alloc),
             receipts: Receipts::new(alloc),
+            settled: 0,
         }
     }
 
@@ -185,16 +191,34 @@ impl Tape {
         }
     }
 
+    /// How many events, sends and receipts stand before a choice.
+    fn row(&self, choice: Choice) -> CheckRow
+        requires { HasChoice self.now.events choice }
+        ensures place { result.place ≡ place self.now.events choice }
+        ensures sends { result.sends ≡ sends (front self.now.events choice) }
+        ensures receipts { result.receipts ≡ length (names_received (front self.now.events choice)) }
+    {
+        match choice {
+            Choice::Check(0) => CheckRow {
+                place: 0,
+                sends: 0,
+                receipts: 0,
+            },
+            Choice::Check(c) => self.checks[c as usize - 1],
+            Choice::Now => CheckRow {
+                place: self.len(),
+                sends: self.sends(),
+                receipts: self.receipts.count(),
+            },
+        }
+    }
+
     /// How many sends stand before a choice.
     pub fn sends_before(&self, choice: Choice) -> u32
         requires { HasChoice self.now.events choice }
         ensures { result ≡ sends (front self.now.events choice) }
     {
-        match choice {
-            Choice::Check(0) => 0,
-            Choice::Check(c) => self.checks[c as usize - 1].sends,
-            Choice::Now => self.sends(),
-        }
+        self.row(choice).sends
     }
 
     /// Whether the send of that number, counted from 0, stands before a choice and has that incarnation.
@@ -210,10 +234,7 @@ impl Tape {
         requires { HasChoice self.now.events choice }
         ensures { IsTrue result ↔ Contains (front self.now.events choice) (Recv message.now) }
     {
-        match self.place(choice) {
-            Some(end) => self.receipts.is_before(message, end),
-            None => false,
-        }
+        self.receipts.is_before(message, self.row(choice).receipts)
     }
 
     /// The events that stand before a choice.
@@ -265,15 +286,15 @@ impl Tape {
         ensures events { self.new.events ≡ self.old.events ++ event ∷ [] }
         ensures room { self.old.room ≤ self.new.room + 1 }
     {
-        let place = self.events.len() as u32;
         note_event(
             &event,
             &self.events,
+            self.receipts.count(),
             &mut self.checks,
             &mut self.incarnations,
             &mut self.addressees,
         );
-        self.receipts.note(&event, place);
+        self.receipts.note(&event);
         self.events.push(event).unwrap();
     }
 

@@ -52,7 +52,7 @@ impl History {
 
     /// Has each process go on from its choice of the line: what came after the line goes from the tapes, all marks and round numbers go, and a process that goes back does so under its next incarnation. It takes no memory and cannot fail.
     ///
-    /// What is in transit at the line (`transit`) is to be asked before. It looks at each event of the tapes twice at most.
+    /// What is in transit at the line (`transit`) is to be asked before. It looks once at each event that comes after the line, and twice at each before it that came since the last restart: over a whole run each event is looked at three times at most.
     pub fn restart(&mut self, line: &Line)
         requires line { IsLine self.old.processes line.now }
         requires further { HaveFurther self.old.processes line.now }

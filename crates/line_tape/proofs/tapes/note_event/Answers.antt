@@ -1,7 +1,7 @@
 -- Each kind of event keeps the rows right.
 use Rattle.std.proofs.Common.{◌+◌, length, ◌≡◌, ◌++◌, ◌∷◌, [], refl, ap, arith, rules}
 use Rattle.line_tape.specs.Event.{is_check, incarnation_of}
-use Rattle.line_tape.specs.Transit.{addressee_of}
+use Rattle.line_tape.specs.Transit.{addressee_of, received_name}
 use Rattle.line_tape.specs.declared.tapes.CheckRow.{CheckRow}
 use Rattle.line_tape.proofs.RowLemmas.{AreRows-other, AreRows-send, AreRows-check}
 use Rattle.line_tape.proofs.tapes.note_event.Goals as goal
@@ -14,9 +14,9 @@ returns-in-Send-clause-rows c =
 
 pub returns-in-Check-clause-rows : goal.returns-in-Check-clause-rows
 returns-in-Check-clause-rows c =
-    let row : CheckRow = record { place = length c.args.events.now + 1; sends = c.len.result } in
+    let row : CheckRow = record { place = length c.args.events.now + 1; sends = c.len.result; receipts = c.args.receipts } in
     let pushed : c.push-in-Check.new.self.items ≡ c.args.checks.now.items ++ row ∷ [] = search rules in
-    rw pushed (AreRows-check c.args.events.now c.args.event.now c.args.checks.now.items c.args.incarnations.now.items c.args.addressees.now.items row (ap is_check c.in-Check.is) (ap incarnation_of c.in-Check.is) (ap addressee_of c.in-Check.is) refl (omega (arith, c.args.incarnations.now.ok.0)) c.requires.rows)
+    rw pushed (AreRows-check c.args.events.now c.args.event.now c.args.checks.now.items c.args.incarnations.now.items c.args.addressees.now.items row (ap is_check c.in-Check.is) (ap incarnation_of c.in-Check.is) (ap addressee_of c.in-Check.is) (ap received_name c.in-Check.is) refl (omega (arith, c.args.incarnations.now.ok.0)) c.requires.receipts c.requires.rows)
 
 pub returns-in-Recv-clause-rows : goal.returns-in-Recv-clause-rows
 returns-in-Recv-clause-rows c =

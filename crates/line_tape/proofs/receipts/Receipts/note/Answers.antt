@@ -1,32 +1,23 @@
--- A receipt of a new name is its first one, and no other event changes what is first.
-use Rattle.std.proofs.Common.{◌≡◌, None, ap, subst, sym, ◌∙◌}
-use Rattle.std.specs.Prelude.{is_some}
-use Rattle.std.proofs.lemmas.Bool.{false≢true}
+-- A receipt is one more, and no other event is.
+use Rattle.std.proofs.Common.{◌≡◌, ◌+◌, ◌++◌, ◌∷◌, [], List, ap, subst, sym, arith}
+use Rattle.std.proofs.lemmas.List.{length_push}
 use Rattle.line_names.specs.declared.messages.MsgName.{MsgName}
-use Rattle.line_tape.specs.Kept.{first_place}
-use Rattle.line_tape.proofs.ReceiptLemmas.{AreFirst-push, AreFirst-new, not_some, from_ok}
+use Rattle.line_tape.specs.Kept.{AreNoted}
+use Rattle.line_tape.specs.Transit.{names_received, received_name}
+use Rattle.line_tape.proofs.RowLemmas.{told-none, told-some}
 use Rattle.line_tape.proofs.receipts.Receipts.note.Goals as goal
 
-pub unwrap-requires : goal.unwrap-requires
-unwrap-requires c =
-    c.insert-added.ensures.succeeds (c.requires c.in-Recv.message c.in-Recv.is (not_some _ (sym c.contains_key.ensures ∙ c.if-not-contains_key.true)))
+pub returns-in-Recv-clause-noted : goal.returns-in-Recv-clause-noted
+returns-in-Recv-clause-noted c = λ events noted.
+    let m : MsgName = c.in-Recv.message in
+    let more : names_received (events ++ c.args.event.now ∷ []) ≡ names_received events ++ m ∷ [] = told-some received_name events c.args.event.now m (ap received_name c.in-Recv.is) in
+    subst (λ (names : List MsgName). AreNoted names (record { first = c.add.new.self.first; count = c.add.new.self.count + 1 })) (sym more) (record { count_is = omega (arith, noted.count_is, c.add.ensures.count, length_push (names_received events) m); first = c.add.ensures.first (names_received events) (sym noted.count_is) noted.first })
 
-pub returns-then-not-contains_key-clause-first : goal.returns-then-not-contains_key-clause-first
-returns-then-not-contains_key-clause-first c =
-    λ events at first. AreFirst-new events _ c.in-Recv.message _ _ c.args.place at c.in-Recv.is (not_some _ (sym c.contains_key.ensures ∙ c.if-not-contains_key.true)) (λ q. (from_ok _ _ c.unwrap.ensures c.insert-added.ensures.updates).0 q) first
+pub returns-in-Send-clause-noted : goal.returns-in-Send-clause-noted
+returns-in-Send-clause-noted c = λ events noted. subst (λ (names : List MsgName). AreNoted names c.args.self.now) (sym (told-none received_name events c.args.event.now (ap received_name c.in-Send.is))) noted
 
-pub returns-else-not-contains_key-clause-first : goal.returns-else-not-contains_key-clause-first
-returns-else-not-contains_key-clause-first c =
-    λ events at first. AreFirst-push _ _ _ (λ q none e.
-    let same : q ≡ c.in-Recv.message = cc (e, c.in-Recv.is) in
-    let missing : first_place c.args.self.now c.in-Recv.message ≡ None = subst (λ (x : MsgName). first_place c.args.self.now x ≡ None) same none in
-    false≢true (sym (ap is_some missing) ∙ sym c.contains_key.ensures ∙ c.if-not-contains_key.false)) first
+pub returns-in-Check-clause-noted : goal.returns-in-Check-clause-noted
+returns-in-Check-clause-noted c = λ events noted. subst (λ (names : List MsgName). AreNoted names c.args.self.now) (sym (told-none received_name events c.args.event.now (ap received_name c.in-Check.is))) noted
 
-pub returns-in-Send-clause-first : goal.returns-in-Send-clause-first
-returns-in-Send-clause-first c = λ events at first. AreFirst-push _ _ _ (λ q none e. cc (e, c.in-Send.is)) first
-
-pub returns-in-Check-clause-first : goal.returns-in-Check-clause-first
-returns-in-Check-clause-first c = λ events at first. AreFirst-push _ _ _ (λ q none e. cc (e, c.in-Check.is)) first
-
-pub returns-in-Mark-clause-first : goal.returns-in-Mark-clause-first
-returns-in-Mark-clause-first c = λ events at first. AreFirst-push _ _ _ (λ q none e. cc (e, c.in-Mark.is)) first
+pub returns-in-Mark-clause-noted : goal.returns-in-Mark-clause-noted
+returns-in-Mark-clause-noted c = λ events noted. subst (λ (names : List MsgName). AreNoted names c.args.self.now) (sym (told-none received_name events c.args.event.now (ap received_name c.in-Mark.is))) noted

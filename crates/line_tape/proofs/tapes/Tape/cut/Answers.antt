@@ -1,0 +1,52 @@
+-- The first rows, incarnations, addressees and receipts serve the first events.
+use Rattle.std.proofs.Common.{◌≡◌, ◌≤◌, ◌++◌, ◌-◌, ℕ, List, length, take, drop, sym, ap, ◌∙◌, subst, arith}
+use Rattle.std.specs.Prelude.{min}
+use Rattle.std.proofs.lemmas.List.{take-append-drop, take_all, length-drop}
+use Rattle.line_tape.specs.declared.events.Event.{Event}
+use Rattle.line_tape.specs.declared.tapes.CheckRow.{CheckRow}
+use Rattle.line_tape.specs.Event.{checks, sends}
+use Rattle.line_tape.specs.Front.{front, place}
+use Rattle.line_tape.specs.History.{IsTape}
+use Rattle.line_tape.specs.Kept.{AreNoted, AreRows, AreSettled}
+use Rattle.line_tape.specs.Transit.{names_received}
+use Rattle.line_tape.specs.Views.{TapeView}
+use Rattle.line_tape.proofs.CutLemmas.{IsTape-take}
+use Rattle.line_tape.proofs.FrontLemmas.{place_le}
+use Rattle.line_tape.proofs.IndexLemmas.{AreRows-take, AreSettled-take}
+use Rattle.line_tape.proofs.tapes.Tape.cut.Goals.{After-deref}
+use Rattle.line_tape.proofs.tapes.Tape.cut.Goals as goal
+
+within : (c : After-deref) → c.row-kept.result.place ≤ length c.deref.result.now
+within c =
+    let seen : c.self.inside.events.items ≡ c.args.self.now.events = ap (λ (t : TapeView). t.events) c.self.view_is in
+    omega (arith, c.row-kept.ensures.place, place_le c.args.self.now.events c.args.choice, ap (λ (xs : List Event). length xs) (c.deref.ensures.value ∙ seen))
+
+pub slice_bounds-cut-count : goal.slice_bounds-cut-count
+slice_bounds-cut-count c = within c
+
+pub slice_bounds-cut-start : goal.slice_bounds-cut-start
+slice_bounds-cut-start c = within c
+
+pub invariant_of-self : goal.invariant_of-self
+invariant_of-self c =
+    let items : List Event = c.self.inside.events.items in
+    let n : ℕ = c.row-kept.result.place in
+    let kept : List Event = take n items in
+    let seen : items ≡ c.args.self.now.events = ap (λ (t : TapeView). t.events) c.self.view_is in
+    let fronts : front c.args.self.now.events c.args.choice ≡ kept = ap (λ k. take k c.args.self.now.events) (sym c.row-kept.ensures.place) ∙ ap (take n) (sym seen) in
+    let few : n ≤ length items = omega (arith, c.row-kept.ensures.place, place_le c.args.self.now.events c.args.choice, ap (λ (xs : List Event). length xs) seen) in
+    let cut : c.truncate.new.self.items ≡ kept = c.truncate.ensures.items in
+    let rows : c.truncate-2.new.self.items ≡ take (checks kept) c.self.inside.checks.items = c.truncate-2.ensures.items ∙ ap (λ k. take k c.self.inside.checks.items) (c.checks_before-checks.ensures ∙ ap checks fronts) in
+    let sent : c.row-kept.result.sends ≡ sends kept = c.row-kept.ensures.sends ∙ ap (λ (xs : List Event). sends xs) fronts in
+    let incs : c.truncate-3.new.self.items ≡ take (sends kept) c.self.inside.incarnations.items = c.truncate-3.ensures.items ∙ ap (λ k. take k c.self.inside.incarnations.items) sent in
+    let tos : c.truncate-4.new.self.items ≡ take (sends kept) c.self.inside.addressees.items = c.truncate-4.ensures.items ∙ ap (λ k. take k c.self.inside.addressees.items) sent in
+    let checked : AreRows kept c.truncate-2.new.self.items c.truncate-3.new.self.items c.truncate-4.new.self.items =
+    subst (λ (xs : List CheckRow). AreRows kept xs c.truncate-3.new.self.items c.truncate-4.new.self.items) (sym rows) (subst (λ xs. AreRows kept (take (checks kept) c.self.inside.checks.items) xs c.truncate-4.new.self.items) (sym incs) (subst (λ xs. AreRows kept (take (checks kept) c.self.inside.checks.items) (take (sends kept) c.self.inside.incarnations.items) xs) (sym tos) (AreRows-take items c.self.inside.checks.items c.self.inside.incarnations.items c.self.inside.addressees.items n c.self.invariant.checked))) in
+    let noted : AreNoted (names_received kept) c.cut.new.self =
+    c.cut.ensures.noted kept (sym (c.row-kept.ensures.receipts ∙ ap (λ (xs : List Event). length (names_received xs)) fronts)) (subst (λ (xs : List Event). AreNoted (names_received xs) c.self.inside.receipts) (sym (ap (λ (xs : List Event). kept ++ xs) (take_all (length c.deref.result.now - n) (drop n c.deref.result.now) (omega (arith, length-drop n c.deref.result.now))) ∙ ap (λ (xs : List Event). kept ++ drop n xs) c.deref.ensures.value ∙ take-append-drop n items)) c.self.invariant.received) in
+    record {
+      tape = subst IsTape (sym cut) (IsTape-take items n c.self.invariant.tape);
+      checked = subst (λ (xs : List Event). AreRows xs c.truncate-2.new.self.items c.truncate-3.new.self.items c.truncate-4.new.self.items) (sym cut) checked;
+      received = subst (λ (xs : List Event). AreNoted (names_received xs) c.cut.new.self) (sym cut) noted;
+      unchanged = subst (λ (xs : List Event). AreSettled xs c.min-self-inside.result) (sym cut) (subst (AreSettled kept) (sym c.min-self-inside.ensures) (AreSettled-take items c.self.inside.settled n few c.self.invariant.unchanged));
+    }
