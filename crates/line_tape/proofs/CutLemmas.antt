@@ -1,16 +1,15 @@
 -- What a restart leaves of the events of one tape, and that it is no more than there was.
-use Rattle.std.proofs.Common.{◌≡◌, ℕ, zero, suc, ◌+◌, ◌<◌, ◌≤◌, Bool, true, false, cond, List, [], ◌∷◌, ◌++◌, length, take, drop, get_or, Option, Some, None, refl, sym, ap, ◌∙◌, subst, arith, ◌⊎◌, inl, inr}
-use Rattle.std.specs.Prelude.{◌-◌, min}
+use Rattle.std.proofs.Common.{◌≡◌, ℕ, zero, suc, ◌≤◌, true, false, cond, List, [], ◌∷◌, length, take, Option, Some, None, refl, ap, ◌∙◌, subst, arith, ◌⊎◌, inl, inr}
 use Rattle.std.specs.List.{All, Contains, filter_map, cons_option}
-use Rattle.std.proofs.lemmas.List.{length-take, length_push, take_more, take-append-drop}
-use Rattle.std.proofs.lemmas.List.Elements.{All-take, All-contains, All-contains_itself, All-weaker, Contains-append_cases, Contains-append_left, Contains-append_right, Contains-push, Contains-push_cases, filter_map-append}
+use Rattle.std.proofs.lemmas.List.{length-take}
+use Rattle.std.proofs.lemmas.List.Elements.{All-take, All-contains, All-contains_itself, All-weaker, Contains-append_cases, Contains-append_left, Contains-append_right, Contains-push, Contains-push_cases}
 use Rattle.line_names.specs.declared.messages.MsgName.{MsgName}
 use Rattle.line_tape.specs.declared.events.Event.{Event}
 use Rattle.line_tape.specs.declared.events.Event.TheVariants.{Send, Recv, Check, Mark}
-use Rattle.line_tape.specs.Event.{is_check, checks, incarnation_of, incarnations_sent, sends, IsShort, NamesBelow}
+use Rattle.line_tape.specs.Event.{is_check, checks, incarnations_sent, sends, IsShort, NamesBelow}
 use Rattle.line_tape.specs.History.{IsTape}
 use Rattle.line_tape.specs.Restart.{restarted_event}
-use Rattle.line_tape.proofs.RowLemmas.{checks-push, sent_front}
+use Rattle.line_tape.proofs.RowLemmas.{sent_front}
 
 pub contains_nothing : {X : Type 0} (x : X) → Contains [] x → ⊥
 contains_nothing x (k, within, at) = absurd (omega arith)
@@ -112,11 +111,3 @@ IsTape-restarted events t = record { few = omega (arith, t.few, length_left even
 -- so does its front
 pub IsTape-take : (events : List Event) (n : ℕ) → IsTape events → IsTape (take n events)
 IsTape-take events n t = record { few = omega (arith, t.few, length-take n events); short = All-take IsShort n events t.short }
-
--- no less is left where there is no less and no more of it is taken
-pub left_more : (all taken all' taken' : ℕ) → all ≤ all' → taken' ≤ taken → all - taken ≤ all' - taken'
-left_more all taken all' taken' more fewer = omega arith
-
--- the lesser of two does not fall where neither does
-pub min_more : (a b a' b' : ℕ) → a ≤ a' → b ≤ b' → min a b ≤ min a' b'
-min_more a b a' b' h k = omega arith

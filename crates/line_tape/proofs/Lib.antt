@@ -19,6 +19,7 @@ pub mod IndexLemmas
 pub mod EachLemmas
 pub mod HistoryCuts
 pub mod TransitLemmas
+pub mod ReceivedLemmas
 pub mod RoundLemmas
 pub mod RoundLines
 pub mod SnapshotLemmas

@@ -6,6 +6,7 @@ pub mod Survival
 pub mod Chain
 pub mod Height
 pub mod Transit
+pub mod Received
 pub mod Rounds
 pub mod Fit
 pub mod Restart

@@ -3,7 +3,7 @@ ghost use Rattle.std.specs.Prelude.{◌≡◌, ◌≢◌, ◌<◌, ◌≤◌, �
 ghost use Rattle.std.specs.Option.{SomeIff};
 ghost use Rattle.line_tape.specs.declared.events.Event.TheVariants.{Recv};
 ghost use Rattle.line_tape.specs.declared.tapes.TapeError.TheVariants.{StateTooLong, TapeFull, OutOfMemory};
-ghost use Rattle.line_tape.specs.Event.{is_check, incarnation_of, checks, sends, stored_state, Holds, HasLongState, IsShort};
+ghost use Rattle.line_tape.specs.Event.{is_check, incarnation_of, incarnations_sent, checks, sends, stored_state, Holds, HasLongState, IsShort};
 ghost use Rattle.line_tape.specs.Front.{place, front, HasChoice};
 ghost use Rattle.line_tape.specs.History.{IsTape};
 ghost use Rattle.line_tape.specs.Kept.{AreRows};
@@ -154,6 +154,13 @@ impl Tape {
         ensures { result ≡ slice_get (addressees self.now.events) number }
     {
         self.addressees.get(number as usize).copied()
+    }
+
+    /// The incarnations of its sends, send by send.
+    pub(crate) fn incarnations(&self) -> &[u16]
+        ensures { result.now ≡ incarnations_sent self.now.events }
+    {
+        self.incarnations.as_slice()
     }
 
     /// How many sends it has.

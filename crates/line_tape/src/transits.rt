@@ -1,40 +1,116 @@
 //! What is in transit at a line.
-ghost use Rattle.std.specs.Prelude.{◌≡◌, ◌<◌, ◌++◌, map, length, IfOk, OnOk};
-ghost use Rattle.line_tape.specs.Line.{IsLine};
-ghost use Rattle.line_tape.specs.Transit.{Letter, is_open, open_letters, in_transit};
+ghost use Rattle.std.specs.Prelude.{◌≡◌, ◌<◌, ◌++◌, ◌∷◌, ◌↔◌, [], ℕ, List, false, true, map, length, replicate, slice_set, IfOk, IsTrue, OnOk};
+ghost use Rattle.line_names.specs.declared.choices.Choice.{Choice};
+ghost use Rattle.line_tape.specs.declared.events.Event.{Event};
+ghost use Rattle.line_tape.specs.Fit.{IsSentTo};
+ghost use Rattle.line_tape.specs.Line.{events_before, IsLine};
+ghost use Rattle.line_tape.specs.Received.{with_seen, seen_below, IsTold, AreTold};
+ghost use Rattle.line_tape.specs.Transit.{Letter, open_letters, in_transit};
 
 use crate::events::Event;
 use crate::histories::History;
-use line_names::{Line, MsgName, ProcId};
+use line_names::{Choice, Line, MsgName, ProcId};
 use std::alloc::{AllocError, Global};
+use std::marker::Model;
 
-impl History {
-    /// The messages in transit at a line, by sender, then number: those whose send stands before the line, and which the process that the send names has not received before its own choice.
-    ///
-    /// It looks once at each event before the line, and asks the receipts of a tape for each send, which is expected to take constant time. Without memory the history stays as it is.
-    pub fn transit(&self, alloc: Global, line: &Line) -> Result<Vec<MsgName>, AllocError>
-        requires { IsLine self.now.processes line.now }
-        ensures { IfOk result (λ messages. messages.items ≡ in_transit self.now.processes line.now) }
+/// Which of the sends of one process are received, by number.
+#[derive(Drop)]
+struct Received {
+    sends: Vec<bool>,
+}
+
+impl Model for Received {
+    ghost use Rattle.std.specs.Prelude.{List, Bool};
+
+    ghost Value = { List Bool };
+
+    ghost view = { λ r. r.sends.items };
+}
+
+impl Received {
+    /// None of so many sends.
+    fn none(alloc: Global, sends: u32) -> Result<Received, AllocError>
+        ensures { IfOk result (λ received. received ≡ replicate sends false) }
     {
-        let n = self.n();
-        let mut messages = Vec::new(alloc);
-        for q in 0..n {
-            let p = ProcId::try_new(q, n).unwrap();
-            add_open(self, line, p, &mut messages)?;
+        let sends = vec![in alloc; false; sends as usize]?;
+        Ok(Received { sends })
+    }
+
+    /// The send of that number too, if it is one of these.
+    fn add(&mut self, number: u32)
+        ensures { self.new ≡ slice_set self.old number true }
+    {
+        if (number as usize) < self.sends.len() {
+            self.sends[number as usize] = true;
         }
-        Ok(messages)
     }
 }
 
-/// Whether the process that the send names has not received the message before its choice of the line.
-fn is_open(history: &History, line: &Line, to: ProcId, message: &MsgName) -> bool
-    requires line { IsLine history.now.processes line.now }
-    requires process { to < length history.now.processes }
-    ensures { (letter : Letter) → letter.message ≡ message.now → letter.to ≡ to
-        → result ≡ is_open history.now.processes line.now letter }
+/// None of the sends before the line.
+fn none_received(history: &History, alloc: Global, line: &Line) -> Result<Vec<Received>, AllocError>
+    requires { IsLine history.now.processes line.now }
+    ensures { IfOk result (λ received. AreTold history.now.processes line.now (seen_below history.now.processes line.now 0) received.items) }
 {
-    let choice = line.at(to);
-    !history.tape(to).received_before(choice, message)
+    let n = history.n();
+    let mut received = Vec::with_capacity(alloc, n as usize)?;
+    for q in 0..n {
+        let p = ProcId::try_new(q, n).unwrap();
+        let sends = history.tape(p).sends_before(line.at(p));
+        received.push(Received::none(alloc, sends)?)?;
+    }
+    Ok(received)
+}
+
+/// Whether the sender's tape holds the message, and its send is to process `q`.
+fn is_sent_to(history: &History, message: &MsgName, q: ProcId) -> bool
+    ensures { IsTrue result ↔ IsSentTo history.now.processes q message.now }
+{
+    let p = message.from;
+    if p.get() >= history.n() {
+        return false;
+    }
+    let tape = history.tape(p);
+    match tape.addressee(message.number) {
+        Some(to) => {
+            to.get() == q.get() && tape.sent_before(Choice::Now, message.inc, message.number)
+        }
+        None => false,
+    }
+}
+
+/// Adds the message that an event of process `q` receives, if it was sent to `q`.
+fn add_receipt(history: &History, q: ProcId, event: &Event, received: &mut Vec<Received>)
+    requires { length received.old.items ≡ length history.now.processes }
+    ensures count { length received.new.items ≡ length received.old.items }
+    ensures told { (line : List Choice) (seen : ℕ → List Event) → AreTold history.now.processes line seen received.old.items
+        → AreTold history.now.processes line (with_seen seen q (seen q ++ event.now ∷ [])) received.new.items }
+{
+    match event {
+        Event::Recv { message } => {
+            if is_sent_to(history, message, q) {
+                received[message.from.get() as usize].add(message.number);
+            }
+        }
+        Event::Send { .. } => {}
+        Event::Check { .. } => {}
+        Event::Mark { .. } => {}
+    }
+}
+
+/// Adds the messages that process `q` receives before the line.
+fn add_receipts(history: &History, line: &Line, q: ProcId, received: &mut Vec<Received>)
+    requires line { IsLine history.now.processes line.now }
+    requires process { q < length history.now.processes }
+    requires count { length received.old.items ≡ length history.now.processes }
+    ensures count { length received.new.items ≡ length received.old.items }
+    ensures told { (seen : ℕ → List Event) → AreTold history.now.processes line.now seen received.old.items
+        → AreTold history.now.processes line.now (with_seen seen q (seen q ++ events_before history.now.processes line.now q)) received.new.items }
+{
+    let choice = line.at(q);
+    let events = history.tape(q).front(choice);
+    for event in events {
+        add_receipt(history, q, event, received);
+    }
 }
 
 /// Adds the messages of one sender that are in transit, by number.
@@ -42,33 +118,46 @@ fn add_open(
     history: &History,
     line: &Line,
     p: ProcId,
+    received: &Received,
     messages: &mut Vec<MsgName>,
 ) -> Result<(), AllocError>
-    requires line { IsLine history.now.processes line.now }
     requires process { p < length history.now.processes }
+    requires told { IsTold history.now.processes line.now (events_before history.now.processes line.now) p received.now }
     ensures { OnOk result (messages.new.items
         ≡ messages.old.items ++ map (λ (letter : Letter). letter.message) (open_letters history.now.processes line.now p)) }
 {
-    let choice = line.at(p);
-    let events = history.tape(p).front(choice);
-    let mut number = 0;
-    for event in events {
-        match event {
-            Event::Send { to, inc, .. } => {
-                let message = MsgName {
-                    from: p,
-                    inc: *inc,
-                    number,
-                };
-                if is_open(history, line, *to, &message) {
-                    messages.push(message)?;
-                }
-                number += 1;
-            }
-            Event::Recv { .. } => {}
-            Event::Check { .. } => {}
-            Event::Mark { .. } => {}
+    let incarnations = history.tape(p).incarnations();
+    for number in 0..received.sends.len() {
+        if !received.sends[number] {
+            messages.push(MsgName {
+                from: p,
+                inc: incarnations[number],
+                number: number as u32,
+            })?;
         }
     }
     Ok(())
+}
+
+impl History {
+    /// The messages in transit at a line, by sender, then number: those whose send stands before the line, and which the process that the send names has not received before its own choice.
+    ///
+    /// It looks once at each event before the line, and once more at each send; it takes a flag for each send before the line, and room for the result. Without memory the history stays as it is.
+    pub fn transit(&self, alloc: Global, line: &Line) -> Result<Vec<MsgName>, AllocError>
+        requires { IsLine self.now.processes line.now }
+        ensures { IfOk result (λ messages. messages.items ≡ in_transit self.now.processes line.now) }
+    {
+        let n = self.n();
+        let mut received = none_received(self, alloc, line)?;
+        for receiver in 0..n {
+            let q = ProcId::try_new(receiver, n).unwrap();
+            add_receipts(self, line, q, &mut received);
+        }
+        let mut messages = Vec::new(alloc);
+        for sender in 0..n {
+            let p = ProcId::try_new(sender, n).unwrap();
+            add_open(self, line, p, &received[sender as usize], &mut messages)?;
+        }
+        Ok(messages)
+    }
 }

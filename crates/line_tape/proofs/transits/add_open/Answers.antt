@@ -1,33 +1,68 @@
--- What was found and what is yet to come are the same together at each event.
-use Rattle.std.proofs.Common.{◌≡◌, ◌<◌, ◌++◌, [], List, ℕ, length, drop, refl, sym, ap, ◌∙◌, append-nil, drop_of_length-le, arith}
+-- One send more, which is open where no receipt of it is told.
+use Rattle.std.proofs.Common.{◌≡◌, ◌<◌, ◌≤◌, ◌+◌, ◌++◌, ◌∷◌, [], ℕ, List, Bool, false, cond, Some, length, get_or, map, filter, sym, ap, ◌∙◌, append-nil, arith}
+use Rattle.std.specs.List.{slice_get}
+use Rattle.std.proofs.lemmas.List.{append_assoc, get_or_default, take_all}
+use Rattle.std.proofs.lemmas.Option.{slice_get-get_or}
 use Rattle.line_names.specs.declared.choices.Choice.{Choice}
 use Rattle.line_names.specs.declared.messages.MsgName.{MsgName}
+use Rattle.line_names.specs.Lines.{choice_at}
 use Rattle.line_tape.specs.declared.events.Event.{Event}
-use Rattle.line_tape.specs.Event.{incarnation_of}
-use Rattle.line_tape.specs.Front.{front}
+use Rattle.line_tape.specs.Event.{incarnations_sent, sends}
+use Rattle.line_tape.specs.Front.{place}
 use Rattle.line_tape.specs.History.{Process, tape_at}
 use Rattle.line_tape.specs.Line.{events_before}
-use Rattle.line_tape.proofs.TransitLemmas.{names_open, letter_of, turn-other, turn-closed, turn-more}
-use Rattle.line_tape.proofs.transits.add_open.Goals.{in-Send, then-is_open+in_ok-push-in-Send, else-is_open, in-Recv, in-Check, in-Mark}
+use Rattle.line_tape.specs.Transit.{Letter, letters, is_open, addressees}
+use Rattle.line_tape.proofs.CopyLemmas.{length_addressees}
+use Rattle.line_tape.proofs.CutLemmas.{sends_take}
+use Rattle.line_tape.proofs.ReceivedLemmas.{length-letters, open_first, open-next}
+use Rattle.line_tape.proofs.RowLemmas.{sends_le, sent_at}
+use Rattle.line_tape.proofs.SentLemmas.{name_of}
+use Rattle.line_tape.proofs.transits.add_open.Goals.{then-not-index+in_ok-push, else-not-index}
 use Rattle.line_tape.proofs.transits.add_open.Goals as goal
 
-pub loop-event-preserved : goal.loop-event-preserved
-loop-event-preserved c =
+pub bounds-incarnations-number : goal.bounds-incarnations-number
+bounds-incarnations-number c =
+    let history : List Process = c.args.history.now.processes in
+    let line : List Choice = c.args.line.now in
+    let tape : List Event = tape_at history c.args.p in
+    let told : length c.received.inside.sends.items ≡ sends (events_before history line c.args.p) = ap (λ (xs : List Bool). length xs) c.received.view_is ∙ c.requires.told.count in
+    omega (arith, told, c.received.inside.sends.ok.0, c.len-number-end.ensures, sends_take tape (place tape (choice_at line c.args.p)), ap length c.incarnations-incarnations.ensures, ap (λ (xs : List Event). sends xs) c.tape.ensures.events)
+
+pub overflow_cast-number : goal.overflow_cast-number
+overflow_cast-number c =
+    let history : List Process = c.args.history.now.processes in
+    let line : List Choice = c.args.line.now in
+    let tape : List Event = tape_at history c.args.p in
+    let told : length c.received.inside.sends.items ≡ sends (events_before history line c.args.p) = ap (λ (xs : List Bool). length xs) c.received.view_is ∙ c.requires.told.count in
+    omega (arith, told, c.received.inside.sends.ok.0, c.len-number-end.ensures, sends_take tape (place tape (choice_at line c.args.p)), sends_le tape, c.tape.ensures.limits.tape.few)
+
+pub loop-number-preserved : goal.loop-number-preserved
+loop-number-preserved c =
     let history : List Process = c.args.history.now.processes in
     let line : List Choice = c.args.line.now in
     let p : ℕ = c.args.p in
-    let events : List Event = c.front-events.result.now in
-    let i : ℕ = c.loop-event.event-index in
-    let item : Event = c.event-item.result in
-    let within : i < length events = omega arith in
-    elim c.match-event.branch [
-      | in-Send w ↦ elim w.if-is_open.branch [
-        | then-is_open+in_ok-push-in-Send w' ↦ (turn-more history line p events i item within c.event-item.is c.loop-event.messages.items c.match-event.messages.items c.loop-event.number c.match-event.number w.in-Send.to w.in-Send.inc w.in-Send.body (ap (λ v. v.items) (w.messages-is ∙ w'.messages-is) ∙ w'.in_ok-push-in-Send.ensures.items) w.number-is w.in-Send.is (sym (w.is_open.ensures (letter_of p w.in-Send.inc c.loop-event.number w.in-Send.to) refl refl) ∙ w'.if-is_open.true) ∙ c.loop-event.invariant.0, omega (arith, w.number-is))
-        | else-is_open w' ↦ (turn-closed history line p events i item within c.event-item.is c.loop-event.messages.items c.match-event.messages.items c.loop-event.number c.match-event.number w.in-Send.to w.in-Send.inc w.in-Send.body (ap (λ v. v.items) (w.messages-is ∙ w'.messages-is)) w.number-is w.in-Send.is (sym (w.is_open.ensures (letter_of p w.in-Send.inc c.loop-event.number w.in-Send.to) refl refl) ∙ w'.if-is_open.false) ∙ c.loop-event.invariant.0, omega (arith, w.number-is))
-      ]
-      | in-Recv w ↦ (turn-other history line p events i item within c.event-item.is c.loop-event.messages.items c.match-event.messages.items c.loop-event.number c.match-event.number (ap (λ v. v.items) w.messages-is) w.number-is (ap incarnation_of w.in-Recv.is) ∙ c.loop-event.invariant.0, omega (arith, w.number-is))
-      | in-Check w ↦ (turn-other history line p events i item within c.event-item.is c.loop-event.messages.items c.match-event.messages.items c.loop-event.number c.match-event.number (ap (λ v. v.items) w.messages-is) w.number-is (ap incarnation_of w.in-Check.is) ∙ c.loop-event.invariant.0, omega (arith, w.number-is))
-      | in-Mark w ↦ (turn-other history line p events i item within c.event-item.is c.loop-event.messages.items c.match-event.messages.items c.loop-event.number c.match-event.number (ap (λ v. v.items) w.messages-is) w.number-is (ap incarnation_of w.in-Mark.is) ∙ c.loop-event.invariant.0, omega (arith, w.number-is))
+    let k : ℕ = c.loop-number.number in
+    let tape : List Event = tape_at history p in
+    let before : List Event = events_before history line p in
+    let old : List MsgName = c.args.messages.now.items in
+    let found : List MsgName = open_first history line p k in
+    let flags : List Bool = c.received.inside.sends.items in
+    let told : length flags ≡ sends before = ap (λ (xs : List Bool). length xs) c.received.view_is ∙ c.requires.told.count in
+    let within : k < sends before = omega (arith, told, c.received.inside.sends.ok.0, c.len-number-end.ensures) in
+    let inc : ℕ = get_or (incarnations_sent tape) k 0 in
+    let to : ℕ = get_or (addressees before) k 0 in
+    let i : slice_get (incarnations_sent before) k ≡ Some inc = sent_at tape (place tape (choice_at line p)) k 0 within 0 in
+    let a : slice_get (addressees before) k ≡ Some to = slice_get-get_or (addressees before) k 0 (omega (arith, length_addressees before)) in
+    let next : open_first history line p (k + 1) ≡ found ++ cond (get_or c.args.received.now k false) [] (name_of p inc k ∷ []) = open-next history line p k inc to c.args.received.now c.requires.told i a in
+    let flag : get_or c.args.received.now k false ≡ c.index.result.now = ap (λ (xs : List Bool). get_or xs k false) (sym c.received.view_is) ∙ get_or_default flags k false c.index.result.now (omega (arith, told)) ∙ sym c.index.ensures in
+    elim c.if-not-index.branch [
+      | then-not-index+in_ok-push w ↦
+          let name : name_of p (get_or c.incarnations-incarnations.result.now k 0) k ≡ name_of p inc k = ap (λ (xs : List ℕ). name_of p (get_or xs k 0) k) (c.incarnations-incarnations.ensures ∙ ap (λ (xs : List Event). incarnations_sent xs) c.tape.ensures.events) in
+          let more : open_first history line p (k + 1) ≡ found ++ name_of p inc k ∷ [] = next ∙ ap (λ b. found ++ cond b [] (name_of p inc k ∷ [])) (flag ∙ w.if-not-index.true) in
+          ap (λ v. v.items) w.messages-is ∙ w.in_ok-push.ensures.items ∙ ap (λ (m : MsgName). c.loop-number.messages.items ++ m ∷ []) name ∙ ap (λ (xs : List MsgName). xs ++ name_of p inc k ∷ []) c.loop-number.invariant ∙ append_assoc old found (name_of p inc k ∷ []) ∙ ap (λ (xs : List MsgName). old ++ xs) (sym more)
+      | else-not-index w ↦
+          let same : open_first history line p (k + 1) ≡ found = next ∙ ap (λ b. found ++ cond b [] (name_of p inc k ∷ [])) (flag ∙ w.if-not-index.false) ∙ append-nil found in
+          ap (λ v. v.items) w.messages-is ∙ c.loop-number.invariant ∙ ap (λ (xs : List MsgName). old ++ xs) (sym same)
     ]
 
 pub returns : goal.returns
@@ -35,9 +70,7 @@ returns c =
     let history : List Process = c.args.history.now.processes in
     let line : List Choice = c.args.line.now in
     let p : ℕ = c.args.p in
-    let events : List Event = c.front-events.result.now in
-    let found : List MsgName = c.loop-event.messages.items in
-    let front : events ≡ events_before history line p = c.front-events.ensures ∙ ap (λ (t : List Event). front t c.at-choice.result) c.tape.ensures.events ∙ ap (front (tape_at history p)) c.at-choice.ensures in
-    let none : drop c.loop-event.event-index events ≡ [] = drop_of_length-le events (omega arith) in
-    let whole : found ++ [] ≡ found ++ names_open history line p c.loop-event.number (drop c.loop-event.event-index events) = ap (λ xs. found ++ names_open history line p c.loop-event.number xs) (sym none) in
-    sym (append-nil found) ∙ whole ∙ c.loop-event.invariant.0 ∙ ap (λ xs. c.args.messages.now.items ++ names_open history line p 0 xs) front
+    let all : List Letter = letters p 0 (events_before history line p) in
+    let told : length c.received.inside.sends.items ≡ sends (events_before history line p) = ap (λ (xs : List Bool). length xs) c.received.view_is ∙ c.requires.told.count in
+    let past : length all ≤ c.loop-number.number = omega (arith, told, length-letters p 0 (events_before history line p), c.received.inside.sends.ok.0, c.len-number-end.ensures) in
+    c.loop-number.invariant ∙ ap (λ (xs : List Letter). c.args.messages.now.items ++ map (λ (letter : Letter). letter.message) (filter (is_open history line) xs)) (take_all c.loop-number.number all past)

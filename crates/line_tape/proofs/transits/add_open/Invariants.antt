@@ -1,7 +1,6 @@
-use Rattle.std.proofs.Common.{◌≡◌, ◌≤◌, ◌++◌, drop}
-use Rattle.line_tape.proofs.TransitLemmas.{names_open}
+use Rattle.std.proofs.Common.{◌≡◌, ◌++◌}
+use Rattle.line_tape.proofs.ReceivedLemmas.{open_first}
 use Rattle.line_tape.proofs.transits.add_open.Given as goal
 
-abbrev pub invariant-loop-event : goal.invariant-loop-event
-invariant-loop-event l =
-    (l.messages.items ++ names_open l.history.processes l.line l.p l.number (drop l.event-index l.events) ≡ l.fn.messages.items ++ names_open l.history.processes l.line l.p 0 l.events) × (l.number ≤ l.event-index)
+abbrev pub invariant-loop-number : goal.invariant-loop-number
+invariant-loop-number l = l.messages.items ≡ l.fn.messages.items ++ open_first l.history.processes l.line l.p l.number

@@ -1,11 +1,10 @@
 -- The first rows, incarnations, addressees and receipts serve the first events.
 use Rattle.std.proofs.Common.{◌≡◌, ◌≤◌, ◌++◌, ◌-◌, ℕ, List, length, take, drop, sym, ap, ◌∙◌, subst, arith}
-use Rattle.std.specs.Prelude.{min}
 use Rattle.std.proofs.lemmas.List.{take-append-drop, take_all, length-drop}
 use Rattle.line_tape.specs.declared.events.Event.{Event}
 use Rattle.line_tape.specs.declared.tapes.CheckRow.{CheckRow}
 use Rattle.line_tape.specs.Event.{checks, sends}
-use Rattle.line_tape.specs.Front.{front, place}
+use Rattle.line_tape.specs.Front.{front}
 use Rattle.line_tape.specs.History.{IsTape}
 use Rattle.line_tape.specs.Kept.{AreNoted, AreRows, AreSettled}
 use Rattle.line_tape.specs.Transit.{names_received}

@@ -1,5 +1,5 @@
 -- The events that are settled, and the places of their checks, are right as they are.
-use Rattle.std.proofs.Common.{◌≡◌, ◌≤◌, ℕ, suc, List, length, take, sym, ap, ◌∙◌, subst, arith}
+use Rattle.std.proofs.Common.{◌≡◌, ℕ, suc, List, length, take, sym, ap, ◌∙◌, subst, arith}
 use Rattle.std.specs.List.{filter_map}
 use Rattle.line_names.specs.declared.messages.MsgName.{MsgName}
 use Rattle.line_tape.specs.declared.events.Event.{Event}

@@ -1,8 +1,7 @@
 -- From the last check back to those that are settled.
-use Rattle.std.proofs.Common.{◌≡◌, ◌<◌, ◌≤◌, ◌+◌, ◌-◌, ℕ, List, true, length, take, refl, sym, ap, ◌∙◌, arith}
-use Rattle.line_tape.specs.declared.events.Event.{Event}
+use Rattle.std.proofs.Common.{◌≡◌, ◌<◌, ◌+◌, ◌-◌, length, take, refl, sym, ap, ◌∙◌, arith}
 use Rattle.line_tape.specs.declared.tapes.CheckRow.{CheckRow}
-use Rattle.line_tape.specs.Event.{is_check, checks}
+use Rattle.line_tape.specs.Event.{checks}
 use Rattle.line_tape.proofs.IndexLemmas.{placed-start, placed-other, placed-some, placed-within, placed-check, placed-done}
 use Rattle.line_tape.proofs.tapes.cuts.place_checks.Goals as goal
 
