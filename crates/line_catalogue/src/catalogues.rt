@@ -289,7 +289,7 @@ impl Catalogue {
 
     /// Has each process go on from its choice of a consistent line, as `History::restart` does, and takes the marks off the checks that it cuts off. It takes no memory and cannot fail.
     ///
-    /// Each message that is received before a consistent line is sent before it, so the history goes on to agree.
+    /// Each message that is received before a consistent line is sent before it, so the history goes on to agree. It looks at each check, and otherwise costs what `History::restart` does.
     #[tactic(auto, using(crate::proofs::CatalogueLemmas::lesser_at))]
     pub fn restart(&mut self, line: &Line)
         requires line { IsLine self.old.processes line.now }

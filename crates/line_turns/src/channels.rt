@@ -102,7 +102,7 @@ impl Channels {
 
     /// What is in transit at a line of a history, from each process to each.
     ///
-    /// It counts what is in transit, and puts each message on the channel to the process that its send names. So it looks once at each event before the line, and asks the receipts of a tape for each send, which is expected to take constant time. It takes memory for each two processes and for each message in transit, and fails without.
+    /// It counts what is in transit, and puts each message on the channel to the process that its send names. So it costs what `History::transit` does, and memory for each two processes and for each message in transit; it fails without.
     pub fn at(alloc: Global, history: &History, line: &Line) -> Result<Channels, AllocError>
         requires { IsLine history.now.processes line.now }
         ensures transit { IfOk result (λ channels. channels ≡ channels_at history.now.processes line.now) }

@@ -538,7 +538,7 @@ impl World {
 
     /// The latest line that the processes could go on from, if those of the set failed. Where the checks of a listed round survive, no process falls behind its own.
     ///
-    /// It looks at each event before the latest surviving choices, once for each time that a process is visited.
+    /// It costs what `line_plan::plan` does.
     pub fn plan_for(&self, alloc: Global, failed: &ProcSet) -> Result<Plan, StepError>
         ensures plan { IfOk result (λ plan. IsPlan self.now failed.now plan) }
         ensures rounds { IfOk result (λ plan. All (IsReached self.now.history self.now.marks failed.now plan.line) self.now.rounds) }
@@ -588,7 +588,7 @@ impl World {
 
     /// Takes one step.
     ///
-    /// Sending, delivering a message and taking a check cost the same however much was done before; a message that forces a check searches its sender's checks of rounds by halves. A marker looks at its receiver's channels, and the last one of a process at all channels of the round. A check of a round, begun or forced by a marker, puts a marker on the link to each other process; the last one of a round of colours looks at each event before the round's checks. Recovering costs what a plan does, and looks at each event and at each copy.
+    /// Sending, delivering a message and taking a check cost the same however much was done before; a message that forces a check searches its sender's checks of rounds by halves. A marker looks at its receiver's channels, and the last one of a process at all channels of the round. A check of a round, begun or forced by a marker, puts a marker on the link to each other process; the last one of a round of colours looks at each event before the round's checks. Recovering costs what a plan does; it looks at each event that it cuts or that came since the last recovery, at each check and at each copy.
     pub fn step(&mut self, alloc: Global, step: &Step) -> Result<Reply, StepError>
         ensures done { IfOk result (λ reply. Takes self.old step.now (Done reply) self.new) }
         ensures refused { IfErr result (λ e. e ≢ StepError.OutOfMemory → Takes self.old step.now (Refused e) self.new) }
