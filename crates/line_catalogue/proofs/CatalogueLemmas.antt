@@ -8,11 +8,11 @@ use Rattle.std.proofs.lemmas.List.Elements.{All-nil, All-push, All-weaker}
 use Rattle.line_tape.specs.declared.events.Event.{Event}
 use Rattle.line_tape.specs.Event.{checks}
 use Rattle.line_tape.specs.History.{Process, tape_at, with_event}
-use Rattle.line_tape.specs.Views.{MarksView, with_mark}
+use Rattle.line_tape.specs.Views.{MarksView, with_mark, damaged_at}
 use Rattle.line_tape.proofs.RowLemmas.{checks-push}
 use Rattle.line_catalogue.specs.declared.rows.Row.{Row}
 use Rattle.line_catalogue.specs.Agreement.{AgreesNext}
-use Rattle.line_catalogue.specs.Damage.{damaged_at, AreOnChecks}
+use Rattle.line_catalogue.specs.Damage.{AreOnChecks}
 use Rattle.line_catalogue.specs.Kept.{rows_at, IsCatalogue}
 use Rattle.line_catalogue.specs.Rows.{AreRows, IsRowAdded, with_row, with_damage}
 use Rattle.line_catalogue.specs.Views.{lesser_rooms}

@@ -14,13 +14,13 @@ use Rattle.line_tape.specs.Front.{check_place, place, front, HasChoice}
 use Rattle.line_tape.specs.History.{Process, fresh, tape_at}
 use Rattle.line_tape.specs.Line.{events_before, IsLine, IsConsistent, IsSentBefore}
 use Rattle.line_tape.specs.Restart.{restarted, restarted_event, restarted_process, restarted_marks, is_kept}
-use Rattle.line_tape.specs.Views.{MarksView}
+use Rattle.line_tape.specs.Views.{MarksView, damaged_at}
 use Rattle.line_tape.proofs.CutLemmas.{checks_left, checks_take, received_left, sent_left}
 use Rattle.line_tape.proofs.EachLemmas.{each_at, length-each, restarted-each, damage-each, kept_damage}
 use Rattle.line_tape.proofs.LineLemmas.{front-empty, tape_at-past}
 use Rattle.line_catalogue.specs.declared.rows.Row.{Row}
 use Rattle.line_catalogue.specs.Agreement.{EventAgrees, Agrees}
-use Rattle.line_catalogue.specs.Damage.{damaged_at, AreOnChecks}
+use Rattle.line_catalogue.specs.Damage.{AreOnChecks}
 use Rattle.line_catalogue.specs.Kept.{rows_at, IsCatalogue}
 use Rattle.line_catalogue.specs.Rows.{AreRows}
 use Rattle.line_catalogue.proofs.AgreementLemmas.{Agrees-below}

@@ -4,10 +4,6 @@ use Rattle.line_tape.specs.Event.{checks}
 use Rattle.line_tape.specs.History.{Process, tape_at}
 use Rattle.line_tape.specs.Views.{MarksView}
 
--- the damaged checks of process p
-abbrev pub damaged_at : MarksView → ℕ → List ℕ
-damaged_at marks p = slice_index_or marks.damaged p []
-
 -- each mark is on a check that its tape has
 pub record AreOnChecks (history : List Process) (marks : MarksView) : Type 0 where
   pub each : (p : ℕ) → All (λ check. check ≤ checks (tape_at history p)) (damaged_at marks p)

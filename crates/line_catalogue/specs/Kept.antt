@@ -1,10 +1,10 @@
 -- What a catalogue keeps beside its history, so that no question scans it.
 use Rattle.std.specs.Prelude.{◌≡◌, ℕ, ◌<◌, List, [], length, slice_index_or}
 use Rattle.line_tape.specs.History.{Process, tape_at}
-use Rattle.line_tape.specs.Views.{MarksView}
+use Rattle.line_tape.specs.Views.{MarksView, damaged_at}
 use Rattle.line_catalogue.specs.declared.rows.Row.{Row}
 use Rattle.line_catalogue.specs.Agreement.{Agrees}
-use Rattle.line_catalogue.specs.Damage.{damaged_at, AreOnChecks}
+use Rattle.line_catalogue.specs.Damage.{AreOnChecks}
 use Rattle.line_catalogue.specs.Rows.{AreRows}
 
 -- the rows of each process, and how many further ones are taken with no more memory

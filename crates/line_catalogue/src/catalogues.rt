@@ -9,9 +9,9 @@ ghost use Rattle.line_tape.specs.History.{fresh, tape_at, with_event, IsHistory}
 ghost use Rattle.line_tape.specs.Line.{events_before, IsLine, IsConsistent, IsFoundAmong};
 ghost use Rattle.line_tape.specs.Restart.{restarted, restarted_marks, HaveFurther};
 ghost use Rattle.line_tape.specs.Survival.{survives, is_damaged};
-ghost use Rattle.line_tape.specs.Views.{with_mark};
+ghost use Rattle.line_tape.specs.Views.{with_mark, damaged_at};
 ghost use Rattle.line_catalogue.specs.Agreement.{Agrees, AgreesNext};
-ghost use Rattle.line_catalogue.specs.Damage.{damaged_at, AreOnChecks};
+ghost use Rattle.line_catalogue.specs.Damage.{AreOnChecks};
 ghost use Rattle.line_catalogue.specs.Rows.{AreRows};
 ghost use Rattle.line_catalogue.specs.Views.{room_at};
 

@@ -2,7 +2,8 @@
 ghost use Rattle.std.specs.Prelude.{◌≡◌, ◌≢◌, ◌<◌, ◌≤◌, ◌+◌, ◌↔◌, ℕ, [], All, length, slice_set, slice_index_or, vec_len, vec_capacity, IfOk, IsOk, OnOk};
 ghost use Rattle.line_tape.specs.Event.{checks};
 ghost use Rattle.line_tape.specs.History.{tape_at};
-ghost use Rattle.line_catalogue.specs.Damage.{damaged_at, AreOnChecks};
+ghost use Rattle.line_catalogue.specs.Damage.{AreOnChecks};
+ghost use Rattle.line_tape.specs.Views.{damaged_at};
 ghost use Rattle.line_catalogue.specs.Kept.{rows_at};
 ghost use Rattle.line_catalogue.specs.Plain.{plain, room_of};
 ghost use Rattle.line_catalogue.specs.Rows.{IsRow, AreRows, with_damage, with_row};

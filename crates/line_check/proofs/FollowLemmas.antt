@@ -8,8 +8,8 @@ use Rattle.line_names.specs.declared.choices.Choice.{Choice}
 use Rattle.line_names.specs.Lines.{choice_at}
 use Rattle.line_tape.specs.declared.events.Event.TheVariants.{Recv}
 use Rattle.line_tape.specs.declared.limits.TheConstants.{MOST_EVENTS}
-use Rattle.line_tape.specs.Chain.{next_lower, first_ceilings, lowered, LeadsTo, IsRight, IsChain}
-use Rattle.line_tape.specs.Height.{IsLed, height}
+use Rattle.line_tape.specs.Chain.{next_lower, first_ceilings, lowered, LeadsTo, IsRight, IsChain, IsLed}
+use Rattle.line_tape.specs.Height.{height}
 use Rattle.line_tape.specs.History.{Process, IsHistory}
 use Rattle.line_tape.specs.Views.{MarksView}
 use Rattle.line_tape.proofs.ChainLemmas.{first-length}

@@ -3,7 +3,7 @@ use Rattle.std.specs.Prelude.{◌≡◌, ◌≢◌, ℕ, Bool, List, take, slice
 use Rattle.line_names.specs.declared.certificates.Passed.{Passed}
 use Rattle.line_names.specs.declared.choices.Choice.{Choice}
 use Rattle.line_names.specs.Lines.{choice_at}
-use Rattle.line_tape.specs.Height.{IsLed}
+use Rattle.line_tape.specs.Chain.{IsLed}
 use Rattle.line_tape.specs.History.{Process}
 use Rattle.line_tape.specs.Line.{IsSentBefore, IsReceivedBefore, IsConsistent}
 use Rattle.line_tape.specs.Views.{MarksView}

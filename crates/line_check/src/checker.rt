@@ -1,7 +1,6 @@
 //! The tests of a line and of a claim.
 ghost use Rattle.std.specs.Prelude.{◌≡◌, ◌<◌, ◌↔◌, IsTrue, IsOk, IfOk, IfErr, IsErrOf, All, length};
-ghost use Rattle.line_tape.specs.Chain.{IsRight, IsChain};
-ghost use Rattle.line_tape.specs.Height.{IsLed};
+ghost use Rattle.line_tape.specs.Chain.{IsRight, IsChain, IsLed};
 ghost use Rattle.line_tape.specs.Line.{IsLine, IsConsistent};
 ghost use Rattle.line_tape.specs.Survival.{IsLatest};
 ghost use Rattle.line_check.specs.Shape.{IsEntryOf, HasShape};

@@ -9,9 +9,9 @@ use Rattle.line_names.specs.declared.messages.MsgName.{MsgName}
 use Rattle.line_fields.proofs.RoundLemmas.{all_ascii_digits-decimal, hex_hex_text, num_decimal}
 use Rattle.line_tape.specs.declared.events.Event.{Event}
 use Rattle.line_tape.specs.declared.events.Event.TheVariants.{Send, Recv, Check, Mark}
-use Rattle.line_tape.specs.declared.limits.TheConstants.{LAST_INCARNATION, MOST_EVENTS, MOST_STATE}
+use Rattle.line_tape.specs.declared.limits.TheConstants.{LAST_INCARNATION, MOST_EVENTS, MOST_STATE, LAST_ROUND}
 use Rattle.line_tape.specs.History.{tape_at, with_event, with_incarnation}
-use Rattle.line_claims.specs.declared.numbers.TheConstants.{LAST_ROUND, MOST_NUMBER}
+use Rattle.line_claims.specs.declared.numbers.TheConstants.{MOST_NUMBER}
 use Rattle.line_claims.specs.Events.{send_of, recv_of, check_of, mark_of}
 use Rattle.line_claims.specs.Histories.{Tapes, added, begins_claim, count_of, step, tape_of}
 use Rattle.line_claims.specs.Numbers.{plain, incarnation, round, round_or_none}

@@ -11,12 +11,12 @@ use Rattle.line_tape.specs.declared.events.Event.{Event}
 use Rattle.line_tape.specs.declared.events.Event.TheVariants.{Send, Recv, Check, Mark}
 use Rattle.line_tape.specs.History.{Process}
 use Rattle.line_claims.specs.declared.faults.TextFault.{TextFault}
-use Rattle.line_claims.specs.declared.numbers.TheConstants.{LAST_ROUND, MOST_NUMBER}
+use Rattle.line_claims.specs.declared.numbers.TheConstants.{MOST_NUMBER}
+use Rattle.line_tape.specs.declared.limits.TheConstants.{LAST_ROUND, LAST_INCARNATION}
 use Rattle.line_claims.specs.Ranges.{IsHistoryInRange, IsInRange, IsRound, IsTapeInRange}
 use Rattle.line_claims.specs.Records.{event_record, history_records, number_text, tape_records, tapes_records}
 use Rattle.line_claims.specs.Texts.{history_of_text}
 use Rattle.line_claims.proofs.AgainLemmas.{history_again}
-use Rattle.line_tape.specs.declared.limits.TheConstants.{LAST_INCARNATION}
 
 byte_at : (bytes : List ℕ) → AllByRecursion (λ byte. byte < 256) bytes → (i : ℕ) → get_or bytes i 0 < 256
 byte_at [] fit i = omega arith

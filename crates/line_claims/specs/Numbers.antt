@@ -7,8 +7,8 @@ use Rattle.line_fields.specs.declared.faults.Fault.{Fault}
 use Rattle.line_fields.specs.declared.faults.Fault.TheVariants as faults
 use Rattle.line_fields.specs.Fields.{◌>>=◌, want, num}
 use Rattle.line_fields.specs.Records.{Record}
-use Rattle.line_tape.specs.declared.limits.TheConstants.{LAST_INCARNATION}
-use Rattle.line_claims.specs.declared.numbers.TheConstants.{LAST_ROUND, MOST_NUMBER}
+use Rattle.line_tape.specs.declared.limits.TheConstants.{LAST_INCARNATION, LAST_ROUND}
+use Rattle.line_claims.specs.declared.numbers.TheConstants.{MOST_NUMBER}
 
 -- a number that has no range of its own
 abbrev pub plain : List ℕ → Result ℕ Fault

@@ -8,13 +8,10 @@ ghost use Rattle.line_claims.specs.Numbers as spec;
 
 use line_fields::{Fault, Row, number};
 use line_names::{Choice, MOST_PROCESSES, ProcId};
-use line_tape::LAST_INCARNATION;
+use line_tape::{LAST_INCARNATION, LAST_ROUND};
 
 /// The greatest number in a field that has no range of its own.
 pub(crate) const MOST_NUMBER: u32 = u32::MAX;
-
-/// The greatest number of a round.
-pub(crate) const LAST_ROUND: u32 = 65_535;
 
 /// A fault unless a test holds.
 pub fn want(holds: bool, fault: Fault) -> Result<(), Fault>

@@ -1,7 +1,7 @@
 //! Sweeps over the processes, each of which is lowered until it has no orphan.
 ghost use Rattle.std.specs.Prelude.{◌≡◌, ◌<◌, ◌≤◌, ◌+◌, false, length, vec_len, OnOk, IfOk};
-ghost use Rattle.line_tape.specs.Chain.{latest_choice, first_ceilings, IsChain};
-ghost use Rattle.line_tape.specs.Height.{IsLed, height};
+ghost use Rattle.line_tape.specs.Chain.{latest_choice, first_ceilings, IsChain, IsLed};
+ghost use Rattle.line_tape.specs.Height.{height};
 ghost use Rattle.line_tape.specs.Line.{events_before, IsOrphan, AreSentBefore};
 ghost use Rattle.line_tape.specs.Survival.{IsLatest};
 ghost use Rattle.line_tape.specs.Transit.{in_transit};

@@ -10,7 +10,7 @@ use Rattle.line_names.specs.Lines.{choice_at}
 use Rattle.line_tape.specs.declared.events.Event.{Event}
 use Rattle.line_tape.specs.declared.events.Event.TheVariants.{Recv}
 use Rattle.line_tape.specs.declared.limits.TheConstants.{MOST_EVENTS}
-use Rattle.line_tape.specs.Chain.{latest_check, latest_choice, next_lower, first_ceilings, lowered, LeadsTo, IsRight}
+use Rattle.line_tape.specs.Chain.{latest_check, latest_choice, next_lower, first_ceilings, lowered, LeadsTo, IsRight, IsLed}
 use Rattle.line_tape.specs.Event.{checks}
 use Rattle.line_tape.specs.Front.{front, HasChoice}
 use Rattle.line_tape.specs.History.{Process, tape_at, IsHistory}
@@ -21,7 +21,7 @@ use Rattle.line_tape.proofs.ChainLemmas.{first_are_ceilings, led_are_ceilings, f
 use Rattle.line_tape.proofs.ChoiceLemmas.{survives_within}
 use Rattle.line_tape.proofs.HistoryLemmas.{IsHistory-at}
 use Rattle.line_tape.proofs.RowLemmas.{checks_le}
-use Rattle.line_tape.specs.Height.{IsLed, rank, height}
+use Rattle.line_tape.specs.Height.{rank, height}
 
 -- no latest check stands above where the search for it began
 rank-latest_check : (tape : List Event) (passes : Choice → Bool) (c : ℕ) → rank tape (latest_check passes c) ≤ c

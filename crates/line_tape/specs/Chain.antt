@@ -46,7 +46,11 @@ LeadsTo history marks failed ceilings [] line = ceilings ≡ line
 LeadsTo history marks failed ceilings (entry ∷ entries) line =
     IsRight history ceilings entry × LeadsTo history marks failed (lowered history marks failed ceilings entry.at) entries line
 
+-- these entries lead from the latest surviving choices to the line
+abbrev pub IsLed : List Process → MarksView → List Bool → List Passed → List Choice → Type 0
+IsLed history marks failed entries line = LeadsTo history marks failed (first_ceilings history marks failed) entries line
+
 -- the chain is valid for the line: it leads there from the latest surviving choices, and the line is consistent
 pub record IsChain (history : List Process) (marks : MarksView) (failed : List Bool) (entries : List Passed) (line : List Choice) : Type 0 where
-  pub leads : LeadsTo history marks failed (first_ceilings history marks failed) entries line
+  pub leads : IsLed history marks failed entries line
   pub consistent : IsConsistent history line

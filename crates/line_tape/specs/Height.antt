@@ -1,17 +1,10 @@
 -- The way down from the first ceilings, and how far down it can go.
-use Rattle.std.specs.Prelude.{ℕ, ◌+◌, Bool, List, [], ◌∷◌}
-use Rattle.line_names.specs.declared.certificates.Passed.{Passed}
+use Rattle.std.specs.Prelude.{ℕ, ◌+◌, List, [], ◌∷◌}
 use Rattle.line_names.specs.declared.choices.Choice.{Choice}
 use Rattle.line_names.specs.declared.choices.Choice.TheVariants.{Check as AtCheck, Now}
 use Rattle.line_tape.specs.declared.events.Event.{Event}
-use Rattle.line_tape.specs.Chain.{LeadsTo, first_ceilings}
 use Rattle.line_tape.specs.Event.{checks}
 use Rattle.line_tape.specs.History.{Process}
-use Rattle.line_tape.specs.Views.{MarksView}
-
--- these entries lead from the latest surviving choices to the line
-abbrev pub IsLed : List Process → MarksView → List Bool → List Passed → List Choice → Type 0
-IsLed history marks failed entries line = LeadsTo history marks failed (first_ceilings history marks failed) entries line
 
 -- how many choices of the tape stand below a choice
 abbrev pub rank : List Event → Choice → ℕ

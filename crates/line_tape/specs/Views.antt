@@ -21,7 +21,11 @@ room_at history p = slice_index_or history.rooms p 0
 pub record MarksView : Type 0 where
   pub damaged : List (List ℕ)
 
+-- the damaged checks of process p
+abbrev pub damaged_at : MarksView → ℕ → List ℕ
+damaged_at marks p = slice_index_or marks.damaged p []
+
 -- the marks with one more, on check c of process p
 abbrev pub with_mark : MarksView → ℕ → ℕ → MarksView
 with_mark marks p c =
-    record marks { damaged = slice_set marks.damaged p (slice_index_or marks.damaged p [] ++ c ∷ []) }
+    record marks { damaged = slice_set marks.damaged p (damaged_at marks p ++ c ∷ []) }

@@ -5,7 +5,7 @@ use Rattle.line_names.specs.declared.choices.Choice.{Choice}
 use Rattle.line_names.specs.declared.limits.TheConstants.{MOST_PROCESSES}
 use Rattle.line_names.specs.Sets.{is_member}
 use Rattle.line_tape.specs.declared.items.Item.{Item}
-use Rattle.line_tape.specs.declared.limits.TheConstants.{MOST_EVENTS, MOST_STATE}
+use Rattle.line_tape.specs.declared.limits.TheConstants.{MOST_EVENTS, MOST_STATE, LAST_ROUND}
 use Rattle.line_tape.specs.Event.{checks}
 use Rattle.line_tape.specs.History.{tape_at}
 use Rattle.line_tape.specs.Restart.{HaveFurther}
@@ -17,7 +17,6 @@ use Rattle.line_world.specs.declared.steps.Step.{Step}
 use Rattle.line_world.specs.declared.steps.Step.TheVariants.{Send, Deliver, Check, Begin, Turn, Damage, Recover}
 use Rattle.line_world.specs.declared.replies.StepError.{StepError}
 use Rattle.line_world.specs.declared.replies.StepError.TheVariants.{NoSuchProcess, TapeFull, NoSuchCheck, StateTooLong, InitialDamage, AlreadyDamaged, ToSelf, LinkEmpty, BadPick, RoundOpen, NothingToTurn, WrongMode, NoMoreRounds, NoMoreIncarnations}
-use Rattle.line_world.specs.declared.rounds.TheConstants.{LAST_ROUND}
 use Rattle.line_world.specs.Fates.{events_taken}
 use Rattle.line_world.specs.Machine.{Machine, items_on, is_open}
 

@@ -16,6 +16,6 @@ mod worlds;
 
 pub use laws::runs_name_apart;
 pub use replies::{Answer, Reply, RunStopped, StepError};
-pub use rounds::{LAST_ROUND, Round};
+pub use rounds::Round;
 pub use steps::{Mode, Step};
 pub use worlds::World;

@@ -21,11 +21,11 @@ ghost use Rattle.line_world.specs.Steps.{next_check};
 ghost use Rattle.line_world.specs.Worlds.{IsWorld};
 
 use crate::links::Links;
-use crate::rounds::{LAST_ROUND, OpenRound, hear, note};
+use crate::rounds::{OpenRound, hear, note};
 use crate::steps::Mode;
 use line_catalogue::Catalogue;
 use line_names::{Body, MsgName, ProcId};
-use line_tape::{Event, History, Item, MOST_EVENTS, MOST_STATE, State};
+use line_tape::{Event, History, Item, LAST_ROUND, MOST_EVENTS, MOST_STATE, State};
 use line_turns::{Channels, Colours, Turning};
 use std::alloc::{AllocError, Global};
 

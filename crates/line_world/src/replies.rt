@@ -1,11 +1,10 @@
 //! What the machine answers.
 ghost use Rattle.std.specs.Prelude.{◌≡◌, ◌↔◌, IsTrue};
 
-use crate::rounds::LAST_ROUND;
 use line_catalogue::DamageError;
 use line_names::{MsgName, ProcId};
 use line_plan::{Plan, PlanError};
-use line_tape::{LAST_INCARNATION, MOST_EVENTS, MOST_STATE, State};
+use line_tape::{LAST_INCARNATION, LAST_ROUND, MOST_EVENTS, MOST_STATE, State};
 use std::alloc::AllocError;
 use std::error::Error;
 use std::fmt;

@@ -15,13 +15,10 @@ ghost use Rattle.line_world.specs.Steps.{next_check};
 
 use line_marker::{Marker, MarkerError};
 use line_names::{Choice, Line, MOST_PROCESSES, MsgName, ProcId};
-use line_tape::History;
+use line_tape::{History, LAST_ROUND};
 use line_turns::{Channels, Turning};
 use std::alloc::{AllocError, Global};
 use std::marker::Model;
-
-/// The last round that can be begun.
-pub const LAST_ROUND: u32 = 65_535;
 
 /// A completed round: a check of each process, which make a consistent line, and what was on its way between each two of them.
 #[derive(Drop)]

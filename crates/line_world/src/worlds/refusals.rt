@@ -7,10 +7,9 @@ ghost use Rattle.line_world.specs.Machine.{is_open, items_on};
 
 use super::World;
 use crate::replies::StepError;
-use crate::rounds::LAST_ROUND;
 use crate::steps::Mode;
 use line_names::{MOST_PROCESSES, ProcId, ProcSet};
-use line_tape::{MOST_EVENTS, MOST_STATE, State};
+use line_tape::{LAST_ROUND, MOST_EVENTS, MOST_STATE, State};
 
 impl World {
     /// Whether the tape of a process has no room for so many events.

@@ -2,7 +2,7 @@ use Rattle.std.proofs.Common.{ℕ, ◌<◌, ◌≤◌}
 use Rattle.std.specs.List.{All}
 use Rattle.line_tape.specs.Event.{checks}
 use Rattle.line_tape.specs.History.{tape_at}
-use Rattle.line_catalogue.specs.Damage.{damaged_at}
+use Rattle.line_tape.specs.Views.{damaged_at}
 use Rattle.line_catalogue.proofs.agreement.are_on_checks.Given as goal
 
 abbrev pub invariant-loop-q : goal.invariant-loop-q

@@ -1,7 +1,6 @@
 use Rattle.std.proofs.Common.{refl, sym, subst, Result, Ok, Err, IsOk, IsErr}
 use Rattle.std.proofs.lemmas.Bool.{false≢true}
-use Rattle.line_tape.specs.Chain.{IsChain}
-use Rattle.line_tape.specs.Height.{IsLed}
+use Rattle.line_tape.specs.Chain.{IsChain, IsLed}
 use Rattle.line_tape.proofs.ChainLemmas.{latest_from_chain}
 use Rattle.line_check.specs.declared.faults.CertFault.{CertFault}
 use Rattle.line_check.specs.Verdict.{IsFirstFault}

@@ -2,8 +2,7 @@
 use Rattle.std.proofs.Common.{◌≡◌, ◌+◌, List, take, sym, subst, refl, arith}
 use Rattle.std.proofs.lemmas.Option.{slice_get_read}
 use Rattle.line_names.specs.declared.choices.Choice.{Choice}
-use Rattle.line_tape.specs.Chain.{lowered}
-use Rattle.line_tape.specs.Height.{IsLed}
+use Rattle.line_tape.specs.Chain.{lowered, IsLed}
 use Rattle.line_tape.proofs.LedLemmas.{IsLine-led}
 use Rattle.line_check.proofs.FollowLemmas.{few-led, led-more}
 use Rattle.line_check.proofs.checker.follow.Goals as goal

@@ -1,5 +1,5 @@
 use Rattle.std.proofs.Common.{take}
-use Rattle.line_tape.specs.Height.{IsLed}
+use Rattle.line_tape.specs.Chain.{IsLed}
 use Rattle.line_check.proofs.checker.follow.Given as goal
 
 abbrev pub invariant-loop-k : goal.invariant-loop-k

@@ -3,11 +3,11 @@ use Rattle.std.proofs.Common.{◌≡◌, ◌<◌, ◌++◌, ◌∷◌, [], List,
 use Rattle.line_names.specs.declared.certificates.Passed.{Passed}
 use Rattle.line_names.specs.declared.choices.Choice.{Choice}
 use Rattle.line_names.specs.Lines.{choice_at}
-use Rattle.line_tape.specs.Chain.{first_ceilings, next_lower, lowered}
+use Rattle.line_tape.specs.Chain.{first_ceilings, next_lower, lowered, IsLed}
 use Rattle.line_tape.specs.History.{Process}
 use Rattle.line_tape.specs.Line.{IsLine}
 use Rattle.line_tape.specs.Views.{MarksView}
-use Rattle.line_tape.specs.Height.{IsLed, height}
+use Rattle.line_tape.specs.Height.{height}
 use Rattle.line_tape.proofs.LedLemmas.{LeadsTo-push, height-lowered, IsLine-led}
 use Rattle.line_plan.proofs.planner.pass_over.Goals as goal
 

@@ -1,6 +1,6 @@
 use Rattle.std.proofs.Common.{◌≤◌, ◌+◌, vec_len}
-use Rattle.line_tape.specs.Chain.{first_ceilings}
-use Rattle.line_tape.specs.Height.{IsLed, height}
+use Rattle.line_tape.specs.Chain.{first_ceilings, IsLed}
+use Rattle.line_tape.specs.Height.{height}
 use Rattle.line_plan.proofs.planner.plan.Given as goal
 
 abbrev pub invariant-sweeps : goal.invariant-sweeps

@@ -1,5 +1,5 @@
 use Rattle.std.proofs.Common.{◌≡◌, false, vec_len}
-use Rattle.line_tape.specs.Height.{IsLed}
+use Rattle.line_tape.specs.Chain.{IsLed}
 use Rattle.line_plan.specs.Search.{IsMoved, AreSentBelow}
 use Rattle.line_plan.proofs.planner.sweep.Given as goal
 

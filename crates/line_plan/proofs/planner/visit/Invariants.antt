@@ -1,5 +1,6 @@
 use Rattle.std.proofs.Common.{vec_len}
-use Rattle.line_tape.specs.Height.{IsLed, height}
+use Rattle.line_tape.specs.Height.{height}
+use Rattle.line_tape.specs.Chain.{IsLed}
 use Rattle.line_plan.specs.Search.{IsMoved}
 use Rattle.line_plan.proofs.planner.visit.Given as goal
 

@@ -5,10 +5,10 @@ use Rattle.line_tape.specs.Event.{checks}
 use Rattle.line_tape.specs.History.{Process, tape_at}
 use Rattle.line_tape.specs.Line.{IsLine, IsConsistent}
 use Rattle.line_tape.specs.Restart.{restarted, restarted_marks}
-use Rattle.line_tape.specs.Views.{MarksView}
+use Rattle.line_tape.specs.Views.{MarksView, damaged_at}
 use Rattle.line_catalogue.specs.declared.rows.Row.{Row}
 use Rattle.line_catalogue.specs.Cuts.{last_cut, IsConsistentCut}
-use Rattle.line_catalogue.specs.Damage.{damaged_at, AreOnChecks}
+use Rattle.line_catalogue.specs.Damage.{AreOnChecks}
 use Rattle.line_catalogue.specs.Kept.{rows_at, IsCatalogue}
 use Rattle.line_catalogue.specs.Rows.{AreRows}
 use Rattle.line_catalogue.specs.Views.{CatalogueView}

@@ -4,10 +4,9 @@ use Rattle.std.proofs.lemmas.Bool.{cases_lt}
 use Rattle.std.proofs.lemmas.List.{length_push, length-map, map-append, get_or_append_left, get_or_push}
 use Rattle.line_tape.specs.declared.events.Event.{Event}
 use Rattle.line_tape.specs.History.{Process, tape_at}
-use Rattle.line_tape.specs.Views.{MarksView}
+use Rattle.line_tape.specs.Views.{MarksView, damaged_at}
 use Rattle.line_catalogue.specs.declared.rows.ProcessRows.{ProcessRows}
 use Rattle.line_catalogue.specs.declared.rows.Row.{Row}
-use Rattle.line_catalogue.specs.Damage.{damaged_at}
 use Rattle.line_catalogue.specs.Kept.{rows_at}
 use Rattle.line_catalogue.specs.Plain.{plain}
 use Rattle.line_catalogue.specs.Rows.{AreRows}

@@ -1,6 +1,6 @@
 use Rattle.std.proofs.Common.{◌≡◌, ℕ, ◌<◌, length, map}
 use Rattle.line_tape.specs.History.{tape_at}
-use Rattle.line_catalogue.specs.Damage.{damaged_at}
+use Rattle.line_tape.specs.Views.{damaged_at}
 use Rattle.line_catalogue.specs.Kept.{rows_at}
 use Rattle.line_catalogue.specs.Plain.{plain}
 use Rattle.line_catalogue.specs.Rows.{AreRows}

@@ -5,10 +5,9 @@ use Rattle.std.proofs.lemmas.List.{length-set}
 use Rattle.line_tape.specs.declared.events.Event.{Event}
 use Rattle.line_tape.specs.Event.{checks}
 use Rattle.line_tape.specs.History.{Process, tape_at}
-use Rattle.line_tape.specs.Views.{MarksView}
+use Rattle.line_tape.specs.Views.{MarksView, damaged_at}
 use Rattle.line_catalogue.specs.declared.rows.ProcessRows.{ProcessRows}
 use Rattle.line_catalogue.specs.declared.rows.Row.{Row}
-use Rattle.line_catalogue.specs.Damage.{damaged_at}
 use Rattle.line_catalogue.specs.Kept.{rows_at}
 use Rattle.line_catalogue.specs.Plain.{plain, room_of}
 use Rattle.line_catalogue.specs.Rows.{AreRows}
