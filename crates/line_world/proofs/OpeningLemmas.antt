@@ -36,10 +36,10 @@ use Rattle.line_names.specs.declared.choices.Choice.TheVariants.{Check as AtChec
 use Rattle.line_names.specs.Lines.{choice_at}
 use Rattle.line_tape.specs.Restart.{is_kept, restarted}
 use Rattle.line_world.specs.Machine.{newly_listed}
-use Rattle.line_turns.specs.Turning.{TurningView, check_or_none}
+use Rattle.line_turns.specs.Turning.{TurningView}
 use Rattle.line_world.specs.Openings.{OpenView, left_open, marker_at, first_unlisted, newly_closed, open_number, opened_turning, turning_of, IsLast, IsMarkerOf, IsOpening, IsRecorded, IsRecording, IsRunning}
 use Rattle.line_world.specs.Worlds.{AreNumbered, AreRounds}
-use Rattle.line_turns.proofs.TurningLemmas.{check_or_none-kept, check_or_none-new, IsTurning-kept}
+use Rattle.line_turns.proofs.TurningLemmas.{IsTurning-kept}
 use Rattle.line_world.proofs.LinkLemmas.{length-with_event}
 use Rattle.line_world.proofs.RecordingLemmas.{IsMarkerOf-kept}
 
@@ -51,39 +51,18 @@ or-true false = refl
 pub is_checked_now : (r : ℕ) (tape : List Event) (e : Event) → is_check_of r e ≡ true → has_check_of r (tape ++ e ∷ []) ≡ true
 is_checked_now r tape e is = has_check_push tape e r ∙ ap (λ b. has_check_of r tape || b) is ∙ or-true (has_check_of r tape)
 
--- the index of its check after it and one more event
-pub check_begun : (r : ℕ) (tape : List Event) (state : List ℕ) → has_check_of r tape ≡ false → check_or_none r (tape ++ Check state (Some r) ∷ []) ≡ checks tape + 1
-check_begun = check_or_none-new
-
-pub check_forced : (r from : ℕ) (tape : List Event) (state : List ℕ) → has_check_of r tape ≡ false → check_or_none r ((tape ++ Check state (Some r) ∷ []) ++ Mark from r ∷ []) ≡ checks tape + 1
-check_forced r from tape state none = check_or_none-kept r (tape ++ Check state (Some r) ∷ []) (Mark from r) refl ∙ check_begun r tape state none
-
-pub check_heard : (r from : ℕ) (tape : List Event) → check_or_none r (tape ++ Mark from r ∷ []) ≡ check_or_none r tape
-check_heard r from tape = check_or_none-kept r tape (Mark from r) refl
-
-pub check_noted : (r : ℕ) (message : MsgName) (tape : List Event) → check_or_none r (tape ++ Recv message ∷ []) ≡ check_or_none r tape
-check_noted r message tape = check_or_none-kept r tape (Recv message) refl
-
--- what is kept, once the tape of one process has changed
+-- what the processes have recorded, once the tape of one of them has changed
 module _ (history new : List Process) (p r : ℕ) (length_is : length new ≡ length history) (others : (q : ℕ) → q ≢ p → tape_at new q ≡ tape_at history q) where
-  pub IsRecording-written : (checks checks' : List ℕ) (markers markers' : List MarkerView) → IsRecording history (record { number = r; checks = checks; markers = markers })
-      → length checks' ≡ length checks → ((q : ℕ) → q ≢ p → get_or checks' q 0 ≡ get_or checks q 0) → ((q : ℕ) → q ≢ p → marker_at markers' q ≡ marker_at markers q)
-      → get_or checks' p 0 ≡ check_or_none r (tape_at new p) → IsMarkerOf (length history) p r (tape_at new p) (marker_at markers' p)
-      → IsRecording new (record { number = r; checks = checks'; markers = markers' })
-  IsRecording-written checks checks' markers markers' is count checks_same markers_same check marker = record {
-    count = count ∙ is.count ∙ sym length_is;
-    checks = λ q within. elim (cases_eq q p) [
-      | inl same ↦ subst (λ (v : ℕ). get_or checks' v 0 ≡ check_or_none r (tape_at new v)) (sym same) check
-      | inr other ↦ checks_same q other ∙ is.checks q (omega (arith, within, length_is)) ∙ ap (check_or_none r) (sym (others q other))
-    ];
-    markers = λ q within. elim (cases_eq q p) [
-      | inl same ↦ subst (λ (v : ℕ). IsMarkerOf (length new) v r (tape_at new v) (marker_at markers' v)) (sym same)
-          (subst (λ (n : ℕ). IsMarkerOf n p r (tape_at new p) (marker_at markers' p)) (sym length_is) marker)
-      | inr other ↦ subst (λ (n : ℕ). IsMarkerOf n q r (tape_at new q) (marker_at markers' q)) (sym length_is)
-          (subst (λ (t : List Event). IsMarkerOf (length history) q r t (marker_at markers' q)) (sym (others q other))
-          (subst (IsMarkerOf (length history) q r (tape_at history q)) (sym (markers_same q other)) (is.markers q (omega (arith, within, length_is)))))
-    ];
-  }
+  pub markers_written : (markers markers' : List MarkerView) → ((q : ℕ) → q < length history → IsMarkerOf (length history) q r (tape_at history q) (marker_at markers q))
+      → ((q : ℕ) → q ≢ p → marker_at markers' q ≡ marker_at markers q) → IsMarkerOf (length history) p r (tape_at new p) (marker_at markers' p)
+      → (q : ℕ) → q < length new → IsMarkerOf (length new) q r (tape_at new q) (marker_at markers' q)
+  markers_written markers markers' are same marker = λ q within. elim (cases_eq q p) [
+    | inl here ↦ subst (λ (v : ℕ). IsMarkerOf (length new) v r (tape_at new v) (marker_at markers' v)) (sym here)
+        (subst (λ (n : ℕ). IsMarkerOf n p r (tape_at new p) (marker_at markers' p)) (sym length_is) marker)
+    | inr other ↦ subst (λ (n : ℕ). IsMarkerOf n q r (tape_at new q) (marker_at markers' q)) (sym length_is)
+        (subst (λ (t : List Event). IsMarkerOf (length history) q r t (marker_at markers' q)) (sym (others q other))
+        (subst (IsMarkerOf (length history) q r (tape_at history q)) (sym (same q other)) (are q (omega (arith, within, length_is)))))
+  ]
 
 -- two that are kept as open and have one number
 pub first_same : (running new : Option OpenView) (last : ℕ) → open_number new ≡ open_number running → first_unlisted running last ≡ first_unlisted new last
@@ -118,11 +97,13 @@ module _ (history : List Process) (at : ℕ) (e : Event) (within : at < length h
     IsRecording-kept round other unmarked is =
         let tape : List Event = tape_at history at in
         let here : tape_at (with_event history at e) at ≡ tape ++ e ∷ [] = tape_same history at e at within refl in
-        IsRecording-written history (with_event history at e) at round.number (length-with_event history at e) (λ q apart. tape_other history at e q apart) round.checks round.checks round.markers round.markers is refl
-        (λ q apart. refl) (λ q apart. refl)
-        (is.checks at within ∙ sym (check_or_none-kept round.number tape e other) ∙ ap (check_or_none round.number) (sym here))
-        (subst (λ (t : List Event). IsMarkerOf (length history) at round.number t (marker_at round.markers at)) (sym here)
-        (IsMarkerOf-kept (length history) at round.number tape (marker_at round.markers at) (is.markers at within) e other (λ p p_within apart. (unmarked p, adds round.number p))))
+        record {
+          turning = IsTurning-kept history at e (turning_of round) within other is.turning;
+          markers = markers_written history (with_event history at e) at round.number (length-with_event history at e) (λ q apart. tape_other history at e q apart) round.markers round.markers is.markers
+              (λ q apart. refl)
+              (subst (λ (t : List Event). IsMarkerOf (length history) at round.number t (marker_at round.markers at)) (sym here)
+              (IsMarkerOf-kept (length history) at round.number tape (marker_at round.markers at) (is.markers at within) e other (λ p p_within apart. (unmarked p, adds round.number p))));
+        }
 
   -- each round on a tape is completed, but one
   pub others_kept : (mode : Mode) (number : ℕ) → ((r : ℕ) → r ≢ number → is_check_of r e ≡ false) → ((p r : ℕ) → has_check_of r (tape_at history p) ≡ true → r ≢ number → is_completed mode history r ≡ true)

@@ -24,7 +24,7 @@ use Rattle.line_turns.specs.Turning.{TurningView, IsLastLine, IsTurning}
 use Rattle.line_world.specs.declared.steps.Mode.{Mode}
 use Rattle.line_world.specs.declared.steps.Mode.TheVariants.{Unordered}
 use Rattle.line_world.specs.Listed.{Listed, channel, channel_table, is_begun, is_completed, listed}
-use Rattle.line_world.specs.Openings.{OpenView, opened, opened_by, opened_turning}
+use Rattle.line_world.specs.Openings.{OpenView, opened, opened_by, opened_turning, IsOpenTurning}
 use Rattle.line_world.specs.Worlds.{AreRounds}
 use Rattle.line_world.proofs.FateLemmas.{same_test}
 use Rattle.line_world.proofs.LinkLemmas.{length-with_event}
@@ -39,6 +39,21 @@ turned_rounds mode history last running turning rounds e are = subst (λ (m : Mo
 pub opened_rounds : (mode : Mode) (history : List Process) (last : ℕ) (running : Option OpenView) (turning : Option TurningView) (rounds : List Listed) → mode ≡ Unordered
     → AreRounds Unordered history last (opened_turning turning) rounds → AreRounds mode history last (opened mode running turning) rounds
 opened_rounds mode history last running turning rounds e are = subst (λ (m : Mode). AreRounds m history last (opened m running turning) rounds) (sym e) are
+
+-- the last round begun is the one that is kept as open, where one has to be
+pub open_is : (history : List Process) (last : ℕ) (turning : Option TurningView) (rounds : List Listed) → AreRounds Unordered history last (opened_turning turning) rounds
+    → (AreRounds Unordered history last None rounds → ⊥) → IsOpenTurning history last turning
+open_is history last None rounds are some = absurd (some are)
+open_is history last (Some round) rounds are some = record { round = round; is = refl; number_is = are.unfinished.number_is; follows = are.opening.recording }
+
+-- one that stands there is the only one
+pub same_round : (turning : Option TurningView) (a b : TurningView) → turning ≡ Some a → turning ≡ Some b → a ≡ b
+same_round turning a b first second = cc
+
+pub open_round : (history : List Process) (r : ℕ) (turning : Option TurningView) (round : TurningView) → turning ≡ Some round → IsOpenTurning history r turning → (round.number ≡ r) × IsTurning history round
+open_round history r turning round is kept =
+    let same : kept.round ≡ round = same_round turning kept.round round kept.is is in
+    (subst (λ (t : TurningView). t.number ≡ r) same kept.number_is, subst (IsTurning history) same kept.follows)
 
 -- what may be turned to
 module _ (history : List Process) (last : ℕ) (turning : TurningView) (rounds : List Listed) (are : AreRounds Unordered history last (Some (opened_by turning)) rounds) where

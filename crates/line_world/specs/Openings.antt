@@ -1,6 +1,6 @@
 -- What is kept of the round that is open, and how it follows the tapes.
 use Rattle.std.specs.Option.{unwrap_or}
-use Rattle.std.specs.Prelude.{◌≡◌, ◌≢◌, ℕ, suc, ◌<◌, Bool, true, false, if◌then◌else◌, List, [], ◌∷◌, length, slice_index_or, Option, Some, None}
+use Rattle.std.specs.Prelude.{◌≡◌, ◌≢◌, ℕ, suc, ◌<◌, Bool, true, false, if◌then◌else◌, List, [], ◌∷◌, ◌++◌, length, slice_index_or, Option, Some, None}
 use Rattle.line_marker.specs.Recording.{Channel, MarkerView, Recorded, channel_at, messages_by, round_of}
 use Rattle.line_names.specs.declared.messages.MsgName.{MsgName}
 use Rattle.line_tape.specs.declared.events.Event.{Event}
@@ -9,7 +9,7 @@ use Rattle.line_tape.specs.Colours.{is_completed_unordered}
 use Rattle.line_tape.specs.Rounds.{has_check_of, has_mark_of, channel_on, round_line}
 use Rattle.line_turns.specs.Channels.{channels_at}
 use Rattle.line_turns.specs.Tables.{between, IsTable}
-use Rattle.line_turns.specs.Turning.{TurningView, check_or_none, IsTurning}
+use Rattle.line_turns.specs.Turning.{TurningView, IsTurning}
 use Rattle.line_world.specs.declared.steps.Mode.{Mode}
 use Rattle.line_world.specs.declared.steps.Mode.TheVariants.{Fifo, Unordered}
 use Rattle.line_world.specs.Listed.{Listed, channel_table, is_begun, is_completed, listed}
@@ -69,15 +69,14 @@ pub record IsMarkerOf (n q r : ℕ) (tape : List Event) (marker : MarkerView) : 
   pub floor_is : marker.floor < r
   pub recorded : IsRoundOrNone n q r tape (has_check_of r tape) marker.rounds
 
--- what is kept of the open round follows the tapes
-pub record IsRecording (history : List Process) (round : OpenView) : Type 0 where
-  pub count : length round.checks ≡ length history
-  pub checks : (q : ℕ) → q < length history → slice_index_or round.checks q 0 ≡ check_or_none round.number (tape_at history q)
-  pub markers : (q : ℕ) → q < length history → IsMarkerOf (length history) q round.number (tape_at history q) (marker_at round.markers q)
-
--- the round as it is kept without markers
+-- what is kept of the open round beside what was recorded: its number and its checks
 abbrev pub turning_of : OpenView → TurningView
 turning_of round = record { number = round.number; checks = round.checks }
+
+-- what is kept of the open round follows the tapes: its checks, and what each process has recorded
+pub record IsRecording (history : List Process) (round : OpenView) : Type 0 where
+  pub turning : IsTurning history (turning_of round)
+  pub markers : (q : ℕ) → q < length history → IsMarkerOf (length history) q round.number (tape_at history q) (marker_at round.markers q)
 
 -- what is kept of the open round follows the tapes, in each mode: there are markers only on links in order
 abbrev pub IsRecorded : Mode → List Process → OpenView → Type 0
@@ -134,6 +133,21 @@ abbrev pub opened_turning : Option TurningView → Option OpenView
 opened_turning None = None
 opened_turning (Some turning) = Some (opened_by turning)
 
+-- round r of colours is kept as open, and its checks follow the tapes
+pub record IsOpenTurning (history : List Process) (r : ℕ) (turning : Option TurningView) : Type 0 where
+  pub round : TurningView
+  pub is : turning ≡ Some round
+  pub number_is : round.number ≡ r
+  pub follows : IsTurning history round
+
+-- round r of colours once a process took its check of it: listed behind those before if it is completed, and else still open
+pub record IsSettled (history : List Process) (r : ℕ) (before : List Listed) (turning : Option TurningView) (rounds : List Listed) : Type 0 where
+  pub round : TurningView
+  pub number_is : round.number ≡ r
+  pub follows : IsTurning history round
+  pub listed : rounds ≡ before ++ newly_closed Unordered history (Some (opened_by round))
+  pub left : opened_turning turning ≡ left_open Unordered history (Some (opened_by round))
+
 -- the round that is kept as open in each mode
 abbrev pub opened : Mode → Option OpenView → Option TurningView → Option OpenView
 opened Fifo running turning = running
@@ -150,7 +164,6 @@ AreChannels None n markers = AreMarkers n markers
 AreChannels (Some table) n markers = IsTable n table
 
 -- what is in transit at the checks of a round of colours, if it is completed
-abbrev pub completed_channels : List Process → Option TurningView → Option (List (List (List MsgName)))
-completed_channels history None = None
-completed_channels history (Some turning) =
+abbrev pub completed_channels : List Process → TurningView → Option (List (List (List MsgName)))
+completed_channels history turning =
     if is_completed_unordered history turning.number then Some (channels_at history (round_line history turning.number)) else None

@@ -5,7 +5,7 @@ ghost use Rattle.line_tape.specs.declared.items.Item.TheVariants.{Message, Marke
 ghost use Rattle.line_tape.specs.Event.{NamesBelow, HasLongState, Holds};
 ghost use Rattle.line_tape.specs.History.{tape_at, incarnation_at, with_event};
 ghost use Rattle.line_tape.specs.Spent.{next_name};
-ghost use Rattle.line_catalogue.specs.Agreement.{Agrees, AgreesNext};
+ghost use Rattle.line_catalogue.specs.Agreement.{AgreesNext};
 ghost use Rattle.line_catalogue.specs.Views.{room_at};
 ghost use Rattle.line_tape.specs.Colours.{colour};
 ghost use Rattle.line_tape.specs.Rounds.{has_check_of};
@@ -14,14 +14,14 @@ ghost use Rattle.line_turns.specs.Turning.{TurningView, IsTurning};
 ghost use Rattle.line_world.specs.declared.steps.Mode.TheVariants.{Fifo};
 ghost use Rattle.line_world.specs.Fates.{is_forced, marker_events};
 ghost use Rattle.line_world.specs.Machine.{with_events};
-ghost use Rattle.line_world.specs.Openings.{completed_channels, open_number, opened, IsOpening, IsRecording};
+ghost use Rattle.line_world.specs.Openings.{completed_channels, open_number, opened, IsOpening, IsOpenTurning, IsRecording, IsSettled};
 ghost use Rattle.line_world.specs.Queues.{taken_off};
 ghost use Rattle.line_turns.specs.Tables.{between, with_list, IsTable};
 ghost use Rattle.line_world.specs.Steps.{next_check};
 ghost use Rattle.line_world.specs.Worlds.{IsWorld};
 
 use crate::links::Links;
-use crate::rounds::{OpenRound, hear, note};
+use crate::rounds::{OpenRound, Round, hear, note, still_turning};
 use crate::steps::Mode;
 use line_catalogue::Catalogue;
 use line_names::{Body, MsgName, ProcId};
@@ -132,7 +132,6 @@ pub fn take_message(
     requires to { to < length catalogue.old.processes }
     requires other { from ≢ to }
     requires named { message.now.from ≡ from }
-    requires agrees { Agrees catalogue.old.processes }
     requires held { Holds (tape_at catalogue.old.processes message.now.from) message.now.inc message.now.number }
     requires few { length (tape_at catalogue.old.processes to) < MOST_EVENTS }
     requires opening { mode ≡ Fifo → IsOpening Fifo catalogue.old.processes running.old }
@@ -300,9 +299,7 @@ pub fn take_marker(
 }
 
 /// A process takes its check of the round of colours that is open: the check on its tape, its new colour, and what is in transit at the round's checks if this was the last of them. There is room for some further events of the process then.
-///
-/// The last check of a round looks once at each event before the round's checks.
-pub fn take_turn(
+fn take_turn(
     alloc: Global,
     catalogue: &mut Catalogue,
     colours: &mut Colours,
@@ -320,7 +317,7 @@ pub fn take_turn(
     requires turned { AreTurned catalogue.old.processes colours.old }
     requires turning { IsTurning catalogue.old.processes turning.old }
     ensures check { IfOk result (λ turned. turned.0 ≡ next_check catalogue.old.processes at) }
-    ensures channels { IfOk result (λ turned. turned.1 ≡ completed_channels catalogue.new.processes (Some turning.new)) }
+    ensures channels { IfOk result (λ turned. turned.1 ≡ completed_channels catalogue.new.processes turning.new) }
     ensures checked { OnOk result (catalogue.new.processes ≡ with_event catalogue.old.processes at (CheckEvent state.now (Some turning.old.number))) }
     ensures turned { OnOk result (AreTurned catalogue.new.processes colours.new) }
     ensures turning { OnOk result (IsTurning catalogue.new.processes turning.new) }
@@ -350,17 +347,61 @@ pub fn take_turn(
     Ok((check, channels))
 }
 
+/// A process takes its check of the round of colours that is open, which is listed if this was the last of its checks. There is room for some further events of the process then.
+///
+/// The last check of a round looks once at each event before the round's checks.
+pub fn turn_round(
+    alloc: Global,
+    catalogue: &mut Catalogue,
+    colours: &mut Colours,
+    turning: &mut Option<Turning>,
+    rounds: &mut Vec<Round>,
+    at: ProcId,
+    state: &State,
+    _round: u32,
+    further: u32,
+) -> Result<u32, AllocError>
+    requires at { at < length catalogue.old.processes }
+    requires short { length state.now ≤ MOST_STATE }
+    requires few { length (tape_at catalogue.old.processes at) < MOST_EVENTS }
+    requires further { further ≤ 1 }
+    requires first { has_check_of _round (tape_at catalogue.old.processes at) ≡ false }
+    requires greater { colour (tape_at catalogue.old.processes at) < _round }
+    requires turned { AreTurned catalogue.old.processes colours.old }
+    requires kept { IsOpenTurning catalogue.old.processes _round turning.old }
+    ensures check { IfOk result (λ check. check ≡ next_check catalogue.old.processes at) }
+    ensures checked { OnOk result (catalogue.new.processes ≡ with_event catalogue.old.processes at (CheckEvent state.now (Some _round))) }
+    ensures turned { OnOk result (AreTurned catalogue.new.processes colours.new) }
+    ensures settled { OnOk result (IsSettled catalogue.new.processes _round rounds.old.items turning.new rounds.new.items) }
+    ensures room { OnOk result (further ≤ room_at catalogue.new at) }
+    ensures err { OnErr result (catalogue.new.processes ≡ catalogue.old.processes) }
+    ensures marks { catalogue.new.marks ≡ catalogue.old.marks }
+    ensures colours { OnErr result (colours.new ≡ colours.old) }
+    ensures kept { OnErr result (turning.new ≡ turning.old) }
+    ensures unlisted { OnErr result (rounds.new.items ≡ rounds.old.items) }
+{
+    rounds.reserve(1)?;
+    let (check, channels) = match turning {
+        Some(round) => take_turn(alloc, catalogue, colours, round, at, state, further)?,
+        None => unreachable!(),
+    };
+    if let Some(round) = turning.take() {
+        *turning = still_turning(alloc, round, channels, catalogue.history(), rounds);
+    }
+    Ok(check)
+}
+
 /// Adds the receipt of a message to a tape that has room for it.
 pub fn add_receipt(catalogue: &mut Catalogue, to: ProcId, message: &MsgName)
     requires to { to < length catalogue.old.processes }
     requires from { message.now.from < length catalogue.old.processes }
-    requires agrees { Agrees catalogue.old.processes }
     requires held { Holds (tape_at catalogue.old.processes message.now.from) message.now.inc message.now.number }
     requires few { length (tape_at catalogue.old.processes to) < MOST_EVENTS }
     requires room { 0 < room_at catalogue.old to }
     ensures taken { catalogue.new.processes ≡ with_event catalogue.old.processes to (RecvEvent message.now) }
     ensures marks { catalogue.new.marks ≡ catalogue.old.marks }
 {
+    let _history = catalogue.history();
     add_event(catalogue, to, receipt(message));
 }
 

@@ -9,7 +9,7 @@ ghost use Rattle.line_turns.specs.Channels.{channels_at};
 ghost use Rattle.line_turns.specs.Turning.{IsTurning};
 ghost use Rattle.line_world.specs.declared.steps.Mode.TheVariants.{Fifo, Unordered};
 ghost use Rattle.line_world.specs.Listed.{check_in, channel_in, listed, stays};
-ghost use Rattle.line_world.specs.Openings.{completed_channels, left_open, marker_at, newly_closed, open_number, opened_turning, AreMarkers, IsFresh, IsOpening, IsRecording};
+ghost use Rattle.line_world.specs.Openings.{completed_channels, left_open, marker_at, newly_closed, open_number, opened_by, opened_turning, AreMarkers, IsFresh, IsOpening, IsRecording};
 ghost use Rattle.line_world.specs.Fates.{is_forced};
 ghost use Rattle.line_world.specs.Steps.{next_check};
 
@@ -137,12 +137,10 @@ fn is_kept(choice: Choice, check: u32) -> bool
     }
 }
 
-/// A round that was begun and isn't completed yet: the check of each process that has one, and what each has recorded.
+/// A round of markers that was begun and isn't completed yet: its checks so far, and what each process has recorded.
 #[derive(Drop)]
 pub struct OpenRound {
-    number: u32,
-    /// The index of each process's check; 0 where it has none yet.
-    checks: Vec<u32>,
+    turning: Turning,
     markers: Vec<Marker>,
 }
 
@@ -152,9 +150,9 @@ impl Model for OpenRound {
 
     ghost Value = { OpenView };
 
-    ghost view = { λ r. record { number = r.number; checks = r.checks.items; markers = r.markers.items } };
+    ghost view = { λ r. record { number = r.turning.number; checks = r.turning.checks; markers = r.markers.items } };
 
-    ghost invariant = { λ r. AreMarkers (length r.checks.items) r.markers.items };
+    ghost invariant = { λ r. AreMarkers (length r.turning.checks) r.markers.items };
 }
 
 /// What each of `n` processes has recorded before it has done anything; rounds up to `floor` are old.
@@ -171,17 +169,6 @@ fn fresh_markers(alloc: Global, n: u32, floor: u32) -> Result<Vec<Marker>, Alloc
     Ok(markers)
 }
 
-/// No check of any of `n` processes.
-fn no_checks(alloc: Global, n: u32) -> Result<Vec<u32>, AllocError>
-    ensures { IfOk result (λ checks. checks.items ≡ replicate n 0) }
-{
-    let mut checks = Vec::with_capacity(alloc, n as usize)?;
-    for _q in 0..n {
-        checks.push(0)?;
-    }
-    Ok(checks)
-}
-
 impl OpenRound {
     /// The next round after the last one, of which no process has its check yet.
     pub fn new(alloc: Global, history: &History, last: u32) -> Result<OpenRound, AllocError>
@@ -191,20 +178,16 @@ impl OpenRound {
         ensures recording { IfOk result (λ round. IsRecording history.now.processes round) }
     {
         let n = history.n();
-        let checks = no_checks(alloc, n)?;
+        let turning = Turning::new(alloc, n, last + 1)?;
         let markers = fresh_markers(alloc, n, last)?;
-        Ok(OpenRound {
-            number: last + 1,
-            checks,
-            markers,
-        })
+        Ok(OpenRound { turning, markers })
     }
 
     /// Its number.
     pub fn number(&self) -> u32
         ensures { result ≡ self.now.number }
     {
-        self.number
+        self.turning.number()
     }
 
     /// Whether a process has its check of the round.
@@ -213,7 +196,7 @@ impl OpenRound {
         requires recording { IsRecording history.now.processes self.now }
         ensures { result ≡ has_check_of self.now.number (tape_at history.now.processes p) }
     {
-        self.checks[p.get() as usize] != 0
+        self.turning.has_check(p)
     }
 
     /// Makes room: what process `p` records next takes no memory.
@@ -235,8 +218,9 @@ impl OpenRound {
         ensures number { self.new.number ≡ self.old.number }
         ensures recording { (state : List ℕ) → IsRecording (with_event history.now.processes p (CheckEvent state (Some self.old.number))) self.new }
     {
-        self.checks[p.get() as usize] = history.tape(p).checks() + 1;
-        self.markers[p.get() as usize].begin(self.number).unwrap();
+        self.turning.check(p, history.tape(p).checks() + 1);
+        let number = self.turning.number();
+        self.markers[p.get() as usize].begin(number).unwrap();
     }
 
     /// The marker from process `from` has process `p` take its check of the round.
@@ -251,9 +235,10 @@ impl OpenRound {
         ensures recording { (state : List ℕ)
             → IsRecording (with_event (with_event history.now.processes p (CheckEvent state (Some self.old.number))) p (MarkEvent from self.old.number)) self.new }
     {
-        self.checks[p.get() as usize] = history.tape(p).checks() + 1;
+        self.turning.check(p, history.tape(p).checks() + 1);
+        let number = self.turning.number();
         let _effect = self.markers[p.get() as usize]
-            .on_marker(from, self.number)
+            .on_marker(from, number)
             .unwrap();
     }
 
@@ -268,7 +253,8 @@ impl OpenRound {
         ensures number { self.new.number ≡ self.old.number }
         ensures recording { IsRecording (with_event history.now.processes p (MarkEvent from self.old.number)) self.new }
     {
-        match self.markers[p.get() as usize].on_marker(from, self.number) {
+        let number = self.turning.number();
+        match self.markers[p.get() as usize].on_marker(from, number) {
             Ok(_effect) => {}
             Err(MarkerError::OutOfMemory) => unreachable!(),
             // It has come before.
@@ -302,8 +288,9 @@ impl OpenRound {
         ensures { result ≡ is_completed_fifo history.now.processes self.now.number }
     {
         let n = history.n();
+        let number = self.turning.number();
         'each: for q in 0..n {
-            if !self.markers[q as usize].is_closed(self.number) {
+            if !self.markers[q as usize].is_closed(number) {
                 return false;
             }
         }
@@ -316,9 +303,10 @@ impl OpenRound {
         requires completed { is_completed_fifo _history.now.processes self.number ≡ true }
         ensures { result ≡ listed Fifo _history.now.processes self.number }
     {
+        let number = self.turning.number();
         Round {
-            number: self.number,
-            checks: self.checks,
+            number,
+            checks: self.turning.into_checks(),
             markers: self.markers,
             counted: None,
         }
@@ -422,26 +410,23 @@ pub fn still_open(
 /// Lists the round of colours if it is completed, and what is in transit at its checks is therefore given; and else gives it back.
 pub fn still_turning(
     alloc: Global,
-    turning: Option<Turning>,
+    turning: Turning,
     channels: Option<Channels>,
     history: &History,
     rounds: &mut Vec<Round>,
 ) -> Option<Turning>
-    requires opening { IsOpening Unordered history.now.processes (opened_turning turning) }
+    requires turning { IsTurning history.now.processes turning }
     requires channels { channels ≡ completed_channels history.now.processes turning }
     requires room { vec_len rounds.old < vec_capacity rounds.old }
-    ensures listed { rounds.new.items ≡ rounds.old.items ++ newly_closed Unordered history.now.processes (opened_turning turning) }
-    ensures left { opened_turning result ≡ left_open Unordered history.now.processes (opened_turning turning) }
+    ensures listed { rounds.new.items ≡ rounds.old.items ++ newly_closed Unordered history.now.processes (Some (opened_by turning)) }
+    ensures left { opened_turning result ≡ left_open Unordered history.now.processes (Some (opened_by turning)) }
 {
-    match turning {
-        Some(turning) => match channels {
-            Some(channels) => {
-                rounds.push_reserved(Round::of_turning(alloc, turning, channels, history));
-                None
-            }
-            None => Some(turning),
-        },
-        None => None,
+    match channels {
+        Some(channels) => {
+            rounds.push_reserved(Round::of_turning(alloc, turning, channels, history));
+            None
+        }
+        None => Some(turning),
     }
 }
 

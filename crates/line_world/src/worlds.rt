@@ -18,12 +18,12 @@ mod refusals;
 use crate::fates::{Fate, fate_of};
 use crate::links::Links;
 use crate::moves::{
-    add_check, add_receipt, begin_round, put_message, take_marker, take_message, take_turn,
+    add_check, add_receipt, begin_round, put_message, take_marker, take_message, turn_round,
 };
 use crate::replies::{Answer, Reply, RunStopped, StepError};
 use crate::restarts::restarted_links;
 use crate::restores::{restarted_incarnations, restored_states};
-use crate::rounds::{OpenRound, Round, is_forced, keep_rounds, still_open, still_turning};
+use crate::rounds::{OpenRound, Round, is_forced, keep_rounds, still_open};
 use crate::steps::{Mode, Step};
 use line_catalogue::Catalogue;
 use line_names::{Body, MOST_PROCESSES, MsgName, ProcId, ProcSet};
@@ -254,27 +254,17 @@ impl World {
         if self.is_full(to, 2) {
             return Err(StepError::TapeFull);
         }
-        self.rounds.reserve(1)?;
-        let (_check, channels) = match &mut self.turning {
-            Some(turning) => take_turn(
-                alloc,
-                &mut self.catalogue,
-                &mut self.colours,
-                turning,
-                to,
-                state,
-                1,
-            )?,
-            None => unreachable!(),
-        };
-        let turning = self.turning.take();
-        self.turning = still_turning(
+        turn_round(
             alloc,
-            turning,
-            channels,
-            self.catalogue.history(),
+            &mut self.catalogue,
+            &mut self.colours,
+            &mut self.turning,
             &mut self.rounds,
-        );
+            to,
+            state,
+            self.last_round,
+            1,
+        )?;
         add_receipt(&mut self.catalogue, to, message);
         Ok(Reply::Took {
             message: *message,
@@ -442,30 +432,22 @@ impl World {
         ensures memory { IsErrOf result StepError.OutOfMemory → self.new ≡ self.old }
     {
         let n = self.catalogue.n();
-        self.rounds.reserve(1)?;
-        let mut turning = Turning::new(alloc, n, self.last_round + 1)?;
-        let (check, channels) = take_turn(
+        let round = self.last_round + 1;
+        let mut turning = Some(Turning::new(alloc, n, round)?);
+        let check = turn_round(
             alloc,
             &mut self.catalogue,
             &mut self.colours,
             &mut turning,
+            &mut self.rounds,
             at,
             state,
+            round,
             0,
         )?;
-        self.last_round += 1;
-        self.turning = still_turning(
-            alloc,
-            Some(turning),
-            channels,
-            self.catalogue.history(),
-            &mut self.rounds,
-        );
-        Ok(Reply::Begun {
-            at,
-            check,
-            round: self.last_round,
-        })
+        self.last_round = round;
+        self.turning = turning;
+        Ok(Reply::Begun { at, check, round })
     }
 
     /// Begins a round.
@@ -492,27 +474,17 @@ impl World {
         if let Some(e) = self.turn_refusal(at, state) {
             return Err(e);
         }
-        self.rounds.reserve(1)?;
-        let (check, channels) = match &mut self.turning {
-            Some(turning) => take_turn(
-                alloc,
-                &mut self.catalogue,
-                &mut self.colours,
-                turning,
-                at,
-                state,
-                0,
-            )?,
-            None => unreachable!(),
-        };
-        let turning = self.turning.take();
-        self.turning = still_turning(
+        let check = turn_round(
             alloc,
-            turning,
-            channels,
-            self.catalogue.history(),
+            &mut self.catalogue,
+            &mut self.colours,
+            &mut self.turning,
             &mut self.rounds,
-        );
+            at,
+            state,
+            self.last_round,
+            0,
+        )?;
         Ok(Reply::Turned {
             at,
             check,

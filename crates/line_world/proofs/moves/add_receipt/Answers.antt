@@ -8,4 +8,4 @@ use Rattle.line_world.proofs.moves.add_receipt.Goals as goal
 pub add_event-requires-clause-agrees : goal.add_event-requires-clause-agrees
 add_event-requires-clause-agrees c =
     subst (λ (event : Event). AgreesNext c.args.catalogue.now.processes c.args.to event) (sym c.receipt.ensures)
-    (AgreesNext-receive c.args.catalogue.now.processes c.requires.agrees c.args.to c.requires.to c.args.message.now c.requires.held)
+    (AgreesNext-receive c.args.catalogue.now.processes c.history-history.ensures.agrees c.args.to c.requires.to c.args.message.now c.requires.held)

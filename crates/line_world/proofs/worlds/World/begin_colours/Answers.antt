@@ -25,8 +25,8 @@ use Rattle.line_world.proofs.TurnedFacts.{begun_newly, begun_open, begun_painted
 use Rattle.line_world.proofs.WorldLemmas.{seen}
 use Rattle.line_world.proofs.worlds.World.begin_colours.Goals as goal
 
-pub take_turn-requires-clause-first : goal.take_turn-requires-clause-first
-take_turn-requires-clause-first c =
+pub turn_round-requires-clause-first : goal.turn_round-requires-clause-first
+turn_round-requires-clause-first c =
     let mode : Mode = c.self.inside.mode in
     let history : List Process = c.self.inside.catalogue.processes in
     let marks : MarksView = c.self.inside.catalogue.marks in
@@ -46,11 +46,10 @@ take_turn-requires-clause-first c =
     let are : AreRounds Unordered history last (opened_turning turning) rounds = turned_rounds mode history last c.self.inside.running turning rounds unordered c.self.invariant.1 in
     let painted : IsPainted history colours = subst (λ (v : Mode). ArePainted v history colours) unordered c.self.invariant.2 in
     let within : at < length history = omega (arith, may.within, ap (λ (v : Machine). length v.history) view) in
-    let closed = ap (λ (v : Mode). is_open (seen v history marks last rounds links)) (sym unordered) ∙ ap is_open view ∙ may.closed in
-    ap (λ (v : ℕ). has_check_of v (tape_at history at)) c.in_ok-turning.ensures.number ∙ no_later history links colours last world painted turning rounds are at
+    no_later history links colours last world painted turning rounds are at
 
-pub take_turn-requires-clause-greater : goal.take_turn-requires-clause-greater
-take_turn-requires-clause-greater c =
+pub turn_round-requires-clause-greater : goal.turn_round-requires-clause-greater
+turn_round-requires-clause-greater c =
     let mode : Mode = c.self.inside.mode in
     let history : List Process = c.self.inside.catalogue.processes in
     let marks : MarksView = c.self.inside.catalogue.marks in
@@ -70,12 +69,10 @@ take_turn-requires-clause-greater c =
     let are : AreRounds Unordered history last (opened_turning turning) rounds = turned_rounds mode history last c.self.inside.running turning rounds unordered c.self.invariant.1 in
     let painted : IsPainted history colours = subst (λ (v : Mode). ArePainted v history colours) unordered c.self.invariant.2 in
     let within : at < length history = omega (arith, may.within, ap (λ (v : Machine). length v.history) view) in
-    let closed = ap (λ (v : Mode). is_open (seen v history marks last rounds links)) (sym unordered) ∙ ap is_open view ∙ may.closed in
-    let less = less_than_next history links colours last world painted turning rounds are at in
-    omega (arith, less, c.in_ok-turning.ensures.number)
+    less_than_next history links colours last world painted turning rounds are at
 
-pub take_turn-requires-clause-turning : goal.take_turn-requires-clause-turning
-take_turn-requires-clause-turning c =
+pub turn_round-requires-clause-kept : goal.turn_round-requires-clause-kept
+turn_round-requires-clause-kept c =
     let mode : Mode = c.self.inside.mode in
     let history : List Process = c.self.inside.catalogue.processes in
     let marks : MarksView = c.self.inside.catalogue.marks in
@@ -95,39 +92,12 @@ take_turn-requires-clause-turning c =
     let are : AreRounds Unordered history last (opened_turning turning) rounds = turned_rounds mode history last c.self.inside.running turning rounds unordered c.self.invariant.1 in
     let painted : IsPainted history colours = subst (λ (v : Mode). ArePainted v history colours) unordered c.self.invariant.2 in
     let within : at < length history = omega (arith, may.within, ap (λ (v : Machine). length v.history) view) in
-    let closed = ap (λ (v : Mode). is_open (seen v history marks last rounds links)) (sym unordered) ∙ ap is_open view ∙ may.closed in
-    c.in_ok-turning.ensures.turning history (sym c.n-n.ensures.value) (no_later history links colours last world painted turning rounds are)
-
-pub still_turning-requires-clause-opening : goal.still_turning-requires-clause-opening
-still_turning-requires-clause-opening c =
-    let mode : Mode = c.self.inside.mode in
-    let history : List Process = c.self.inside.catalogue.processes in
-    let marks : MarksView = c.self.inside.catalogue.marks in
-    let last : ℕ = c.self.inside.last_round in
-    let rounds : List Listed = c.self.inside.rounds.items in
-    let links : List (List (List Item)) = c.self.inside.links in
-    let colours : List Turned = c.self.inside.colours in
-    let at : ℕ = c.args.at in
-    let state : List ℕ = c.args.state.now in
-    let view : seen mode history marks last rounds links ≡ c.args.self.now = c.self.view_is in
-    let machine : Machine = c.args.self.now in
-    let none : refusal_of machine (Begin at state) ≡ None = c.requires.passed in
-    let may = may_begin machine at state none in
-    let unordered : mode ≡ Unordered = ap (λ (v : Machine). v.mode) view ∙ c.requires.mode in
-    let world : IsWorld Unordered history links = subst (λ (v : Mode). IsWorld v history links) unordered c.self.invariant.0 in
-    let turning : Option TurningView = c.self.inside.turning in
-    let are : AreRounds Unordered history last (opened_turning turning) rounds = turned_rounds mode history last c.self.inside.running turning rounds unordered c.self.invariant.1 in
-    let painted : IsPainted history colours = subst (λ (v : Mode). ArePainted v history colours) unordered c.self.invariant.2 in
-    let within : at < length history = omega (arith, may.within, ap (λ (v : Machine). length v.history) view) in
-    let closed = ap (λ (v : Mode). is_open (seen v history marks last rounds links)) (sym unordered) ∙ ap is_open view ∙ may.closed in
-    let new : TurningView = c.take_turn.new.turning in
-    let number : new.number ≡ last + 1 = c.in_ok-check.ensures.number ∙ c.in_ok-turning.ensures.number in
-    let e : Event = CheckEvent state (Some (last + 1)) in
-    let after : List Process = with_event history at e in
-    let done : c.take_turn.new.catalogue.processes ≡ after = c.in_ok-check.ensures.checked ∙ ap (λ (v : ℕ). with_event history at (CheckEvent state (Some v))) c.in_ok-turning.ensures.number in
-    let is : IsTurning after new = subst (λ (h : List Process). IsTurning h new) done c.in_ok-check.ensures.turning in
-    let told : c.history.result.now.processes ≡ after = c.history.ensures.processes ∙ done in
-    subst (λ (h : List Process). IsRunning Unordered h (opened_by new)) (sym told) (begun_open history links colours last world painted turning rounds are closed at state within new number is)
+    record {
+      round = c.in_ok-new.field-0;
+      is = refl;
+      number_is = c.in_ok-new.ensures.number;
+      follows = c.in_ok-new.ensures.turning history (sym c.n-n.ensures.value) (no_later history links colours last world painted turning rounds are);
+    }
 
 pub invariant_of-self-2 : goal.invariant_of-self-2
 invariant_of-self-2 c =
@@ -151,28 +121,26 @@ invariant_of-self-2 c =
     let painted : IsPainted history colours = subst (λ (v : Mode). ArePainted v history colours) unordered c.self.invariant.2 in
     let within : at < length history = omega (arith, may.within, ap (λ (v : Machine). length v.history) view) in
     let closed = ap (λ (v : Mode). is_open (seen v history marks last rounds links)) (sym unordered) ∙ ap is_open view ∙ may.closed in
-    let new : TurningView = c.take_turn.new.turning in
-    let number : new.number ≡ last + 1 = c.in_ok-check.ensures.number ∙ c.in_ok-turning.ensures.number in
+    let settled = c.in_ok-check.ensures.settled in
+    let new : TurningView = settled.round in
+    let number : new.number ≡ last + 1 = settled.number_is in
     let e : Event = CheckEvent state (Some (last + 1)) in
     let after : List Process = with_event history at e in
-    let done : c.take_turn.new.catalogue.processes ≡ after = c.in_ok-check.ensures.checked ∙ ap (λ (v : ℕ). with_event history at (CheckEvent state (Some v))) c.in_ok-turning.ensures.number in
-    let is : IsTurning after new = subst (λ (h : List Process). IsTurning h new) done c.in_ok-check.ensures.turning in
-    let told : c.history.result.now.processes ≡ after = c.history.ensures.processes ∙ done in
-    let turned : AreTurned after c.take_turn.new.colours = subst (λ (h : List Process). AreTurned h c.take_turn.new.colours) done c.in_ok-check.ensures.turned in
-    let listed : c.still_turning.new.rounds.items ≡ rounds ++ newly_closed Unordered after (Some (opened_by new)) =
-    c.still_turning.ensures.listed ∙ ap (λ (ls : List Listed). ls ++ newly_closed Unordered c.history.result.now.processes (Some (opened_by new))) c.reserve.ensures.items
-    ∙ ap (λ (h : List Process). rounds ++ newly_closed Unordered h (Some (opened_by new))) told in
-    let left : opened_turning c.still_turning.result ≡ left_open Unordered after (Some (opened_by new)) =
-    c.still_turning.ensures.left ∙ ap (λ (h : List Process). left_open Unordered h (Some (opened_by new))) told in
-    let processes : List Process = c.take_turn.new.catalogue.processes in (
+    let done : c.turn_round.new.catalogue.processes ≡ after = c.in_ok-check.ensures.checked in
+    let is : IsTurning after new = subst (λ (h : List Process). IsTurning h new) done settled.follows in
+    let turned : AreTurned after c.turn_round.new.colours = subst (λ (h : List Process). AreTurned h c.turn_round.new.colours) done c.in_ok-check.ensures.turned in
+    let listed : c.turn_round.new.rounds.items ≡ rounds ++ newly_closed Unordered after (Some (opened_by new)) =
+    settled.listed ∙ ap (λ (h : List Process). rounds ++ newly_closed Unordered h (Some (opened_by new))) done in
+    let left : opened_turning c.turn_round.new.turning ≡ left_open Unordered after (Some (opened_by new)) = settled.left ∙ ap (λ (h : List Process). left_open Unordered h (Some (opened_by new))) done in
+    let processes : List Process = c.turn_round.new.catalogue.processes in (
       subst (λ (v : Mode). IsWorld v processes links) (sym unordered) (subst (λ (h : List Process). IsWorld Unordered h links) (sym done) (begun_world history links colours last world painted turning rounds are closed at state within new number)),
-      opened_rounds mode processes (last + 1) c.self.inside.running c.still_turning.result c.still_turning.new.rounds.items unordered
-          (subst (λ (h : List Process). AreRounds Unordered h (last + 1) (opened_turning c.still_turning.result) c.still_turning.new.rounds.items) (sym done)
-          (subst (λ (o : Option OpenView). AreRounds Unordered after (last + 1) o c.still_turning.new.rounds.items) (sym left)
+      opened_rounds mode processes (last + 1) c.self.inside.running c.turn_round.new.turning c.turn_round.new.rounds.items unordered
+          (subst (λ (h : List Process). AreRounds Unordered h (last + 1) (opened_turning c.turn_round.new.turning) c.turn_round.new.rounds.items) (sym done)
+          (subst (λ (o : Option OpenView). AreRounds Unordered after (last + 1) o c.turn_round.new.rounds.items) (sym left)
           (subst (λ (ls : List Listed). AreRounds Unordered after (last + 1) (left_open Unordered after (Some (opened_by new))) ls) (sym listed)
-          (begun_rounds history links colours last world painted turning rounds are closed at state within new number c.take_turn.new.colours turned is)))),
-      subst (λ (v : Mode). ArePainted v processes c.take_turn.new.colours) (sym unordered)
-          (subst (λ (h : List Process). IsPainted h c.take_turn.new.colours) (sym done) (begun_painted history links colours last world painted turning rounds are closed at state within new number c.take_turn.new.colours turned)),
+          (begun_rounds history links colours last world painted turning rounds are closed at state within new number c.turn_round.new.colours turned is)))),
+      subst (λ (v : Mode). ArePainted v processes c.turn_round.new.colours) (sym unordered)
+          (subst (λ (h : List Process). IsPainted h c.turn_round.new.colours) (sym done) (begun_painted history links colours last world painted turning rounds are closed at state within new number c.turn_round.new.colours turned)),
     )
 
 pub returns-clause-done : goal.returns-clause-done
@@ -197,31 +165,25 @@ returns-clause-done c =
     let painted : IsPainted history colours = subst (λ (v : Mode). ArePainted v history colours) unordered c.self.invariant.2 in
     let within : at < length history = omega (arith, may.within, ap (λ (v : Machine). length v.history) view) in
     let closed = ap (λ (v : Mode). is_open (seen v history marks last rounds links)) (sym unordered) ∙ ap is_open view ∙ may.closed in
-    let new : TurningView = c.take_turn.new.turning in
-    let number : new.number ≡ last + 1 = c.in_ok-check.ensures.number ∙ c.in_ok-turning.ensures.number in
+    let settled = c.in_ok-check.ensures.settled in
+    let new : TurningView = settled.round in
+    let number : new.number ≡ last + 1 = settled.number_is in
     let e : Event = CheckEvent state (Some (last + 1)) in
     let after : List Process = with_event history at e in
-    let done : c.take_turn.new.catalogue.processes ≡ after = c.in_ok-check.ensures.checked ∙ ap (λ (v : ℕ). with_event history at (CheckEvent state (Some v))) c.in_ok-turning.ensures.number in
-    let is : IsTurning after new = subst (λ (h : List Process). IsTurning h new) done c.in_ok-check.ensures.turning in
-    let told : c.history.result.now.processes ≡ after = c.history.ensures.processes ∙ done in
-    let turned : AreTurned after c.take_turn.new.colours = subst (λ (h : List Process). AreTurned h c.take_turn.new.colours) done c.in_ok-check.ensures.turned in
-    let listed : c.still_turning.new.rounds.items ≡ rounds ++ newly_closed Unordered after (Some (opened_by new)) =
-    c.still_turning.ensures.listed ∙ ap (λ (ls : List Listed). ls ++ newly_closed Unordered c.history.result.now.processes (Some (opened_by new))) c.reserve.ensures.items
-    ∙ ap (λ (h : List Process). rounds ++ newly_closed Unordered h (Some (opened_by new))) told in
-    let left : opened_turning c.still_turning.result ≡ left_open Unordered after (Some (opened_by new)) =
-    c.still_turning.ensures.left ∙ ap (λ (h : List Process). left_open Unordered h (Some (opened_by new))) told in
+    let done : c.turn_round.new.catalogue.processes ≡ after = c.in_ok-check.ensures.checked in
+    let is : IsTurning after new = subst (λ (h : List Process). IsTurning h new) done settled.follows in
+    let turned : AreTurned after c.turn_round.new.colours = subst (λ (h : List Process). AreTurned h c.turn_round.new.colours) done c.in_ok-check.ensures.turned in
+    let listed : c.turn_round.new.rounds.items ≡ rounds ++ newly_closed Unordered after (Some (opened_by new)) =
+    settled.listed ∙ ap (λ (h : List Process). rounds ++ newly_closed Unordered h (Some (opened_by new))) done in
+    let left : opened_turning c.turn_round.new.turning ≡ left_open Unordered after (Some (opened_by new)) = settled.left ∙ ap (λ (h : List Process). left_open Unordered h (Some (opened_by new))) done in
     let fresh : List Listed = newly_closed Unordered after (Some (opened_by new)) in
     let newly : fresh ≡ newly_listed mode history after (last + 1) =
     begun_newly history links colours last world painted turning rounds are closed at state within new number ∙ ap (λ (v : Mode). newly_listed v history after (last + 1)) (sym unordered) in
-    let next : Machine = seen mode c.take_turn.new.catalogue.processes c.take_turn.new.catalogue.marks (last + 1) c.still_turning.new.rounds.items links in (
+    let next : Machine = seen mode c.turn_round.new.catalogue.processes c.turn_round.new.catalogue.marks (last + 1) c.turn_round.new.rounds.items links in (
       none,
       subst (λ (v : Machine). Begins v at state (Begun at c.in_ok-check.check (last + 1)) next) view (record {
         reply_is = ap (λ (k : ℕ). Begun at k (last + 1)) c.in_ok-check.ensures.check;
-        new_is = ap (λ (ls : List Listed). seen mode c.take_turn.new.catalogue.processes c.take_turn.new.catalogue.marks (last + 1) ls links) listed
-            ∙ step_seen mode history c.take_turn.new.catalogue.processes marks c.take_turn.new.catalogue.marks last (last + 1) rounds fresh links links at (e ∷ []) done c.in_ok-check.ensures.marks refl newly;
+        new_is = ap (λ (ls : List Listed). seen mode c.turn_round.new.catalogue.processes c.turn_round.new.catalogue.marks (last + 1) ls links) listed
+            ∙ step_seen mode history c.turn_round.new.catalogue.processes marks c.turn_round.new.catalogue.marks last (last + 1) rounds fresh links links at (e ∷ []) done c.in_ok-check.ensures.marks refl newly;
       }),
     )
-
-pub still_turning-requires-clause-channels : goal.still_turning-requires-clause-channels
-still_turning-requires-clause-channels c =
-    c.in_ok-check.ensures.channels ∙ ap (λ (h : List Process). completed_channels h (Some c.take_turn.new.turning)) (sym c.history.ensures.processes)
