@@ -117,14 +117,9 @@ pub record IsSpent (machine : Machine) (failed : List Bool) : Type 0 where
   pub latest : IsLatest machine.history machine.marks failed line
   pub spent : HaveFurther machine.history line → ⊥
 
--- why a Recover is refused that names only processes
-abbrev pub IsRecoverCause : Machine → List Bool → StepError → Type 0
-IsRecoverCause machine failed NoMoreIncarnations = IsSpent machine failed
-IsRecoverCause machine failed e = ⊥
-
--- a cause that takes a plan to tell
+-- a cause that takes a plan to tell: a Recover that names only processes is refused by want of incarnations alone
 abbrev pub IsLateCause : Machine → Step → StepError → Type 0
-IsLateCause machine (Recover failed) e = IsRecoverCause machine failed e
+IsLateCause machine (Recover failed) NoMoreIncarnations = IsSpent machine failed
 IsLateCause machine step e = ⊥
 
 -- the step is refused by this cause, which comes first
