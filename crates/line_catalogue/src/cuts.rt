@@ -1,5 +1,5 @@
 //! The cut at which the history last went on from a line.
-ghost use Rattle.std.specs.Prelude.{◌≡◌, IsTrue, length, replicate, slice_index_or, IfOk};
+ghost use Rattle.std.specs.Prelude.{◌≡◌, ◌↔◌, IsTrue, length, replicate, slice_index_or, IfOk};
 ghost use Rattle.line_tape.specs.Line.{IsLine};
 ghost use Rattle.line_catalogue.specs.Cuts.{last_cut, IsBehindCut};
 
@@ -48,7 +48,7 @@ impl Cut {
     pub fn is_before(&self, history: &History, line: &Line) -> bool
         requires line { IsLine history.now.processes line.now }
         requires count { length self.now ≡ length history.now.processes }
-        ensures { IsTrue result → IsBehindCut history.now.processes self.now line.now }
+        ensures { IsTrue result ↔ IsBehindCut history.now.processes self.now line.now }
     {
         let n = history.n();
         for q in 0..n {

@@ -2,6 +2,7 @@
 use Rattle.std.proofs.Common.{◌≡◌, ℕ, zero, suc, ◌+◌, ◌<◌, ◌≤◌, Bool, true, false, cond, List, [], ◌∷◌, ◌++◌, length, take, drop, map, Option, Some, refl, sym, ap, ◌∙◌, subst, arith, inl, inr}
 use Rattle.std.specs.Prelude.{◌==◌, ◌&&◌}
 use Rattle.std.specs.List.{filter_map, filter, flat_map, range_with_len, slice_get, All, Contains}
+use Rattle.std.specs.Option.{option_eq}
 use Rattle.std.proofs.lemmas.List.{append-nil, take-append-drop}
 use Rattle.std.proofs.lemmas.List.Elements.{filter_map-append, filter-append, All-nil, All-cons, All-head, All-tail, All-filter, All-map, All-append, All-weaker, All-contains, Contains-append_right}
 use Rattle.std.proofs.lemmas.Bool.{eq-eqb, ne_eqb, cases_lt}
@@ -15,7 +16,7 @@ use Rattle.line_tape.specs.Front.{place, front}
 use Rattle.line_tape.specs.History.{Process, tape_at}
 use Rattle.line_tape.specs.Line.{events_before, IsConsistent}
 use Rattle.line_tape.specs.Restart.{restarted, restarted_event}
-use Rattle.line_tape.specs.Transit.{Letter, letters, is_open, open_letters, in_transit, in_transit_between, addressee_of, addressees, addressee, is_named, goes_between}
+use Rattle.line_tape.specs.Transit.{Letter, letters, is_open, open_letters, in_transit, in_transit_between, addressee_of, addressees, addressee, goes_between}
 use Rattle.line_tape.specs.Fit.{IsSentTo}
 use Rattle.line_tape.proofs.LineLemmas.{tape_at-past, front-empty}
 use Rattle.line_tape.proofs.LinkLemmas.{tape_restarted}
@@ -109,7 +110,7 @@ module _ (history : List Process) (p q : ℕ) where
   goes_is : (r : ℕ) (letter : Letter) → IsLetterOf r (incarnations_sent (tape_at history r)) (addressees (tape_at history r)) letter → goes_between history p q letter.message ≡ ((r == p) && (letter.to == q))
   goes_is r letter is =
       let to : addressee history letter.message ≡ Some letter.to = ap (λ (v : ℕ). slice_get (addressees (tape_at history v)) letter.message.number) is.from_is ∙ is.to_is in
-      ap (λ (v : ℕ). (v == p) && is_named q (addressee history letter.message)) is.from_is ∙ ap (λ (o : Option ℕ). (r == p) && is_named q o) to
+      ap (λ (v : ℕ). (v == p) && option_eq ◌==◌ (addressee history letter.message) (Some q)) is.from_is ∙ ap (λ (o : Option ℕ). (r == p) && option_eq ◌==◌ o (Some q)) to
 
   -- of the letters of process r, those between p and q
   sorted_of : (r : ℕ) (ls : List Letter) → All (IsLetterOf r (incarnations_sent (tape_at history r)) (addressees (tape_at history r))) ls → filter (goes_between history p q) (names ls) ≡ cond (r == p) (names (those_to q ls)) []

@@ -1,6 +1,7 @@
 -- Messages in transit at a line (Elnozahy, Alvisi, Wang and Johnson, ACM Computing Surveys 34(3), 2002).
-use Rattle.std.specs.Prelude.{ℕ, suc, Bool, false, not, ◌==◌, ◌&&◌, List, [], ◌∷◌, length, map, filter, slice_get, Option, Some, None}
+use Rattle.std.specs.Prelude.{ℕ, suc, Bool, not, ◌==◌, ◌&&◌, List, [], ◌∷◌, length, map, filter, slice_get, Option, Some, None}
 use Rattle.std.specs.List.{list_any, flat_map, filter_map, range_with_len}
+use Rattle.std.specs.Option.{option_eq}
 use Rattle.line_names.specs.declared.messages.MsgName.{MsgName}
 use Rattle.line_names.specs.declared.choices.Choice.{Choice}
 use Rattle.line_names.specs.Names.{is_name}
@@ -71,11 +72,6 @@ addressees tape = filter_map addressee_of tape
 abbrev pub addressee : List Process → MsgName → Option ℕ
 addressee history message = slice_get (addressees (tape_at history message.from)) message.number
 
--- the process that is named, if one is, is q
-abbrev pub is_named : ℕ → Option ℕ → Bool
-is_named q None = false
-is_named q (Some to) = to == q
-
 -- the message goes from process p to process q
 abbrev pub goes_between : List Process → ℕ → ℕ → MsgName → Bool
-goes_between history p q message = (message.from == p) && is_named q (addressee history message)
+goes_between history p q message = (message.from == p) && option_eq ◌==◌ (addressee history message) (Some q)

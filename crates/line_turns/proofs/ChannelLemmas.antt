@@ -2,6 +2,7 @@
 use Rattle.std.proofs.Common.{◌≡◌, ℕ, zero, suc, ◌+◌, ◌<◌, ◌≤◌, Bool, true, false, cond, List, [], ◌∷◌, ◌++◌, length, take, get_or, map, filter, Option, Some, None, refl, sym, ap, ◌∙◌, subst, arith, inl, inr}
 use Rattle.std.specs.Prelude.{◌==◌, ◌&&◌, slice_get}
 use Rattle.std.specs.List.{All}
+use Rattle.std.specs.Option.{option_eq}
 use Rattle.std.proofs.lemmas.Bool.{cases_eq, cases_lt, eq-eqb, ne_eqb}
 use Rattle.std.proofs.lemmas.List.{append-nil, append_assoc, get_or_past, map-append, take_all}
 use Rattle.std.proofs.lemmas.List.Elements.{All-head, All-tail, filter_more}
@@ -11,7 +12,7 @@ use Rattle.line_tape.specs.declared.events.Event.{Event}
 use Rattle.line_tape.specs.declared.events.Event.TheVariants.{Send, Recv, Check, Mark}
 use Rattle.line_tape.specs.Event.{NamesBelow}
 use Rattle.line_tape.specs.History.{Process, fresh, tape_at, IsHistory}
-use Rattle.line_tape.specs.Transit.{addressee, addressees, goes_between, in_transit, in_transit_between, is_named}
+use Rattle.line_tape.specs.Transit.{addressee, addressees, goes_between, in_transit, in_transit_between}
 use Rattle.line_tape.proofs.HistoryLemmas.{IsHistory-at}
 use Rattle.line_tape.proofs.LetterLemmas.{open_are, parts}
 use Rattle.line_turns.specs.Channels.{channels_at}
@@ -53,13 +54,13 @@ module _ (history : List Process) (message : MsgName) where
 
     goes_there : goes_between history message.from to message ≡ true
     goes_there =
-        ap (λ (o : Option ℕ). (message.from == message.from) && is_named to o) named
+        ap (λ (o : Option ℕ). (message.from == message.from) && option_eq ◌==◌ o (Some to)) named
         ∙ ap (λ b. b && (to == to)) (eq-eqb message.from message.from refl)
         ∙ eq-eqb to to refl
 
     goes_nowhere_else : (p q : ℕ) → ((p ≡ message.from) × (q ≡ to) → ⊥) → goes_between history p q message ≡ false
     goes_nowhere_else p q apart =
-        ap (λ (o : Option ℕ). (message.from == p) && is_named q o) named
+        ap (λ (o : Option ℕ). (message.from == p) && option_eq ◌==◌ o (Some q)) named
         ∙ elim (cases_eq p message.from) [
           | inl same ↦ ap (λ b. (message.from == p) && b) (ne_eqb to q (λ e. apart (same, sym e))) ∙ never (message.from == p)
           | inr other ↦ ap (λ b. b && (to == q)) (ne_eqb message.from p (λ e. other (sym e)))
@@ -67,7 +68,7 @@ module _ (history : List Process) (message : MsgName) where
 
   -- and one that has none goes nowhere
   goes_nowhere : addressee history message ≡ None → (p q : ℕ) → goes_between history p q message ≡ false
-  goes_nowhere none p q = ap (λ (o : Option ℕ). (message.from == p) && is_named q o) none ∙ never (message.from == p)
+  goes_nowhere none p q = ap (λ (o : Option ℕ). (message.from == p) && option_eq ◌==◌ o (Some q)) none ∙ never (message.from == p)
 
 -- the first i messages stand behind the lists to their addressees, each as f shows it
 pub record ArePut {A : Type 0} (f : MsgName → A) (history : List Process) (old : List (List (List A))) (messages : List MsgName) (i : ℕ) (table : List (List (List A))) : Type 0 where

@@ -1,7 +1,8 @@
 -- What the tapes tell of a message, as tests.
 use Rattle.std.proofs.Common.{◌≡◌, Option, Some, None, ◌↔◌, ℕ, Bool, true, false, cond, List, length, refl, sym, ap, ◌∙◌, subst, arith}
-use Rattle.std.specs.Prelude.{IsTrue, not}
+use Rattle.std.specs.Prelude.{IsTrue, not, ◌==◌}
 use Rattle.std.specs.List.{Contains, slice_get}
+use Rattle.std.specs.Option.{option_eq}
 use Rattle.std.proofs.lemmas.Bool.{both_ways, eq-eqb, eqb-true, false_from_ne_true}
 use Rattle.std.proofs.lemmas.List.{take_all}
 use Rattle.line_names.specs.declared.choices.Choice.TheVariants.{Now}
@@ -16,7 +17,7 @@ use Rattle.line_tape.specs.Transit.{has_received}
 use Rattle.line_world.specs.declared.fates.Fate.TheVariants.{Taken, Stale, Repeated}
 use Rattle.line_world.specs.declared.steps.Mode.{Mode}
 use Rattle.line_world.specs.declared.steps.Mode.TheVariants.{Unordered}
-use Rattle.line_world.specs.Fates.{is_number, is_held, fate_of}
+use Rattle.line_world.specs.Fates.{is_held, fate_of}
 
 -- two tests that mean the same
 pub same_test : (a b : Bool) → (a ≡ true → b ≡ true) → (b ≡ true → a ≡ true) → a ≡ b
@@ -26,12 +27,12 @@ same_test false b to from = sym (false_from_ne_true b (λ t. both_ways false ref
 -- a held message, as a fact and as a test
 pub held-true : (history : List Process) (message : MsgName) → is_held history message ≡ true → Holds (tape_at history message.from) message.inc message.number
 held-true history message h = held_of (slice_get (incarnations_sent (tape_at history message.from)) message.number) h where
-  held_of : (o : Option ℕ) → is_number o message.inc ≡ true → o ≡ Some message.inc
+  held_of : (o : Option ℕ) → option_eq ◌==◌ o (Some message.inc) ≡ true → o ≡ Some message.inc
   held_of None h = absurd (cc)
   held_of (Some j) h = ap (λ (n : ℕ). Some n) (eqb-true j message.inc h)
 
 pub true-held : (history : List Process) (message : MsgName) → Holds (tape_at history message.from) message.inc message.number → is_held history message ≡ true
-true-held history message h = ap (λ (o : Option ℕ). is_number o message.inc) h ∙ eq-eqb message.inc message.inc refl
+true-held history message h = ap (λ (o : Option ℕ). option_eq ◌==◌ o (Some message.inc)) h ∙ eq-eqb message.inc message.inc refl
 
 -- the events before `Now` are all of them
 front-now : (tape : List Event) → front tape Now ≡ tape

@@ -1,5 +1,6 @@
 -- What becomes of the item that a delivery picks.
 use Rattle.std.specs.Prelude.{ℕ, ◌==◌, nat_lt, Bool, true, false, not, if◌then◌else◌, List, [], ◌∷◌, ◌++◌, slice_get, Option, Some, None}
+use Rattle.std.specs.Option.{option_eq}
 use Rattle.line_names.specs.declared.messages.MsgName.{MsgName}
 use Rattle.line_tape.specs.declared.events.Event.{Event}
 use Rattle.line_tape.specs.declared.events.Event.TheVariants.{Recv, Check, Mark}
@@ -17,14 +18,9 @@ use Rattle.line_world.specs.declared.replies.Reply.TheVariants.{Took, Marked, St
 use Rattle.line_world.specs.declared.steps.Mode.{Mode}
 use Rattle.line_world.specs.declared.steps.Mode.TheVariants.{Fifo, Unordered}
 
--- the number is there, and it is this one
-abbrev pub is_number : Option ℕ → ℕ → Bool
-is_number None i = false
-is_number (Some j) i = j == i
-
 -- the sender's tape holds the message: its send of that number has that incarnation
 abbrev pub is_held : List Process → MsgName → Bool
-is_held history message = is_number (slice_get (incarnations_sent (tape_at history message.from)) message.number) message.inc
+is_held history message = option_eq ◌==◌ (slice_get (incarnations_sent (tape_at history message.from)) message.number) (Some message.inc)
 
 -- a copy is stale where no tape holds its message, and repeated where process p has received it; all else is taken
 abbrev pub fate_of : Mode → List Process → ℕ → MsgName → Fate

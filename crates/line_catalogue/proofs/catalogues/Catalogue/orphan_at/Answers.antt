@@ -18,7 +18,7 @@ returns-then-is_before c =
     let cut : List ℕ = c.self.inside.cut in
     let seen : history ≡ c.args.self.now.processes = ap (λ (v : CatalogueView). v.processes) c.self.view_is in
     let events : c.front-events.result.now ≡ events_before history line c.args.p = c.front-events.ensures ∙ ap (λ (t : List Event). front t c.at.result) c.tape.ensures.events ∙ ap (front (tape_at history c.args.p)) c.at.ensures in
-    let behind : IsBehindCut history cut line = c.is_before.ensures c.if-is_before.true in
+    let behind : IsBehindCut history cut line = c.is_before.ensures.0 c.if-is_before.true in
     let found : IsFoundAmong history line (drop (get_or cut c.args.p 0) (events_before history line c.args.p)) c.orphan_among.result =
     subst (λ (k : ℕ). IsFoundAmong history line (drop k (events_before history line c.args.p)) c.orphan_among.result) c.events.ensures
     (subst (λ (es : List Event). IsFoundAmong history line (drop c.events.result es) c.orphan_among.result) events
