@@ -1,5 +1,5 @@
 //! The rows that tell of the checks of each process.
-ghost use Rattle.std.specs.Prelude.{◌≡◌, ◌≢◌, ◌<◌, ◌≤◌, ◌+◌, ◌↔◌, ℕ, [], All, length, slice_set, slice_index_or, vec_len, vec_capacity, IfOk, IsOk, OnOk};
+ghost use Rattle.std.specs.Prelude.{◌≡◌, ◌≢◌, ◌<◌, ◌≤◌, ◌+◌, ℕ, [], All, length, slice_set, slice_index_or, vec_len, vec_capacity, IfOk, IsOk, OnOk};
 ghost use Rattle.line_tape.specs.Event.{checks};
 ghost use Rattle.line_tape.specs.History.{tape_at};
 ghost use Rattle.line_catalogue.specs.Damage.{AreOnChecks};

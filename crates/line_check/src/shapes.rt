@@ -1,5 +1,5 @@
 //! Whether a claim names only what a history has.
-ghost use Rattle.std.specs.Prelude.{◌≡◌, ◌<◌, ◌≤◌, ◌↔◌, ℕ, IsTrue, All, length, slice_index_or};
+ghost use Rattle.std.specs.Prelude.{◌<◌, ◌↔◌, ℕ, IsTrue, All};
 ghost use Rattle.line_tape.specs.Event.{checks};
 ghost use Rattle.line_tape.specs.Survival.{is_damaged};
 ghost use Rattle.line_check.specs.Shape.{IsEntryOf, IsCheckOf, HasShape};

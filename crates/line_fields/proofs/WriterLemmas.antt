@@ -8,7 +8,7 @@ use Rattle.std.proofs.lemmas.List.{append-nil}
 use Rattle.csv.specs.declared.writer.Writer.{Writer}
 use Rattle.csv.specs.declared.writer.WriterBuilder.{WriterBuilder}
 use Rattle.csv.specs.declared.writer.QuoteStyle.TheVariants as style
-use Rattle.csv.specs.Writing.{fields_written, has_written, row_text, text_written, writer_pending, writer_setup}
+use Rattle.csv.specs.Writing.{fields_written, has_written, row_text, writer_pending, writer_setup}
 use Rattle.line_fields.specs.Records.{Record}
 use Rattle.line_fields.specs.Texts.{has_name, is_plain_field, record_text}
 use Rattle.line_fields.specs.Writers.{IsWriting, text_of}

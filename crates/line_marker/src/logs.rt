@@ -1,5 +1,5 @@
 //! The messages noted from each process, which the recorded rounds share.
-ghost use Rattle.std.specs.Prelude.{◌≡◌, ℕ, ◌<◌, ◌≤◌, ◌++◌, [], ◌∷◌, length, map, replicate, slice_index_or, slice_set, vec_len, vec_capacity, IfOk, OnOk, OnErr, IsOk};
+ghost use Rattle.std.specs.Prelude.{◌≡◌, ◌<◌, ◌≤◌, ◌++◌, [], ◌∷◌, length, map, replicate, slice_index_or, slice_set, vec_len, vec_capacity, IfOk, OnOk, OnErr, IsOk};
 ghost use Rattle.line_marker.specs.Spans.{names_of, room_of, opened};
 
 use crate::spans::Span;

@@ -1,6 +1,6 @@
 //! What one process has recorded.
-ghost use Rattle.std.specs.Prelude.{◌≡◌, ◌≢◌, ℕ, ◌<◌, ◌≤◌, ◌↔◌, List, [], length, map, slice_index_or, slice_set, Some, None, MatchOption, IfOk, OnOk, OnErr, IsErrOf, IsOk, IsTrue};
-ghost use Rattle.line_marker.specs.Recording.{channel_at, effect_of, latest, messages_by, noted, round_of, rounds_after, with_channel, with_marker, with_round, IsOver, IsRepeated, IsSameProcess, Recorded};
+ghost use Rattle.std.specs.Prelude.{◌≡◌, ◌≢◌, ℕ, ◌<◌, ◌≤◌, ◌↔◌, [], length, map, slice_index_or, Some, None, MatchOption, IfOk, OnOk, OnErr, IsErrOf, IsOk, IsTrue};
+ghost use Rattle.line_marker.specs.Recording.{channel_at, effect_of, latest, messages_by, noted, round_of, rounds_after, with_marker, with_round, IsOver, IsRepeated, IsSameProcess, Recorded};
 ghost use Rattle.line_marker.specs.Spans.{is_over, AreOver, RoundView};
 ghost use Rattle.line_marker.specs.declared.spans.Span.{Span};
 

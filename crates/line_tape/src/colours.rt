@@ -1,5 +1,5 @@
 //! Laws of colours, and of the rounds without markers.
-ghost use Rattle.std.specs.Prelude.{IsTrue, nat_le, if◌then◌else◌, slice_index_or, ◌≡◌, ◌≢◌, ◌++◌, ◌<◌, ◌≤◌, ℕ, List, [], ◌∷◌, AllPairs, Bool, false, length, replicate, Option, Some, None};
+ghost use Rattle.std.specs.Prelude.{IsTrue, nat_le, if◌then◌else◌, slice_index_or, ◌≡◌, ◌≢◌, ◌++◌, ◌<◌, ◌≤◌, ℕ, List, [], ◌∷◌, AllPairs, false, length, replicate, Option, Some, None};
 ghost use Rattle.line_names.specs.declared.choices.Choice.{Choice};
 ghost use Rattle.line_names.specs.declared.messages.MsgName.{MsgName};
 ghost use Rattle.line_tape.specs.declared.events.Event.{Event};

@@ -1,5 +1,5 @@
 //! The tapes of all processes.
-ghost use Rattle.std.specs.Prelude.{◌≡◌, ◌≢◌, ◌<◌, ◌≤◌, ◌+◌, ◌↔◌, ◌⊎◌, ℕ, length, map, replicate, OnOk, OnErr, IfOk, IsOk, IsErrOf, IsTrue};
+ghost use Rattle.std.specs.Prelude.{◌≡◌, ◌≢◌, ◌<◌, ◌≤◌, ◌+◌, ◌↔◌, ◌⊎◌, ℕ, length, map, replicate, OnOk, OnErr, IfOk, IsOk, IsErrOf};
 ghost use Rattle.line_tape.specs.Event.{HasLongState, NamesBelow};
 ghost use Rattle.line_tape.specs.History.{fresh, process_at, tape_at, incarnation_at, with_event, with_incarnation, IsProcess, IsHistory};
 ghost use Rattle.line_tape.specs.Plain.{plain};

@@ -1,5 +1,5 @@
 //! Laws of links that keep their order, and of what is in transit on them.
-ghost use Rattle.std.specs.Prelude.{IsTrue, slice_index_or, ◌≡◌, ◌≢◌, ◌<◌, ℕ, List, Bool, false, map, filter, length, Contains, Some};
+ghost use Rattle.std.specs.Prelude.{IsTrue, slice_index_or, ◌≡◌, ◌≢◌, ◌<◌, ℕ, List, false, map, filter, length, Contains, Some};
 ghost use Rattle.line_names.specs.declared.choices.Choice.{Choice};
 ghost use Rattle.line_names.specs.declared.choices.Choice.TheVariants.{Check, Now};
 ghost use Rattle.line_names.specs.declared.messages.MsgName.{MsgName};

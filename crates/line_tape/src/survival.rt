@@ -1,5 +1,5 @@
 //! Surviving choices: which there are, the latest one, and the next lower one.
-ghost use Rattle.std.specs.Prelude.{◌≡◌, ◌≢◌, ◌<◌, ◌≤◌, IsTrue, length};
+ghost use Rattle.std.specs.Prelude.{◌≡◌, ◌≢◌, ◌<◌, IsTrue, length};
 ghost use Rattle.line_names.specs.declared.choices.Choice.{Choice};
 ghost use Rattle.line_names.specs.Order.{IsNoLater};
 ghost use Rattle.line_tape.specs.Survival.{survives};

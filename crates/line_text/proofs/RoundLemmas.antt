@@ -10,7 +10,7 @@ use Rattle.line_fields.specs.Records.{Record}
 use Rattle.line_fields.specs.Texts.{record_text, records_text}
 use Rattle.line_names.specs.declared.choices.Choice.TheVariants.{Check as AtCheck}
 use Rattle.line_tape.specs.History.{Process}
-use Rattle.line_world.specs.Listed.{Listed, check_in, IsSnapshotOf}
+use Rattle.line_moves.specs.Listed.{Listed, check_in, IsSnapshotOf}
 use Rattle.line_text.specs.Rounds.{round_record}
 
 -- the records of the items from one on: its own, and those behind it

@@ -3,7 +3,7 @@ use Rattle.std.specs.Prelude.{ℕ, ◌==◌, if◌then◌else◌, List, [], ◌�
 use Rattle.std.specs.List.{flat_map, range_with_len}
 use Rattle.line_names.specs.declared.messages.MsgName.{MsgName}
 use Rattle.line_fields.specs.Records.{Record}
-use Rattle.line_world.specs.Listed.{Listed, check_in, channel_in}
+use Rattle.line_moves.specs.Listed.{Listed, check_in, channel_in}
 
 -- rounds,COUNT
 abbrev pub rounds_record : ℕ → Record

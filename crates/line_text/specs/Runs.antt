@@ -9,7 +9,7 @@ use Rattle.line_fields.specs.Faults.{code_of}
 use Rattle.line_fields.specs.Records.{Record}
 use Rattle.line_fields.specs.Texts.{records_text}
 use Rattle.line_world.specs.declared.replies.Answer.TheVariants as answers
-use Rattle.line_world.specs.Listed.{Listed}
+use Rattle.line_moves.specs.Listed.{Listed}
 use Rattle.line_world.specs.Machine.{Machine, start}
 use Rattle.line_plan.specs.declared.plans.Plan.{Plan}
 use Rattle.line_tape.specs.History.{Process}

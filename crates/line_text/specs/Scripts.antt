@@ -8,8 +8,8 @@ use Rattle.line_fields.specs.declared.faults.Fault.TheVariants as faults
 use Rattle.line_fields.specs.Faults.{code_of}
 use Rattle.line_fields.specs.Fields.{◌>>=◌, want, num, hex}
 use Rattle.line_fields.specs.Records.{Record, field}
-use Rattle.line_world.specs.declared.steps.Mode.{Mode}
-use Rattle.line_world.specs.declared.steps.Mode.TheVariants.{Fifo, Unordered}
+use Rattle.line_moves.specs.declared.modes.Mode.{Mode}
+use Rattle.line_moves.specs.declared.modes.Mode.TheVariants.{Fifo, Unordered}
 use Rattle.line_world.specs.declared.steps.Step.TheVariants.{Send, Deliver, Check, Begin, Turn, Damage, Recover}
 use Rattle.line_text.specs.declared.commands.Command.{Command}
 use Rattle.line_text.specs.declared.commands.Command.TheVariants.{Bundle, Do, History, Refused, Rounds}

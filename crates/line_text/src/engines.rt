@@ -1,6 +1,6 @@
 //! Scripts that are run: a text in, the text of the replies out.
 
-ghost use Rattle.std.specs.Prelude.{◌≡◌, ◌≢◌, ◌<◌, ◌≤◌, ◌++◌, ◌+◌, ◌^◌, ◌⊎◌, ℕ, List, [], Err, Some, length, IfOk, IfErr, OnErr, OnOk};
+ghost use Rattle.std.specs.Prelude.{◌≡◌, ◌<◌, ◌≤◌, ◌++◌, ◌+◌, ◌^◌, ◌⊎◌, ℕ, List, [], Err, Some, length, IfOk, IfErr, OnErr, OnOk};
 ghost use Rattle.line_devices.specs.Devices.{Puts, PutsFront, one_more};
 ghost use Rattle.line_fields.specs.Texts.{record_text, records_text};
 ghost use Rattle.line_text.specs.Rounds.{rounds_records};

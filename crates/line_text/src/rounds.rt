@@ -1,11 +1,10 @@
 //! The records that are written for rounds that were completed.
 
-ghost use Rattle.std.specs.Prelude.{◌≡◌, ◌≢◌, ◌<◌, ◌≤◌, ◌++◌, ◌∷◌, Some, All, OnErr, OnOk, length, map};
+ghost use Rattle.std.specs.Prelude.{◌≡◌, ◌<◌, ◌≤◌, ◌++◌, Some, All, OnErr, OnOk, length, map};
 ghost use Rattle.std.specs.List.{flat_map};
 ghost use Rattle.line_devices.specs.Devices.{PutsFront};
 ghost use Rattle.line_fields.specs.Texts.{record_text, records_text};
 ghost use Rattle.line_names.specs.declared.limits.TheConstants.{MOST_PROCESSES};
-ghost use Rattle.line_world.specs.Listed.{channel_in};
 ghost use Rattle.line_text.specs.Rounds as spec;
 
 use line_fields::{Draft, RecordWriter};

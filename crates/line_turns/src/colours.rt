@@ -1,5 +1,5 @@
 //! The colours of processes and of what they sent.
-ghost use Rattle.std.specs.Prelude.{◌≡◌, ◌<◌, ◌≤◌, ◌++◌, ℕ, List, [], ◌∷◌, AllPairs, length, nat_le, replicate, IfOk, OnOk, OnErr, Some};
+ghost use Rattle.std.specs.Prelude.{◌≡◌, ◌<◌, ◌≤◌, ◌++◌, ℕ, List, [], ◌∷◌, AllPairs, length, replicate, IfOk, OnOk, OnErr, Some};
 ghost use Rattle.std.specs.Option.{SomeIff};
 ghost use Rattle.line_names.specs.declared.choices.Choice.{Choice};
 ghost use Rattle.line_tape.specs.declared.events.Event.TheVariants.{Check};

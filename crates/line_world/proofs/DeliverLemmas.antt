@@ -11,22 +11,26 @@ use Rattle.line_tape.specs.Views.{MarksView}
 use Rattle.line_world.specs.declared.replies.Answer.TheVariants.{Done, Refused}
 use Rattle.line_world.specs.declared.replies.StepError.{StepError}
 use Rattle.line_world.specs.declared.replies.StepError.TheVariants.{TapeFull}
-use Rattle.line_world.specs.declared.steps.Mode.{Mode}
+use Rattle.line_moves.specs.declared.modes.Mode.{Mode}
 use Rattle.line_world.specs.declared.steps.Step.TheVariants.{Deliver}
-use Rattle.line_world.specs.Fates.{events_taken, reply_taken}
-use Rattle.line_world.specs.Listed.{Listed}
-use Rattle.line_world.specs.declared.steps.Mode.TheVariants.{Fifo, Unordered}
+use Rattle.line_moves.specs.Fates.{events_taken}
+use Rattle.line_world.specs.Steps.{reply_taken}
+use Rattle.line_moves.specs.Listed.{Listed, newly_listed}
+use Rattle.line_moves.specs.declared.modes.Mode.TheVariants.{Fifo, Unordered}
 use Rattle.std.specs.List.{All}
 use Rattle.std.proofs.lemmas.List.Elements.{All-head, All-tail}
-use Rattle.line_world.specs.Queues.{taken_off}
+use Rattle.line_moves.specs.Queues.{taken_off}
 use Rattle.line_turns.specs.Tables.{between}
-use Rattle.line_world.specs.Worlds.{IsItemOf, IsWorld}
-use Rattle.line_world.specs.Machine.{Machine, copies_in, items_on, newly_listed, with_events, with_step}
+use Rattle.line_moves.specs.Worlds.{IsItemOf, IsWorld}
+use Rattle.line_world.specs.Machine.{Machine, items_on, with_step}
+use Rattle.line_moves.specs.Modes.{copies_in}
+use Rattle.line_moves.specs.Moves.{with_events}
 use Rattle.line_world.specs.Refusals.{first_cause, link_causes, is_full, is_full_for}
 use Rattle.line_world.specs.Runs.{Takes}
-use Rattle.line_world.proofs.OpeningLemmas.{newly_none}
+use Rattle.line_moves.proofs.OpeningLemmas.{newly_none}
 use Rattle.line_world.proofs.StepLemmas.{MayDeliver, Takes-refused, link_passed, may_deliver}
-use Rattle.line_world.proofs.WorldLemmas.{items-world, seen}
+use Rattle.line_moves.proofs.WorldLemmas.{items-world}
+use Rattle.line_world.proofs.SeenLemmas.{seen}
 
 -- a step as callers see it
 pub step_seen : (mode : Mode) (history after : List Process) (marks marks_after : MarksView) (last next : ℕ) (rounds new : List Listed) (queues queues_after : List (List (List Item))) (p : ℕ) (events : List Event)

@@ -1,16 +1,7 @@
-pub mod RoomLemmas
-pub mod LinkLemmas
-pub mod FateLemmas
-pub mod RecordingLemmas
-pub mod OpeningLemmas
-pub mod OpenFacts
 pub mod MarkerFacts
-pub mod TurnFacts
-pub mod WorldLemmas
 pub mod StartLemmas
-pub mod AgreeLemmas
-pub mod LineFacts
 pub mod StepLemmas
+pub mod SeenLemmas
 pub mod DeliverLemmas
 pub mod NameFacts
 pub mod PaintLemmas

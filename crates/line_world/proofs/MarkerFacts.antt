@@ -13,15 +13,15 @@ use Rattle.line_tape.proofs.NextLemmas.{tape_same}
 use Rattle.line_tape.proofs.RoundLines.{checked_has, completed_checked}
 use Rattle.line_tape.proofs.SnapshotLemmas.{snapshot_event}
 use Rattle.line_turns.specs.Turning.{IsTurning}
-use Rattle.line_world.specs.declared.steps.Mode.{Mode}
-use Rattle.line_world.specs.declared.steps.Mode.TheVariants.{Fifo, Unordered}
-use Rattle.line_world.specs.Fates.{is_forced, marker_events}
-use Rattle.line_world.specs.Listed.{Listed, channel_in, is_begun, is_completed, listed, IsSnapshotOf}
-use Rattle.line_world.specs.Machine.{newly_listed, with_events}
-use Rattle.line_world.specs.Openings.{OpenView, first_unlisted, left_open, newly_closed, open_number, turning_of, IsOpening, IsRecorded, IsRunning}
-use Rattle.line_world.specs.Worlds.{AreNumbered, AreRounds}
-use Rattle.line_world.proofs.LinkLemmas.{length-with_event}
-use Rattle.line_world.proofs.OpeningLemmas.{begun_by, begun_still, closed_others, completed_has, first_most, first_same, forced_none, forced_open, has_back, is_checked_now, listed_snapshot, newly_is, newly_none, none_left, still_last, AreNumbered-weaker, AreRounds-settled, IsRunning-begun}
+use Rattle.line_moves.specs.declared.modes.Mode.{Mode}
+use Rattle.line_moves.specs.declared.modes.Mode.TheVariants.{Fifo, Unordered}
+use Rattle.line_moves.specs.Fates.{is_forced, marker_events}
+use Rattle.line_moves.specs.Listed.{Listed, channel_in, is_begun, is_completed, listed, IsSnapshotOf, newly_listed}
+use Rattle.line_moves.specs.Moves.{with_events}
+use Rattle.line_moves.specs.Openings.{OpenView, first_unlisted, left_open, newly_closed, open_number, turning_of, IsOpening, IsRecorded, IsRunning}
+use Rattle.line_moves.specs.Worlds.{AreNumbered, AreRounds}
+use Rattle.line_moves.proofs.LinkLemmas.{length-with_event}
+use Rattle.line_moves.proofs.OpeningLemmas.{begun_by, begun_still, closed_others, completed_has, first_most, first_same, forced_none, forced_open, has_back, is_checked_now, listed_snapshot, newly_is, newly_none, none_left, still_last, AreNumbered-weaker, AreRounds-settled, IsRunning-begun}
 
 -- one event more
 more_snapshots : (history : List Process) (at : ℕ) (e : Event) (rounds : List Listed) → at < length history → All (IsSnapshotOf history) rounds → All (IsSnapshotOf (with_event history at e)) rounds

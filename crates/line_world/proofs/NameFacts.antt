@@ -11,23 +11,24 @@ use Rattle.line_tape.specs.History.{Process, incarnation_at, with_event}
 use Rattle.line_tape.specs.Restart.{restarted}
 use Rattle.line_tape.specs.Spent.{next_name, IsSpentName, HasNoLaterSend}
 use Rattle.line_tape.proofs.SpentLemmas.{next_unspent, sent_spent, spent_event, spent_restarted, no_later_event, no_later_restarted}
-use Rattle.line_world.specs.declared.fates.Fate.{Fate}
-use Rattle.line_world.specs.declared.fates.Fate.TheVariants.{Taken, Stale as IsStale, Repeated as IsRepeated}
+use Rattle.line_moves.specs.declared.fates.Fate.{Fate}
+use Rattle.line_moves.specs.declared.fates.Fate.TheVariants.{Taken, Stale as IsStale, Repeated as IsRepeated}
 use Rattle.line_world.specs.declared.replies.Answer.{Answer}
 use Rattle.line_world.specs.declared.replies.Answer.TheVariants.{Done, Refused}
 use Rattle.line_world.specs.declared.replies.Reply.{Reply}
 use Rattle.line_world.specs.declared.replies.Reply.TheVariants.{Sent, Took, Marked, Stale, Repeated, Checked, Begun, Turned, Damaged, Recovered}
 use Rattle.line_world.specs.declared.steps.Step.{Step}
 use Rattle.line_world.specs.declared.steps.Step.TheVariants.{Send, Deliver, Check, Begin, Turn, Damage, Recover}
-use Rattle.line_world.specs.Fates.{fate_of, forced_round, events_of, events_taken, is_forced, marker_events, reply_of, reply_taken}
-use Rattle.line_world.specs.Machine.{Machine, with_events}
+use Rattle.line_moves.specs.Fates.{fate_of, forced_round, events_of, events_taken, is_forced, marker_events}
+use Rattle.line_world.specs.Steps.{reply_of, reply_taken, Does, RecoversWith}
+use Rattle.line_world.specs.Machine.{Machine}
+use Rattle.line_moves.specs.Moves.{with_events}
 use Rattle.line_world.specs.Refusals.{refusal_of}
 use Rattle.line_world.specs.Runs.{Takes, Run, reply_name, answer_name}
-use Rattle.line_world.specs.Steps.{Does, RecoversWith}
 use Rattle.line_world.proofs.StepLemmas.{may_turn_at, may_send, may_deliver_at, may_begin, may_check}
-use Rattle.line_world.proofs.LinkLemmas.{length-with_event}
-use Rattle.line_world.specs.declared.steps.Mode.{Mode}
-use Rattle.line_world.specs.declared.steps.Mode.TheVariants.{Fifo, Unordered}
+use Rattle.line_moves.proofs.LinkLemmas.{length-with_event}
+use Rattle.line_moves.specs.declared.modes.Mode.{Mode}
+use Rattle.line_moves.specs.declared.modes.Mode.TheVariants.{Fifo, Unordered}
 use Rattle.line_tape.specs.declared.items.Item.{Item}
 use Rattle.line_tape.specs.declared.items.Item.TheVariants.{Message, Marker}
 

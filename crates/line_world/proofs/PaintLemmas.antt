@@ -13,16 +13,16 @@ use Rattle.line_tape.specs.Rounds.{checked_round}
 use Rattle.line_tape.proofs.ColourRounds.{coloured_event, coloured_restarted}
 use Rattle.line_turns.specs.Kept.{Turned, AreTurned}
 use Rattle.line_turns.proofs.TurnedLemmas.{AreTurned-kept}
-use Rattle.line_world.specs.declared.fates.Fate.TheVariants.{Taken}
+use Rattle.line_moves.specs.declared.fates.Fate.TheVariants.{Taken}
 use Rattle.std.specs.List.{slice_get}
 use Rattle.line_tape.specs.declared.items.Item.{Item}
 use Rattle.line_tape.specs.declared.items.Item.TheVariants.{Message}
-use Rattle.line_world.specs.declared.steps.Mode.{Mode}
-use Rattle.line_world.specs.declared.steps.Mode.TheVariants.{Fifo, Unordered}
-use Rattle.line_world.specs.Fates.{fate_of, forced_round}
+use Rattle.line_moves.specs.declared.modes.Mode.{Mode}
+use Rattle.line_moves.specs.declared.modes.Mode.TheVariants.{Fifo, Unordered}
+use Rattle.line_moves.specs.Fates.{fate_of, forced_round}
 use Rattle.line_turns.specs.Tables.{between}
-use Rattle.line_world.specs.Worlds.{ArePainted, IsPainted, IsWorld}
-use Rattle.line_world.proofs.WorldLemmas.{next_receipt}
+use Rattle.line_moves.specs.Worlds.{ArePainted, IsPainted, IsWorld}
+use Rattle.line_moves.proofs.WorldLemmas.{next_receipt}
 
 -- an event that is no check of a round
 pub painted_event : (history : List Process) (at : ℕ) (e : Event) (colours : List Turned) → at < length history → IsFitUnordered history → checked_round e ≡ None → IsNextUnordered history at e → IsNextColoured history at e

@@ -11,14 +11,14 @@ use Rattle.line_tape.specs.History.{Process, fresh, tape_at}
 use Rattle.line_tape.proofs.ColourRounds.{coloured_start}
 use Rattle.line_tape.proofs.CopyLemmas.{unordered_start}
 use Rattle.line_tape.specs.Rounds.{has_check_of, rounds_checked}
-use Rattle.line_world.specs.declared.steps.Mode.{Mode}
-use Rattle.line_world.specs.declared.steps.Mode.TheVariants.{Fifo, Unordered}
+use Rattle.line_moves.specs.declared.modes.Mode.{Mode}
+use Rattle.line_moves.specs.declared.modes.Mode.TheVariants.{Fifo, Unordered}
 use Rattle.line_turns.specs.Tables.{between, IsTable}
 use Rattle.line_turns.specs.Kept.{Turned, AreTurned}
-use Rattle.line_world.specs.Openings.{OpenView, opened}
+use Rattle.line_moves.specs.Openings.{OpenView, opened}
 use Rattle.line_turns.proofs.TableLemmas.{between-none, IsTable-none}
-use Rattle.line_world.specs.Worlds.{IsItemOf, message_of, messages_at, AreQueues, ArePainted, AreRounds, IsOrderedWorld, IsLinked, IsWorld}
-use Rattle.line_world.specs.Listed.{Listed, IsSnapshotOf}
+use Rattle.line_moves.specs.Worlds.{IsItemOf, message_of, messages_at, AreQueues, ArePainted, AreRounds, IsOrderedWorld, IsLinked, IsWorld}
+use Rattle.line_moves.specs.Listed.{Listed, IsSnapshotOf}
 
 get_or-replicate_self : {X : Type 0} (n i : ℕ) (x : X) → get_or (replicate n x) i x ≡ x
 get_or-replicate_self n i x = elim (cases_lt i n) [

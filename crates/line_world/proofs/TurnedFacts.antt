@@ -22,20 +22,19 @@ use Rattle.line_tape.proofs.RoundLines.{checked_has, round_is_line}
 use Rattle.line_tape.proofs.SnapshotLemmas.{event_transit}
 use Rattle.line_turns.specs.Kept.{Turned, AreTurned}
 use Rattle.line_turns.specs.Turning.{TurningView, IsTurning}
-use Rattle.line_world.specs.declared.fates.Fate.TheVariants.{Taken}
-use Rattle.line_world.specs.declared.steps.Mode.TheVariants.{Unordered}
-use Rattle.line_world.specs.Fates.{fate_of, forced_round}
-use Rattle.line_world.specs.Listed.{Listed, channel_table, is_begun, is_completed, listed}
-use Rattle.line_world.specs.Machine.{newly_listed}
-use Rattle.line_world.specs.Openings.{OpenView, left_open, newly_closed, opened_by, opened_turning, IsRunning}
+use Rattle.line_moves.specs.declared.fates.Fate.TheVariants.{Taken}
+use Rattle.line_moves.specs.declared.modes.Mode.TheVariants.{Unordered}
+use Rattle.line_moves.specs.Fates.{fate_of, forced_round}
+use Rattle.line_moves.specs.Listed.{Listed, channel_table, is_begun, is_completed, listed, newly_listed}
+use Rattle.line_moves.specs.Openings.{OpenView, left_open, newly_closed, opened_by, opened_turning, IsRunning}
 use Rattle.line_turns.specs.Tables.{between}
-use Rattle.line_world.specs.Worlds.{AreRounds, IsPainted, IsWorld}
-use Rattle.line_world.proofs.LinkLemmas.{length-with_event}
+use Rattle.line_moves.specs.Worlds.{AreRounds, IsPainted, IsWorld}
+use Rattle.line_moves.proofs.LinkLemmas.{length-with_event}
 use Rattle.line_world.proofs.MarkerFacts.{begun_listed, begun_running, begun_settled, turned_listed, turned_running, turned_settled}
-use Rattle.line_world.proofs.OpenFacts.{map_cells}
-use Rattle.line_world.proofs.OpeningLemmas.{any_found, counted_snapshot, AreRounds-kept, IsOpening-unordered}
+use Rattle.line_moves.proofs.OpenFacts.{map_cells}
+use Rattle.line_moves.proofs.OpeningLemmas.{any_found, counted_snapshot, AreRounds-kept, IsOpening-unordered}
 use Rattle.line_world.proofs.PaintLemmas.{forced_by, painted_event, painted_turn}
-use Rattle.line_world.proofs.WorldLemmas.{next_receipt, IsWorld-caught, IsWorld-turn}
+use Rattle.line_moves.proofs.WorldLemmas.{next_receipt, IsWorld-caught, IsWorld-turn}
 
 -- a round that is on every tape is listed as before, whatever comes that is no check of it
 listed_kept : (history : List Process) (at : ℕ) (e : Event) (r : ℕ) → at < length history → is_check_of r e ≡ false → is_checked history r ≡ true → listed Unordered (with_event history at e) r ≡ listed Unordered history r

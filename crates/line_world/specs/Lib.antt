@@ -1,11 +1,5 @@
-pub mod Queues
-pub mod Rooms
-pub mod Listed
-pub mod Openings
-pub mod Fates
 pub mod Machine
 pub mod Refusals
 pub mod Steps
 pub mod Runs
 pub mod Marked
-pub mod Worlds

@@ -1,13 +1,13 @@
 -- The machine's state: what each process did, which checks are damaged, and which rounds were completed. What the links hold is read off it where they keep their order (Chandy and Lamport, ACM TOCS 3(1), 1985); else they deliver in any order, as Lai and Yang allow (Information Processing Letters 25(3), 1987), and then each holds copies.
-use Rattle.std.specs.Prelude.{ℕ, Bool, not, ◌&&◌, if◌then◌else◌, List, [], ◌∷◌, ◌++◌, replicate}
+use Rattle.std.specs.Prelude.{ℕ, Bool, not, ◌&&◌, List, [], ◌∷◌, ◌++◌, replicate}
 use Rattle.line_tape.specs.declared.events.Event.{Event}
 use Rattle.line_tape.specs.declared.items.Item.{Item}
-use Rattle.line_tape.specs.Fit.{link, IsFitFifo, IsFitUnordered}
-use Rattle.line_tape.specs.History.{Process, fresh, with_event}
+use Rattle.line_tape.specs.History.{Process, fresh}
 use Rattle.line_tape.specs.Views.{MarksView}
-use Rattle.line_world.specs.declared.steps.Mode.{Mode}
-use Rattle.line_world.specs.declared.steps.Mode.TheVariants.{Fifo, Unordered}
-use Rattle.line_world.specs.Listed.{Listed, is_begun, is_completed, listed}
+use Rattle.line_moves.specs.declared.modes.Mode.{Mode}
+use Rattle.line_moves.specs.Listed.{Listed, is_begun, is_completed, newly_listed}
+use Rattle.line_moves.specs.Modes.{copies_in, items_in, IsFitIn}
+use Rattle.line_moves.specs.Moves.{with_events}
 use Rattle.line_turns.specs.Tables.{between, with_list}
 
 -- a state of the machine
@@ -22,11 +22,6 @@ pub record Machine : Type 0 where
   -- from each process to each, the oldest first; none are kept in `Fifo`
   pub copies : List (List (List Item))
 
--- the copies among what the links hold: none in `Fifo`
-abbrev pub copies_in : Mode → List (List (List Item)) → List (List (List Item))
-copies_in Fifo queues = []
-copies_in Unordered queues = queues
-
 -- the empty state of n processes
 abbrev pub start : ℕ → Mode → Machine
 start n mode = record {
@@ -38,33 +33,13 @@ start n mode = record {
   copies = copies_in mode (replicate n (replicate n []));
 }
 
--- what the link from process p to q holds, in each mode
-abbrev pub items_in : Mode → List Process → List (List (List Item)) → ℕ → ℕ → List Item
-items_in Fifo history copies p q = link history p q
-items_in Unordered history copies p q = between copies p q
-
 -- what the link from process p to q holds, the oldest first
 abbrev pub items_on : Machine → ℕ → ℕ → List Item
 items_on machine p q = items_in machine.mode machine.history machine.copies p q
 
--- the history is one that links of the mode can lead to
-abbrev pub IsFitIn : Mode → List Process → Type 0
-IsFitIn Fifo history = IsFitFifo history
-IsFitIn Unordered history = IsFitUnordered history
-
 -- the machine's history is one that its links can lead to
 abbrev pub IsFit : Machine → Type 0
 IsFit machine = IsFitIn machine.mode machine.history
-
--- the history with more events at the end of the tape of process p
-abbrev pub with_events : List Process → ℕ → List Event → List Process
-with_events history p [] = history
-with_events history p (event ∷ events) = with_events (with_event history p event) p events
-
--- the last round begun, if a change of the history completes it: no other can be, since each earlier one is completed or given up
-abbrev pub newly_listed : Mode → List Process → List Process → ℕ → List Listed
-newly_listed mode old new last =
-    if is_completed mode new last && not (is_completed mode old last) then listed mode new last ∷ [] else []
 
 -- the machine with more events of process p, where `last` is then the last round begun; it is listed if these events complete it
 abbrev pub with_step : Machine → ℕ → List Event → ℕ → Machine

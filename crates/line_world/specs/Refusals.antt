@@ -1,5 +1,5 @@
 -- What refuses a step: the first cause that holds.
-use Rattle.std.specs.Prelude.{◌≡◌, ℕ, ◌+◌, ◌-◌, Bool, true, false, not, ◌||◌, ◌&&◌, ◌==◌, nat_lt, nat_le, if◌then◌else◌, List, [], ◌∷◌, ◌++◌, length, slice_get, Option, Some, None}
+use Rattle.std.specs.Prelude.{◌≡◌, ℕ, ◌+◌, ◌-◌, Bool, false, not, ◌||◌, ◌&&◌, ◌==◌, nat_lt, nat_le, if◌then◌else◌, List, [], ◌∷◌, ◌++◌, length, slice_get, Option, Some, None}
 use Rattle.std.specs.List.{list_any, range_with_len}
 use Rattle.line_names.specs.declared.choices.Choice.{Choice}
 use Rattle.line_names.specs.declared.limits.TheConstants.{MOST_PROCESSES}
@@ -11,13 +11,14 @@ use Rattle.line_tape.specs.History.{tape_at}
 use Rattle.line_tape.specs.Restart.{HaveFurther}
 use Rattle.line_tape.specs.Rounds.{has_check_of}
 use Rattle.line_tape.specs.Survival.{is_damaged, IsLatest}
-use Rattle.line_world.specs.declared.steps.Mode.{Mode}
-use Rattle.line_world.specs.declared.steps.Mode.TheVariants.{Fifo, Unordered}
+use Rattle.line_moves.specs.declared.modes.Mode.{Mode}
+use Rattle.line_moves.specs.declared.modes.Mode.TheVariants.{Fifo, Unordered}
 use Rattle.line_world.specs.declared.steps.Step.{Step}
 use Rattle.line_world.specs.declared.steps.Step.TheVariants.{Send, Deliver, Check, Begin, Turn, Damage, Recover}
 use Rattle.line_world.specs.declared.replies.StepError.{StepError}
 use Rattle.line_world.specs.declared.replies.StepError.TheVariants.{NoSuchProcess, TapeFull, NoSuchCheck, StateTooLong, InitialDamage, AlreadyDamaged, ToSelf, LinkEmpty, BadPick, RoundOpen, NothingToTurn, WrongMode, NoMoreRounds, NoMoreIncarnations}
-use Rattle.line_world.specs.Fates.{events_taken}
+use Rattle.line_moves.specs.Fates.{events_taken}
+use Rattle.line_moves.specs.Modes.{is_fifo}
 use Rattle.line_world.specs.Machine.{Machine, items_on, is_open}
 
 -- the first cause that holds
@@ -50,11 +51,6 @@ is_bad_pick Unordered items pick = nat_le (length items) pick
 abbrev pub is_full_for : Machine → ℕ → ℕ → List ℕ → Option Item → Bool
 is_full_for machine from to state None = false
 is_full_for machine from to state (Some item) = is_full machine to (length (events_taken machine.mode machine.history from to state item))
-
--- links keep their order
-abbrev pub is_fifo : Mode → Bool
-is_fifo Fifo = true
-is_fifo Unordered = false
 
 -- a round is open of which process p has no check yet
 abbrev pub may_turn : Machine → ℕ → Bool

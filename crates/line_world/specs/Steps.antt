@@ -1,40 +1,48 @@
 -- What an accepted step replies and leaves.
-use Rattle.std.specs.Prelude.{◌≡◌, ℕ, ◌+◌, ◌≤◌, Bool, List, [], ◌∷◌, ◌++◌, length, map, filter, slice_get, Option, Some, None}
-use Rattle.std.specs.List.{range_with_len}
+use Rattle.std.specs.Prelude.{◌≡◌, ℕ, ◌+◌, ◌≤◌, Bool, false, List, [], ◌∷◌, length, map, filter, slice_get, Option, Some, None}
 use Rattle.line_names.specs.declared.choices.Choice.{Choice}
-use Rattle.line_names.specs.declared.choices.Choice.TheVariants.{Check as AtCheck, Now}
-use Rattle.line_names.specs.Lines.{choice_at}
+use Rattle.line_names.specs.declared.messages.MsgName.{MsgName}
 use Rattle.line_plan.specs.declared.plans.Plan.{Plan}
-use Rattle.line_tape.specs.declared.events.Event.{Event}
 use Rattle.line_tape.specs.declared.events.Event.TheVariants.{Send as SendEvent, Check as CheckEvent}
 use Rattle.line_tape.specs.declared.items.Item.{Item}
-use Rattle.line_tape.specs.declared.items.Item.TheVariants.{Message}
+use Rattle.line_tape.specs.declared.items.Item.TheVariants.{Message, Marker}
 use Rattle.line_tape.specs.Chain.{IsChain}
-use Rattle.line_tape.specs.Event.{checks, stored_state}
-use Rattle.line_tape.specs.History.{Process, tape_at, incarnation_at}
+use Rattle.line_tape.specs.History.{Process, incarnation_at}
 use Rattle.line_tape.specs.Restart.{restarted, restarted_marks, HaveFurther}
 use Rattle.line_tape.specs.Spent.{next_name}
 use Rattle.line_tape.specs.Survival.{IsLatest}
-use Rattle.line_tape.specs.Transit.{in_transit, in_transit_between}
+use Rattle.line_tape.specs.Transit.{in_transit}
 use Rattle.line_tape.specs.Views.{with_mark}
-use Rattle.line_world.specs.declared.steps.Mode.{Mode}
+use Rattle.line_moves.specs.declared.fates.Fate.{Fate}
+use Rattle.line_moves.specs.declared.fates.Fate.TheVariants.{Taken as IsTaken, Stale as IsStale, Repeated as IsRepeated}
+use Rattle.line_moves.specs.declared.modes.Mode.{Mode}
+use Rattle.line_moves.specs.declared.modes.Mode.TheVariants.{Fifo, Unordered}
 use Rattle.line_world.specs.declared.steps.Step.{Step}
 use Rattle.line_world.specs.declared.steps.Step.TheVariants.{Send, Deliver, Check, Begin, Turn, Damage, Recover}
 use Rattle.line_world.specs.declared.replies.Reply.{Reply}
-use Rattle.line_world.specs.declared.replies.Reply.TheVariants.{Sent, Checked, Begun, Turned, Damaged, Recovered}
-use Rattle.line_world.specs.Fates.{events_taken, reply_taken}
-use Rattle.line_world.specs.Listed.{stays}
-use Rattle.line_world.specs.Machine.{Machine, copies_in, items_on, with_copy, with_step}
-use Rattle.line_turns.specs.Tables.{between, table_of}
-
--- the index of the next check of process p
-abbrev pub next_check : List Process → ℕ → ℕ
-next_check history p = checks (tape_at history p) + 1
+use Rattle.line_world.specs.declared.replies.Reply.TheVariants.{Sent, Took, Marked, Stale, Repeated, Checked, Begun, Turned, Damaged, Recovered}
+use Rattle.line_moves.specs.Fates.{events_taken, fate_of, forced_round, is_forced}
+use Rattle.line_moves.specs.Listed.{stays}
+use Rattle.line_world.specs.Machine.{Machine, items_on, with_copy, with_step}
+use Rattle.line_moves.specs.Moves.{next_check}
+use Rattle.line_moves.specs.Restarts.{restored_states, restarted_copies}
 
 -- Send adds a send of the present incarnation, and in `Unordered` a copy
 pub record Sends (old : Machine) (from to : ℕ) (body : List ℕ) (reply : Reply) (new : Machine) : Type 0 where
   pub reply_is : reply ≡ Sent (next_name old.history from)
   pub new_is : new ≡ with_copy (with_step old from (SendEvent to (incarnation_at old.history from) body ∷ []) old.last_round) from to (Message (next_name old.history from))
+
+-- what is told of a message that a delivery picks
+abbrev pub reply_of : Fate → Option ℕ → MsgName → Reply
+reply_of IsTaken forced message = Took message forced
+reply_of IsStale forced message = Stale message
+reply_of IsRepeated forced message = Repeated message
+
+-- and of an item; links without an order hold no markers
+abbrev pub reply_taken : Mode → List Process → ℕ → Item → Reply
+reply_taken mode history to (Message message) = reply_of (fate_of mode history to message) (forced_round mode history to message) message
+reply_taken Fifo history to (Marker round) = Marked round (is_forced history to round)
+reply_taken Unordered history to (Marker round) = Marked round false
 
 -- Deliver has the process take or look at the item that is picked: a copy stays on the link in any case
 pub record Delivers (old : Machine) (from to pick : ℕ) (state : List ℕ) (reply : Reply) (new : Machine) : Type 0 where
@@ -63,15 +71,6 @@ pub record Damages (old : Machine) (at check : ℕ) (reply : Reply) (new : Machi
   pub reply_is : reply ≡ Damaged at check
   pub new_is : new ≡ record old { marks = with_mark old.marks at check }
 
--- the bytes stored at a choice: none where the process stands now
-abbrev pub restored : List Event → Choice → Option (List ℕ)
-restored tape (AtCheck c) = Some (stored_state tape c)
-restored tape Now = None
-
--- what each process goes on from, on a line
-abbrev pub restored_states : List Process → List Choice → List (Option (List ℕ))
-restored_states history line = map (λ p. restored (tape_at history p) (choice_at line p)) (range_with_len 0 (length history))
-
 -- the plan is of the latest line, by any valid chain
 pub record IsPlan (machine : Machine) (failed : List Bool) (plan : Plan) : Type 0 where
   pub latest : IsLatest machine.history machine.marks failed plan.line
@@ -79,11 +78,6 @@ pub record IsPlan (machine : Machine) (failed : List Bool) (plan : Plan) : Type 
   pub some_sweep : 1 ≤ plan.sweeps
   pub few_sweeps : plan.sweeps ≤ length plan.certificate.items + 1
   pub replays : plan.replays.items ≡ in_transit machine.history plan.line
-
--- what the links hold after a restart at a line: each has one more copy of what is in transit on it; none are kept in `Fifo`
-abbrev pub restarted_copies : Mode → List Process → List Choice → List (List (List Item)) → List (List (List Item))
-restarted_copies mode history line copies =
-    copies_in mode (table_of (length history) (λ p q. between copies p q ++ map (λ m. Message m) (in_transit_between history line p q)))
 
 -- the machine that goes on from a line: no round is open then, and a listed one stays unless one of its checks is cut
 abbrev pub restarted_machine : Machine → List Choice → Machine

@@ -1,7 +1,7 @@
 //! Laws over the runs of the machine.
 ghost use Rattle.std.specs.Prelude.{ℕ, List};
 ghost use Rattle.line_world.specs.declared.replies.Answer.{Answer};
-ghost use Rattle.line_world.specs.declared.steps.Mode.{Mode};
+ghost use Rattle.line_moves.specs.declared.modes.Mode.{Mode};
 ghost use Rattle.line_world.specs.declared.steps.Step.{Step};
 ghost use Rattle.line_world.specs.Machine.{Machine, start};
 ghost use Rattle.line_world.specs.Runs.{AreNamedApart, Run};

@@ -3,19 +3,13 @@
 //! A `World` holds what each process did and answers steps; what it answers is what the machine of `specs/` may answer. That machine knows no queues where links keep their order: there a link holds what remains of what was sent after what was received. Without an order each link holds copies, which stay when they are delivered. Snapshots are taken in rounds: of markers where links keep their order (Chandy and Lamport, ACM TOCS 3(1), 1985), of colours where they don't (Lai and Yang, Information Processing Letters 25(3), 1987).
 #![tactic(auto)]
 
-mod fates;
 mod laws;
-mod links;
-mod moves;
 mod replies;
-mod restarts;
-mod restores;
-mod rounds;
 mod steps;
 mod worlds;
 
 pub use laws::runs_name_apart;
+pub use line_moves::{Mode, Round};
 pub use replies::{Answer, Reply, RunStopped, StepError};
-pub use rounds::Round;
-pub use steps::{Mode, Step};
+pub use steps::Step;
 pub use worlds::World;

@@ -1,30 +1,7 @@
 //! What the machine is asked to do.
-ghost use Rattle.std.specs.Prelude.{◌≡◌};
-ghost use Rattle.line_world.specs.Refusals.{is_fifo};
 
 use line_names::{Body, ProcId, ProcSet};
 use line_tape::State;
-
-/// How links deliver.
-#[derive(Clone, Copy, Debug, PartialEq, Eq)]
-pub enum Mode {
-    /// Each link delivers in the order of sending.
-    Fifo,
-    /// Each link holds copies of its messages, delivers any of them, and keeps it.
-    Unordered,
-}
-
-impl Mode {
-    /// Whether links keep their order.
-    pub fn is_fifo(self) -> bool
-        ensures { result ≡ is_fifo self }
-    {
-        match self {
-            Mode::Fifo => true,
-            Mode::Unordered => false,
-        }
-    }
-}
 
 /// One step.
 #[derive(Debug, Drop)]

@@ -1,13 +1,13 @@
 //! The world: the machine that answers steps.
-ghost use Rattle.std.specs.Prelude.{◌≡◌, ◌≢◌, ◌<◌, ◌≤◌, ◌↔◌, ◌⊎◌, ℕ, List, All, AllPairs, Some, None, length, take, slice_get, IfOk, IfErr, OnOk, IsErrOf, IsTrue};
+ghost use Rattle.std.specs.Prelude.{◌≡◌, ◌≢◌, ◌<◌, ◌↔◌, ◌⊎◌, All, AllPairs, Some, None, length, take, slice_get, IfOk, IfErr, IsErrOf, IsTrue};
 ghost use Rattle.line_tape.specs.History.{incarnation_at};
 ghost use Rattle.line_world.specs.declared.replies.Answer.TheVariants.{Done, Refused};
 ghost use Rattle.line_world.specs.declared.steps.Step.TheVariants.{Send, Deliver, Check, Begin, Turn, Damage, Recover};
 ghost use Rattle.line_tape.specs.declared.items.Item.TheVariants.{Message, Marker};
-ghost use Rattle.line_world.specs.declared.fates.Fate.TheVariants.{Taken as IsTaken};
-ghost use Rattle.line_world.specs.declared.steps.Mode.TheVariants.{Fifo, Unordered};
-ghost use Rattle.line_world.specs.Fates.{fate_of, forced_round};
-ghost use Rattle.line_world.specs.Listed.{Listed, IsReached, IsSnapshotOf};
+ghost use Rattle.line_moves.specs.declared.fates.Fate.TheVariants.{Taken as IsTaken};
+ghost use Rattle.line_moves.specs.declared.modes.Mode.TheVariants.{Fifo, Unordered};
+ghost use Rattle.line_moves.specs.Fates.{fate_of, forced_round};
+ghost use Rattle.line_moves.specs.Listed.{Listed, IsReached, IsSnapshotOf};
 ghost use Rattle.line_world.specs.Machine.{start, items_on, IsFit};
 ghost use Rattle.line_world.specs.Refusals.{first_cause, link_causes, refusal_of, has_stranger};
 ghost use Rattle.line_world.specs.Runs.{Takes, Run};
@@ -15,17 +15,14 @@ ghost use Rattle.line_world.specs.Steps.{IsPlan};
 
 mod refusals;
 
-use crate::fates::{Fate, fate_of};
-use crate::links::Links;
-use crate::moves::{
-    add_check, add_receipt, begin_round, put_message, take_marker, take_message, turn_round,
-};
 use crate::replies::{Answer, Reply, RunStopped, StepError};
-use crate::restarts::restarted_links;
-use crate::restores::{restarted_incarnations, restored_states};
-use crate::rounds::{OpenRound, Round, is_forced, keep_rounds, still_open};
-use crate::steps::{Mode, Step};
+use crate::steps::Step;
 use line_catalogue::Catalogue;
+use line_moves::{
+    Fate, Links, Mode, OpenRound, Round, add_check, add_receipt, begin_round, fate_of, is_forced,
+    keep_rounds, put_message, restarted_incarnations, restarted_links, restored_states, still_open,
+    take_marker, take_message, turn_round,
+};
 use line_names::{Body, MOST_PROCESSES, MsgName, ProcId, ProcSet};
 use line_plan::Plan;
 use line_tape::{CountError, History, Item, Marks, State};
@@ -57,9 +54,9 @@ impl Model for World {
 
     ghost Value = { Machine };
 
-    ghost use Rattle.line_world.specs.Machine.{copies_in};
-    ghost use Rattle.line_world.specs.Openings.{opened};
-    ghost use Rattle.line_world.specs.Worlds.{ArePainted, AreRounds, IsWorld};
+    ghost use Rattle.line_moves.specs.Modes.{copies_in};
+    ghost use Rattle.line_moves.specs.Openings.{opened};
+    ghost use Rattle.line_moves.specs.Worlds.{ArePainted, AreRounds, IsWorld};
 
     ghost view = { λ w. record {
       mode = w.mode;

@@ -1,13 +1,13 @@
 //! What refuses a step of a world.
 ghost use Rattle.std.specs.Prelude.{◌≡◌, ◌≢◌, ◌<◌, ◌≤◌, ℕ, List, Some, length};
-ghost use Rattle.line_world.specs.declared.steps.Mode.TheVariants.{Unordered};
+ghost use Rattle.line_moves.specs.declared.modes.Mode.TheVariants.{Unordered};
 ghost use Rattle.line_world.specs.declared.steps.Step.TheVariants.{Send, Check, Begin, Turn};
 ghost use Rattle.line_world.specs.Refusals.{first_cause, link_causes, may_turn, refusal_of, has_stranger, is_bad_pick, is_full};
 ghost use Rattle.line_world.specs.Machine.{is_open, items_on};
 
 use super::World;
 use crate::replies::StepError;
-use crate::steps::Mode;
+use line_moves::Mode;
 use line_names::{MOST_PROCESSES, ProcId, ProcSet};
 use line_tape::{LAST_ROUND, MOST_EVENTS, MOST_STATE, State};
 

@@ -3,26 +3,25 @@ use Rattle.std.proofs.Common.{◌≡◌, ◌<◌, ◌+◌, ◌++◌, ℕ, List, 
 use Rattle.line_tape.specs.declared.events.Event.{Event}
 use Rattle.line_tape.specs.declared.events.Event.TheVariants.{Check as CheckEvent}
 use Rattle.line_tape.specs.declared.items.Item.{Item}
-use Rattle.line_tape.specs.History.{Process, tape_at, with_event}
-use Rattle.line_tape.specs.Rounds.{has_check_of}
+use Rattle.line_tape.specs.History.{Process, with_event}
 use Rattle.line_tape.specs.Views.{MarksView}
 use Rattle.line_turns.specs.Kept.{Turned, AreTurned}
 use Rattle.line_turns.specs.Turning.{TurningView, IsTurning}
 use Rattle.line_world.specs.declared.replies.Reply.TheVariants.{Begun}
-use Rattle.line_world.specs.declared.steps.Mode.{Mode}
-use Rattle.line_world.specs.declared.steps.Mode.TheVariants.{Unordered}
+use Rattle.line_moves.specs.declared.modes.Mode.{Mode}
+use Rattle.line_moves.specs.declared.modes.Mode.TheVariants.{Unordered}
 use Rattle.line_world.specs.declared.steps.Step.TheVariants.{Begin}
-use Rattle.line_world.specs.Listed.{Listed}
-use Rattle.line_world.specs.Machine.{Machine, is_open, newly_listed}
-use Rattle.line_world.specs.Openings.{OpenView, completed_channels, left_open, newly_closed, opened_by, opened_turning, IsRunning}
+use Rattle.line_moves.specs.Listed.{Listed, newly_listed}
+use Rattle.line_world.specs.Machine.{Machine, is_open}
+use Rattle.line_moves.specs.Openings.{OpenView, left_open, newly_closed, opened_by, opened_turning}
 use Rattle.line_world.specs.Refusals.{refusal_of}
 use Rattle.line_world.specs.Steps.{Begins}
-use Rattle.line_world.specs.Worlds.{ArePainted, AreRounds, IsPainted, IsWorld}
+use Rattle.line_moves.specs.Worlds.{ArePainted, AreRounds, IsPainted, IsWorld}
 use Rattle.line_world.proofs.DeliverLemmas.{step_seen}
 use Rattle.line_world.proofs.StepLemmas.{may_begin}
-use Rattle.line_world.proofs.TurnFacts.{opened_rounds, turned_rounds}
-use Rattle.line_world.proofs.TurnedFacts.{begun_newly, begun_open, begun_painted, begun_rounds, begun_world, less_than_next, no_later}
-use Rattle.line_world.proofs.WorldLemmas.{seen}
+use Rattle.line_moves.proofs.TurnFacts.{opened_rounds, turned_rounds}
+use Rattle.line_world.proofs.TurnedFacts.{begun_newly, begun_painted, begun_rounds, begun_world, less_than_next, no_later}
+use Rattle.line_world.proofs.SeenLemmas.{seen}
 use Rattle.line_world.proofs.worlds.World.begin_colours.Goals as goal
 
 pub turn_round-requires-clause-first : goal.turn_round-requires-clause-first

@@ -6,20 +6,21 @@ use Rattle.line_tape.specs.declared.items.Item.{Item}
 use Rattle.line_tape.specs.History.{Process, tape_at, with_event}
 use Rattle.line_tape.specs.Views.{MarksView}
 use Rattle.line_world.specs.declared.replies.Reply.TheVariants.{Begun}
-use Rattle.line_world.specs.declared.steps.Mode.{Mode}
-use Rattle.line_world.specs.declared.steps.Mode.TheVariants.{Fifo}
+use Rattle.line_moves.specs.declared.modes.Mode.{Mode}
+use Rattle.line_moves.specs.declared.modes.Mode.TheVariants.{Fifo}
 use Rattle.line_world.specs.declared.steps.Step.TheVariants.{Begin}
-use Rattle.line_world.specs.Listed.{Listed}
-use Rattle.line_world.specs.Machine.{Machine, copies_in, is_open, newly_listed}
-use Rattle.line_world.specs.Openings.{OpenView, left_open, newly_closed, opened, IsRecording, IsRunning}
+use Rattle.line_moves.specs.Listed.{Listed, newly_listed}
+use Rattle.line_world.specs.Machine.{Machine, is_open}
+use Rattle.line_moves.specs.Modes.{copies_in}
+use Rattle.line_moves.specs.Openings.{OpenView, left_open, newly_closed, opened, IsRecording, IsRunning}
 use Rattle.line_world.specs.Refusals.{refusal_of}
 use Rattle.line_world.specs.Steps.{Begins}
-use Rattle.line_world.specs.Worlds.{ArePainted, AreRounds, IsWorld}
+use Rattle.line_moves.specs.Worlds.{ArePainted, AreRounds, IsWorld}
 use Rattle.line_world.proofs.DeliverLemmas.{step_seen}
 use Rattle.line_world.proofs.MarkerFacts.{begun_listed, begun_running, begun_settled}
-use Rattle.line_world.proofs.OpeningLemmas.{listed_snapshot}
+use Rattle.line_moves.proofs.OpeningLemmas.{listed_snapshot}
 use Rattle.line_world.proofs.StepLemmas.{may_begin}
-use Rattle.line_world.proofs.WorldLemmas.{seen}
+use Rattle.line_world.proofs.SeenLemmas.{seen}
 use Rattle.line_tape.specs.Rounds.{has_check_of}
 use Rattle.std.proofs.lemmas.Bool.{false_from_ne_true}
 use Rattle.line_world.proofs.worlds.World.begin_markers.Goals as goal

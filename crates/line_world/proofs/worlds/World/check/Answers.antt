@@ -4,19 +4,20 @@ use Rattle.line_tape.specs.declared.events.Event.{Event}
 use Rattle.line_tape.specs.declared.events.Event.TheVariants.{Check as CheckEvent}
 use Rattle.line_tape.specs.History.{Process, with_event}
 use Rattle.line_world.specs.declared.replies.Reply.TheVariants.{Checked}
-use Rattle.line_world.specs.declared.steps.Mode.{Mode}
+use Rattle.line_moves.specs.declared.modes.Mode.{Mode}
 use Rattle.line_world.specs.declared.steps.Step.TheVariants.{Check}
-use Rattle.line_world.specs.Listed.{Listed}
+use Rattle.line_moves.specs.Listed.{Listed}
 use Rattle.line_world.specs.Machine.{Machine}
 use Rattle.line_world.specs.Refusals.{refusal_of}
 use Rattle.line_world.specs.Steps.{Checks}
-use Rattle.line_world.specs.Openings.{OpenView, opened}
-use Rattle.line_world.specs.Worlds.{ArePainted, AreRounds, IsWorld}
+use Rattle.line_moves.specs.Openings.{OpenView, opened}
+use Rattle.line_moves.specs.Worlds.{ArePainted, AreRounds, IsWorld}
 use Rattle.line_world.proofs.DeliverLemmas.{quiet_seen}
-use Rattle.line_world.proofs.OpeningLemmas.{AreRounds-kept, IsOpening-kept, none_listed}
+use Rattle.line_moves.proofs.OpeningLemmas.{AreRounds-kept, IsOpening-kept, none_listed}
 use Rattle.line_world.proofs.PaintLemmas.{ArePainted-check}
 use Rattle.line_world.proofs.StepLemmas.{may_check}
-use Rattle.line_world.proofs.WorldLemmas.{IsWorld-check, seen}
+use Rattle.line_moves.proofs.WorldLemmas.{IsWorld-check}
+use Rattle.line_world.proofs.SeenLemmas.{seen}
 use Rattle.line_world.proofs.worlds.World.check.Goals as goal
 
 pub invariant_of-self-2 : goal.invariant_of-self-2

@@ -8,15 +8,16 @@ use Rattle.line_tape.specs.Views.{MarksView}
 use Rattle.line_tape.proofs.HistoryLemmas.{IsHistory-at}
 use Rattle.line_world.specs.declared.replies.Answer.TheVariants.{Done}
 use Rattle.line_world.specs.declared.replies.Reply.{Reply}
-use Rattle.line_world.specs.declared.steps.Mode.{Mode}
-use Rattle.line_world.specs.declared.steps.Mode.TheVariants.{Unordered}
+use Rattle.line_moves.specs.declared.modes.Mode.{Mode}
+use Rattle.line_moves.specs.declared.modes.Mode.TheVariants.{Unordered}
 use Rattle.line_world.specs.declared.steps.Step.TheVariants.{Deliver}
-use Rattle.line_world.specs.Fates.{events_taken, reply_taken}
-use Rattle.line_world.specs.Listed.{Listed}
+use Rattle.line_moves.specs.Fates.{events_taken}
+use Rattle.line_world.specs.Steps.{reply_taken}
+use Rattle.line_moves.specs.Listed.{Listed}
 use Rattle.line_world.specs.Machine.{Machine}
 use Rattle.line_world.specs.Runs.{Takes}
 use Rattle.line_world.proofs.DeliverLemmas.{to_within, Takes-idle}
-use Rattle.line_world.proofs.WorldLemmas.{seen}
+use Rattle.line_world.proofs.SeenLemmas.{seen}
 use Rattle.line_world.proofs.worlds.World.deliver.Goals as goal
 
 pub returns-in-Unordered-clause-done : goal.returns-in-Unordered-clause-done

@@ -9,21 +9,25 @@ use Rattle.line_tape.specs.Views.{MarksView}
 use Rattle.line_world.specs.declared.replies.Answer.TheVariants.{Done}
 use Rattle.line_world.specs.declared.replies.Reply.{Reply}
 use Rattle.line_world.specs.declared.replies.Reply.TheVariants.{Marked}
-use Rattle.line_world.specs.declared.steps.Mode.{Mode}
-use Rattle.line_world.specs.declared.steps.Mode.TheVariants.{Fifo}
+use Rattle.line_moves.specs.declared.modes.Mode.{Mode}
+use Rattle.line_moves.specs.declared.modes.Mode.TheVariants.{Fifo}
 use Rattle.line_world.specs.declared.steps.Step.TheVariants.{Deliver}
-use Rattle.line_world.specs.Fates.{events_taken, is_forced, marker_events, reply_taken}
-use Rattle.line_world.specs.Listed.{Listed}
-use Rattle.line_world.specs.Machine.{Machine, copies_in, newly_listed, with_events, with_step}
-use Rattle.line_world.specs.Openings.{OpenView, left_open, newly_closed, opened, IsOpening}
+use Rattle.line_moves.specs.Fates.{events_taken, is_forced, marker_events}
+use Rattle.line_world.specs.Steps.{reply_taken}
+use Rattle.line_moves.specs.Listed.{Listed, newly_listed}
+use Rattle.line_world.specs.Machine.{Machine, with_step}
+use Rattle.line_moves.specs.Modes.{copies_in}
+use Rattle.line_moves.specs.Moves.{with_events}
+use Rattle.line_moves.specs.Openings.{OpenView, left_open, newly_closed, opened, IsOpening}
 use Rattle.line_world.specs.Refusals.{is_full}
 use Rattle.line_world.specs.Runs.{Takes}
-use Rattle.line_world.specs.Worlds.{ArePainted, AreRounds, IsWorld}
+use Rattle.line_moves.specs.Worlds.{ArePainted, AreRounds, IsWorld}
 use Rattle.line_world.proofs.DeliverLemmas.{from_within, picked_at, step_seen, to_within, Takes-delivered}
 use Rattle.line_world.proofs.MarkerFacts.{marker_listed, marker_settled}
-use Rattle.line_world.proofs.OpeningLemmas.{AreRounds-renewed}
+use Rattle.line_moves.proofs.OpeningLemmas.{AreRounds-renewed}
 use Rattle.line_world.proofs.StepLemmas.{may_deliver}
-use Rattle.line_world.proofs.WorldLemmas.{marker_sent, seen}
+use Rattle.line_moves.proofs.WorldLemmas.{marker_sent}
+use Rattle.line_world.proofs.SeenLemmas.{seen}
 use Rattle.line_world.proofs.worlds.World.deliver_marker.Goals.{then-forced, else-forced}
 use Rattle.line_world.proofs.worlds.World.deliver_marker.Goals as goal
 

@@ -5,11 +5,11 @@ use Rattle.line_tape.specs.declared.items.Item.{Item}
 use Rattle.line_tape.specs.declared.items.Item.TheVariants.{Message}
 use Rattle.line_tape.specs.History.{Process}
 use Rattle.line_tape.specs.Views.{MarksView}
-use Rattle.line_world.specs.declared.steps.Mode.{Mode}
-use Rattle.line_world.specs.Listed.{Listed}
+use Rattle.line_moves.specs.declared.modes.Mode.{Mode}
+use Rattle.line_moves.specs.Listed.{Listed}
 use Rattle.line_world.specs.Machine.{Machine}
 use Rattle.line_world.proofs.DeliverLemmas.{from_within, picked_of}
-use Rattle.line_world.proofs.WorldLemmas.{seen}
+use Rattle.line_world.proofs.SeenLemmas.{seen}
 use Rattle.line_world.proofs.worlds.World.deliver_message.Goals as goal
 
 pub fate_of-requires-clause-from : goal.fate_of-requires-clause-from

@@ -5,7 +5,7 @@ use Rattle.std.specs.List.{list_any, range_with_len}
 use Rattle.line_names.specs.declared.limits.TheConstants.{MOST_PROCESSES}
 use Rattle.line_names.specs.Sets.{is_member}
 use Rattle.line_world.specs.Machine.{Machine}
-use Rattle.line_world.proofs.LineFacts.{any_more}
+use Rattle.line_moves.proofs.LineFacts.{any_more}
 use Rattle.line_world.proofs.worlds.World.has_stranger.Goals as goal
 
 pub loop-q-preserved : goal.loop-q-preserved

@@ -3,10 +3,10 @@ use Rattle.std.proofs.Common.{List, Option, sym, ap, ◌∙◌}
 use Rattle.std.specs.Option.{is_some}
 use Rattle.line_tape.specs.History.{Process}
 use Rattle.line_turns.specs.Turning.{TurningView}
-use Rattle.line_world.specs.declared.steps.Mode.{Mode}
+use Rattle.line_moves.specs.declared.modes.Mode.{Mode}
 use Rattle.line_world.specs.Machine.{is_open}
-use Rattle.line_world.specs.Openings.{OpenView, opened}
-use Rattle.line_world.proofs.OpeningLemmas.{open_told, some_turning}
+use Rattle.line_moves.specs.Openings.{OpenView, opened}
+use Rattle.line_moves.proofs.OpeningLemmas.{open_told, some_turning}
 use Rattle.line_world.proofs.worlds.World.is_open.Goals as goal
 
 pub returns-in-Fifo : goal.returns-in-Fifo

@@ -4,15 +4,15 @@ use Rattle.line_tape.specs.History.{Process}
 use Rattle.line_tape.specs.Views.{MarksView}
 use Rattle.line_tape.specs.declared.items.Item.{Item}
 use Rattle.line_turns.specs.Turning.{TurningView}
-use Rattle.line_world.specs.declared.steps.Mode.{Mode}
-use Rattle.line_world.specs.declared.steps.Mode.TheVariants.{Unordered}
-use Rattle.line_world.specs.Listed.{Listed}
+use Rattle.line_moves.specs.declared.modes.Mode.{Mode}
+use Rattle.line_moves.specs.declared.modes.Mode.TheVariants.{Unordered}
+use Rattle.line_moves.specs.Listed.{Listed}
 use Rattle.line_world.specs.Machine.{Machine}
-use Rattle.line_world.specs.Openings.{opened_turning}
+use Rattle.line_moves.specs.Openings.{opened_turning}
 use Rattle.line_world.specs.Refusals.{may_turn}
-use Rattle.line_world.specs.Worlds.{AreRounds}
-use Rattle.line_world.proofs.TurnFacts.{may_turn_none, may_turn_some, turned_rounds}
-use Rattle.line_world.proofs.WorldLemmas.{seen}
+use Rattle.line_moves.specs.Worlds.{AreRounds}
+use Rattle.line_moves.proofs.TurnFacts.{may_turn_none, may_turn_some, turned_rounds}
+use Rattle.line_world.proofs.SeenLemmas.{seen}
 use Rattle.line_world.proofs.worlds.World.may_turn.Goals as goal
 
 pub returns-in-Some : goal.returns-in-Some

@@ -2,9 +2,9 @@
 use Rattle.std.proofs.Common.{List, None, replicate, sym, subst}
 use Rattle.line_tape.specs.declared.items.Item.{Item}
 use Rattle.line_tape.specs.History.{Process, fresh}
-use Rattle.line_world.specs.Listed.{Listed}
-use Rattle.line_world.specs.Openings.{opened}
-use Rattle.line_world.specs.Worlds.{ArePainted, AreRounds, IsWorld}
+use Rattle.line_moves.specs.Listed.{Listed}
+use Rattle.line_moves.specs.Openings.{opened}
+use Rattle.line_moves.specs.Worlds.{ArePainted, AreRounds, IsWorld}
 use Rattle.line_world.proofs.StartLemmas.{AreRounds-start, ArePainted-start, IsWorld-start}
 use Rattle.line_world.proofs.worlds.World.new.Goals as goal
 

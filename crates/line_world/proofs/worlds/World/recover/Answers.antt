@@ -11,21 +11,24 @@ use Rattle.line_tape.specs.Transit.{in_transit, in_transit_between}
 use Rattle.line_tape.specs.Views.{MarksView}
 use Rattle.line_world.specs.declared.replies.StepError.TheVariants.{NoMoreIncarnations}
 use Rattle.line_world.specs.declared.steps.Step.TheVariants.{Recover}
-use Rattle.line_world.specs.declared.steps.Mode.{Mode}
-use Rattle.line_world.specs.Machine.{Machine, copies_in}
+use Rattle.line_moves.specs.declared.modes.Mode.{Mode}
+use Rattle.line_world.specs.Machine.{Machine}
+use Rattle.line_moves.specs.Modes.{copies_in}
 use Rattle.line_turns.specs.Tables.{between}
 use Rattle.line_world.specs.Refusals.{refusal_of, has_stranger, IsRefused}
-use Rattle.line_world.specs.Steps.{restored_states, restarted_machine}
-use Rattle.line_world.specs.Openings.{OpenView, opened}
+use Rattle.line_moves.specs.Restarts.{restored_states}
+use Rattle.line_world.specs.Steps.{restarted_machine}
+use Rattle.line_moves.specs.Openings.{OpenView, opened}
 use Rattle.line_world.proofs.PaintLemmas.{ArePainted-restart}
 use Rattle.line_world.proofs.StartLemmas.{none_opened}
-use Rattle.line_world.specs.Worlds.{ArePainted, AreRounds, IsWorld, AreQueues}
+use Rattle.line_moves.specs.Worlds.{ArePainted, AreRounds, IsWorld, AreQueues}
 use Rattle.std.specs.List.{filter}
-use Rattle.line_world.specs.Listed.{Listed, stays}
-use Rattle.line_world.proofs.OpeningLemmas.{AreRounds-restarted}
-use Rattle.line_world.proofs.LineFacts.{IsLine-latest}
+use Rattle.line_moves.specs.Listed.{Listed, stays}
+use Rattle.line_moves.proofs.OpeningLemmas.{AreRounds-restarted}
+use Rattle.line_moves.proofs.LineFacts.{IsLine-latest}
 use Rattle.line_world.proofs.StepLemmas.{may_recover}
-use Rattle.line_world.proofs.WorldLemmas.{IsWorld-restart, seen, seen-restart}
+use Rattle.line_moves.proofs.WorldLemmas.{IsWorld-restart, seen-restart}
+use Rattle.line_world.proofs.SeenLemmas.{seen}
 use Rattle.line_world.proofs.worlds.World.recover.Goals as goal
 
 pub returns-then-not-has_further-clause-refused : goal.returns-then-not-has_further-clause-refused

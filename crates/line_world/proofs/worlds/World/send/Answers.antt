@@ -8,15 +8,16 @@ use Rattle.line_world.specs.declared.steps.Step.TheVariants.{Send}
 use Rattle.line_world.specs.Machine.{Machine}
 use Rattle.line_world.specs.Refusals.{refusal_of}
 use Rattle.line_world.specs.Steps.{Sends}
-use Rattle.line_world.specs.Openings.{OpenView, opened}
-use Rattle.line_world.specs.Worlds.{ArePainted, AreRounds, IsWorld}
-use Rattle.line_world.specs.Listed.{Listed}
-use Rattle.line_world.specs.declared.steps.Mode.{Mode}
+use Rattle.line_moves.specs.Openings.{OpenView, opened}
+use Rattle.line_moves.specs.Worlds.{ArePainted, AreRounds, IsWorld}
+use Rattle.line_moves.specs.Listed.{Listed}
+use Rattle.line_moves.specs.declared.modes.Mode.{Mode}
 use Rattle.line_tape.specs.declared.events.Event.{Event}
-use Rattle.line_world.proofs.OpeningLemmas.{AreRounds-kept, IsOpening-kept, none_listed}
+use Rattle.line_moves.proofs.OpeningLemmas.{AreRounds-kept, IsOpening-kept, none_listed}
 use Rattle.line_world.proofs.PaintLemmas.{ArePainted-send}
 use Rattle.line_world.proofs.StepLemmas.{Takes-refused, may_send}
-use Rattle.line_world.proofs.WorldLemmas.{IsWorld-send, Sends-seen, seen}
+use Rattle.line_moves.proofs.WorldLemmas.{IsWorld-send}
+use Rattle.line_world.proofs.SeenLemmas.{Sends-seen, seen}
 use Rattle.line_world.proofs.worlds.World.send.Goals as goal
 
 pub returns-in-Some-clause-refused : goal.returns-in-Some-clause-refused

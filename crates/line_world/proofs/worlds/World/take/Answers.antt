@@ -7,25 +7,28 @@ use Rattle.line_tape.specs.declared.items.Item.{Item}
 use Rattle.line_tape.specs.declared.items.Item.TheVariants.{Message}
 use Rattle.line_tape.specs.History.{Process, with_event}
 use Rattle.line_tape.specs.Views.{MarksView}
-use Rattle.line_world.specs.declared.fates.Fate.{Fate}
-use Rattle.line_world.specs.declared.fates.Fate.TheVariants.{Taken}
+use Rattle.line_moves.specs.declared.fates.Fate.{Fate}
+use Rattle.line_moves.specs.declared.fates.Fate.TheVariants.{Taken}
 use Rattle.line_world.specs.declared.replies.Answer.TheVariants.{Done}
 use Rattle.line_world.specs.declared.replies.Reply.{Reply}
-use Rattle.line_world.specs.declared.steps.Mode.{Mode}
+use Rattle.line_moves.specs.declared.modes.Mode.{Mode}
 use Rattle.line_world.specs.declared.steps.Step.TheVariants.{Deliver}
-use Rattle.line_world.specs.Fates.{events_of, fate_of, forced_round, reply_of}
-use Rattle.line_world.specs.Listed.{Listed}
-use Rattle.line_world.specs.Machine.{Machine, copies_in, with_step}
+use Rattle.line_moves.specs.Fates.{events_of, fate_of, forced_round}
+use Rattle.line_world.specs.Steps.{reply_of}
+use Rattle.line_moves.specs.Listed.{Listed}
+use Rattle.line_world.specs.Machine.{Machine, with_step}
+use Rattle.line_moves.specs.Modes.{copies_in}
 use Rattle.line_turns.specs.Turning.{TurningView}
-use Rattle.line_world.specs.Openings.{OpenView, opened, IsOpening}
+use Rattle.line_moves.specs.Openings.{OpenView, opened, IsOpening}
 use Rattle.line_world.specs.Refusals.{is_full}
 use Rattle.line_world.specs.Runs.{Takes}
-use Rattle.line_world.specs.Worlds.{ArePainted, AreRounds, IsWorld}
+use Rattle.line_moves.specs.Worlds.{ArePainted, AreRounds, IsWorld}
 use Rattle.line_world.proofs.DeliverLemmas.{copies_off, first_in_order, from_within, picked_at, picked_of, quiet_seen, to_within, Takes-delivered}
-use Rattle.line_world.proofs.OpeningLemmas.{none_listed, AreRounds-kept, AreRounds-renewed}
+use Rattle.line_moves.proofs.OpeningLemmas.{none_listed, AreRounds-kept, AreRounds-renewed}
 use Rattle.line_world.proofs.PaintLemmas.{ArePainted-take}
 use Rattle.line_world.proofs.StepLemmas.{may_deliver}
-use Rattle.line_world.proofs.WorldLemmas.{seen, IsWorld-held, IsWorld-take}
+use Rattle.line_moves.proofs.WorldLemmas.{IsWorld-held, IsWorld-take}
+use Rattle.line_world.proofs.SeenLemmas.{seen}
 use Rattle.line_world.proofs.worlds.World.take.Goals as goal
 
 pub take_message-requires-clause-named : goal.take_message-requires-clause-named

@@ -1,5 +1,5 @@
 -- The process turns to the round of the message, and takes the message then.
-use Rattle.std.proofs.Common.{◌≡◌, ◌<◌, ◌++◌, ℕ, false, List, [], ◌∷◌, length, Option, Some, refl, sym, ap, ◌∙◌, subst, arith}
+use Rattle.std.proofs.Common.{◌≡◌, ◌<◌, ◌++◌, ℕ, false, List, [], ◌∷◌, length, Option, Some, refl, sym, ap, ◌∙◌, subst}
 use Rattle.line_names.specs.declared.messages.MsgName.{MsgName}
 use Rattle.line_tape.specs.declared.events.Event.{Event}
 use Rattle.line_tape.specs.declared.events.Event.TheVariants.{Recv as RecvEvent, Check as CheckEvent}
@@ -11,24 +11,25 @@ use Rattle.line_tape.specs.Rounds.{has_check_of}
 use Rattle.line_tape.specs.Views.{MarksView}
 use Rattle.line_turns.specs.Kept.{Turned, AreTurned}
 use Rattle.line_turns.specs.Turning.{TurningView, IsTurning}
-use Rattle.line_world.specs.declared.fates.Fate.{Fate}
-use Rattle.line_world.specs.declared.fates.Fate.TheVariants.{Taken}
+use Rattle.line_moves.specs.declared.fates.Fate.{Fate}
+use Rattle.line_moves.specs.declared.fates.Fate.TheVariants.{Taken}
 use Rattle.line_world.specs.declared.replies.Answer.TheVariants.{Done}
 use Rattle.line_world.specs.declared.replies.Reply.{Reply}
-use Rattle.line_world.specs.Fates.{events_of, fate_of, forced_round, reply_of}
-use Rattle.line_world.specs.declared.steps.Mode.{Mode}
-use Rattle.line_world.specs.declared.steps.Mode.TheVariants.{Unordered}
+use Rattle.line_moves.specs.Fates.{events_of, fate_of, forced_round}
+use Rattle.line_world.specs.Steps.{reply_of}
+use Rattle.line_moves.specs.declared.modes.Mode.{Mode}
+use Rattle.line_moves.specs.declared.modes.Mode.TheVariants.{Unordered}
 use Rattle.line_world.specs.declared.steps.Step.TheVariants.{Deliver}
-use Rattle.line_world.specs.Listed.{Listed}
-use Rattle.line_world.specs.Machine.{Machine, newly_listed, with_step}
-use Rattle.line_world.specs.Openings.{OpenView, completed_channels, left_open, newly_closed, opened_by, opened_turning, IsOpening}
+use Rattle.line_moves.specs.Listed.{Listed, newly_listed}
+use Rattle.line_world.specs.Machine.{Machine, with_step}
+use Rattle.line_moves.specs.Openings.{OpenView, left_open, newly_closed, opened_by, opened_turning}
 use Rattle.line_world.specs.Refusals.{is_full}
 use Rattle.line_world.specs.Runs.{Takes}
-use Rattle.line_world.specs.Worlds.{ArePainted, AreRounds, IsPainted, IsWorld}
+use Rattle.line_moves.specs.Worlds.{ArePainted, AreRounds, IsPainted, IsWorld}
 use Rattle.line_world.proofs.DeliverLemmas.{from_within, picked_at, picked_of, step_seen, to_within, Takes-delivered}
-use Rattle.line_world.proofs.TurnFacts.{open_is, opened_rounds, turned_rounds}
-use Rattle.line_world.proofs.TurnedFacts.{caught_newly, caught_painted, caught_rounds, caught_world, has_none, held_still, less_than_last, none_is_open, round_is, turned_open}
-use Rattle.line_world.proofs.WorldLemmas.{seen}
+use Rattle.line_moves.proofs.TurnFacts.{open_is, opened_rounds, turned_rounds}
+use Rattle.line_world.proofs.TurnedFacts.{caught_newly, caught_painted, caught_rounds, caught_world, has_none, held_still, less_than_last, none_is_open, round_is}
+use Rattle.line_world.proofs.SeenLemmas.{seen}
 use Rattle.line_world.proofs.worlds.World.take_forced.Goals as goal
 
 pub turn_round-requires-clause-first : goal.turn_round-requires-clause-first

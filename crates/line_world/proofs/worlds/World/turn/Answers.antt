@@ -11,20 +11,20 @@ use Rattle.line_tape.specs.Views.{MarksView}
 use Rattle.line_turns.specs.Kept.{Turned, AreTurned}
 use Rattle.line_turns.specs.Turning.{TurningView, IsTurning}
 use Rattle.line_world.specs.declared.replies.Reply.TheVariants.{Turned as TurnedTo}
-use Rattle.line_world.specs.declared.steps.Mode.{Mode}
-use Rattle.line_world.specs.declared.steps.Mode.TheVariants.{Unordered}
+use Rattle.line_moves.specs.declared.modes.Mode.{Mode}
+use Rattle.line_moves.specs.declared.modes.Mode.TheVariants.{Unordered}
 use Rattle.line_world.specs.declared.steps.Step.TheVariants.{Turn}
-use Rattle.line_world.specs.Listed.{Listed, is_begun, is_completed}
-use Rattle.line_world.specs.Machine.{Machine, newly_listed}
-use Rattle.line_world.specs.Openings.{OpenView, completed_channels, left_open, newly_closed, opened_by, opened_turning, IsOpening}
+use Rattle.line_moves.specs.Listed.{Listed, is_begun, is_completed, newly_listed}
+use Rattle.line_world.specs.Machine.{Machine}
+use Rattle.line_moves.specs.Openings.{OpenView, left_open, newly_closed, opened_by, opened_turning}
 use Rattle.line_world.specs.Refusals.{may_turn, refusal_of}
 use Rattle.line_world.specs.Steps.{Turns}
-use Rattle.line_world.specs.Worlds.{ArePainted, AreRounds, IsPainted, IsWorld}
+use Rattle.line_moves.specs.Worlds.{ArePainted, AreRounds, IsPainted, IsWorld}
 use Rattle.line_world.proofs.DeliverLemmas.{step_seen}
 use Rattle.line_world.proofs.StepLemmas.{may_turn_at, turns_anew}
-use Rattle.line_world.proofs.TurnFacts.{may_turn_none, open_is, opened_rounds, turned_rounds}
-use Rattle.line_world.proofs.TurnedFacts.{less_than_last, turned_newly, turned_open, turned_painted, turned_rounds_are, turned_world}
-use Rattle.line_world.proofs.WorldLemmas.{seen}
+use Rattle.line_moves.proofs.TurnFacts.{may_turn_none, open_is, opened_rounds, turned_rounds}
+use Rattle.line_world.proofs.TurnedFacts.{less_than_last, turned_newly, turned_painted, turned_rounds_are, turned_world}
+use Rattle.line_world.proofs.SeenLemmas.{seen}
 use Rattle.line_world.proofs.worlds.World.turn.Goals as goal
 
 pub turn_round-requires-clause-first : goal.turn_round-requires-clause-first

@@ -1,0 +1,10 @@
+pub mod RoomLemmas
+pub mod LinkLemmas
+pub mod FateLemmas
+pub mod RecordingLemmas
+pub mod OpeningLemmas
+pub mod OpenFacts
+pub mod TurnFacts
+pub mod WorldLemmas
+pub mod AgreeLemmas
+pub mod LineFacts

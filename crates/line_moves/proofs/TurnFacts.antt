@@ -1,0 +1,122 @@
+-- The round of colours that is open in a world, and what a turn does to it.
+use Rattle.std.proofs.Common.{◌≡◌, ◌≢◌, ℕ, ◌<◌, Bool, true, false, cond, List, [], length, map, Option, Some, None, refl, sym, ap, ◌∙◌, subst, arith, inl, inr}
+use Rattle.std.specs.Prelude.{◌==◌, ◌&&◌, ◌↔◌, IsTrue, not}
+use Rattle.std.specs.List.{range_with_len}
+use Rattle.std.proofs.lemmas.Bool.{cases_eq, eq-eqb}
+use Rattle.line_names.specs.declared.choices.Choice.{Choice}
+use Rattle.line_names.specs.declared.messages.MsgName.{MsgName}
+use Rattle.line_tape.specs.declared.events.Event.{Event}
+use Rattle.line_tape.specs.declared.events.Event.TheVariants.{Check}
+use Rattle.line_tape.specs.Colours.{is_completed_unordered}
+use Rattle.line_tape.specs.History.{Process, tape_at, with_event}
+use Rattle.line_tape.specs.Rounds.{has_check_of, checks_of, round_line}
+use Rattle.line_tape.specs.Transit.{in_transit_between}
+use Rattle.line_tape.proofs.CompletionLemmas.{checked_from}
+use Rattle.line_tape.proofs.NextLemmas.{tape_same, tape_other}
+use Rattle.line_tape.proofs.RoundLines.{checked_has}
+use Rattle.line_tape.proofs.RoundTransit.{round_transit}
+use Rattle.line_turns.proofs.ChannelLemmas.{channel-at}
+use Rattle.line_turns.proofs.CompletedLemmas.{line_choice}
+use Rattle.line_turns.proofs.TurningLemmas.{IsTurning-checked}
+use Rattle.line_turns.specs.Channels.{channels_at}
+use Rattle.line_turns.specs.Tables.{between}
+use Rattle.line_turns.specs.Turning.{TurningView, IsLastLine, IsTurning}
+use Rattle.line_moves.specs.declared.modes.Mode.{Mode}
+use Rattle.line_moves.specs.declared.modes.Mode.TheVariants.{Unordered}
+use Rattle.line_moves.specs.Listed.{Listed, channel, channel_table, is_begun, is_completed, listed}
+use Rattle.line_moves.specs.Openings.{OpenView, opened, opened_by, opened_turning, IsOpenTurning}
+use Rattle.line_moves.specs.Worlds.{AreRounds}
+use Rattle.line_moves.proofs.FateLemmas.{same_test}
+use Rattle.line_moves.proofs.LinkLemmas.{length-with_event}
+use Rattle.line_moves.proofs.OpenFacts.{map_cells}
+use Rattle.line_moves.proofs.OpeningLemmas.{is_checked_now, open_told}
+
+-- where links keep no order, the round of colours is the one that is kept as open
+pub turned_rounds : (mode : Mode) (history : List Process) (last : ℕ) (running : Option OpenView) (turning : Option TurningView) (rounds : List Listed) → mode ≡ Unordered
+    → AreRounds mode history last (opened mode running turning) rounds → AreRounds Unordered history last (opened_turning turning) rounds
+turned_rounds mode history last running turning rounds e are = subst (λ (m : Mode). AreRounds m history last (opened m running turning) rounds) e are
+
+pub opened_rounds : (mode : Mode) (history : List Process) (last : ℕ) (running : Option OpenView) (turning : Option TurningView) (rounds : List Listed) → mode ≡ Unordered
+    → AreRounds Unordered history last (opened_turning turning) rounds → AreRounds mode history last (opened mode running turning) rounds
+opened_rounds mode history last running turning rounds e are = subst (λ (m : Mode). AreRounds m history last (opened m running turning) rounds) (sym e) are
+
+-- the last round begun is the one that is kept as open, where one has to be
+pub open_is : (history : List Process) (last : ℕ) (turning : Option TurningView) (rounds : List Listed) → AreRounds Unordered history last (opened_turning turning) rounds
+    → (AreRounds Unordered history last None rounds → ⊥) → IsOpenTurning history last turning
+open_is history last None rounds are some = absurd (some are)
+open_is history last (Some round) rounds are some = record { round = round; is = refl; number_is = are.unfinished.number_is; follows = are.opening.recording }
+
+-- one that stands there is the only one
+pub same_round : (turning : Option TurningView) (a b : TurningView) → turning ≡ Some a → turning ≡ Some b → a ≡ b
+same_round turning a b first second = cc
+
+pub open_round : (history : List Process) (r : ℕ) (turning : Option TurningView) (round : TurningView) → turning ≡ Some round → IsOpenTurning history r turning → (round.number ≡ r) × IsTurning history round
+open_round history r turning round is kept =
+    let same : kept.round ≡ round = same_round turning kept.round round kept.is is in
+    (subst (λ (t : TurningView). t.number ≡ r) same kept.number_is, subst (IsTurning history) same kept.follows)
+
+-- what may be turned to
+module _ (history : List Process) (last : ℕ) (turning : TurningView) (rounds : List Listed) (are : AreRounds Unordered history last (Some (opened_by turning)) rounds) where
+  pub may_turn_some : (p : ℕ) (b : Bool) → b ≡ has_check_of turning.number (tape_at history p)
+      → not b ≡ ((is_begun history last && not (is_completed Unordered history last)) && not (has_check_of last (tape_at history p)))
+  may_turn_some p b e =
+      let open_now = open_told Unordered history last (Some (opened_by turning)) are.opening are.unfinished in
+      ap not (e ∙ ap (λ (r : ℕ). has_check_of r (tape_at history p)) are.unfinished.number_is)
+      ∙ ap (λ v. v && not (has_check_of last (tape_at history p))) open_now
+
+pub may_turn_none : (history : List Process) (last : ℕ) (rounds : List Listed) (are : AreRounds Unordered history last None rounds) → (p : ℕ)
+    → false ≡ ((is_begun history last && not (is_completed Unordered history last)) && not (has_check_of last (tape_at history p)))
+may_turn_none history last rounds are p = ap (λ v. v && not (has_check_of last (tape_at history p))) (open_told Unordered history last None are.opening are.unfinished)
+
+-- the last check of the round that is open
+module _ (history : List Process) (turning : TurningView) (is : IsTurning history turning) (at : ℕ) (state : List ℕ) (within : at < length history) (none : has_check_of turning.number (tape_at history at) ≡ false) where
+  abbrev r : ℕ
+  r = turning.number
+
+  abbrev event : Event
+  event = Check state (Some r)
+
+  abbrev new : List Process
+  new = with_event history at event
+
+  -- it completes the round just where every other process has its own
+  pub turn_completed : (b : Bool) → IsTrue b ↔ ((q : ℕ) → q < length history → q ≢ at → has_check_of r (tape_at history q) ≡ true) → b ≡ is_completed_unordered new r
+  turn_completed b others = same_test b (is_completed_unordered new r)
+      (λ t. checked_from new r (λ q q_within. elim (cases_eq q at) [
+        | inl same ↦ ap (has_check_of r) (tape_same history at event q within same) ∙ is_checked_now r (tape_at history q) event (eq-eqb r r refl)
+        | inr apart ↦ ap (has_check_of r) (tape_other history at event q apart) ∙ others.0 t q (omega (arith, q_within, length-with_event history at event)) apart
+      ]))
+      (λ t. others.1 (λ q q_within apart. ap (has_check_of r) (sym (tape_other history at event q apart)) ∙ checked_has new r q t (omega (arith, q_within, length-with_event history at event))))
+
+  module _ (line : List Choice) (stands : IsLastLine turning at line) (others : (q : ℕ) → q < length history → q ≢ at → has_check_of r (tape_at history q) ≡ true) where
+    -- what is in transit there is what is in transit at the round's line after the last check
+    pub turn_channels : channels_at history line ≡ channels_at new (round_line new r)
+    turn_channels =
+        let n : ℕ = length history in
+        let after : List Choice = round_line new r in
+        map_cells (λ p. map (λ q. in_transit_between history line p q) (range_with_len 0 n)) (λ p. map (λ q. in_transit_between new after p q) (range_with_len 0 n)) 0 n (λ p p_low p_high.
+        map_cells (λ q. in_transit_between history line p q) (λ q. in_transit_between new after p q) 0 n (λ q q_low q_high.
+        sym (round_transit history at state r line within none stands.now (line_choice history turning at line within is stands others) p q (omega (arith, p_high)) (omega (arith, q_high)))))
+        ∙ ap (λ (v : ℕ). map (λ p. map (λ q. in_transit_between new after p q) (range_with_len 0 v)) (range_with_len 0 v)) (sym (length-with_event history at event))
+
+-- the round of colours that is completed, as it is listed
+pub counted_is : (history : List Process) (turning : TurningView) → IsTurning history turning → is_completed_unordered history turning.number ≡ true → (indices : List ℕ) (table : List (List (List MsgName))) (number : ℕ)
+    → indices ≡ turning.checks → number ≡ turning.number → table ≡ channels_at history (round_line history turning.number)
+    → (let round : Listed = record { number = number; checks = indices; channels = channel_table (length indices) (between table) } in round) ≡ listed Unordered history turning.number
+counted_is history turning is completed indices table number indices_are number_is table_is =
+    let n : ℕ = length history in
+    let r : ℕ = turning.number in
+    let line : List Choice = round_line history r in
+    let checks_are : indices ≡ checks_of history r = indices_are ∙ IsTurning-checked history turning is completed in
+    let count : length indices ≡ n = ap (λ (v : List ℕ). length v) indices_are ∙ is.count in
+    let f : ℕ → ℕ → List MsgName = between (channels_at history line) in
+    let g : ℕ → ℕ → List MsgName = channel Unordered history r in
+    let same_channels : channel_table (length indices) (between table) ≡ channel_table n g =
+    ap (λ (v : ℕ). channel_table v (between table)) count
+    ∙ ap (λ (t : List (List (List MsgName))). channel_table n (between t)) table_is
+    ∙ map_cells (λ p. map (λ q. cond (p == q) [] (f p q)) (range_with_len 0 n)) (λ p. map (λ q. cond (p == q) [] (g p q)) (range_with_len 0 n)) 0 n (λ p p_low p_high.
+    map_cells (λ q. cond (p == q) [] (f p q)) (λ q. cond (p == q) [] (g p q)) 0 n (λ q q_low q_high.
+    ap (λ (ms : List MsgName). cond (p == q) [] ms) (channel-at history line p q (omega (arith, p_high)) (omega (arith, q_high))))) in
+    ap (λ (v : ℕ). let l : Listed = record { number = v; checks = indices; channels = channel_table (length indices) (between table) } in l) number_is
+    ∙ ap (λ (v : List ℕ). let l : Listed = record { number = r; checks = v; channels = channel_table (length indices) (between table) } in l) checks_are
+    ∙ ap (λ (v : List (List (List MsgName))). let l : Listed = record { number = r; checks = checks_of history r; channels = v } in l) same_channels

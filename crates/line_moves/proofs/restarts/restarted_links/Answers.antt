@@ -1,0 +1,23 @@
+-- What goes between two processes, of all that is in transit, is in transit between them.
+use Rattle.std.proofs.Common.{◌++◌, Bool, List, filter, map, ap, ◌∙◌}
+use Rattle.line_names.specs.declared.choices.Choice.{Choice}
+use Rattle.line_names.specs.declared.messages.MsgName.{MsgName}
+use Rattle.line_tape.specs.declared.items.Item.{Item}
+use Rattle.line_tape.specs.declared.items.Item.TheVariants.{Message}
+use Rattle.line_tape.specs.History.{Process}
+use Rattle.line_tape.specs.Transit.{goes_between}
+use Rattle.line_tape.proofs.LetterLemmas.{open_are, parts}
+use Rattle.line_turns.specs.Tables.{between}
+use Rattle.line_moves.specs.Modes.{copies_in}
+use Rattle.line_moves.proofs.restarts.restarted_links.Goals as goal
+
+pub returns-clause-put : goal.returns-clause-put
+returns-clause-put c = λ p q p_within q_within.
+    let history : List Process = c.args.history.now.processes in
+    let line : List Choice = c.args._line.now in
+    let goes : MsgName → Bool = goes_between history p q in
+    let kept : List Item = between (copies_in c.args.mode c.args.links.now) p q in
+    c.in_ok-put_messages.ensures.put p q p_within q_within
+    ∙ ap (λ (items : List Item). items ++ map (λ m. Message m) (filter goes c.args.messages.now)) (c.in_ok-new.ensures.kept p q)
+    ∙ ap (λ (ms : List MsgName). kept ++ map (λ m. Message m) (filter goes ms)) c.requires.transit
+    ∙ ap (λ (ms : List MsgName). kept ++ map (λ m. Message m) ms) (parts history line history (open_are history line) p q)

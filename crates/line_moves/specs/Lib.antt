@@ -1,0 +1,9 @@
+pub mod Modes
+pub mod Rooms
+pub mod Queues
+pub mod Listed
+pub mod Openings
+pub mod Moves
+pub mod Fates
+pub mod Restarts
+pub mod Worlds

@@ -1,0 +1,28 @@
+-- The two kinds of links, what they can lead to and what they hold: in order (Chandy and Lamport, ACM TOCS 3(1), 1985), or copies without an order (Lai and Yang, Information Processing Letters 25(3), 1987).
+use Rattle.std.specs.Prelude.{ℕ, Bool, true, false, List, []}
+use Rattle.line_tape.specs.declared.items.Item.{Item}
+use Rattle.line_tape.specs.Fit.{link, IsFitFifo, IsFitUnordered}
+use Rattle.line_tape.specs.History.{Process}
+use Rattle.line_turns.specs.Tables.{between}
+use Rattle.line_moves.specs.declared.modes.Mode.{Mode}
+use Rattle.line_moves.specs.declared.modes.Mode.TheVariants.{Fifo, Unordered}
+
+-- links keep their order
+abbrev pub is_fifo : Mode → Bool
+is_fifo Fifo = true
+is_fifo Unordered = false
+
+-- the history is one that links of the mode can lead to
+abbrev pub IsFitIn : Mode → List Process → Type 0
+IsFitIn Fifo history = IsFitFifo history
+IsFitIn Unordered history = IsFitUnordered history
+
+-- the copies among what the links hold: none in `Fifo`
+abbrev pub copies_in : Mode → List (List (List Item)) → List (List (List Item))
+copies_in Fifo queues = []
+copies_in Unordered queues = queues
+
+-- what the link from process p to q holds, the oldest first: in `Fifo` it is read off the tapes
+abbrev pub items_in : Mode → List Process → List (List (List Item)) → ℕ → ℕ → List Item
+items_in Fifo history copies p q = link history p q
+items_in Unordered history copies p q = between copies p q

@@ -1,0 +1,169 @@
+-- What is kept of the round that is open, and how it follows the tapes.
+use Rattle.std.specs.Option.{unwrap_or}
+use Rattle.std.specs.Prelude.{◌≡◌, ◌≢◌, ℕ, suc, ◌<◌, Bool, true, false, if◌then◌else◌, List, [], ◌∷◌, ◌++◌, length, slice_index_or, Option, Some, None}
+use Rattle.line_marker.specs.Recording.{Channel, MarkerView, Recorded, channel_at, messages_by, round_of}
+use Rattle.line_names.specs.declared.messages.MsgName.{MsgName}
+use Rattle.line_tape.specs.declared.events.Event.{Event}
+use Rattle.line_tape.specs.History.{Process, tape_at}
+use Rattle.line_tape.specs.Colours.{is_completed_unordered}
+use Rattle.line_tape.specs.Rounds.{has_check_of, has_mark_of, channel_on, round_line}
+use Rattle.line_turns.specs.Channels.{channels_at}
+use Rattle.line_turns.specs.Tables.{between, IsTable}
+use Rattle.line_turns.specs.Turning.{TurningView, IsTurning}
+use Rattle.line_moves.specs.declared.modes.Mode.{Mode}
+use Rattle.line_moves.specs.declared.modes.Mode.TheVariants.{Fifo, Unordered}
+use Rattle.line_moves.specs.Listed.{Listed, channel_table, is_begun, is_completed, listed}
+
+-- a round that is open: its number, the check of each process or 0, and what each process has recorded by markers
+pub record OpenView : Type 0 where
+  pub number : ℕ
+  pub checks : List ℕ
+  pub markers : List MarkerView
+
+-- what a process has recorded where there is none
+abbrev pub no_marker : MarkerView
+no_marker = record { n = 0; me = 0; floor = 0; rounds = []; room = 0 }
+
+-- what process q has recorded
+abbrev pub marker_at : List MarkerView → ℕ → MarkerView
+marker_at markers q = slice_index_or markers q no_marker
+
+-- the marker of each of n processes
+pub record AreMarkers (n : ℕ) (markers : List MarkerView) : Type 0 where
+  pub count : length markers ≡ n
+  pub n_is : (q : ℕ) → q < n → (marker_at markers q).n ≡ n
+  pub me_is : (q : ℕ) → q < n → (marker_at markers q).me ≡ q
+
+-- nothing is recorded, and rounds up to the floor are old
+pub record IsFresh (floor : ℕ) (marker : MarkerView) : Type 0 where
+  pub rounds : marker.rounds ≡ []
+  pub floor_is : marker.floor ≡ floor
+
+-- what the markers recorded of the channel from process p to q in round r
+abbrev pub recorded_channel : List MarkerView → ℕ → ℕ → ℕ → List MsgName
+recorded_channel markers r p q = unwrap_or (messages_by (round_of (marker_at markers q).rounds r) p) []
+
+-- and of all channels
+abbrev pub recorded_table : List MarkerView → ℕ → List (List (List MsgName))
+recorded_table markers r = channel_table (length markers) (recorded_channel markers r)
+
+-- what a tape has of the channel from process p in round r
+abbrev pub channel_of : ℕ → ℕ → List Event → Channel
+channel_of p r tape = record { messages = channel_on p r tape; is_closed = has_mark_of p r tape }
+
+-- what process q of n has recorded by its check of round r: its channel from each other process, as its tape has it
+pub record IsRound (n q r : ℕ) (tape : List Event) (rounds : List Recorded) : Type 0 where
+  pub round : Recorded
+  pub alone : rounds ≡ round ∷ []
+  pub number_is : round.number ≡ r
+  pub count : length round.channels ≡ n
+  pub channels : (p : ℕ) → p < n → p ≢ q → channel_at round p ≡ channel_of p r tape
+
+-- it has recorded nothing before its check of the round
+abbrev pub IsRoundOrNone : ℕ → ℕ → ℕ → List Event → Bool → List Recorded → Type 0
+IsRoundOrNone n q r tape true rounds = IsRound n q r tape rounds
+IsRoundOrNone n q r tape false rounds = rounds ≡ []
+
+-- what process q of n has recorded of round r follows its tape; all rounds before are old
+pub record IsMarkerOf (n q r : ℕ) (tape : List Event) (marker : MarkerView) : Type 0 where
+  pub floor_is : marker.floor < r
+  pub recorded : IsRoundOrNone n q r tape (has_check_of r tape) marker.rounds
+
+-- what is kept of the open round beside what was recorded: its number and its checks
+abbrev pub turning_of : OpenView → TurningView
+turning_of round = record { number = round.number; checks = round.checks }
+
+-- what is kept of the open round follows the tapes: its checks, and what each process has recorded
+pub record IsRecording (history : List Process) (round : OpenView) : Type 0 where
+  pub turning : IsTurning history (turning_of round)
+  pub markers : (q : ℕ) → q < length history → IsMarkerOf (length history) q round.number (tape_at history q) (marker_at round.markers q)
+
+-- what is kept of the open round follows the tapes, in each mode: there are markers only on links in order
+abbrev pub IsRecorded : Mode → List Process → OpenView → Type 0
+IsRecorded Fifo history round = IsRecording history round
+IsRecorded Unordered history round = IsTurning history (turning_of round)
+
+-- each round on a tape but one is completed, and what is kept of that one follows the tapes
+pub record IsRunning (mode : Mode) (history : List Process) (round : OpenView) : Type 0 where
+  pub others : (p r : ℕ) → has_check_of r (tape_at history p) ≡ true → r ≢ round.number → is_completed mode history r ≡ true
+  pub recording : IsRecorded mode history round
+
+-- each round on a tape is completed, but for the one that is kept as open
+abbrev pub IsOpening : Mode → List Process → Option OpenView → Type 0
+IsOpening mode history None = (p r : ℕ) → has_check_of r (tape_at history p) ≡ true → is_completed mode history r ≡ true
+IsOpening mode history (Some round) = IsRunning mode history round
+
+-- the round is the last one begun, it stands on a tape, and it isn't completed
+pub record IsUnfinished (mode : Mode) (history : List Process) (last : ℕ) (round : OpenView) : Type 0 where
+  pub number_is : round.number ≡ last
+  pub begun : is_begun history last ≡ true
+  pub unfinished : is_completed mode history last ≡ false
+
+-- the round that is kept as open, if one is, is the last one begun and unfinished
+abbrev pub IsLast : Mode → List Process → ℕ → Option OpenView → Type 0
+IsLast mode history last None = Unit {0}
+IsLast mode history last (Some round) = IsUnfinished mode history last round
+
+-- the number of the round that is kept as open
+abbrev pub open_number : Option OpenView → Option ℕ
+open_number None = None
+open_number (Some round) = Some round.number
+
+-- the least number that no listed round has reached: that of the open round, or else the next one
+abbrev pub first_unlisted : Option OpenView → ℕ → ℕ
+first_unlisted None last = suc last
+first_unlisted (Some round) last = last
+
+-- it is listed if it is completed
+abbrev pub newly_closed : Mode → List Process → Option OpenView → List Listed
+newly_closed mode history None = []
+newly_closed mode history (Some round) = if is_completed mode history round.number then listed mode history round.number ∷ [] else []
+
+-- and else stays open
+abbrev pub left_open : Mode → List Process → Option OpenView → Option OpenView
+left_open mode history None = None
+left_open mode history (Some round) = if is_completed mode history round.number then None else Some round
+
+-- a round of colours as it is kept beside rounds of markers
+abbrev pub opened_by : TurningView → OpenView
+opened_by turning = record { number = turning.number; checks = turning.checks; markers = [] }
+
+-- the round of colours that is kept as open, if one is
+abbrev pub opened_turning : Option TurningView → Option OpenView
+opened_turning None = None
+opened_turning (Some turning) = Some (opened_by turning)
+
+-- round r of colours is kept as open, and its checks follow the tapes
+pub record IsOpenTurning (history : List Process) (r : ℕ) (turning : Option TurningView) : Type 0 where
+  pub round : TurningView
+  pub is : turning ≡ Some round
+  pub number_is : round.number ≡ r
+  pub follows : IsTurning history round
+
+-- round r of colours once a process took its check of it: listed behind those before if it is completed, and else still open
+pub record IsSettled (history : List Process) (r : ℕ) (before : List Listed) (turning : Option TurningView) (rounds : List Listed) : Type 0 where
+  pub round : TurningView
+  pub number_is : round.number ≡ r
+  pub follows : IsTurning history round
+  pub listed : rounds ≡ before ++ newly_closed Unordered history (Some (opened_by round))
+  pub left : opened_turning turning ≡ left_open Unordered history (Some (opened_by round))
+
+-- the round that is kept as open in each mode
+abbrev pub opened : Mode → Option OpenView → Option TurningView → Option OpenView
+opened Fifo running turning = running
+opened Unordered running turning = opened_turning turning
+
+-- the channels of a round that is completed, between n processes: by the markers, or as they were counted
+abbrev pub channels_kept : Option (List (List (List MsgName))) → ℕ → List MarkerView → ℕ → List (List (List MsgName))
+channels_kept None n markers r = recorded_table markers r
+channels_kept (Some table) n markers r = channel_table n (between table)
+
+-- they are there for each two of n processes
+abbrev pub AreChannels : Option (List (List (List MsgName))) → ℕ → List MarkerView → Type 0
+AreChannels None n markers = AreMarkers n markers
+AreChannels (Some table) n markers = IsTable n table
+
+-- what is in transit at the checks of a round of colours, if it is completed
+abbrev pub completed_channels : List Process → TurningView → Option (List (List (List MsgName)))
+completed_channels history turning =
+    if is_completed_unordered history turning.number then Some (channels_at history (round_line history turning.number)) else None

@@ -1,0 +1,22 @@
+//! What each kind of step does to the tapes, the links and the rounds: the lower half of the core machine.
+//!
+//! A move is done on its own parts: a catalogue of the tapes, the `Links`, the round of markers or of colours that is open, and the listed ones. It takes all the memory that it wants before it changes a tape, and what it leaves are again the tapes, links and rounds of a machine. What refuses a step, and what it is told, is asked above.
+#![tactic(auto)]
+
+mod fates;
+mod links;
+mod modes;
+mod moves;
+mod restarts;
+mod restores;
+mod rounds;
+
+pub use fates::{Fate, fate_of};
+pub use links::Links;
+pub use modes::Mode;
+pub use moves::{
+    add_check, add_receipt, begin_round, put_message, take_marker, take_message, turn_round,
+};
+pub use restarts::restarted_links;
+pub use restores::{restarted_incarnations, restored_states};
+pub use rounds::{OpenRound, Round, is_forced, keep_rounds, still_open};

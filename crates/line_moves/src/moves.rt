@@ -1,0 +1,421 @@
+//! What each kind of step does to the tapes and the queues.
+ghost use Rattle.std.specs.Prelude.{◌≡◌, ◌≢◌, ◌<◌, ◌≤◌, ◌+◌, ◌++◌, ℕ, ◌∷◌, [], length, true, false, slice_get, slice_index_or, IfOk, OnOk, OnErr, Option, Some, None};
+ghost use Rattle.line_tape.specs.declared.events.Event.TheVariants.{Send as SendEvent, Recv as RecvEvent, Check as CheckEvent, Mark as MarkEvent};
+ghost use Rattle.line_tape.specs.declared.items.Item.TheVariants.{Message, Marker};
+ghost use Rattle.line_tape.specs.Event.{NamesBelow, HasLongState, Holds};
+ghost use Rattle.line_tape.specs.History.{tape_at, incarnation_at, with_event};
+ghost use Rattle.line_tape.specs.Spent.{next_name};
+ghost use Rattle.line_catalogue.specs.Agreement.{AgreesNext};
+ghost use Rattle.line_catalogue.specs.Views.{room_at};
+ghost use Rattle.line_tape.specs.Colours.{colour};
+ghost use Rattle.line_tape.specs.Rounds.{has_check_of};
+ghost use Rattle.line_turns.specs.Kept.{AreTurned};
+ghost use Rattle.line_turns.specs.Turning.{TurningView, IsTurning};
+ghost use Rattle.line_moves.specs.declared.modes.Mode.TheVariants.{Fifo};
+ghost use Rattle.line_moves.specs.Fates.{is_forced, marker_events};
+ghost use Rattle.line_moves.specs.Moves.{with_events, next_check};
+ghost use Rattle.line_moves.specs.Openings.{completed_channels, open_number, opened, IsOpening, IsOpenTurning, IsRecording, IsSettled};
+ghost use Rattle.line_moves.specs.Queues.{taken_off};
+ghost use Rattle.line_turns.specs.Tables.{between, with_list, IsTable};
+ghost use Rattle.line_moves.specs.Worlds.{IsWorld};
+
+use crate::links::Links;
+use crate::modes::Mode;
+use crate::rounds::{OpenRound, Round, hear, note, still_turning};
+use line_catalogue::Catalogue;
+use line_names::{Body, MsgName, ProcId};
+use line_tape::{Event, History, Item, LAST_ROUND, MOST_EVENTS, MOST_STATE, State};
+use line_turns::{Channels, Colours, Turning};
+use std::alloc::{AllocError, Global};
+
+/// Adds an event to a tape that has room for it.
+fn add_event(catalogue: &mut Catalogue, p: ProcId, event: Event)
+    requires process { p < length catalogue.old.processes }
+    requires named { NamesBelow (length catalogue.old.processes) event }
+    requires short { HasLongState event → ⊥ }
+    requires few { length (tape_at catalogue.old.processes p) < MOST_EVENTS }
+    requires agrees { AgreesNext catalogue.old.processes p event }
+    requires room { 0 < room_at catalogue.old p }
+    ensures processes { catalogue.new.processes ≡ with_event catalogue.old.processes p event }
+    ensures marks { catalogue.new.marks ≡ catalogue.old.marks }
+    ensures spent { room_at catalogue.old p ≤ room_at catalogue.new p + 1 }
+{
+    catalogue.add(p, event).unwrap();
+}
+
+/// Sends a message: the event on the sender's tape, and the item on the link.
+pub fn put_message(
+    catalogue: &mut Catalogue,
+    links: &mut Links,
+    from: ProcId,
+    to: ProcId,
+    body: &Body,
+) -> Result<MsgName, AllocError>
+    requires shape { IsTable (length catalogue.old.processes) links.old }
+    requires from { from < length catalogue.old.processes }
+    requires to { to < length catalogue.old.processes }
+    requires few { length (tape_at catalogue.old.processes from) < MOST_EVENTS }
+    ensures name { IfOk result (λ message. message ≡ next_name catalogue.old.processes from) }
+    ensures sent { OnOk result (catalogue.new.processes
+        ≡ with_event catalogue.old.processes from (SendEvent to (incarnation_at catalogue.old.processes from) body.now)) }
+    ensures put { OnOk result (links.new
+        ≡ with_list links.old from to (between links.old from to ++ Message (next_name catalogue.old.processes from) ∷ [])) }
+    ensures err { OnErr result (catalogue.new.processes ≡ catalogue.old.processes) }
+    ensures marks { catalogue.new.marks ≡ catalogue.old.marks }
+    ensures kept { OnErr result (links.new ≡ links.old) }
+{
+    catalogue.reserve(from, 1)?;
+    let inc = catalogue.history().incarnation(from);
+    let number = catalogue.history().tape(from).sends();
+    links.push(from, to, Item::Message(MsgName { from, inc, number }))?;
+    let body = body.copy();
+    add_event(catalogue, from, Event::Send { to, inc, body });
+    Ok(MsgName { from, inc, number })
+}
+
+/// The event that receives a message.
+fn receipt(message: &MsgName) -> Event
+    ensures { result ≡ RecvEvent message.now }
+{
+    Event::Recv { message: *message }
+}
+
+/// Takes the first item off a link that keeps its order. A copy stays.
+fn take_off(mode: Mode, links: &mut Links, from: ProcId, to: ProcId)
+    requires from { from < length links.old }
+    requires to { to < length (slice_index_or links.old from []) }
+    ensures { links.new ≡ taken_off mode links.old from to }
+{
+    match mode {
+        Mode::Fifo => links.drop_first(from, to),
+        Mode::Unordered => {}
+    }
+}
+
+/// Has the open round note a message, where there are markers.
+fn note_message(
+    mode: Mode,
+    running: &mut Option<OpenRound>,
+    history: &History,
+    to: ProcId,
+    message: &MsgName,
+) -> Result<(), AllocError>
+    requires from { message.now.from < length history.now.processes }
+    requires to { to < length history.now.processes }
+    requires other { message.now.from ≢ to }
+    requires opening { mode ≡ Fifo → IsOpening Fifo history.now.processes running.old }
+    ensures number { (turning : Option TurningView) → open_number (opened mode running.new turning) ≡ open_number (opened mode running.old turning) }
+    ensures ok { OnOk result ((turning : Option TurningView) → IsOpening mode history.now.processes (opened mode running.old turning)
+        → IsOpening mode (with_event history.now.processes to (RecvEvent message.now)) (opened mode running.new turning)) }
+    ensures err { OnErr result ((turning : Option TurningView) → IsOpening mode history.now.processes (opened mode running.old turning)
+        → IsOpening mode history.now.processes (opened mode running.new turning)) }
+{
+    match mode {
+        Mode::Fifo => note(running, history, to, message),
+        Mode::Unordered => Ok(()),
+    }
+}
+
+/// Takes a message: the event on the receiver's tape, the item off the link where it keeps its order, and a note of it for the open round.
+pub fn take_message(
+    mode: Mode,
+    catalogue: &mut Catalogue,
+    links: &mut Links,
+    running: &mut Option<OpenRound>,
+    from: ProcId,
+    to: ProcId,
+    message: &MsgName,
+) -> Result<(), AllocError>
+    requires shape { IsTable (length catalogue.old.processes) links.old }
+    requires from { from < length catalogue.old.processes }
+    requires to { to < length catalogue.old.processes }
+    requires other { from ≢ to }
+    requires named { message.now.from ≡ from }
+    requires held { Holds (tape_at catalogue.old.processes message.now.from) message.now.inc message.now.number }
+    requires few { length (tape_at catalogue.old.processes to) < MOST_EVENTS }
+    requires opening { mode ≡ Fifo → IsOpening Fifo catalogue.old.processes running.old }
+    ensures taken { OnOk result (catalogue.new.processes ≡ with_event catalogue.old.processes to (RecvEvent message.now)) }
+    ensures off { OnOk result (links.new ≡ taken_off mode links.old from to) }
+    ensures err { OnErr result (catalogue.new.processes ≡ catalogue.old.processes) }
+    ensures marks { catalogue.new.marks ≡ catalogue.old.marks }
+    ensures kept { OnErr result (links.new ≡ links.old) }
+    ensures opening { (turning : Option TurningView) → IsOpening mode catalogue.old.processes (opened mode running.old turning)
+        → IsOpening mode catalogue.new.processes (opened mode running.new turning) }
+    ensures number { (turning : Option TurningView) → open_number (opened mode running.new turning) ≡ open_number (opened mode running.old turning) }
+{
+    catalogue.reserve(to, 1)?;
+    note_message(mode, running, catalogue.history(), to, message)?;
+    take_off(mode, links, from, to);
+    add_receipt(catalogue, to, message);
+    Ok(())
+}
+
+/// Begins the round after the last one: the check on the tape of a process, and a marker on each link from it to another.
+pub fn begin_round(
+    alloc: Global,
+    catalogue: &mut Catalogue,
+    links: &mut Links,
+    at: ProcId,
+    state: &State,
+    last: u32,
+) -> Result<(OpenRound, u32), AllocError>
+    requires at { at < length catalogue.old.processes }
+    requires short { length state.now ≤ MOST_STATE }
+    requires few { length (tape_at catalogue.old.processes at) < MOST_EVENTS }
+    requires numbers { last < LAST_ROUND }
+    requires fresh { (q : ℕ) → has_check_of (last + 1) (tape_at catalogue.old.processes q) ≡ false }
+    requires world { IsWorld Fifo catalogue.old.processes links.old }
+    ensures check { IfOk result (λ begun. begun.1 ≡ next_check catalogue.old.processes at) }
+    ensures number { IfOk result (λ begun. begun.0.number ≡ last + 1) }
+    ensures recording { IfOk result (λ begun. IsRecording catalogue.new.processes begun.0) }
+    ensures checked { OnOk result (catalogue.new.processes ≡ with_event catalogue.old.processes at (CheckEvent state.now (Some (last + 1)))) }
+    ensures world { OnOk result (IsWorld Fifo catalogue.new.processes links.new) }
+    ensures err { OnErr result (catalogue.new.processes ≡ catalogue.old.processes) }
+    ensures marks { catalogue.new.marks ≡ catalogue.old.marks }
+    ensures kept { OnErr result (links.new ≡ links.old) }
+{
+    let state = state.copy(alloc)?;
+    catalogue.reserve(at, 1)?;
+    let mut running = OpenRound::new(alloc, catalogue.history(), last)?;
+    running.reserve(at)?;
+    links.push_each(at, Item::Marker(last + 1))?;
+    let check = catalogue.history().tape(at).checks() + 1;
+    running.begin(catalogue.history(), at);
+    let round = Some(last + 1);
+    add_event(catalogue, at, Event::Check { state, round });
+    Ok((running, check))
+}
+
+/// The marker of the open round has a process take its check: the check and the mark on its tape, a marker on each link from it to another, and the marker that came off its link.
+fn force_round(
+    alloc: Global,
+    catalogue: &mut Catalogue,
+    links: &mut Links,
+    running: &mut OpenRound,
+    from: ProcId,
+    to: ProcId,
+    state: &State,
+) -> Result<(), AllocError>
+    requires from { from < length catalogue.old.processes }
+    requires to { to < length catalogue.old.processes }
+    requires other { from ≢ to }
+    requires short { length state.now ≤ MOST_STATE }
+    requires few { length (tape_at catalogue.old.processes to) + 1 < MOST_EVENTS }
+    requires first { has_check_of running.old.number (tape_at catalogue.old.processes to) ≡ false }
+    requires marker { slice_get (between links.old from to) 0 ≡ Some (Marker running.old.number) }
+    requires world { IsWorld Fifo catalogue.old.processes links.old }
+    requires recording { IsRecording catalogue.old.processes running.old }
+    ensures taken { OnOk result (catalogue.new.processes
+        ≡ with_events catalogue.old.processes to (CheckEvent state.now (Some running.old.number) ∷ MarkEvent from running.old.number ∷ [])) }
+    ensures world { IsWorld Fifo catalogue.new.processes links.new }
+    ensures recording { IsRecording catalogue.new.processes running.new }
+    ensures number { running.new.number ≡ running.old.number }
+    ensures err { OnErr result (catalogue.new.processes ≡ catalogue.old.processes) }
+    ensures marks { catalogue.new.marks ≡ catalogue.old.marks }
+{
+    let number = running.number();
+    let state = state.copy(alloc)?;
+    catalogue.reserve(to, 2)?;
+    running.reserve(to)?;
+    links.push_each(to, Item::Marker(number))?;
+    links.drop_first(from, to);
+    running.force(catalogue.history(), from, to);
+    let round = Some(number);
+    add_event(catalogue, to, Event::Check { state, round });
+    let round = number;
+    add_event(catalogue, to, Event::Mark { from, round });
+    Ok(())
+}
+
+/// The marker of a round has come to a process that has its check of it: the mark on its tape, and the marker off its link.
+fn hear_round(
+    catalogue: &mut Catalogue,
+    links: &mut Links,
+    running: &mut Option<OpenRound>,
+    from: ProcId,
+    to: ProcId,
+    round: u32,
+) -> Result<(), AllocError>
+    requires from { from < length catalogue.old.processes }
+    requires to { to < length catalogue.old.processes }
+    requires other { from ≢ to }
+    requires few { length (tape_at catalogue.old.processes to) < MOST_EVENTS }
+    requires begun { has_check_of round (tape_at catalogue.old.processes to) ≡ true }
+    requires marker { slice_get (between links.old from to) 0 ≡ Some (Marker round) }
+    requires world { IsWorld Fifo catalogue.old.processes links.old }
+    requires opening { IsOpening Fifo catalogue.old.processes running.old }
+    ensures taken { OnOk result (catalogue.new.processes ≡ with_event catalogue.old.processes to (MarkEvent from round)) }
+    ensures world { IsWorld Fifo catalogue.new.processes links.new }
+    ensures opening { IsOpening Fifo catalogue.new.processes running.new }
+    ensures number { open_number running.new ≡ open_number running.old }
+    ensures err { OnErr result (catalogue.new.processes ≡ catalogue.old.processes) }
+    ensures marks { catalogue.new.marks ≡ catalogue.old.marks }
+{
+    catalogue.reserve(to, 1)?;
+    hear(running, catalogue.history(), from, to, round)?;
+    links.drop_first(from, to);
+    add_event(catalogue, to, Event::Mark { from, round });
+    Ok(())
+}
+
+/// Takes the marker that is first on a link.
+pub fn take_marker(
+    alloc: Global,
+    catalogue: &mut Catalogue,
+    links: &mut Links,
+    running: &mut Option<OpenRound>,
+    from: ProcId,
+    to: ProcId,
+    round: u32,
+    state: &State,
+    forced: bool,
+) -> Result<(), AllocError>
+    requires from { from < length catalogue.old.processes }
+    requires to { to < length catalogue.old.processes }
+    requires other { from ≢ to }
+    requires short { length state.now ≤ MOST_STATE }
+    requires forced { forced ≡ is_forced catalogue.old.processes to round }
+    requires few { length (tape_at catalogue.old.processes to) + length (marker_events (is_forced catalogue.old.processes to round) from state.now round) ≤ MOST_EVENTS }
+    requires marker { slice_get (between links.old from to) 0 ≡ Some (Marker round) }
+    requires world { IsWorld Fifo catalogue.old.processes links.old }
+    requires opening { IsOpening Fifo catalogue.old.processes running.old }
+    ensures taken { OnOk result (catalogue.new.processes
+        ≡ with_events catalogue.old.processes to (marker_events (is_forced catalogue.old.processes to round) from state.now round)) }
+    ensures world { IsWorld Fifo catalogue.new.processes links.new }
+    ensures opening { IsOpening Fifo catalogue.new.processes running.new }
+    ensures number { open_number running.new ≡ open_number running.old }
+    ensures err { OnErr result (catalogue.new.processes ≡ catalogue.old.processes) }
+    ensures marks { catalogue.new.marks ≡ catalogue.old.marks }
+{
+    if forced {
+        match running {
+            Some(kept) => force_round(alloc, catalogue, links, kept, from, to, state),
+            None => unreachable!(),
+        }
+    } else {
+        hear_round(catalogue, links, running, from, to, round)
+    }
+}
+
+/// A process takes its check of the round of colours that is open: the check on its tape, its new colour, and what is in transit at the round's checks if this was the last of them. There is room for some further events of the process then.
+fn take_turn(
+    alloc: Global,
+    catalogue: &mut Catalogue,
+    colours: &mut Colours,
+    turning: &mut Turning,
+    at: ProcId,
+    state: &State,
+    further: u32,
+) -> Result<(u32, Option<Channels>), AllocError>
+    requires at { at < length catalogue.old.processes }
+    requires short { length state.now ≤ MOST_STATE }
+    requires few { length (tape_at catalogue.old.processes at) < MOST_EVENTS }
+    requires further { further ≤ 1 }
+    requires first { has_check_of turning.old.number (tape_at catalogue.old.processes at) ≡ false }
+    requires greater { colour (tape_at catalogue.old.processes at) < turning.old.number }
+    requires turned { AreTurned catalogue.old.processes colours.old }
+    requires turning { IsTurning catalogue.old.processes turning.old }
+    ensures check { IfOk result (λ turned. turned.0 ≡ next_check catalogue.old.processes at) }
+    ensures channels { IfOk result (λ turned. turned.1 ≡ completed_channels catalogue.new.processes turning.new) }
+    ensures checked { OnOk result (catalogue.new.processes ≡ with_event catalogue.old.processes at (CheckEvent state.now (Some turning.old.number))) }
+    ensures turned { OnOk result (AreTurned catalogue.new.processes colours.new) }
+    ensures turning { OnOk result (IsTurning catalogue.new.processes turning.new) }
+    ensures number { turning.new.number ≡ turning.old.number }
+    ensures room { OnOk result (further ≤ room_at catalogue.new at) }
+    ensures err { OnErr result (catalogue.new.processes ≡ catalogue.old.processes) }
+    ensures marks { catalogue.new.marks ≡ catalogue.old.marks }
+    ensures colours { OnErr result (colours.new ≡ colours.old) }
+    ensures kept { OnErr result (turning.new ≡ turning.old) }
+{
+    let state = state.copy(alloc)?;
+    catalogue.reserve(at, 1 + further)?;
+    let channels = if turning.is_last(at) {
+        let line = turning.line(at);
+        Some(Channels::at(alloc, catalogue.history(), &line)?)
+    } else {
+        None
+    };
+    let tape = catalogue.history().tape(at);
+    let check = tape.checks() + 1;
+    let sends = tape.sends();
+    let number = turning.number();
+    colours.turn(at, number, sends)?;
+    turning.check(at, check);
+    let round = Some(number);
+    add_event(catalogue, at, Event::Check { state, round });
+    Ok((check, channels))
+}
+
+/// A process takes its check of the round of colours that is open, which is listed if this was the last of its checks. There is room for some further events of the process then.
+///
+/// The last check of a round looks once at each event before the round's checks.
+pub fn turn_round(
+    alloc: Global,
+    catalogue: &mut Catalogue,
+    colours: &mut Colours,
+    turning: &mut Option<Turning>,
+    rounds: &mut Vec<Round>,
+    at: ProcId,
+    state: &State,
+    _round: u32,
+    further: u32,
+) -> Result<u32, AllocError>
+    requires at { at < length catalogue.old.processes }
+    requires short { length state.now ≤ MOST_STATE }
+    requires few { length (tape_at catalogue.old.processes at) < MOST_EVENTS }
+    requires further { further ≤ 1 }
+    requires first { has_check_of _round (tape_at catalogue.old.processes at) ≡ false }
+    requires greater { colour (tape_at catalogue.old.processes at) < _round }
+    requires turned { AreTurned catalogue.old.processes colours.old }
+    requires kept { IsOpenTurning catalogue.old.processes _round turning.old }
+    ensures check { IfOk result (λ check. check ≡ next_check catalogue.old.processes at) }
+    ensures checked { OnOk result (catalogue.new.processes ≡ with_event catalogue.old.processes at (CheckEvent state.now (Some _round))) }
+    ensures turned { OnOk result (AreTurned catalogue.new.processes colours.new) }
+    ensures settled { OnOk result (IsSettled catalogue.new.processes _round rounds.old.items turning.new rounds.new.items) }
+    ensures room { OnOk result (further ≤ room_at catalogue.new at) }
+    ensures err { OnErr result (catalogue.new.processes ≡ catalogue.old.processes) }
+    ensures marks { catalogue.new.marks ≡ catalogue.old.marks }
+    ensures colours { OnErr result (colours.new ≡ colours.old) }
+    ensures kept { OnErr result (turning.new ≡ turning.old) }
+    ensures unlisted { OnErr result (rounds.new.items ≡ rounds.old.items) }
+{
+    rounds.reserve(1)?;
+    let (check, channels) = match turning {
+        Some(round) => take_turn(alloc, catalogue, colours, round, at, state, further)?,
+        None => unreachable!(),
+    };
+    if let Some(round) = turning.take() {
+        *turning = still_turning(alloc, round, channels, catalogue.history(), rounds);
+    }
+    Ok(check)
+}
+
+/// Adds the receipt of a message to a tape that has room for it.
+pub fn add_receipt(catalogue: &mut Catalogue, to: ProcId, message: &MsgName)
+    requires to { to < length catalogue.old.processes }
+    requires from { message.now.from < length catalogue.old.processes }
+    requires held { Holds (tape_at catalogue.old.processes message.now.from) message.now.inc message.now.number }
+    requires few { length (tape_at catalogue.old.processes to) < MOST_EVENTS }
+    requires room { 0 < room_at catalogue.old to }
+    ensures taken { catalogue.new.processes ≡ with_event catalogue.old.processes to (RecvEvent message.now) }
+    ensures marks { catalogue.new.marks ≡ catalogue.old.marks }
+{
+    let _history = catalogue.history();
+    add_event(catalogue, to, receipt(message));
+}
+
+/// Adds a check without a round, and tells its index. No link changes.
+pub fn add_check(catalogue: &mut Catalogue, at: ProcId, state: State) -> Result<u32, AllocError>
+    requires at { at < length catalogue.old.processes }
+    requires short { length state ≤ MOST_STATE }
+    requires few { length (tape_at catalogue.old.processes at) < MOST_EVENTS }
+    ensures check { IfOk result (λ check. check ≡ next_check catalogue.old.processes at) }
+    ensures checked { OnOk result (catalogue.new.processes ≡ with_event catalogue.old.processes at (CheckEvent state None)) }
+    ensures err { OnErr result (catalogue.new.processes ≡ catalogue.old.processes) }
+    ensures marks { catalogue.new.marks ≡ catalogue.old.marks }
+{
+    catalogue.reserve(at, 1)?;
+    let check = catalogue.history().tape(at).checks() + 1;
+    add_event(catalogue, at, Event::Check { state, round: None });
+    Ok(check)
+}

@@ -1,0 +1,83 @@
+//! What a restart at a line tells.
+ghost use Rattle.std.specs.Prelude.{◌≡◌, ◌<◌, length, map, IfOk};
+ghost use Rattle.line_tape.specs.History.{Process, process_at, tape_at, incarnation_at};
+ghost use Rattle.line_tape.specs.Line.{IsLine};
+ghost use Rattle.line_tape.specs.Restart.{restarted, restarted_incarnation, HasFurther, HaveFurther};
+ghost use Rattle.line_names.specs.Lines.{choice_at};
+ghost use Rattle.line_moves.specs.Restarts.{restored, restored_states};
+
+use line_names::{Choice, Line, ProcId};
+use line_tape::{History, State};
+use std::alloc::{AllocError, Global};
+
+/// The bytes that a process goes on from at its choice of a line.
+fn restored(
+    alloc: Global,
+    history: &History,
+    line: &Line,
+    p: ProcId,
+) -> Result<Option<State>, AllocError>
+    requires process { p < length history.now.processes }
+    requires line { IsLine history.now.processes line.now }
+    ensures { IfOk result (λ state. state ≡ restored (tape_at history.now.processes p) (choice_at line.now p)) }
+{
+    match line.at(p) {
+        Choice::Check(check) => {
+            let bytes = Vec::from_slice(alloc, history.tape(p).state(check))?;
+            Ok(Some(State::of(bytes)))
+        }
+        Choice::Now => Ok(None),
+    }
+}
+
+/// The bytes that each process goes on from.
+pub fn restored_states(
+    alloc: Global,
+    history: &History,
+    line: &Line,
+) -> Result<Vec<Option<State>>, AllocError>
+    requires { IsLine history.now.processes line.now }
+    ensures { IfOk result (λ states. states.items ≡ restored_states history.now.processes line.now) }
+{
+    let n = history.n();
+    let mut states = Vec::with_capacity(alloc, n as usize)?;
+    for q in 0..n {
+        let p = ProcId::try_new(q, n).unwrap();
+        let state = restored(alloc, history, line, p)?;
+        states.push(state)?;
+    }
+    Ok(states)
+}
+
+/// The incarnation of a process after a restart at a line.
+fn restarted_incarnation(history: &History, line: &Line, p: ProcId) -> u16
+    requires process { p < length history.now.processes }
+    requires further { HasFurther (process_at history.now.processes p) (choice_at line.now p) }
+    ensures { result ≡ restarted_incarnation (choice_at line.now p) (incarnation_at history.now.processes p) }
+{
+    let inc = history.incarnation(p);
+    match line.at(p) {
+        Choice::Check(_) => inc + 1,
+        Choice::Now => inc,
+    }
+}
+
+/// The incarnation of each process after a restart at a line.
+pub fn restarted_incarnations(
+    alloc: Global,
+    history: &History,
+    line: &Line,
+) -> Result<Vec<u16>, AllocError>
+    requires line { length line.now ≡ length history.now.processes }
+    requires further { HaveFurther history.now.processes line.now }
+    ensures { IfOk result (λ incarnations. incarnations.items
+        ≡ map (λ (process : Process). process.incarnation) (restarted history.now.processes line.now)) }
+{
+    let n = history.n();
+    let mut incarnations = Vec::with_capacity(alloc, n as usize)?;
+    for q in 0..n {
+        let p = ProcId::try_new(q, n).unwrap();
+        incarnations.push(restarted_incarnation(history, line, p))?;
+    }
+    Ok(incarnations)
+}

@@ -1,7 +1,0 @@
-use Rattle.line_tape.specs.declared.items.Item.TheVariants.{Message}
-use Rattle.line_turns.proofs.ChannelLemmas.{ArePut}
-use Rattle.line_world.specs.Worlds.{AreQueues}
-use Rattle.line_world.proofs.restarts.put_messages.Given as goal
-
-abbrev pub invariant-loop-message : goal.invariant-loop-message
-invariant-loop-message l = AreQueues l.history.processes l.links × ArePut (λ m. Message m) l.history.processes l.fn.links l.messages l.message-index l.links
