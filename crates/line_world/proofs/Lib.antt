@@ -6,4 +6,5 @@ pub mod DeliverLemmas
 pub mod NameFacts
 pub mod PaintLemmas
 pub mod TurnedFacts
+pub mod KnownFacts
 pub mod RunLemmas
