@@ -15,17 +15,17 @@ use Rattle.line_plan.specs.declared.plans.Plan.{Plan}
 use Rattle.line_world.specs.Refusals.{has_stranger}
 use Rattle.line_world.specs.Steps.{IsPlan}
 use Rattle.line_world.specs.Machine.{Machine}
-use Rattle.line_text.specs.declared.commands.Command.{Command}
-use Rattle.line_text.specs.declared.commands.Command.TheVariants as commands
+use Rattle.line_scripts.specs.declared.commands.Command.{Command}
+use Rattle.line_scripts.specs.declared.commands.Command.TheVariants as commands
 use Rattle.line_world.specs.declared.steps.Step.{Step}
 use Rattle.line_world.specs.declared.replies.Reply.{Reply}
 use Rattle.line_world.specs.declared.replies.StepError.{StepError}
 use Rattle.line_world.specs.declared.replies.Answer.TheVariants as answers
 use Rattle.line_world.specs.Runs.{Takes}
-use Rattle.line_text.specs.Replies.{refusal_code, reply_records, refused as refused_record}
-use Rattle.line_text.specs.Rounds.{rounds_records}
+use Rattle.line_replies.specs.Replies.{refusal_code, reply_records, refused as refused_record}
+use Rattle.line_replies.specs.Rounds.{rounds_records}
 use Rattle.line_text.specs.Runs.{Told, Answered, Refused, Listing, Shown, Claimed, IsClaimFor, told_records, is_refused, Tells, TellsAll, text_of, refusals, IsRunTo, PutsButEnd, Runs, RunsFront, RunsText, RunsTextFront, StopsAt, StopsText, Writes, WritesFront, first_of}
-use Rattle.line_text.specs.Scripts.{Script, script_of_text}
+use Rattle.line_scripts.specs.Scripts.{Script, script_of_text}
 use Rattle.line_devices.proofs.PutLemmas.{puts_both, front_then}
 use Rattle.line_claims.proofs.PartLemmas.{one_record}
 use Rattle.std.proofs.Math.Seq.{take-add}

@@ -16,14 +16,14 @@ use Rattle.line_tape.specs.History.{Process}
 use Rattle.line_world.specs.Refusals.{has_stranger}
 use Rattle.line_world.specs.Runs.{Takes}
 use Rattle.line_world.specs.Steps.{IsPlan}
-use Rattle.line_text.specs.declared.commands.Command.{Command}
-use Rattle.line_text.specs.declared.commands.Command.TheVariants as commands
+use Rattle.line_scripts.specs.declared.commands.Command.{Command}
+use Rattle.line_scripts.specs.declared.commands.Command.TheVariants as commands
 use Rattle.line_text.specs.declared.engines.Stop.{Stop}
 use Rattle.line_text.specs.declared.engines.Stop.TheVariants as stops
 use Rattle.line_world.specs.declared.replies.Answer.{Answer}
-use Rattle.line_text.specs.Replies.{answer_records, refused}
-use Rattle.line_text.specs.Rounds.{rounds_records}
-use Rattle.line_text.specs.Scripts.{Script, script_of_text}
+use Rattle.line_replies.specs.Replies.{answer_records, refused}
+use Rattle.line_replies.specs.Rounds.{rounds_records}
+use Rattle.line_scripts.specs.Scripts.{Script, script_of_text}
 
 -- what a command is told: the machine's answer, the number of its refusal before any step, rounds among so many processes, a history, or a history with a claim on it
 pub data Told : Type 0 where

@@ -1,5 +1,5 @@
 -- Each listed round has a check of each process.
-use Rattle.line_text.proofs.RoundLemmas.{rounds_long}
+use Rattle.line_replies.proofs.RoundLemmas.{rounds_long}
 use Rattle.line_text.proofs.engines.list_rounds.Goals as goal
 
 pub put_rounds-requires-clause-checks : goal.put_rounds-requires-clause-checks

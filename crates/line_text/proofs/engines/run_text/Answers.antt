@@ -1,6 +1,6 @@
 -- What is told of the commands of a script is told of the text that spells it.
 use Rattle.std.proofs.Common.{inr, sym, ap, ◌∙◌}
-use Rattle.line_text.specs.Scripts.{script_of_text}
+use Rattle.line_scripts.specs.Scripts.{script_of_text}
 use Rattle.line_text.proofs.RunLemmas.{front_of_text, runs_text, stops_text}
 use Rattle.line_text.proofs.engines.run_text.Goals as goal
 

@@ -1,0 +1,8 @@
+//! Replies: the records that are written for what the machine answers, and for rounds that were completed.
+#![tactic(auto)]
+
+mod replies;
+mod rounds;
+
+pub use replies::{put_answer, put_refusal, put_reply, refusal_code, write_reply};
+pub use rounds::put_rounds;

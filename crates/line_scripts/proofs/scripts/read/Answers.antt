@@ -1,0 +1,51 @@
+use Rattle.std.proofs.Common.{◌∙◌, ◌∷◌, [], sym, ap, length, length-append, arith}
+use Rattle.std.proofs.lemmas.Result.{err_from_is_err_and}
+use Rattle.line_scripts.proofs.ReadLemmas.{not_plain, no_records, started, not_started, ended_at, read_more, stopped}
+use Rattle.line_scripts.proofs.scripts.read.Goals as goal
+
+pub returns-then-not-is_plain-clause-exact : goal.returns-then-not-is_plain-clause-exact
+returns-then-not-is_plain-clause-exact c = rw c.fault_at.ensures (not_plain _ (sym c.is_plain.ensures ∙ c.if-not-is_plain.true))
+
+pub returns-then-not-branch-clause-exact : goal.returns-then-not-branch-clause-exact
+returns-then-not-branch-clause-exact c =
+    let none = rw c.if-not-branch.true at c.in_ok-next_row.ensures.ok in
+    rw c.fault_at-then-not-branch.ensures (no_records _ (sym c.is_plain.ensures ∙ c.if-not-is_plain.false) (sym c.open-records.ensures.records ∙ none.0))
+
+pub returns-in_err-world-clause-exact : goal.returns-in_err-world-clause-exact
+returns-in_err-world-clause-exact c =
+    let p = err_from_is_err_and c.from_residual-in_err-world.result c.from_residual-in_err-world.ensures.1 in
+    let row = rw c.if-not-branch.false at c.in_ok-next_row.ensures.ok in
+    rw (p.1, p.2) (not_started _ _ _ _ (sym c.is_plain.ensures ∙ c.if-not-is_plain.false) (sym c.open-records.ensures.records ∙ row) c.in_err-world.ensures.exact)
+
+pub records-init : goal.records-init
+records-init c =
+    let row = rw c.if-not-branch.false at c.in_ok-next_row.ensures.ok in
+    let one = ap length row in
+    let few = c.open-records.ensures.few in
+    record {
+      counts = omega (arith, ap length c.new-commands.ensures.items);
+      room = omega (arith, one, few);
+      so_far = rw c.new-commands.ensures.items (started _ _ _ _ (sym c.is_plain.ensures ∙ c.if-not-is_plain.false) (sym c.open-records.ensures.records ∙ row) c.in_ok-world.ensures.exact);
+    }
+
+pub returns-then-not-branch-2-clause-exact : goal.returns-then-not-branch-2-clause-exact
+returns-then-not-branch-2-clause-exact c =
+    let none = rw c.if-not-branch-2.true at c.in_ok-next_row-2.ensures.ok in
+    ended_at _ _ _ _ _ none.0 c.records.invariant.so_far
+
+pub returns-in_err-command-clause-exact : goal.returns-in_err-command-clause-exact
+returns-in_err-command-clause-exact c =
+    let p = err_from_is_err_and c.from_residual-in_err-command.result c.from_residual-in_err-command.ensures.1 in
+    let row = rw c.if-not-branch-2.false at c.in_ok-next_row-2.ensures.ok in
+    rw (p.1, p.2) (stopped _ _ _ _ _ _ _ _ row c.in_err-command.ensures c.records.invariant.so_far)
+
+pub records-preserved : goal.records-preserved
+records-preserved c =
+    let row = rw c.if-not-branch-2.false at c.in_ok-next_row-2.ensures.ok in
+    let one = ap length row in
+    let room = c.records.invariant.room in
+    record {
+      counts = omega (arith, c.records.invariant.counts, ap length c.in_ok-push.ensures.items, length-append c.records.commands.items (c.in_ok-command.command ∷ []));
+      room = omega (arith, one, room);
+      so_far = rw c.in_ok-push.ensures.items (read_more _ _ _ _ _ _ _ _ row c.in_ok-command.ensures c.records.invariant.so_far);
+    }
