@@ -143,7 +143,7 @@ impl Model for Links {
 }
 
 impl Links {
-    /// The links between `n` processes that have done nothing yet.
+    /// The links between `n` processes that have done nothing yet: an empty queue for each two of them.
     pub fn new(alloc: Global, n: u32) -> Result<Links, AllocError>
         ensures { IfOk result (λ links. links ≡ replicate n (replicate n [])) }
     {
@@ -174,7 +174,7 @@ impl Links {
         &self.rows[from.get() as usize].queues[to.get() as usize].items
     }
 
-    /// How many items a link holds.
+    /// How many items a link holds, at once.
     pub fn len(&self, from: ProcId, to: ProcId) -> usize
         requires from { from < length self.now }
         requires to { to < length (slice_index_or self.now from []) }
@@ -183,7 +183,7 @@ impl Links {
         self.items(from, to).len()
     }
 
-    /// The item of a link behind `i` others.
+    /// The item of a link behind `i` others, the oldest being first; none where it holds no more.
     pub fn item(&self, from: ProcId, to: ProcId, i: usize) -> Option<Item>
         requires from { from < length self.now }
         requires to { to < length (slice_index_or self.now from []) }

@@ -1,4 +1,6 @@
-//! What each kind of step does to the tapes and the queues.
+//! What each kind of step does to the tapes, the links and the open round.
+//!
+//! All room is made first, so that where memory does not suffice the tapes and the marks are as they were, and the links hold what they held.
 ghost use Rattle.std.specs.Prelude.{◌≡◌, ◌≢◌, ◌<◌, ◌≤◌, ◌+◌, ◌++◌, ℕ, ◌∷◌, [], length, true, false, slice_get, slice_index_or, IfOk, OnOk, OnErr, Option, Some, None};
 ghost use Rattle.line_tape.specs.declared.events.Event.TheVariants.{Send as SendEvent, Recv as RecvEvent, Check as CheckEvent, Mark as MarkEvent};
 ghost use Rattle.line_tape.specs.declared.items.Item.TheVariants.{Message, Marker};
@@ -43,7 +45,9 @@ fn add_event(catalogue: &mut Catalogue, p: ProcId, event: Event)
     catalogue.add(p, event).unwrap();
 }
 
-/// Sends a message: the event on the sender's tape, and the item on the link.
+/// Sends a message, and tells its name: the event on the sender's tape, and the item at the end of the link.
+///
+/// It costs a push on each, and a copy of the body.
 pub fn put_message(
     catalogue: &mut Catalogue,
     links: &mut Links,
@@ -116,7 +120,9 @@ fn note_message(
     }
 }
 
-/// Takes a message: the event on the receiver's tape, the item off the link where it keeps its order, and a note of it for the open round.
+/// Takes a message that forces no check: the event on the receiver's tape, the item off the link where it keeps its order, and a note of it for the open round.
+///
+/// It costs a push on each.
 pub fn take_message(
     mode: Mode,
     catalogue: &mut Catalogue,
@@ -150,7 +156,9 @@ pub fn take_message(
     Ok(())
 }
 
-/// Begins the round after the last one: the check on the tape of a process, and a marker on each link from it to another.
+/// Begins the round of markers after the last one: the check on the tape of a process, and a marker on each link from it to another. It tells the round, which is open now, and the index of the check.
+///
+/// It makes what each process records of the round (Chandy and Lamport, ACM TOCS 3(1), 1985).
 pub fn begin_round(
     alloc: Global,
     catalogue: &mut Catalogue,
@@ -258,7 +266,9 @@ fn hear_round(
     Ok(())
 }
 
-/// Takes the marker that is first on a link.
+/// Takes the marker that is first on a link, after the check of its round where the process has none: `forced` is what `is_forced` says.
+///
+/// A forced check puts a marker on each link from the process to another; else it costs a look at the channels of the process.
 pub fn take_marker(
     alloc: Global,
     catalogue: &mut Catalogue,
@@ -346,9 +356,9 @@ fn take_turn(
     Ok((check, channels))
 }
 
-/// A process takes its check of the round of colours that is open, which is listed if this was the last of its checks. There is room for some further events of the process then.
+/// A process takes its check of the round of colours that is open, which has number `_round` (Lai and Yang, Information Processing Letters 25(3), 1987), and the index of the check is told. The round is listed if this was the last of its checks. There is room for `further` events of the process then.
 ///
-/// The last check of a round looks once at each event before the round's checks.
+/// The last check of a round looks once at each event before the round's checks; another costs a push.
 pub fn turn_round(
     alloc: Global,
     catalogue: &mut Catalogue,
@@ -390,7 +400,7 @@ pub fn turn_round(
     Ok(check)
 }
 
-/// Adds the receipt of a message to a tape that has room for it.
+/// Adds the receipt of a message to a tape that has room for it. It takes no memory.
 pub fn add_receipt(catalogue: &mut Catalogue, to: ProcId, message: &MsgName)
     requires to { to < length catalogue.old.processes }
     requires from { message.now.from < length catalogue.old.processes }

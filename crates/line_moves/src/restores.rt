@@ -30,7 +30,7 @@ fn restored(
     }
 }
 
-/// The bytes that each process goes on from.
+/// The bytes that each process goes on from: a copy of the state of its check, and none where it stays where it stands.
 pub fn restored_states(
     alloc: Global,
     history: &History,
@@ -62,7 +62,7 @@ fn restarted_incarnation(history: &History, line: &Line, p: ProcId) -> u16
     }
 }
 
-/// The incarnation of each process after a restart at a line.
+/// The incarnation of each process after a restart at a line: one higher where it goes back.
 pub fn restarted_incarnations(
     alloc: Global,
     history: &History,

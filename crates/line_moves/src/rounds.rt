@@ -312,7 +312,7 @@ impl OpenRound {
     }
 }
 
-/// Whether the marker of a round has a process take its check of it.
+/// Whether the marker of a round has a process take its check of it. It looks at no event.
 pub fn is_forced(
     running: &Option<OpenRound>,
     history: &History,
@@ -382,7 +382,9 @@ pub(crate) fn hear(
     Ok(())
 }
 
-/// Lists the round if it is completed, and else gives it back.
+/// Lists the round of markers if it is completed, and else gives it back.
+///
+/// It takes no memory, and looks at each channel of the processes up to the first that has not all its markers.
 pub fn still_open(
     running: Option<OpenRound>,
     history: &History,
@@ -429,7 +431,7 @@ pub(crate) fn still_turning(
     }
 }
 
-/// Leaves the rounds of which a restart at the line cuts no check.
+/// Leaves the rounds of which a restart at the line cuts no check. It takes no memory, and looks at each check of each round.
 pub fn keep_rounds(rounds: &mut Vec<Round>, line: &Line)
     ensures { rounds.new.items ≡ filter (stays line.now) rounds.old.items }
 {
