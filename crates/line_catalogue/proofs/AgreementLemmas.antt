@@ -3,7 +3,7 @@ use Rattle.std.proofs.Common.{◌≡◌, ◌≢◌, ℕ, ◌<◌, ◌≤◌, Lis
 use Rattle.std.specs.List.{All, cons_option, slice_get}
 use Rattle.std.specs.Prelude.{replicate}
 use Rattle.std.proofs.lemmas.Bool.{cases_eq, cases_lt}
-use Rattle.std.proofs.lemmas.List.{length_push, get_or_push, get_or-set_same, get_or-set_other, get_or-replicate, append-nil, length-replicate}
+use Rattle.std.proofs.lemmas.List.{length_push, get_or_push, get_or-set_same, get_or-set_other, append-nil}
 use Rattle.std.proofs.lemmas.List.Elements.{All-nil, All-push, All-weaker, filter_map-append}
 use Rattle.std.proofs.lemmas.Option.{slice_get-get_or, same_Some, none-some}
 use Rattle.line_names.specs.declared.messages.MsgName.{MsgName}
@@ -14,6 +14,7 @@ use Rattle.line_tape.specs.History.{Process, fresh, process_at, tape_at, incarna
 use Rattle.line_tape.proofs.FrontLemmas.{slice_get-append_left}
 use Rattle.line_tape.proofs.LineLemmas.{tape_at-past}
 use Rattle.line_catalogue.specs.Agreement.{NameAgrees, EventAgrees, Agrees, IsSentAsNow}
+use Rattle.line_tape.proofs.SpentLemmas.{tape_start}
 
 -- a name that agrees with a process
 abbrev pub ProcessAgrees : Process → ℕ → ℕ → Type 0
@@ -127,15 +128,8 @@ Agrees-below history below = record {
   ];
 }
 
--- processes that have done nothing have empty tapes
-pub tape_at-fresh : (n q : ℕ) → tape_at (replicate n fresh) q ≡ []
-tape_at-fresh n q = elim (cases_lt q n) [
-  | inl within ↦ ap (λ (process : Process). process.tape) (get_or-replicate n q fresh fresh within)
-  | inr past ↦ tape_at-past (replicate n fresh) q (omega (arith, length-replicate n fresh))
-]
-
--- so their history agrees
+-- processes that have done nothing agree: their tapes are empty
 pub Agrees-fresh : (n : ℕ) → Agrees (replicate n fresh)
 Agrees-fresh n = record {
-  each = λ q. subst (All (EventAgrees (replicate n fresh))) (sym (tape_at-fresh n q)) (All-nil (EventAgrees (replicate n fresh)));
+  each = λ q. subst (All (EventAgrees (replicate n fresh))) (sym (tape_start n q)) (All-nil (EventAgrees (replicate n fresh)));
 }

@@ -1,5 +1,5 @@
 -- A catalogue whose processes went on from their choices of a consistent line.
-use Rattle.std.proofs.Common.{◌≡◌, ℕ, zero, suc, ◌<◌, ◌≤◌, Bool, true, false, cond, List, [], ◌∷◌, length, take, get_or, filter, inl, inr, Some, refl, sym, ap, ◌∙◌, subst, arith}
+use Rattle.std.proofs.Common.{◌≡◌, ℕ, ◌<◌, ◌≤◌, Bool, true, false, cond, List, [], ◌∷◌, length, get_or, filter, inl, inr, Some, refl, sym, ap, ◌∙◌, subst, arith}
 use Rattle.std.specs.List.{All, AllByRecursion, Contains, filter_map, slice_get}
 use Rattle.std.proofs.lemmas.Bool.{cases_lt, leb-true}
 use Rattle.std.proofs.lemmas.List.{take_all}
@@ -9,8 +9,8 @@ use Rattle.line_names.specs.declared.choices.Choice.TheVariants.{Check as AtChec
 use Rattle.line_names.specs.Lines.{choice_at}
 use Rattle.line_tape.specs.declared.events.Event.{Event}
 use Rattle.line_tape.specs.declared.events.Event.TheVariants.{Send, Recv, Check, Mark}
-use Rattle.line_tape.specs.Event.{is_check, checks, incarnations_sent}
-use Rattle.line_tape.specs.Front.{check_place, place, front, HasChoice}
+use Rattle.line_tape.specs.Event.{checks, incarnations_sent}
+use Rattle.line_tape.specs.Front.{place, front, HasChoice}
 use Rattle.line_tape.specs.History.{Process, fresh, tape_at}
 use Rattle.line_tape.specs.Line.{events_before, IsLine, IsConsistent, IsSentBefore}
 use Rattle.line_tape.specs.Restart.{restarted, restarted_event, restarted_process, restarted_marks, is_kept}
@@ -25,20 +25,11 @@ use Rattle.line_catalogue.specs.Kept.{rows_at, IsCatalogue}
 use Rattle.line_catalogue.specs.Rows.{AreRows}
 use Rattle.line_catalogue.proofs.AgreementLemmas.{Agrees-below}
 use Rattle.line_catalogue.proofs.CatalogueLemmas.{AreOnChecks-below}
-
--- the front of a check has as many checks as its number says
-checks-front : (tape : List Event) (k : ℕ) → k ≤ checks tape → checks (take (check_place tape k) tape) ≡ k
-checks-front tape zero h = refl
-checks-front [] (suc k) h = absurd (omega arith)
-checks-front (x ∷ xs) (suc k) h =
-    elim (is_check x) as (λ v. suc k ≤ cond v (suc (checks xs)) (checks xs) → cond v (suc (checks (take (check_place xs (cond v k (suc k))) xs))) (checks (take (check_place xs (cond v k (suc k))) xs)) ≡ suc k) [
-      | true ↦ λ l. ap suc (checks-front xs k (omega arith))
-      | false ↦ λ l. checks-front xs (suc k) l
-    ] h
+use Rattle.line_tape.proofs.RowLemmas.{checks_front}
 
 -- a check that is kept is one of the front
 kept_within : (tape : List Event) (choice : Choice) (c : ℕ) → HasChoice tape choice → c ≤ checks tape → is_kept choice c ≡ true → c ≤ checks (front tape choice)
-kept_within tape (AtCheck k) c has within kept = omega (arith, leb-true c k kept, checks-front tape k has)
+kept_within tape (AtCheck k) c has within kept = omega (arith, leb-true c k kept, checks_front tape k has)
 kept_within tape Now c has within kept = omega (arith, ap checks (take_all (length tape) tape (omega arith)))
 
 -- what is filtered passes

@@ -16,21 +16,18 @@ use Rattle.line_tape.specs.Restart.{restarted, restarted_incarnation}
 use Rattle.line_tape.specs.Survival.{survives, IsLatest}
 use Rattle.line_tape.specs.Views.{MarksView}
 use Rattle.line_tape.proofs.ChoiceLemmas.{survives_within}
+use Rattle.line_moves.proofs.RecordingLemmas.{or-false}
 
 range_more : (a k : ℕ) → range_with_len a (k + 1) ≡ range_with_len a k ++ (a + k) ∷ []
 range_more a k =
     sym (map-id (range_with_len a (k + 1))) ∙ map-range_with_len_more (λ (x : ℕ). x) a k (a + k) refl ∙ ap (λ (xs : List ℕ). xs ++ (a + k) ∷ []) (map-id (range_with_len a k))
-
-or_false : (b : Bool) → (b || false) ≡ b
-or_false true = refl
-or_false false = refl
 
 -- one number more to test
 pub any_more : (f : ℕ → Bool) (a k at : ℕ) → a + k ≡ at → list_any f (range_with_len a (k + 1)) ≡ (list_any f (range_with_len a k) || f at)
 any_more f a k at is =
     ap (list_any f) (range_more a k)
     ∙ list_any-append f (range_with_len a k) ((a + k) ∷ [])
-    ∙ ap (λ b. list_any f (range_with_len a k) || b) (or_false (f (a + k)) ∙ ap f is)
+    ∙ ap (λ b. list_any f (range_with_len a k) || b) (or-false (f (a + k)) ∙ ap f is)
 
 -- where no number passes, each fails
 pub none_at : (f : ℕ → Bool) (n k : ℕ) → list_any f (range_with_len 0 n) ≡ false → k < n → f k ≡ false

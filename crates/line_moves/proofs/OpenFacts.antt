@@ -160,14 +160,6 @@ AreFresh-more n floor k markers marker are n_is me_is floor_is rounds = record {
     last : (q : ℕ) → q ≡ k → marker_at (markers ++ marker ∷ []) q ≡ marker
     last q same = ap (marker_at (markers ++ marker ∷ [])) (same ∙ sym are.count) ∙ get_or-append_seam markers marker [] no_marker
 
-pub on_ok_weaker : {A E P Q : Type 0} (r : Result A E) → (P → Q) → OnOk r P → OnOk r Q
-on_ok_weaker (Ok x) f p = f p
-on_ok_weaker (Err e) f p = tt
-
-pub on_err_weaker : {A E P Q : Type 0} (r : Result A E) → (P → Q) → OnErr r P → OnErr r Q
-on_err_weaker (Ok x) f p = tt
-on_err_weaker (Err e) f p = f p
-
 -- the same cells give the same table
 pub map_cells : {X : Type 0} (f g : ℕ → X) (a n : ℕ) → ((k : ℕ) → a ≤ k → k < a + n → f k ≡ g k) → map f (range_with_len a n) ≡ map g (range_with_len a n)
 map_cells f g a zero same = refl

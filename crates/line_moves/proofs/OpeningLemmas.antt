@@ -40,11 +40,7 @@ use Rattle.line_moves.specs.Openings.{OpenView, left_open, marker_at, first_unli
 use Rattle.line_moves.specs.Worlds.{AreNumbered, AreRounds}
 use Rattle.line_turns.proofs.TurningLemmas.{IsTurning-kept}
 use Rattle.line_moves.proofs.LinkLemmas.{length-with_event}
-use Rattle.line_moves.proofs.RecordingLemmas.{IsMarkerOf-kept}
-
-or-true : (b : Bool) → (b || true) ≡ true
-or-true true = refl
-or-true false = refl
+use Rattle.line_moves.proofs.RecordingLemmas.{or-true, IsMarkerOf-kept}
 
 -- a check of the round
 pub is_checked_now : (r : ℕ) (tape : List Event) (e : Event) → is_check_of r e ≡ true → has_check_of r (tape ++ e ∷ []) ≡ true

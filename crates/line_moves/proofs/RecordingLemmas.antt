@@ -1,8 +1,8 @@
 -- What a process has recorded of a round follows its tape, event by event.
 use Rattle.std.proofs.Common.{◌≡◌, ◌≢◌, ℕ, ◌<◌, Bool, true, false, cond, List, [], ◌∷◌, ◌++◌, replicate, Option, Some, None, refl, sym, ap, ◌∙◌, subst, arith, inl, inr}
-use Rattle.std.specs.Prelude.{◌==◌, ◌&&◌, ◌||◌, IsTrue, MatchOption, nat_lt}
+use Rattle.std.specs.Prelude.{◌==◌, ◌||◌, IsTrue, MatchOption, nat_lt}
 use Rattle.std.specs.Cmp.Derive.{both_true}
-use Rattle.std.proofs.lemmas.Bool.{cases_eq, eq-eqb, ne_eqb, lt-ltb}
+use Rattle.std.proofs.lemmas.Bool.{cases_eq, eq-eqb, ne_eqb, lt-ltb, and_left}
 use Rattle.std.proofs.lemmas.List.{append-nil, length-set, length-replicate, get_or-set_same, get_or-set_other, get_or-replicate}
 use Rattle.line_names.specs.declared.messages.MsgName.{MsgName}
 use Rattle.line_marker.specs.Recording.{Channel, MarkerView, Recorded, open_channel, channel_at, with_channel, with_marker, with_round, heard, noted, round_of, latest, effect_by, effect_of, rounds_after, IsOver, IsRepeated}
@@ -13,17 +13,13 @@ use Rattle.line_tape.specs.Transit.{names_received}
 use Rattle.line_tape.proofs.GrowthLemmas.{channel_opened, channel_push, has_check_push, has_mark_push}
 use Rattle.line_moves.specs.Openings.{channel_of, IsRound, IsRoundOrNone, IsMarkerOf}
 
-or-false : (b : Bool) → (b || false) ≡ b
+pub or-false : (b : Bool) → (b || false) ≡ b
 or-false true = refl
 or-false false = refl
 
-or-true : (b : Bool) → (b || true) ≡ true
+pub or-true : (b : Bool) → (b || true) ≡ true
 or-true true = refl
 or-true false = refl
-
-and-false : (b c : Bool) → b ≡ false → (b && c) ≡ false
-and-false true c e = absurd (cc)
-and-false false c e = refl
 
 -- nothing either way
 nothing : (b : Bool) → cond b [] [] ≡ (let none : List MsgName = [] in none)
@@ -118,7 +114,7 @@ module _ (n q r : ℕ) (tape : List Event) (marker : MarkerView) (is : IsMarkerO
 
     module _ (from : ℕ) (within : from < n) (apart : from ≢ q) where
       mark_elsewhere : (p : ℕ) → p ≢ from → channel_of p r (tape ++ Mark from r ∷ []) ≡ channel_of p r tape
-      mark_elsewhere p other = channel-kept p r tape (Mark from r) begun (and-false (from == p) (r == r) (ne_eqb from p (λ e. other (sym e)))) refl
+      mark_elsewhere p other = channel-kept p r tape (Mark from r) begun (and_left (from == p) (r == r) (ne_eqb from p (λ e. other (sym e)))) refl
 
       mark_here : channel_of from r (tape ++ Mark from r ∷ []) ≡ record (channel_of from r tape) { is_closed = true }
       mark_here =

@@ -24,11 +24,12 @@ use Rattle.line_tape.specs.Restart.{restarted}
 use Rattle.line_tape.specs.Spent.{next_name, IsSpentName, HasNoLaterSend}
 use Rattle.line_tape.specs.Transit.{Letter, open_letters, received_name, names_received, has_received, in_transit_between, addressee_of, addressees, addressee}
 use Rattle.line_tape.proofs.FrontLemmas.{slice_get-append_left}
-use Rattle.line_tape.proofs.LetterLemmas.{IsLetterOf, addressees_restarted, receipt_before, restarted_held, open_restarted, letter_sent}
+use Rattle.line_tape.proofs.LetterLemmas.{IsLetterOf, addressees_restarted, restarted_held, open_restarted, letter_sent}
 use Rattle.line_tape.proofs.LinkLemmas.{tape_restarted}
 use Rattle.line_tape.proofs.NextLemmas.{tape_same, tape_other, slice_get_push}
 use Rattle.line_tape.proofs.SpentLemmas.{slice_get-push, tape_grows, holds_event, holds_whole, incs_restarted, length_restarted, sent_spent, spent_event, spent_restarted, no_later_event, no_later_restarted, no_later_start, tape_start}
 use Rattle.line_tape.proofs.StayLemmas.{names_restarted}
+use Rattle.line_tape.proofs.CutLemmas.{received_left}
 
 -- each send has one incarnation and one addressee
 pub length_addressees : (es : List Event) → length (addressees es) ≡ length (incarnations_sent es)
@@ -214,7 +215,7 @@ module _ (history : List Process) (line : List Choice) (consistent : IsConsisten
     held = λ q m received.
         let held : Holds (tape_at (restarted history line) m.from) m.inc m.number = restarted_held history line consistent same q m received in
         let n : ℕ = place (tape_at history q) (choice_at line q) in
-        let before : Contains (events_before history line q) (Recv m) = receipt_before (events_before history line q) m (subst (λ (es : List Event). Contains es (Recv m)) (tape_restarted history line q same) received) in
+        let before : Contains (events_before history line q) (Recv m) = received_left (events_before history line q) m (subst (λ (es : List Event). Contains es (Recv m)) (tape_restarted history line q same) received) in
         let whole : Contains (tape_at history q) (Recv m) = subst (λ (es : List Event). Contains es (Recv m)) (take-append-drop n (tape_at history q)) (Contains-append_left (take n (tape_at history q)) (drop n (tape_at history q)) (Recv m) before) in
         record { held = held; to_is = addressee_restarted history line m q same held ((fit.held q m whole).to_is) };
     once = λ q.

@@ -4,7 +4,7 @@ use Rattle.std.specs.Prelude.{◌==◌, ◌&&◌}
 use Rattle.std.specs.List.{filter_map, filter, flat_map, range_with_len, slice_get, All, Contains}
 use Rattle.std.specs.Option.{option_eq}
 use Rattle.std.proofs.lemmas.List.{append-nil, take-append-drop}
-use Rattle.std.proofs.lemmas.List.Elements.{filter_map-append, filter-append, All-nil, All-cons, All-head, All-tail, All-filter, All-map, All-append, All-weaker, All-contains, Contains-append_right}
+use Rattle.std.proofs.lemmas.List.Elements.{filter_map-append, filter-append, All-nil, All-cons, All-head, All-tail, All-filter, All-map, All-append, All-weaker, All-contains}
 use Rattle.std.proofs.lemmas.Bool.{eq-eqb, ne_eqb, cases_lt}
 use Rattle.line_names.specs.declared.messages.MsgName.{MsgName}
 use Rattle.line_names.specs.declared.choices.Choice.{Choice}
@@ -20,14 +20,7 @@ use Rattle.line_tape.specs.Transit.{Letter, letters, is_open, open_letters, in_t
 use Rattle.line_tape.specs.Fit.{IsSentTo}
 use Rattle.line_tape.proofs.LineLemmas.{tape_at-past, front-empty}
 use Rattle.line_tape.proofs.LinkLemmas.{tape_restarted}
-
--- a restart keeps the sends of what it keeps
-pub incarnations_restarted : (es : List Event) → incarnations_sent (filter_map restarted_event es) ≡ incarnations_sent es
-incarnations_restarted [] = refl
-incarnations_restarted (Send to inc body ∷ es) = ap (λ (v : List ℕ). inc ∷ v) (incarnations_restarted es)
-incarnations_restarted (Recv m ∷ es) = incarnations_restarted es
-incarnations_restarted (Check state round ∷ es) = incarnations_restarted es
-incarnations_restarted (Mark from round ∷ es) = incarnations_restarted es
+use Rattle.line_tape.proofs.CutLemmas.{sent_left, received_left}
 
 -- and whom they went to
 pub addressees_restarted : (es : List Event) → addressees (filter_map restarted_event es) ≡ addressees es
@@ -37,23 +30,12 @@ addressees_restarted (Recv m ∷ es) = addressees_restarted es
 addressees_restarted (Check state round ∷ es) = addressees_restarted es
 addressees_restarted (Mark from round ∷ es) = addressees_restarted es
 
--- a receipt that a restart leaves stood there before
-pub receipt_before : (es : List Event) (m : MsgName) → Contains (filter_map restarted_event es) (Recv m) → Contains es (Recv m)
-receipt_before [] m (k, l, e) = absurd (omega arith)
-receipt_before (Send to inc body ∷ es) m (zero, l, e) = absurd (cc)
-receipt_before (Send to inc body ∷ es) m (suc k, l, e) = Contains-append_right (Send to inc body ∷ []) es (Recv m) (receipt_before es m (k, omega arith, e))
-receipt_before (Recv c ∷ es) m (zero, l, e) = (0, omega arith, e)
-receipt_before (Recv c ∷ es) m (suc k, l, e) = Contains-append_right (Recv c ∷ []) es (Recv m) (receipt_before es m (k, omega arith, e))
-receipt_before (Check state round ∷ es) m (zero, l, e) = absurd (cc)
-receipt_before (Check state round ∷ es) m (suc k, l, e) = Contains-append_right (Check state round ∷ []) es (Recv m) (receipt_before es m (k, omega arith, e))
-receipt_before (Mark from round ∷ es) m h = Contains-append_right (Mark from round ∷ []) es (Recv m) (receipt_before es m h)
-
 -- after a restart at a consistent line, each message that a tape has received is held by its sender's tape
 pub restarted_held : (history : List Process) (line : List Choice) → IsConsistent history line → length line ≡ length history → (q : ℕ) (m : MsgName)
     → Contains (tape_at (restarted history line) q) (Recv m) → Holds (tape_at (restarted history line) m.from) m.inc m.number
 restarted_held history line consistent e q m received =
-    let before : Contains (events_before history line q) (Recv m) = receipt_before (events_before history line q) m (subst (λ (es : List Event). Contains es (Recv m)) (tape_restarted history line q e) received) in
-    subst (λ (xs : List ℕ). slice_get xs m.number ≡ Some m.inc) (sym (ap incarnations_sent (tape_restarted history line m.from e) ∙ incarnations_restarted (events_before history line m.from))) (consistent q m before)
+    let before : Contains (events_before history line q) (Recv m) = received_left (events_before history line q) m (subst (λ (es : List Event). Contains es (Recv m)) (tape_restarted history line q e) received) in
+    subst (λ (xs : List ℕ). slice_get xs m.number ≡ Some m.inc) (sym (ap incarnations_sent (tape_restarted history line m.from e) ∙ sent_left (events_before history line m.from))) (consistent q m before)
 
 -- the head of what is behind a place is the element there
 pub drop_next : {X : Type 0} (xs : List X) (k : ℕ) (x : X) (ys : List X) → drop k xs ≡ x ∷ ys → (slice_get xs k ≡ Some x) × (drop (suc k) xs ≡ ys)
@@ -94,7 +76,7 @@ pub open_restarted : (history : List Process) (line : List Choice) → length li
 open_restarted history line e p =
     let es : List Event = events_before history line p in
     let tape : List Event = tape_at (restarted history line) p in
-    let incs : incarnations_sent tape ≡ incarnations_sent es ++ [] = ap incarnations_sent (tape_restarted history line p e) ∙ incarnations_restarted es ∙ sym (append-nil (incarnations_sent es)) in
+    let incs : incarnations_sent tape ≡ incarnations_sent es ++ [] = ap incarnations_sent (tape_restarted history line p e) ∙ sent_left es ∙ sym (append-nil (incarnations_sent es)) in
     let tos : addressees tape ≡ addressees es ++ [] = ap addressees (tape_restarted history line p e) ∙ addressees_restarted es ∙ sym (append-nil (addressees es)) in
     All-filter (is_open history line) (IsLetterOf p (incarnations_sent tape) (addressees tape)) (letters p 0 es)
     (letters_are p 0 es (incarnations_sent tape) (addressees tape) [] [] incs tos)

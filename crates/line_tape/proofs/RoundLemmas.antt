@@ -1,5 +1,5 @@
 -- The channels of a completed round of markers are what is in transit at its line, which is consistent.
-use Rattle.std.proofs.Common.{◌≡◌, ℕ, zero, suc, ◌<◌, ◌≤◌, Bool, true, false, cond, ◌&&◌, List, [], ◌∷◌, ◌++◌, length, take, drop, get_or, Some, None, refl, sym, ap, ◌∙◌, subst, arith, inl, inr}
+use Rattle.std.proofs.Common.{◌≡◌, ℕ, suc, ◌<◌, ◌≤◌, Bool, true, false, cond, ◌&&◌, List, [], ◌∷◌, ◌++◌, length, take, drop, get_or, Some, None, refl, sym, ap, ◌∙◌, subst, arith, inl, inr}
 use Rattle.std.specs.Prelude.{◌==◌}
 use Rattle.std.specs.List.{filter_map, cons_option, list_any, Contains, slice_get, before_first, after_first, position_or_len}
 use Rattle.std.proofs.lemmas.List.{append_assoc, append-nil, take-append-drop, take-append-le, take_at, length-take, length_push, get_or-take}
@@ -13,7 +13,7 @@ use Rattle.line_tape.specs.declared.events.Event.{Event}
 use Rattle.line_tape.specs.declared.events.Event.TheVariants.{Send, Recv, Check, Mark}
 use Rattle.line_tape.specs.declared.items.Item.{Item}
 use Rattle.line_tape.specs.declared.items.Item.TheVariants.{Message, Marker}
-use Rattle.line_tape.specs.Event.{is_check, checks}
+use Rattle.line_tape.specs.Event.{checks}
 use Rattle.line_tape.specs.Front.{check_place, front}
 use Rattle.line_tape.specs.History.{Process, tape_at}
 use Rattle.line_tape.specs.Transit.{names_received}
@@ -21,7 +21,7 @@ use Rattle.line_tape.specs.Rounds.{rounds_checked, is_check_of, is_mark_of, has_
 use Rattle.line_tape.specs.Fit.{items_sent, item_received, sent, received, link, MarksFollow, IsFitFifo}
 use Rattle.line_tape.proofs.FrontLemmas.{slice_get-append_left}
 use Rattle.line_tape.proofs.NextLemmas.{check_in}
-use Rattle.line_tape.proofs.RowLemmas.{checks-push, check_place-last}
+use Rattle.line_tape.proofs.RowLemmas.{checks-push, check_place-last, check_place-append}
 use Rattle.line_tape.proofs.SentLemmas.{messages, item_message, name_of, sent_append}
 
 -- a list up to the first element that passes, that element, and the rest
@@ -112,13 +112,6 @@ sent_check p q k (Recv m ∷ es) state r = sent_check p q k es state r
 sent_check p q k (Check st None ∷ es) state r = sent_check p q k es state r
 sent_check p q k (Check st (Some s) ∷ es) state r = ap (λ (xs : List Item). Marker s ∷ xs) (sent_check p q k es state r)
 sent_check p q k (Mark from s ∷ es) state r = sent_check p q k es state r
-
-pub check_place-append : (xs ys : List Event) (c : ℕ) → c ≤ checks xs → check_place (xs ++ ys) c ≡ check_place xs c
-check_place-append xs ys zero h = refl
-check_place-append [] ys (suc c) h = absurd (omega arith)
-check_place-append (x ∷ xs) ys (suc c) h =
-    let le : cond (is_check x) c (suc c) ≤ checks xs = elim (is_check x) as (λ v. suc c ≤ cond v (suc (checks xs)) (checks xs) → cond v c (suc c) ≤ checks xs) [ true ↦ λ k. omega arith | false ↦ λ k. k ] h in
-    ap suc (check_place-append xs ys (cond (is_check x) c (suc c)) le)
 
 -- the front of a tape's Check of round r
 pub front_of_check : (tape before after : List Event) (state : List ℕ) (r : ℕ) → tape ≡ before ++ (Check state (Some r) ∷ after) → front tape (AtCheck (suc (checks before))) ≡ before ++ Check state (Some r) ∷ []

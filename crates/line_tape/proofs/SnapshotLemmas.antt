@@ -1,7 +1,7 @@
 -- A snapshot stays one by events and by restarts that keep its checks, and the latest line is nowhere before it.
 use Rattle.std.proofs.Common.{◌≡◌, ℕ, zero, suc, ◌+◌, ◌<◌, ◌≤◌, Bool, true, false, cond, not, List, [], ◌∷◌, ◌++◌, length, take, map, get_or, refl, sym, ap, ◌∙◌, subst, arith, inl, inr}
 use Rattle.std.specs.Prelude.{◌==◌, IsTrue}
-use Rattle.std.specs.List.{filter_map, filter, slice_get, Contains}
+use Rattle.std.specs.List.{filter, slice_get, Contains}
 use Rattle.std.proofs.lemmas.Bool.{leb-true, cases_lt}
 use Rattle.std.proofs.lemmas.List.{take-append-le, take_all, get_or_past, length-map, length-set}
 use Rattle.std.proofs.lemmas.List.Elements.{filter_agree}
@@ -10,23 +10,23 @@ use Rattle.line_names.specs.declared.choices.Choice.TheVariants.{Check as AtChec
 use Rattle.line_names.specs.declared.messages.MsgName.{MsgName}
 use Rattle.line_names.specs.Lines.{choice_at, IsNowhereLater}
 use Rattle.line_tape.specs.declared.events.Event.{Event}
-use Rattle.line_tape.specs.declared.events.Event.TheVariants.{Send, Recv, Check, Mark}
+use Rattle.line_tape.specs.declared.events.Event.TheVariants.{Recv}
 use Rattle.line_tape.specs.Event.{is_check, checks, incarnations_sent, Holds}
 use Rattle.line_tape.specs.Front.{check_place, front, HasChoice}
 use Rattle.line_tape.specs.History.{Process, tape_at, with_event}
 use Rattle.line_tape.specs.Line.{events_before, IsLine, IsConsistent}
-use Rattle.line_tape.specs.Restart.{is_kept, restarted, restarted_event}
+use Rattle.line_tape.specs.Restart.{is_kept, restarted}
 use Rattle.line_tape.specs.Rounds.{check_line, IsSnapshot}
 use Rattle.line_tape.specs.Survival.{survives, IsLatest}
 use Rattle.line_tape.specs.Transit.{Letter, letters, is_open, has_received, open_letters, in_transit_between}
 use Rattle.line_tape.specs.Views.{MarksView}
 use Rattle.line_tape.proofs.FrontLemmas.{check_place-le}
-use Rattle.line_tape.proofs.LetterLemmas.{incarnations_restarted, receipt_before}
 use Rattle.line_tape.proofs.LinkLemmas.{tape_restarted}
-use Rattle.line_tape.proofs.RoundLemmas.{check_place-append}
 use Rattle.line_tape.proofs.RoundLines.{checks-append}
 use Rattle.line_tape.proofs.SpentLemmas.{tape_grows, length_restarted}
 use Rattle.line_tape.proofs.StayLemmas.{choice_of_checks, kept_front, kept_transit}
+use Rattle.line_tape.proofs.CutLemmas.{checks_left, received_left, sent_left}
+use Rattle.line_tape.proofs.RowLemmas.{check_place-append}
 
 module _ (old new : List Process) (line : List Choice) (same : (p : ℕ) → events_before new line p ≡ events_before old line p) where
   -- where the same stands before a line, the same is in transit there
@@ -85,14 +85,6 @@ snapshot_event history at e indices channels h is =
       transit = λ p q lp lq other. is.transit p q (omega (arith, same)) (omega (arith, same)) other ∙ sym (transit_same history (with_event history at e) (check_line indices) fronts p q);
     }
 
--- a restart keeps checks as checks
-pub checks_restarted : (es : List Event) → checks (filter_map restarted_event es) ≡ checks es
-checks_restarted [] = refl
-checks_restarted (Send to inc body ∷ es) = checks_restarted es
-checks_restarted (Recv m ∷ es) = checks_restarted es
-checks_restarted (Check state round ∷ es) = ap suc (checks_restarted es)
-checks_restarted (Mark from round ∷ es) = checks_restarted es
-
 -- the front of a later check has the earlier one
 pub check_in_front : (tape : List Event) (k c : ℕ) → c ≤ k → c ≤ checks tape → c ≤ checks (take (check_place tape k) tape)
 check_in_front tape k zero le h = omega arith
@@ -118,14 +110,14 @@ snapshot_restarted history line indices channels e kept is =
       line = record {
         length_is = is.line.length_is ∙ sym same;
         exist = λ p.
-            let count : checks (tape_at (restarted history line) p) ≡ checks (events_before history line p) = ap checks (tape_restarted history line p e) ∙ checks_restarted (events_before history line p) in
+            let count : checks (tape_at (restarted history line) p) ≡ checks (events_before history line p) = ap checks (tape_restarted history line p e) ∙ checks_left (events_before history line p) in
             subst (HasChoice (tape_at (restarted history line) p)) (sym (choice_of_checks indices p))
             (omega (arith, count, kept_in_front (tape_at history p) (choice_at line p) (get_or indices p 0) (kept p) (check_there history indices is.line p)));
       };
       consistent = λ q m seen.
-          let before : Contains (events_before history (check_line indices) q) (Recv m) = receipt_before (events_before history (check_line indices) q) m (subst (λ (es : List Event). Contains es (Recv m)) (fronts q) seen) in
+          let before : Contains (events_before history (check_line indices) q) (Recv m) = received_left (events_before history (check_line indices) q) m (subst (λ (es : List Event). Contains es (Recv m)) (fronts q) seen) in
           ap (λ (es : List Event). slice_get (incarnations_sent es) m.number) (fronts m.from)
-          ∙ ap (λ (v : List ℕ). slice_get v m.number) (incarnations_restarted (events_before history (check_line indices) m.from))
+          ∙ ap (λ (v : List ℕ). slice_get v m.number) (sent_left (events_before history (check_line indices) m.from))
           ∙ is.consistent q m before;
       transit = λ p q lp lq other. is.transit p q (omega (arith, same)) (omega (arith, same)) other ∙ sym (kept_transit history line indices e kept p q);
     }

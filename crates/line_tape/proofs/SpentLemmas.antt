@@ -20,9 +20,9 @@ use Rattle.line_tape.specs.Spent.{next_name, IsSpentName, HasNoLaterSend}
 use Rattle.line_tape.proofs.FrontLemmas.{slice_get-append_left}
 use Rattle.line_tape.proofs.LineLemmas.{tape_at-past, front-empty}
 use Rattle.line_tape.proofs.LinkLemmas.{tape_restarted}
-use Rattle.line_tape.proofs.LetterLemmas.{incarnations_restarted}
 use Rattle.line_tape.proofs.NextLemmas.{tape_same, tape_other}
 use Rattle.line_tape.proofs.RowLemmas.{sent_front}
+use Rattle.line_tape.proofs.CutLemmas.{sent_left}
 
 -- the element that is pushed stands at the end
 pub slice_get-push : {X : Type 0} (xs : List X) (x : X) → slice_get (xs ++ x ∷ []) (length xs) ≡ Some x
@@ -61,7 +61,7 @@ holds_whole history line p inc k held =
     subst (λ (es : List Event). Holds es inc k) (take-append-drop n tape) (holds_more (take n tape) (drop n tape) inc k held)
 
 pub incs_restarted : (history : List Process) (line : List Choice) (p : ℕ) → length line ≡ length history → incarnations_sent (tape_at (restarted history line) p) ≡ incarnations_sent (events_before history line p)
-incs_restarted history line p e = ap incarnations_sent (tape_restarted history line p e) ∙ incarnations_restarted (events_before history line p)
+incs_restarted history line p e = ap incarnations_sent (tape_restarted history line p e) ∙ sent_left (events_before history line p)
 
 pub incarnation_restarted : (history : List Process) (line : List Choice) (p : ℕ) → length line ≡ length history → p < length history → incarnation_at (restarted history line) p ≡ restarted_incarnation (choice_at line p) (incarnation_at history p)
 incarnation_restarted [] line p e h = absurd (omega arith)

@@ -1,6 +1,6 @@
 -- What is kept of colours follows the tapes by each event and by a restart, and says the colour of each message.
 use Rattle.std.proofs.Common.{◌≡◌, ℕ, ◌+◌, ◌<◌, ◌≤◌, true, false, leb, List, [], ◌∷◌, ◌++◌, length, get_or, set, replicate, Some, None, refl, sym, ap, ◌∙◌, subst, arith, inl, inr}
-use Rattle.std.specs.Prelude.{AllPairs, Result, Ok, Err, OnOk}
+use Rattle.std.specs.Prelude.{AllPairs}
 use Rattle.std.specs.List.Sorted.{IsNonDecreasingBy, IsPartitionPoint}
 use Rattle.std.proofs.lemmas.List.Elements.{All-from_get_or}
 use Rattle.std.proofs.lemmas.Bool.{cases_eq, cases_lt, leb-false, leb-true}
@@ -136,8 +136,3 @@ last_turn_by turns number count i turn rounds rise point next within is =
     ap (λ (t : Turn). t.round) is
     ∙ sym (colour_at_turn turns i number turn within rounds rise (leb-true (get_or turns i turn).sends number (point.0 i turn (omega arith) (omega (arith, next))))
     (λ j above l. leb-false (get_or turns j turn).sends number (point.1 j turn (omega (arith, next, above)) l)))
-
--- what follows where a call succeeds
-pub on_ok : {A E P Q : Type 0} (r : Result A E) → (P → Q) → OnOk r P → OnOk r Q
-on_ok (Ok x) f h = f h
-on_ok (Err e) f h = tt

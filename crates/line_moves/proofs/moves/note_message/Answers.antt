@@ -1,12 +1,12 @@
 -- Where links keep no order, the open round of colours keeps no messages.
 use Rattle.std.proofs.Common.{◌≡◌, List, Option, refl, sym, subst}
+use Rattle.std.proofs.lemmas.Result.{on_err_weaker, on_ok_weaker}
 use Rattle.line_tape.specs.declared.events.Event.{Event}
 use Rattle.line_tape.specs.declared.events.Event.TheVariants.{Recv}
 use Rattle.line_tape.specs.History.{Process, with_event}
 use Rattle.line_moves.specs.declared.modes.Mode.{Mode}
 use Rattle.line_moves.specs.Openings.{OpenView, open_number, opened, opened_turning, IsOpening}
 use Rattle.line_moves.proofs.OpeningLemmas.{IsOpening-unordered}
-use Rattle.line_moves.proofs.OpenFacts.{on_ok_weaker, on_err_weaker}
 use Rattle.line_moves.proofs.moves.note_message.Goals as goal
 
 pub returns-in-Fifo-clause-number : goal.returns-in-Fifo-clause-number

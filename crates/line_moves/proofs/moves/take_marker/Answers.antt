@@ -1,5 +1,6 @@
 -- Only the marker of the round that is open has a process take its check.
 use Rattle.std.proofs.Common.{◌≡◌, ℕ, true, List, [], ◌∷◌, Some, None, ap, ◌∙◌, subst, sym}
+use Rattle.std.proofs.lemmas.Result.{on_ok_weaker}
 use Rattle.line_tape.specs.declared.events.Event.TheVariants.{Check, Mark}
 use Rattle.line_tape.specs.declared.items.Item.TheVariants.{Marker}
 use Rattle.line_tape.specs.History.{Process, tape_at}
@@ -8,7 +9,7 @@ use Rattle.line_moves.specs.declared.modes.Mode.TheVariants.{Fifo}
 use Rattle.line_moves.specs.Fates.{is_forced, marker_events}
 use Rattle.line_moves.specs.Moves.{with_events}
 use Rattle.line_moves.specs.Openings.{OpenView, IsOpening, IsRecording, IsRunning}
-use Rattle.line_moves.proofs.OpenFacts.{either_way, on_ok_weaker}
+use Rattle.line_moves.proofs.OpenFacts.{either_way}
 use Rattle.line_moves.proofs.OpeningLemmas.{forced_none, forced_number, forced_open, IsRunning-forced, IsRunning-renewed}
 use Rattle.line_moves.proofs.WorldLemmas.{marker_sent}
 use Rattle.line_moves.proofs.moves.take_marker.Goals as goal

@@ -1,11 +1,11 @@
 -- The other rounds on the tapes are completed still.
 use Rattle.std.proofs.Common.{List, refl, sym, subst}
+use Rattle.std.proofs.lemmas.Result.{on_ok_weaker}
 use Rattle.line_tape.specs.declared.events.Event.{Event}
 use Rattle.line_tape.specs.declared.events.Event.TheVariants.{Recv}
 use Rattle.line_tape.specs.History.{Process, with_event}
 use Rattle.line_moves.specs.declared.modes.Mode.TheVariants.{Fifo}
 use Rattle.line_moves.specs.Openings.{IsOpening, IsRunning}
-use Rattle.line_moves.proofs.OpenFacts.{on_ok_weaker}
 use Rattle.line_moves.proofs.OpeningLemmas.{IsOpening-none, IsRunning-kept}
 use Rattle.line_moves.proofs.rounds.note.Goals as goal
 

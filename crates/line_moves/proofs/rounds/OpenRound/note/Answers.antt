@@ -1,11 +1,12 @@
 -- The message is on the channel from its sender, if that is open.
 use Rattle.std.proofs.Common.{◌≡◌, ℕ, List, length, get_or, sym, ap, ◌∙◌, subst}
+use Rattle.std.proofs.lemmas.Result.{on_err_weaker, on_ok_weaker}
 use Rattle.line_marker.specs.Recording.{MarkerView}
 use Rattle.line_tape.specs.History.{Process}
 use Rattle.line_turns.specs.Turning.{TurningView}
 use Rattle.line_moves.specs.Openings.{OpenView, marker_at, AreMarkers, IsRecording}
 use Rattle.line_marker.specs.Recording.{noted}
-use Rattle.line_moves.proofs.OpenFacts.{IsRecording-noted, IsRecording-same, on_err_weaker, on_ok_weaker, own_marker}
+use Rattle.line_moves.proofs.OpenFacts.{IsRecording-noted, IsRecording-same, own_marker}
 use Rattle.line_moves.proofs.rounds.OpenRound.note.Goals as goal
 
 pub returns-clause-ok : goal.returns-clause-ok

@@ -1,14 +1,15 @@
 -- The process has one turn more.
 use Rattle.std.proofs.Common.{◌≡◌, ◌++◌, [], ◌∷◌, ℕ, List, length, get_or, set, Some, sym, ap, ◌∙◌, subst, arith}
+use Rattle.std.proofs.lemmas.Result.{on_ok_weaker}
 use Rattle.std.proofs.lemmas.List.{get_or_default}
 use Rattle.line_tape.specs.declared.events.Event.TheVariants.{Check}
 use Rattle.line_tape.specs.History.{with_event}
 use Rattle.line_turns.specs.Kept.{Turned, turned_at, unturned, AreTurned}
-use Rattle.line_turns.proofs.TurnedLemmas.{AreTurned-check, on_ok}
+use Rattle.line_turns.proofs.TurnedLemmas.{AreTurned-check}
 use Rattle.line_turns.proofs.colours.Colours.turn.Goals as goal
 
 pub returns-clause-ok : goal.returns-clause-ok
-returns-clause-ok c = on_ok c.turn.result (λ turned history state are count_is.
+returns-clause-ok c = on_ok_weaker c.turn.result (λ turned history state are count_is.
     let kept : List Turned = c.args.self.now in
     let items : List Turned = c.self.inside.processes.items in
     let p : ℕ = c.args.p in
