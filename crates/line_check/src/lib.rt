@@ -9,6 +9,3 @@ mod shapes;
 
 pub use checker::{check_certificate, check_consistent};
 pub use faults::{CertFault, FaultCode, LineFault};
-
-#[cfg(test)]
-mod tests;

@@ -3,7 +3,7 @@ use crate::tests::build::{catalogue_of, failed, history_of, process};
 use crate::tests::{DOMINO, ROUND};
 use line_catalogue::{AddError, Catalogue, CatalogueError, DamageError, Row};
 use line_names::{Body, Choice, MsgName};
-use line_plan::plan;
+use line_plan::{PlanError, plan};
 use line_tape::{CountError, Event, History, Marks};
 use std::alloc::Global;
 use std::test::Fail;
@@ -155,5 +155,35 @@ fn rows_and_lower_choices(rt: HostRuntime) -> Result<(), Fail> {
         damaged: true,
     };
     assert_eq!(rt; catalogue.rows(first).last(), Some(&check));
+    Ok(())
+}
+
+#[test]
+fn refusals_of_catalogues_read_well(rt: HostRuntime) -> Result<(), Fail> {
+    let made = format!(in rt.alloc();
+        "{}; {}",
+        CatalogueError::NoSuchCheck,
+        CatalogueError::NamesDisagree
+    )?;
+    assert_eq!(rt;
+        made.as_str(),
+        "a mark is on a check that its tape does not have; a received message has a name that its sender did not give it"
+    );
+    let added = format!(in rt.alloc(); "{}; {}", AddError::TapeFull, AddError::NamesDisagree)?;
+    assert_eq!(rt;
+        added.as_str(),
+        "the tape has no room under 1000000 events; the event has a name that its sender did not give it"
+    );
+    let marked = format!(in rt.alloc();
+        "{}; {}",
+        DamageError::NoSuchCheck,
+        DamageError::AlreadyDamaged
+    )?;
+    assert_eq!(rt;
+        marked.as_str(),
+        "the tape has no such check; the check is marked already"
+    );
+    let planned = format!(in rt.alloc(); "{}", PlanError::OutOfMemory)?;
+    assert_eq!(rt; planned.as_str(), "out of memory");
     Ok(())
 }

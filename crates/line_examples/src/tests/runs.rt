@@ -1,7 +1,7 @@
 //! Steps in one run.
 use line_names::{Body, ProcId};
 use line_tape::State;
-use line_world::{Answer, Mode, Reply, Step, World};
+use line_world::{Answer, Mode, Reply, RunStopped, Step, StepError, World};
 use std::alloc::Global;
 use std::test::Fail;
 
@@ -52,5 +52,44 @@ fn a_run_answers_each_step(rt: HostRuntime) -> Result<(), Fail> {
     assert_eq!(rt; answers.first().map(seen), Some(Told::Sent(0)));
     assert_eq!(rt; answers.get(1).map(seen), Some(Told::Took(0)));
     assert_eq!(rt; answers.last().map(seen), Some(Told::Checked(1)));
+    Ok(())
+}
+
+#[test]
+fn refusals_of_steps_read_well(rt: HostRuntime) -> Result<(), Fail> {
+    let links = format!(in rt.alloc();
+        "{}; {}; {}",
+        StepError::ToSelf,
+        StepError::LinkEmpty,
+        StepError::BadPick
+    )?;
+    assert_eq!(rt;
+        links.as_str(),
+        "a process has no link to itself; the link holds nothing; the link has nothing to take at that place"
+    );
+    let rounds = format!(in rt.alloc();
+        "{}; {}; {}",
+        StepError::RoundOpen,
+        StepError::NothingToTurn,
+        StepError::WrongMode
+    )?;
+    assert_eq!(rt;
+        rounds.as_str(),
+        "the last round begun is not completed; no round is open of which the process has no check; links of this kind have no such step"
+    );
+    let ends = format!(in rt.alloc();
+        "{}; {}",
+        StepError::NoMoreRounds,
+        StepError::NoMoreIncarnations
+    )?;
+    assert_eq!(rt;
+        ends.as_str(),
+        "the last round begun has number 65535; a process that goes back has incarnation 65535"
+    );
+    let stopped = RunStopped {
+        done: Vec::new(rt.alloc()),
+    };
+    let words = format!(in rt.alloc(); "{stopped}")?;
+    assert_eq!(rt; words.as_str(), "out of memory after 0 steps");
     Ok(())
 }

@@ -1,1 +1,0 @@
-//! Claims worked by hand.
