@@ -1,0 +1,132 @@
+"""The crates of the repository, and rooms in which one of them is proved beside others.
+
+`rt` lets one run at a time work in a crate and in the crates below it. So whoever proves several crates
+that stand on the same ones, side by side, gives each run a room: a folder with the crate and what it
+stands on, its files linked and not copied where the file system allows that.
+"""
+
+import os
+import pathlib
+import re
+import shutil
+import subprocess
+import tempfile
+
+ROOT = pathlib.Path(__file__).resolve().parent.parent
+# What a check takes at most, so that only as many run at once as there is memory for.
+BYTES_A_CHECK = 3_000_000_000
+
+
+def stands_on():
+    """Of each crate of the repository the crates of the repository that it stands on."""
+    found = {}
+    for line in (ROOT / "crates.txt").read_text().splitlines():
+        name, colon, below = line.partition("#")[0].partition(":")
+        if colon:
+            found[name.strip()] = below.split()
+    return {name: [it for it in below if it in found] for name, below in found.items()}
+
+
+def needed(tops, below):
+    """The crates `tops` and all that they stand on, each after those that it stands on."""
+    order = []
+
+    def visit(name):
+        for it in below[name]:
+            visit(it)
+        if name not in order:
+            order.append(name)
+
+    for name in tops:
+        visit(name)
+    return order
+
+
+def weight(name):
+    """A measure of what proving a crate takes: its lines of code, definitions and proofs."""
+    folder = ROOT / "crates" / name
+    files = [it for part in ("src", "specs", "proofs") for it in (folder / part).rglob("*") if it.is_file()]
+    return sum(it.read_bytes().count(b"\n") for it in files)
+
+
+def chains(order, below):
+    """Of each crate the weight of the heaviest chain of crates that begins with it and waits for it."""
+    found = {}
+    for name in reversed(order):
+        found[name] = weight(name) + max((found[it] for it in order if name in below[it]), default=0)
+    return found
+
+
+def lanes():
+    """How many checks may run at once: one for each processor, and as many as there is memory for."""
+    free = re.search(r"MemAvailable:\s+(\d+)", pathlib.Path("/proc/meminfo").read_text())
+    room = int(free[1]) * 1024 // BYTES_A_CHECK if free else 1
+    return max(1, min(len(os.sched_getaffinity(0)), room))
+
+
+def link(source, target):
+    """A second name for a file; where the file system has none to give, a copy."""
+    try:
+        os.link(source, target)
+    except OSError:
+        shutil.copy2(source, target)
+
+
+def link_folder(source, target):
+    """A folder with second names for all files of another, if there is one."""
+    if pathlib.Path(source).is_dir():
+        shutil.copytree(source, target, copy_function=link)
+
+
+def new_folder(prefix):
+    """A new folder that goes with its `with`, where links to the repository's files can be made: in .git, if there is one."""
+    inside = ROOT / ".git"
+    return tempfile.TemporaryDirectory(prefix=prefix, dir=inside if inside.is_dir() else None)
+
+
+def make_room(room, top, name, below):
+    """Fills the folder `room` with the crate and what it stands on, from the tree at `top`, with what earlier runs proved."""
+    room, top = pathlib.Path(room), pathlib.Path(top)
+    crates = needed([name], below)
+    lines = (top / "crates.txt").read_text().splitlines()
+    (room / "crates").mkdir()
+    (room / "crates.txt").write_text("".join(f"{it}\n" for it in lines if it.partition(":")[0].strip() in crates))
+    for it in crates:
+        for part in ("src", "specs", "proofs"):
+            link_folder(top / "crates" / it / part, room / "crates" / it / part)
+        # Of those below, what was built is enough.
+        link_folder(top / "crates" / it / "out" / "rlib", room / "crates" / it / "out" / "rlib")
+    for part in ("stdin", "stdout", "args", "status"):
+        if (top / "crates" / name / part).is_file():
+            link(top / "crates" / name / part, room / "crates" / name / part)
+    link_folder(top / "crates" / name / "out" / "incremental", room / "crates" / name / "out" / "incremental")
+    return room / "crates" / name
+
+
+def run(words, folder, log):
+    """Runs a command in a folder, what it says goes to the file `log`; answers its status."""
+    with open(log, "wb") as out:
+        how = {"stdin": subprocess.DEVNULL, "stdout": out, "stderr": subprocess.STDOUT}
+        return subprocess.run(words, cwd=folder, check=False, **how).returncode
+
+
+def put_out(made, home):
+    """Puts what was proved and built in a room where it belongs, in place of what was there."""
+    shutil.rmtree(home, ignore_errors=True)
+    pathlib.Path(home).parent.mkdir(parents=True, exist_ok=True)
+    shutil.move(made, home)
+
+
+def build(top, name, jobs, below, log):
+    """Proves and builds a crate of the tree at `top` in a room of its own, and keeps what was made; answers whether it is proved.
+
+    A crate that is proved already costs a look at its files.
+    """
+    with new_folder("recline-room-") as room:
+        crate = make_room(room, top, name, below)
+        is_program = (crate / "src" / "main.rt").is_file()
+        words = ["rt", "run", "--jobs", str(jobs), "--", "--help"] if is_program else ["rt", "lib", "--jobs", str(jobs)]
+        if run(words, crate, log):
+            return False
+        put_out(crate / "out", pathlib.Path(top) / "crates" / name / "out")
+    return True
