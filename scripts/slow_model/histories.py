@@ -4,9 +4,14 @@ A choice of a process is the index of a check, 0 for the initial state, or NOW. 
 of choices, one for each process. Damage marks are a set of processes with a check each.
 """
 
+import itertools
+import math
 from typing import NamedTuple
 
 from .texts import NOW
+
+# A plan is compared with all lines of surviving choices where there are no more than these.
+MOST_LINES = 500
 
 
 class Name(NamedTuple):
@@ -151,7 +156,23 @@ class History:
                     entries.append(Entry(p, line[p], message))
                     line[p] = self.next_lower(marks, p, line[p])
                     was_lowered = True
+        self.check_by_all_lines(marks, failed, line)
         return line, entries, sweeps
+
+    def surviving(self, marks, failed, p):
+        """All surviving choices of a process."""
+        checks = [check for check in range(1, self.checks(p) + 1) if (p, check) not in marks]
+        return [0, *checks, *([] if p in failed else [NOW])]
+
+    def check_by_all_lines(self, marks, failed, line):
+        """Tries every line of surviving choices, where they are few: the planned one has to be the latest consistent one."""
+        choices = [self.surviving(marks, failed, p) for p in self.processes()]
+        if math.prod(map(len, choices)) > MOST_LINES:
+            return
+        every = [list(it) for it in itertools.product(*choices) if self.is_consistent(it)]
+        latest = [max(it[p] for it in every) for p in self.processes()]
+        if line != latest or latest not in every:
+            raise AssertionError(f"the plan of the slow model, {line}, is not the latest line, {latest}")
 
     # Links that keep their order.
 

@@ -24,6 +24,3 @@ pub use laws::{claims_are_read_again, histories_are_read_again};
 pub use numbers::{plain, want};
 pub use texts::{CheckText, read_certificate, read_check_text, read_history};
 pub use writers::{put_history, write_history};
-
-#[cfg(test)]
-mod tests;

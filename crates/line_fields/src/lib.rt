@@ -19,6 +19,3 @@ pub use laws::{
 };
 pub use records::{RecordReader, Row};
 pub use writers::{RecordWriter, put_record};
-
-#[cfg(test)]
-mod tests;

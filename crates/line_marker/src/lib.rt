@@ -12,6 +12,3 @@ mod spans;
 
 pub use errors::{BeginError, MarkerError};
 pub use markers::{Effect, Marker};
-
-#[cfg(test)]
-mod tests;

@@ -10,6 +10,3 @@ pub use judgings::check_text;
 pub use line_claims::{Claim, TextFault, name_of, read_certificate, read_history, write_history};
 pub use line_replies::{put_answer, put_refusal, put_reply, write_reply};
 pub use line_scripts::{Command, Script, read_script};
-
-#[cfg(test)]
-mod tests;

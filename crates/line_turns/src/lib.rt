@@ -14,6 +14,3 @@ pub use channels::Channels;
 pub use colours::Colours;
 pub use laws::{last_check_completes, other_events_keep};
 pub use turnings::Turning;
-
-#[cfg(test)]
-mod tests;

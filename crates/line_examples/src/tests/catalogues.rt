@@ -4,7 +4,7 @@ use crate::tests::{DOMINO, ROUND};
 use line_catalogue::{AddError, Catalogue, CatalogueError, DamageError, Row};
 use line_names::{Body, Choice, MsgName};
 use line_plan::{PlanError, plan};
-use line_tape::{CountError, Event, History, Marks};
+use line_tape::{Event, History, Marks};
 use std::alloc::Global;
 use std::test::Fail;
 
@@ -20,19 +20,6 @@ fn send(inc: u16) -> Result<Event, Fail> {
     let to = process(1)?;
     let body = Body::try_new(b"a")?;
     Ok(Event::Send { to, inc, body })
-}
-
-#[test]
-fn limits_of_catalogues(rt: HostRuntime) -> Result<(), Fail> {
-    assert_eq!(rt; Catalogue::new(rt.alloc(), 64)?.n(), 64);
-    for n in [0, 65] {
-        assert_eq!(rt;
-            Catalogue::new(rt.alloc(), n).err(),
-            Some(CountError::BadCount),
-            "at {n}"
-        );
-    }
-    Ok(())
 }
 
 /// The rows of a process, row by row.
@@ -112,21 +99,6 @@ fn a_history_that_disagrees(rt: HostRuntime) -> Result<(), Fail> {
     assert_eq!(rt;
         Catalogue::of(rt.alloc(), &history, &marks).err(),
         Some(CatalogueError::NoSuchCheck)
-    );
-    Ok(())
-}
-
-#[test]
-fn refusals_of_damage(rt: HostRuntime) -> Result<(), Fail> {
-    let mut catalogue = catalogue_of(rt.alloc(), &DOMINO)?;
-    let first = process(0)?;
-    assert_eq!(rt; catalogue.n(), 2);
-    assert_eq!(rt; catalogue.damage(first, 2), Err(DamageError::NoSuchCheck));
-    assert_eq!(rt; catalogue.damage(first, 0), Err(DamageError::InitialDamage));
-    catalogue.damage(first, 1)?;
-    assert_eq!(rt;
-        catalogue.damage(first, 1),
-        Err(DamageError::AlreadyDamaged)
     );
     Ok(())
 }

@@ -1,6 +1,6 @@
 //! What the checker says of claims.
 use crate::tests::build::{Did, failed, history_of, process};
-use crate::tests::{CROSSED, DOMINO, passed};
+use crate::tests::{DOMINO, passed};
 use line_check::{CertFault, FaultCode, LineFault, check_certificate, check_consistent};
 use line_names::{Choice, Line, Passed, ProcId, ProcSet};
 use line_tape::Marks;
@@ -79,19 +79,6 @@ fn domino_entries() -> Result<[Passed; 4], Fail> {
 }
 
 #[test]
-fn refused_certificate(rt: HostRuntime) -> Result<(), Fail> {
-    let entries = [
-        passed(0, Choice::Check(1), 1, 0)?,
-        passed(1, Choice::Check(1), 0, 0)?,
-    ];
-    assert_eq!(rt;
-        verdict(rt.alloc(), &CROSSED, &failed(&[0, 1])?, &BACK, &entries)?,
-        Some((Some(0), 13))
-    );
-    Ok(())
-}
-
-#[test]
 fn valid_certificate(rt: HostRuntime) -> Result<(), Fail> {
     let entries = domino_entries()?;
     assert_eq!(rt; verdict_on_domino(rt.alloc(), &BACK, &entries)?, None);
@@ -100,57 +87,6 @@ fn valid_certificate(rt: HostRuntime) -> Result<(), Fail> {
         verdict(rt.alloc(), &DOMINO, &ProcSet::empty(), &standing, &[])?,
         None
     );
-    Ok(())
-}
-
-#[test]
-fn certificate_faults(rt: HostRuntime) -> Result<(), Fail> {
-    let entries = domino_entries()?;
-    let skipping = [entries[1], entries[2], entries[3]];
-    assert_eq!(rt;
-        verdict_on_domino(rt.alloc(), &BACK, &skipping)?,
-        Some((Some(0), 11))
-    );
-    let mut renamed = domino_entries()?;
-    renamed[0].message.inc = 1;
-    assert_eq!(rt;
-        verdict_on_domino(rt.alloc(), &BACK, &renamed)?,
-        Some((Some(0), 12))
-    );
-    let higher = [Choice::Check(0), Choice::Check(1)];
-    assert_eq!(rt;
-        verdict_on_domino(rt.alloc(), &higher, &domino_entries()?)?,
-        Some((None, 14))
-    );
-    let orphaned = [Choice::Check(1), Choice::Now];
-    let nothing: &[Passed] = &[];
-    assert_eq!(rt;
-        verdict_on_domino(rt.alloc(), &orphaned, nothing)?,
-        Some((None, 15))
-    );
-    Ok(())
-}
-
-#[test]
-fn fault_of_a_later_entry(rt: HostRuntime) -> Result<(), Fail> {
-    let mut entries = domino_entries()?;
-    entries[3].message.number = 1;
-    assert_eq!(rt;
-        verdict_on_domino(rt.alloc(), &BACK, &entries)?,
-        Some((Some(3), 12))
-    );
-    Ok(())
-}
-
-#[test]
-fn misshapen_lines(rt: HostRuntime) -> Result<(), Fail> {
-    let missing = [Choice::Check(7), Choice::Check(0)];
-    for line in [&missing[..], &BACK[..1], &BACK[..0]] {
-        assert_eq!(rt;
-            verdict_on_domino(rt.alloc(), line, &domino_entries()?)?,
-            Some((None, 16))
-        );
-    }
     Ok(())
 }
 

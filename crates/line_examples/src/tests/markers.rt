@@ -1,7 +1,7 @@
 //! The two rules at work, with memory enough.
 ghost use Rattle.std.specs.Prelude.{◌≡◌, ◌<◌, IfOk};
 
-use crate::{BeginError, Effect, Marker, MarkerError};
+use line_marker::{BeginError, Effect, Marker, MarkerError};
 use line_names::{MsgName, ProcId};
 use std::test::Fail;
 

@@ -1,0 +1,183 @@
+//! Runs and judgements of texts over devices that fail or give a byte at a time, and the calls on one text.
+ghost use Rattle.std.specs.Prelude.{◌<◌};
+
+use line_check::CertFault;
+use line_devices::{MemSink, MemSource, Sink, Source};
+use line_names::{MsgName, ProcId};
+use line_text::{Done, TextFault, check_text, read_script, run_text, write_reply};
+use line_world::{Mode, Reply};
+use std::alloc::{AllocError, Global};
+use std::test::Fail;
+
+const THREE_CHECKS: &[u8] =
+    b"world,1,2,fifo\nsend,0,1,61\ndeliver,0,1,0,\ncheck,1,b1\nsend,1,0,62\ndeliver,1,0,0,\ncheck,0,a1\nsend,0,1,63\ndeliver,0,1,0,\ncheck,1,b2\nrecover,1\n";
+
+const THREE_CHECKS_TOLD: &[u8] =
+    b"sent,0,0,0\ntook,0,0,0,-\nchecked,1,1\nsent,1,0,0\ntook,1,0,0,-\nchecked,0,1\nsent,0,0,1\ntook,0,0,1,-\nchecked,1,2\nrecovered,1,0,0\nline,0,now,0,-\nline,1,2,1,b2\n";
+
+const CLAIM: &[u8] =
+    b"history,1,2\ntape,0,0\nsend,1,0,61\nrecv,1,0,0\ncheck,a1,-\nsend,1,0,63\ntape,1,0\nrecv,0,0,0\ncheck,b1,-\nsend,0,0,62\nrecv,0,0,1\ncheck,b2,-\nfailed,0\nline,0,0\npass,1,now,0,0,1\npass,1,2,0,0,1\npass,0,1,1,0,0\npass,1,1,0,0,0\nend\n";
+
+#[test]
+fn reads_a_whole_script(rt: HostRuntime) -> Result<(), Fail> {
+    let script = read_script(rt.alloc(), THREE_CHECKS)?;
+    assert_eq!(rt; script.n, 2);
+    assert_eq!(rt; script.mode, Mode::Fifo);
+    assert_eq!(rt; script.commands.len(), 10);
+    Ok(())
+}
+
+#[test]
+fn writes_a_reply(rt: HostRuntime) -> Result<(), Fail> {
+    let message = MsgName {
+        from: ProcId::try_new(1, 2)?,
+        inc: 65_535,
+        number: 7,
+    };
+    let took = write_reply(
+        rt.alloc(),
+        &Reply::Took {
+            message,
+            forced: Some(3),
+        },
+    )?;
+    assert_eq!(rt; took.as_slice(), b"took,1,65535,7,3\n".as_slice());
+    Ok(())
+}
+
+// What a run came to, and how often its devices failed.
+#[derive(Drop)]
+struct Ran {
+    answer: Result<Done, TextFault>,
+    put: Vec<u8>,
+    read_failures: u64,
+    write_failures: u64,
+}
+
+// Runs a text over memory, in steps of so many bytes, where these calls fail.
+fn run(
+    alloc: Global,
+    text: &[u8],
+    step: usize,
+    read_fails: Option<u64>,
+    write_fails: Option<u64>,
+) -> Result<Ran, AllocError>
+    requires { 0 < step }
+{
+    let mut source = MemSource::new(Vec::from_slice(alloc, text)?, step, read_fails);
+    let mut sink = MemSink::new(alloc, step, write_fails);
+    let answer = run_text(alloc, &mut source, &mut sink);
+    Ok(Ran {
+        answer,
+        put: Vec::from_slice(alloc, sink.bytes())?,
+        read_failures: source.failures(),
+        write_failures: sink.failures(),
+    })
+}
+
+#[test]
+fn runs_a_byte_at_a_time(rt: HostRuntime) -> Result<(), Fail> {
+    let ran = run(rt.alloc(), THREE_CHECKS, 1, None, None)?;
+    assert_eq!(rt; ran.answer, Ok(Done { refused: 0 }));
+    assert_eq!(rt; ran.put.as_slice(), THREE_CHECKS_TOLD);
+    Ok(())
+}
+
+#[test]
+fn tells_that_the_source_failed(rt: HostRuntime) -> Result<(), Fail> {
+    for fail_at in [1u64, 2, 5] {
+        let ran = run(rt.alloc(), THREE_CHECKS, 16, Some(fail_at), None)?;
+        let fault = TextFault {
+            record_number: 0,
+            code: 36,
+        };
+        assert_eq!(rt; ran.answer, Err(fault), "at call {fail_at}");
+        assert_eq!(rt; ran.put.len(), 0, "at call {fail_at}");
+        assert_eq!(rt; ran.read_failures, 1, "at call {fail_at}");
+    }
+    Ok(())
+}
+
+#[test]
+fn tells_that_the_sink_failed(rt: HostRuntime) -> Result<(), Fail> {
+    // The last call lets out what was taken.
+    for (fail_at, taken) in [(1u64, 0usize), (2, 64), (3, 128), (4, 153)] {
+        let ran = run(rt.alloc(), THREE_CHECKS, 64, None, Some(fail_at))?;
+        let fault = TextFault {
+            record_number: 0,
+            code: 37,
+        };
+        assert_eq!(rt; ran.answer, Err(fault), "at call {fail_at}");
+        assert_eq!(rt; ran.put.len(), taken, "at call {fail_at}");
+        assert!(rt;
+            THREE_CHECKS_TOLD.starts_with(&ran.put),
+            "at call {fail_at}"
+        );
+        assert_eq!(rt; ran.write_failures, 1, "at call {fail_at}");
+    }
+    Ok(())
+}
+
+// More replies than are put at a time.
+#[test]
+fn puts_long_replies_in_pieces(rt: HostRuntime) -> Result<(), Fail> {
+    let mut text = Vec::from_slice(rt.alloc(), b"world,1,2,fifo\n")?;
+    let mut want = Vec::new(rt.alloc());
+    for _ in 0..5000 {
+        text.extend_from_slice(b"send,0,0,\n")?;
+        want.extend_from_slice(b"refused,17,ToSelf\n")?;
+    }
+    let ran = run(rt.alloc(), &text, 4096, None, None)?;
+    assert_eq!(rt; ran.answer, Ok(Done { refused: 5000 }));
+    assert_eq!(rt; ran.put.as_slice(), want.as_slice());
+    // The second piece fails after the first is put.
+    let ran = run(rt.alloc(), &text, 100_000, None, Some(2))?;
+    assert_eq!(rt; ran.write_failures, 1);
+    assert_eq!(rt; ran.put.len(), 65_538);
+    assert!(rt; want.as_slice().starts_with(&ran.put));
+    Ok(())
+}
+
+// What a judgement came to.
+#[derive(Drop)]
+struct Judged {
+    answer: Result<Option<CertFault>, TextFault>,
+    put: Vec<u8>,
+}
+
+// Judges a text over memory, in steps of so many bytes, where these calls fail.
+fn judge(
+    alloc: Global,
+    text: &[u8],
+    step: usize,
+    read_fails: Option<u64>,
+    write_fails: Option<u64>,
+) -> Result<Judged, AllocError>
+    requires { 0 < step }
+{
+    let mut source = MemSource::new(Vec::from_slice(alloc, text)?, step, read_fails);
+    let mut sink = MemSink::new(alloc, step, write_fails);
+    let answer = check_text(alloc, &mut source, &mut sink);
+    Ok(Judged {
+        answer,
+        put: Vec::from_slice(alloc, sink.bytes())?,
+    })
+}
+
+#[test]
+fn judges_nothing_where_a_device_fails(rt: HostRuntime) -> Result<(), Fail> {
+    for (read_fails, write_fails, code, put) in [
+        (Some(1u64), None, 36u32, 0usize),
+        (None, Some(1u64), 37, 0),
+        (None, Some(2), 37, 4),
+    ] {
+        let judged = judge(rt.alloc(), CLAIM, 4, read_fails, write_fails)?;
+        let fault = TextFault {
+            record_number: 0,
+            code,
+        };
+        assert_eq!(rt; judged.answer, Err(fault));
+        assert_eq!(rt; judged.put.len(), put);
+    }
+    Ok(())
+}
