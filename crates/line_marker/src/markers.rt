@@ -259,8 +259,7 @@ impl Marker {
 
     /// The messages noted from a process after the round was recorded and before its marker came from there, in their order; none where the round is not recorded.
     pub fn channel(&self, from: ProcId, round: u32) -> Option<&[MsgName]>
-        requires process { from < self.now.n }
-        requires other { from ≢ self.now.me }
+        requires { from < self.now.n }
         ensures { let messages = messages_by (round_of self.now.rounds round) from in
             MatchOption result (messages ≡ None) (λ names. messages ≡ Some names.now) }
     {

@@ -1,6 +1,6 @@
 -- The latest surviving choice, and the next lower one.
-use Rattle.std.proofs.Common.{◌≡◌, ◌≢◌, ℕ, zero, suc, ◌-◌, ◌≤◌, Bool, true, false, not, ◌&&◌, leb, cond, List, refl, sym, ap, ◌∙◌, arith}
-use Rattle.std.proofs.lemmas.Bool.{false≢true}
+use Rattle.std.proofs.Common.{◌≡◌, ◌≢◌, ℕ, zero, suc, ◌-◌, ◌≤◌, Bool, true, false, not, ◌&&◌, leb, cond, List, refl, sym, ap, ◌∙◌, arith, ◌⊎◌, inl, inr}
+use Rattle.std.proofs.lemmas.Bool.{false≢true, cases_eq}
 use Rattle.std.proofs.lemmas.Bool.Decides.{nat_tests}
 use Rattle.line_names.specs.declared.choices.Choice.{Choice}
 use Rattle.line_names.specs.declared.choices.Choice.TheVariants.{Check as AtCheck, Now}
@@ -14,6 +14,36 @@ use Rattle.line_tape.specs.Views.{MarksView}
 pub IsNoLater-refl : (a : Choice) → IsNoLater a a
 IsNoLater-refl (AtCheck a) = omega arith
 IsNoLater-refl Now = tt
+
+pub IsNoLater-trans : (a b c : Choice) → IsNoLater a b → IsNoLater b c → IsNoLater a c
+IsNoLater-trans (AtCheck a) (AtCheck b) (AtCheck c) h k = omega arith
+IsNoLater-trans (AtCheck a) b Now h k = tt
+IsNoLater-trans (AtCheck a) Now (AtCheck c) h k = absurd k
+IsNoLater-trans Now (AtCheck b) c h k = absurd h
+IsNoLater-trans Now Now (AtCheck c) h k = absurd k
+IsNoLater-trans Now Now Now h k = tt
+
+-- two choices of which neither is later are one
+pub IsNoLater-both : (a b : Choice) → IsNoLater a b → IsNoLater b a → a ≡ b
+IsNoLater-both (AtCheck a) (AtCheck b) h k = let same : a ≡ b = omega arith in ap AtCheck same
+IsNoLater-both (AtCheck a) Now h k = absurd k
+IsNoLater-both Now (AtCheck b) h k = absurd h
+IsNoLater-both Now Now h k = refl
+
+-- two choices are one or are not
+pub choice_cases : (a b : Choice) → (a ≡ b) ⊎ (a ≢ b)
+choice_cases (AtCheck a) (AtCheck b) = elim (cases_eq a b) [ inl e ↦ inl (ap AtCheck e) | inr ne ↦ inr (λ e. ne (cc)) ]
+choice_cases (AtCheck a) Now = inr (λ e. cc)
+choice_cases Now (AtCheck b) = inr (λ e. cc)
+choice_cases Now Now = inl refl
+
+-- no latest check is later than the check from which it is looked for
+pub latest_check-le : (passes : Choice → Bool) (c : ℕ) → IsNoLater (latest_check passes c) (AtCheck c)
+latest_check-le passes zero = omega arith
+latest_check-le passes (suc c) = elim (passes (AtCheck (suc c))) as (λ v. IsNoLater (cond v (AtCheck (suc c)) (latest_check passes c)) (AtCheck (suc c))) [
+  | true ↦ omega arith
+  | false ↦ IsNoLater-trans (latest_check passes c) (AtCheck c) (AtCheck (suc c)) (latest_check-le passes c) (omega arith)
+]
 
 -- a check that passes is at most the latest one
 latest_check_at : (passes : Choice → Bool) (c a : ℕ) (b : Bool) → b ≡ passes (AtCheck (suc c)) → a ≤ suc c → passes (AtCheck a) ≡ true → (a ≤ c → IsNoLater (AtCheck a) (latest_check passes c)) → IsNoLater (AtCheck a) (cond b (AtCheck (suc c)) (latest_check passes c))
@@ -70,3 +100,16 @@ module _ (history : List Process) (marks : MarksView) (failed : List Bool) (p : 
   next_lower_above (AtCheck c) Now h apart l = absurd h
   next_lower_above Now (AtCheck d) h apart l = latest_check_above (survives history marks failed p) (checks (tape_at history p)) d (survives_within d l) l
   next_lower_above Now Now h apart l = absurd (apart refl)
+
+  -- the next lower choice is no later
+  pub next_lower-le : (c : Choice) → IsNoLater (next_lower history marks failed p c) c
+  next_lower-le (AtCheck c) = IsNoLater-trans (latest_check (survives history marks failed p) (c - 1)) (AtCheck (c - 1)) (AtCheck c) (latest_check-le (survives history marks failed p) (c - 1)) (omega arith)
+  next_lower-le Now = IsNoLater-trans (latest_check (survives history marks failed p) (checks (tape_at history p))) (AtCheck (checks (tape_at history p))) Now (latest_check-le (survives history marks failed p) (checks (tape_at history p))) tt
+
+  -- and earlier, but for the initial state
+  pub next_lower-before : (c : Choice) → c ≢ AtCheck 0 → IsNoLater c (next_lower history marks failed p c) → ⊥
+  next_lower-before (AtCheck zero) apart h = apart refl
+  next_lower-before (AtCheck (suc c)) apart h =
+      let down : suc c ≤ suc c - 1 = IsNoLater-trans (AtCheck (suc c)) (latest_check (survives history marks failed p) (suc c - 1)) (AtCheck (suc c - 1)) h (latest_check-le (survives history marks failed p) (suc c - 1)) in
+      omega arith
+  next_lower-before Now apart h = IsNoLater-trans Now (latest_check (survives history marks failed p) (checks (tape_at history p))) (AtCheck (checks (tape_at history p))) h (latest_check-le (survives history marks failed p) (checks (tape_at history p)))

@@ -4,6 +4,8 @@ pub mod ReceiptLemmas
 pub mod HistoryLemmas
 pub mod ChoiceLemmas
 pub mod ChainLemmas
+pub mod LatestLemmas
+pub mod EntryLemmas
 pub mod LineLemmas
 pub mod NextLemmas
 pub mod LedLemmas

@@ -1,10 +1,12 @@
 -- Chains: why each later surviving choice was passed over on the way to a line.
-use Rattle.std.specs.Prelude.{◌≡◌, ℕ, zero, suc, ◌-◌, Bool, if◌then◌else◌, List, [], ◌∷◌, length, map, slice_set}
+use Rattle.std.specs.Prelude.{◌≡◌, ℕ, zero, suc, ◌-◌, ◌<◌, Bool, if◌then◌else◌, IsTrue, List, [], ◌∷◌, length, map, slice_get, slice_set, Some}
 use Rattle.std.specs.List.{range_with_len}
 use Rattle.line_names.specs.declared.choices.Choice.{Choice}
 use Rattle.line_names.specs.declared.choices.Choice.TheVariants.{Check as AtCheck, Now}
 use Rattle.line_names.specs.declared.certificates.Passed.{Passed}
+use Rattle.line_names.specs.declared.messages.MsgName.{MsgName}
 use Rattle.line_names.specs.Lines.{choice_at}
+use Rattle.line_names.specs.Order.{IsNoLater}
 use Rattle.line_tape.specs.Event.{checks}
 use Rattle.line_tape.specs.History.{Process, tape_at}
 use Rattle.line_tape.specs.Line.{IsOrphan, IsConsistent}
@@ -54,3 +56,20 @@ IsLed history marks failed entries line = LeadsTo history marks failed (first_ce
 pub record IsChain (history : List Process) (marks : MarksView) (failed : List Bool) (entries : List Passed) (line : List Choice) : Type 0 where
   pub leads : IsLed history marks failed entries line
   pub consistent : IsConsistent history line
+
+-- a surviving choice of process p that is later than the line's
+pub record IsAbove (history : List Process) (marks : MarksView) (failed : List Bool) (line : List Choice) (p : ℕ) (choice : Choice) : Type 0 where
+  pub process : p < length history
+  pub surviving : IsTrue (survives history marks failed p choice)
+  pub later : IsNoLater choice (choice_at line p) → ⊥
+
+-- entry k, counted from 0, passes that choice of process p over
+abbrev pub PassesOver : List Passed → ℕ → ℕ → Choice → Type 0
+PassesOver entries k p choice =
+    (message : MsgName) × (slice_get entries k ≡ Some (record { at = p; choice = choice; message = message }))
+
+-- exactly one entry passes that choice of process p over
+pub record IsPassedOnce (entries : List Passed) (p : ℕ) (choice : Choice) : Type 0 where
+  pub index : ℕ
+  pub passed : PassesOver entries index p choice
+  pub only : (k : ℕ) → PassesOver entries k p choice → k ≡ index

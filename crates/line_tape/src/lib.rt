@@ -30,7 +30,7 @@ pub use fits::event_fits;
 pub use histories::{CountError, History, HistoryError};
 pub use incarnations::names_apart;
 pub use items::Item;
-pub use laws::chain_makes_latest;
+pub use laws::{chain_makes_latest, chain_passes_each, latest_is_unique, now_is_latest};
 pub use limits::{LAST_INCARNATION, LAST_ROUND, MOST_EVENTS, MOST_STATE};
 pub use lines::{is_consistent, is_line, is_sent_before, orphan_among, orphan_at};
 pub use links::{fronts_decide_transit, kept_checks, ordered_fits, restart_fits, transit_parts};

@@ -5,7 +5,6 @@ use line_catalogue::{AddError, Catalogue, CatalogueError, DamageError, Row};
 use line_names::{Body, Choice, MsgName};
 use line_plan::{PlanError, plan};
 use line_tape::{Event, History, Marks};
-use std::alloc::Global;
 use std::test::Fail;
 
 /// The receipt of a message of the first process.
@@ -22,15 +21,6 @@ fn send(inc: u16) -> Result<Event, Fail> {
     Ok(Event::Send { to, inc, body })
 }
 
-/// The rows of a process, row by row.
-fn rows_of(alloc: Global, catalogue: &Catalogue, p: u32) -> Result<Vec<Row>, Fail> {
-    let p = process(p)?;
-    if p.get() < catalogue.n() {
-        return Ok(Vec::from_slice(alloc, catalogue.rows(p))?);
-    }
-    Ok(Vec::new(alloc))
-}
-
 #[test]
 fn fed_event_by_event(rt: HostRuntime) -> Result<(), Fail> {
     let history = history_of(rt.alloc(), &ROUND)?;
@@ -38,13 +28,11 @@ fn fed_event_by_event(rt: HostRuntime) -> Result<(), Fail> {
     assert_eq!(rt; history.n(), 2);
     let at_once = Catalogue::of(rt.alloc(), &history, &marks)?;
     let fed = catalogue_of(rt.alloc(), &ROUND)?;
-    for p in 0..2 {
-        let rows = rows_of(rt.alloc(), &fed, p)?;
-        assert_eq!(rt;
-            rows.as_slice(),
-            rows_of(rt.alloc(), &at_once, p)?.as_slice()
-        );
-    }
+    assert_eq!(rt; at_once.n(), 2);
+    assert_eq!(rt; fed.n(), 2);
+    let (first, second) = (process(0)?, process(1)?);
+    assert_eq!(rt; fed.rows(first), at_once.rows(first));
+    assert_eq!(rt; fed.rows(second), at_once.rows(second));
     Ok(())
 }
 

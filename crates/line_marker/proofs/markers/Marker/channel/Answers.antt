@@ -23,7 +23,7 @@ index-span-requires c =
     let before : AreWithin logs old.spans = subst (λ (r : RoundView). AreWithin logs r.spans) (sym c.index-recorded.ensures) (within-at logs rounds i old c.self.invariant.1.within within) in
     let p : ℕ = c.get.result in
     let at : p ≡ c.args.from = c.get.ensures.value in
-    let below : p < length logs = omega (arith, c.requires.process) in
+    let below : p < length logs = omega (arith, c.requires) in
     omega (arith, AreWithin-length logs old.spans before, ap (λ (ss : List Span). length ss) spans, c.recorded.inside.spans.ok.0)
 
 pub messages-requires : goal.messages-requires
@@ -40,7 +40,7 @@ messages-requires c =
     let before : AreWithin logs old.spans = subst (λ (r : RoundView). AreWithin logs r.spans) (sym c.index-recorded.ensures) (within-at logs rounds i old c.self.invariant.1.within within) in
     let p : ℕ = c.get.result in
     let at : p ≡ c.args.from = c.get.ensures.value in
-    let below : p < length logs = omega (arith, c.requires.process) in
+    let below : p < length logs = omega (arith, c.requires) in
     let span : Span = c.index-span.result.now in
     let here : span ≡ get_or old.spans p span = subst (λ (ss : List Span). span ≡ get_or ss p span) spans c.index-span.ensures in
     let names : c.names.result.now ≡ get_or logs p [] = c.names.ensures ∙ ap (λ (k : ℕ). get_or logs k []) (sym at) in
@@ -61,7 +61,7 @@ returns-in-Some c =
     let before : AreWithin logs old.spans = subst (λ (r : RoundView). AreWithin logs r.spans) (sym c.index-recorded.ensures) (within-at logs rounds i old c.self.invariant.1.within within) in
     let p : ℕ = c.get.result in
     let at : p ≡ c.args.from = c.get.ensures.value in
-    let below : p < length logs = omega (arith, c.requires.process) in
+    let below : p < length logs = omega (arith, c.requires) in
     let span : Span = c.index-span.result.now in
     let d : Recorded = recorded_of logs old in
     let here : span ≡ get_or old.spans p span = subst (λ (ss : List Span). span ≡ get_or ss p span) spans c.index-span.ensures in
