@@ -218,7 +218,7 @@ AreNumbered-weaker first next rounds most is = record {
 }
 
 -- one more round is listed, of a number that they lie below
-AreNumbered-push : (first : ℕ) (rounds : List Listed) (round : Listed) → round.number ≡ first → AreNumbered first rounds → AreNumbered (suc first) (rounds ++ round ∷ [])
+pub AreNumbered-push : (first : ℕ) (rounds : List Listed) (round : Listed) → round.number ≡ first → AreNumbered first rounds → AreNumbered (suc first) (rounds ++ round ∷ [])
 AreNumbered-push first rounds round number is =
     let below : Listed → Type 0 = λ r. r.number < suc first in
     record {
@@ -230,7 +230,7 @@ AreNumbered-none : (first : ℕ) (rounds : List Listed) → AreNumbered first ro
 AreNumbered-none first rounds is = subst (AreNumbered first) (sym (append-nil rounds)) is
 
 -- and some of them leave the list
-AreNumbered-filter : (first : ℕ) (test : Listed → Bool) (rounds : List Listed) → AreNumbered first rounds → AreNumbered first (filter test rounds)
+pub AreNumbered-filter : (first : ℕ) (test : Listed → Bool) (rounds : List Listed) → AreNumbered first rounds → AreNumbered first (filter test rounds)
 AreNumbered-filter first test rounds is = record {
   earlier = All-filter test (λ (round : Listed). round.number < first) rounds is.earlier;
   ascending = AllPairs-filter (λ (a b : Listed). a.number < b.number) test rounds is.ascending;
@@ -390,16 +390,10 @@ AreRounds-renewed mode history last running new rounds number opening are = reco
     renewed None (Some round) e is = absurd (cc)
     renewed (Some old) (Some round) e is = let same : round.number ≡ old.number = cc in record { number_is = same ∙ is.number_is; begun = is.begun; unfinished = is.unfinished }
 
--- after a restart no round is open, and the listed ones stay whose checks are all kept
-pub AreRounds-restarted : (mode : Mode) (history : List Process) (line : List Choice) (last : ℕ) (running : Option OpenView) (rounds : List Listed) → length line ≡ length history
-    → AreRounds mode history last running rounds → AreRounds mode (restarted history line) last None (filter (stays line) rounds)
-AreRounds-restarted mode history line last running rounds size are = record {
-  numbers = λ p r has. absurd (both_ways (has_check_of r (tape_at (restarted history line) p)) (no_check_restarted history line r p size) has);
-  opening = λ p r has. absurd (both_ways (has_check_of r (tape_at (restarted history line) p)) (no_check_restarted history line r p size) has);
-  unfinished = tt;
-  numbered = AreNumbered-filter (suc last) (stays line) rounds (AreNumbered-weaker (first_unlisted running last) (suc last) rounds (first_most running last) are.numbered);
-  snapshots = λ k d within. kept (get_or (filter (stays line) rounds) k d) (All-filter (stays line) (IsSnapshotOf history) rounds are.snapshots k d within) (filter_passes (stays line) rounds k d within);
-}
+-- a snapshot stays one where a restart cuts none of its checks
+pub snapshots_restarted : (history : List Process) (line : List Choice) (rounds : List Listed) → length line ≡ length history
+    → All (IsSnapshotOf history) rounds → All (IsSnapshotOf (restarted history line)) (filter (stays line) rounds)
+snapshots_restarted history line rounds size snapshots = λ k d within. kept (get_or (filter (stays line) rounds) k d) (All-filter (stays line) (IsSnapshotOf history) rounds snapshots k d within) (filter_passes (stays line) rounds k d within)
   where
     first_kept : (choice : Choice) → is_kept choice 0 ≡ true
     first_kept (AtCheck c) = le-leb 0 c (omega arith)
@@ -412,6 +406,17 @@ AreRounds-restarted mode history line last running rounds size are = record {
           | inl below ↦ in_range (λ q. is_kept (choice_at line q) (check_in round q)) 0 (length line) p all (omega arith) (omega (arith, below))
           | inr past ↦ subst (λ (c : ℕ). is_kept (choice_at line p) c ≡ true) (sym (get_or_past round.checks p 0 (omega (arith, past, many)))) (first_kept (choice_at line p))
         ]) is
+
+-- after a restart no round is open, and the listed ones stay whose checks are all kept
+pub AreRounds-restarted : (mode : Mode) (history : List Process) (line : List Choice) (last : ℕ) (running : Option OpenView) (rounds : List Listed) → length line ≡ length history
+    → AreRounds mode history last running rounds → AreRounds mode (restarted history line) last None (filter (stays line) rounds)
+AreRounds-restarted mode history line last running rounds size are = record {
+  numbers = λ p r has. absurd (both_ways (has_check_of r (tape_at (restarted history line) p)) (no_check_restarted history line r p size) has);
+  opening = λ p r has. absurd (both_ways (has_check_of r (tape_at (restarted history line) p)) (no_check_restarted history line r p size) has);
+  unfinished = tt;
+  numbered = AreNumbered-filter (suc last) (stays line) rounds (AreNumbered-weaker (first_unlisted running last) (suc last) rounds (first_most running last) are.numbered);
+  snapshots = snapshots_restarted history line rounds size are.snapshots;
+}
 
 -- a completed round is on each tape
 pub completed_has : (mode : Mode) (history : List Process) (r q : ℕ) → is_completed mode history r ≡ true → q < length history → has_check_of r (tape_at history q) ≡ true

@@ -1,8 +1,8 @@
 -- When a round is on every tape or completed, which events change nothing of that, and what its markers and checks say.
-use Rattle.std.proofs.Common.{◌≡◌, ℕ, zero, suc, ◌+◌, ◌<◌, ◌≤◌, Bool, true, false, cond, List, [], ◌∷◌, ◌++◌, length, take, drop, Some, None, refl, sym, ap, ◌∙◌, arith, inl, inr}
+use Rattle.std.proofs.Common.{◌≡◌, ℕ, zero, suc, ◌+◌, ◌<◌, ◌≤◌, Bool, true, false, List, [], ◌∷◌, ◌++◌, length, take, drop, Some, None, refl, sym, ap, ◌∙◌, arith, inl, inr}
 use Rattle.std.specs.Prelude.{◌==◌, ◌&&◌, ◌||◌}
-use Rattle.std.specs.List.{list_any, list_all, filter, range_with_len, Contains}
-use Rattle.std.proofs.lemmas.Bool.{eqb-true, eq-eqb, and_parts, and_from, or_cases, or_left, or_right, both_ways, cases_eq, cases_lt, false_from_ne_true}
+use Rattle.std.specs.List.{list_any, list_all, range_with_len, Contains}
+use Rattle.std.proofs.lemmas.Bool.{eqb-true, eq-eqb, and_parts, and_from, or_cases, or_left, or_right, both_ways, cases_eq, false_from_ne_true}
 use Rattle.std.proofs.lemmas.List.{take-append-drop, length-set}
 use Rattle.std.proofs.lemmas.List.Elements.{Contains-append_right}
 use Rattle.std.proofs.lemmas.List.Folds.{list_any-append}
@@ -158,36 +158,6 @@ check_of_new tape e r none is = ap (λ (es : List Event). suc (checks es)) (befo
 
 pub check_of_least : (tape : List Event) (r : ℕ) → 1 ≤ check_of r tape
 check_of_least tape r = omega arith
-
--- no number of a range passes
-pub none_in_range : (f : ℕ → Bool) (a n : ℕ) → ((v : ℕ) → a ≤ v → v < a + n → f v ≡ false) → filter f (range_with_len a n) ≡ []
-none_in_range f a zero h = refl
-none_in_range f a (suc n) h =
-    let rest : List ℕ = filter f (range_with_len (a + 1) n) in
-    ap (λ b. cond b (a ∷ rest) rest) (h a (omega arith) (omega arith)) ∙ none_in_range f (a + 1) n (λ v l k. h v (omega (arith, l)) (omega (arith, k)))
-
--- one alone passes
-pub one_in_range : (f : ℕ → Bool) (a n r : ℕ) → a ≤ r → r < a + n → f r ≡ true → ((v : ℕ) → a ≤ v → v < a + n → (v ≡ r → ⊥) → f v ≡ false) → filter f (range_with_len a n) ≡ r ∷ []
-one_in_range f a zero r l k is others = absurd (omega arith)
-one_in_range f a (suc n) r l k is others =
-    let rest : List ℕ = filter f (range_with_len (a + 1) n) in
-    elim (cases_lt a r) [
-      | inl below ↦
-          ap (λ b. cond b (a ∷ rest) rest) (others a (omega arith) (omega arith) (λ e. omega (arith, e, below)))
-          ∙ one_in_range f (a + 1) n r (omega (arith, below)) (omega arith) is (λ v m j apart. others v (omega (arith, m)) (omega (arith, j)) apart)
-      | inr above ↦
-          let same : a ≡ r = omega (arith, above) in
-          let none : rest ≡ [] = none_in_range f (a + 1) n (λ v m j. others v (omega (arith, m)) (omega (arith, j)) (λ e. omega (arith, e, m, same))) in
-          ap (λ b. cond b (a ∷ rest) rest) (ap f same ∙ is) ∙ ap (λ (v : List ℕ). a ∷ v) none ∙ ap (λ (v : ℕ). v ∷ []) same
-    ]
-
--- the rounds up to the last of which a test passes: none
-pub no_rounds_pass : (f : ℕ → Bool) (last : ℕ) → ((v : ℕ) → 1 ≤ v → v ≤ last → f v ≡ false) → filter f (range_with_len 1 last) ≡ []
-no_rounds_pass f last h = none_in_range f 1 last (λ v l k. h v l (omega (arith, k)))
-
--- or one alone
-pub one_round_passes : (f : ℕ → Bool) (last r : ℕ) → 1 ≤ r → r ≤ last → f r ≡ true → ((v : ℕ) → 1 ≤ v → v ≤ last → (v ≡ r → ⊥) → f v ≡ false) → filter f (range_with_len 1 last) ≡ r ∷ []
-one_round_passes f last r l k is others = one_in_range f 1 last r l (omega (arith, k)) is (λ v m j apart. others v m (omega (arith, j)) apart)
 
 -- an event that is no check of a round is a check of none
 pub unchecked : (e : Event) (r : ℕ) → checked_round e ≡ None → is_check_of r e ≡ false

@@ -37,7 +37,7 @@ pub use links::{fronts_decide_transit, kept_checks, ordered_fits, restart_fits, 
 pub use marks::{MarkError, Marks};
 pub use rounds::{
     channels_grow, latest_reaches, marker_round_holds, markers_follow_checks, rounds_complete,
-    rounds_pass, rounds_stay, snapshots_stay,
+    rounds_stay, snapshots_stay,
 };
 pub use survival::{first_ceilings, latest_choice, next_lower, survives};
 pub use tapes::{Tape, TapeError};

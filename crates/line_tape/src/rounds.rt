@@ -1,6 +1,5 @@
 //! Laws of the rounds of markers, and of snapshots.
-ghost use Rattle.std.specs.Prelude.{IsTrue, slice_index_or, if◌then◌else◌, ◌≡◌, ◌≢◌, ◌↔◌, ◌++◌, ◌||◌, ◌<◌, ◌≤◌, ℕ, suc, List, [], ◌∷◌, Bool, false, filter, length, Contains};
-ghost use Rattle.std.specs.List.{range_with_len};
+ghost use Rattle.std.specs.Prelude.{IsTrue, slice_index_or, if◌then◌else◌, ◌≡◌, ◌≢◌, ◌↔◌, ◌++◌, ◌||◌, ◌<◌, ℕ, suc, List, [], ◌∷◌, Bool, false, length, Contains};
 ghost use Rattle.line_names.specs.declared.choices.Choice.{Choice};
 ghost use Rattle.line_names.specs.declared.choices.Choice.TheVariants.{Check};
 ghost use Rattle.line_names.specs.declared.messages.MsgName.{MsgName};
@@ -107,13 +106,4 @@ pub fn markers_follow_checks()
         → rounds_checked (tape_at (restarted history line) p) ≡ [] }
     ensures restart_markers { (history : List Process) (line : List Choice) (p q r : ℕ) → length line ≡ length history
         → Contains (link (restarted history line) p q) (Marker r) → ⊥ }
-{}
-
-/// Of the rounds up to a last one, those of which a test is true: none where it is false of each, and one alone where it is true of that one alone.
-///
-/// The call does nothing: its contract is the law.
-pub fn rounds_pass()
-    ensures none { (test : ℕ → Bool) (last : ℕ) → ((v : ℕ) → 1 ≤ v → v ≤ last → test v ≡ false) → filter test (range_with_len 1 last) ≡ [] }
-    ensures one { (test : ℕ → Bool) (last r : ℕ) → 1 ≤ r → r ≤ last → IsTrue (test r) → ((v : ℕ) → 1 ≤ v → v ≤ last → v ≢ r → test v ≡ false)
-        → filter test (range_with_len 1 last) ≡ r ∷ [] }
 {}

@@ -8,3 +8,5 @@ pub mod PaintLemmas
 pub mod TurnedFacts
 pub mod KnownFacts
 pub mod RunLemmas
+pub mod GrowthFacts
+pub mod SoundFacts

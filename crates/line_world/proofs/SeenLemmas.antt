@@ -22,7 +22,7 @@ abbrev pub seen : Mode → List Process → MarksView → ℕ → List Listed �
 seen mode history marks last rounds queues = record { mode = mode; history = history; marks = marks; last_round = last; rounds = rounds; copies = copies_in mode queues }
 
 -- a copy more is seen
-copy_kept : (mode : Mode) (queues : List (List (List Item))) (p q : ℕ) (item : Item)
+pub copy_kept : (mode : Mode) (queues : List (List (List Item))) (p q : ℕ) (item : Item)
     → copies_in mode (with_list queues p q (between queues p q ++ item ∷ [])) ≡ copies_in mode (with_list (copies_in mode queues) p q (between (copies_in mode queues) p q ++ item ∷ []))
 copy_kept Fifo queues p q item = refl
 copy_kept Unordered queues p q item = refl

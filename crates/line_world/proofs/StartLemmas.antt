@@ -32,7 +32,7 @@ none_opened Fifo = refl
 none_opened Unordered = refl
 
 module _ (n : ℕ) where
-  tape-start : (p : ℕ) → tape_at (replicate n fresh) p ≡ []
+  pub tape-start : (p : ℕ) → tape_at (replicate n fresh) p ≡ []
   tape-start p = ap (λ (v : Process). v.tape) (get_or-replicate_self n p fresh)
 
   queue-start : (p q : ℕ) → between {A = Item} (replicate n (replicate n [])) p q ≡ []

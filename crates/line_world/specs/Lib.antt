@@ -3,3 +3,4 @@ pub mod Refusals
 pub mod Steps
 pub mod Runs
 pub mod Marked
+pub mod Sound

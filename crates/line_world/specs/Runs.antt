@@ -1,5 +1,5 @@
 -- Steps with their answers, and runs.
-use Rattle.std.specs.Prelude.{◌≡◌, ◌≢◌, List, [], ◌∷◌, AllPairs, Option, Some, None}
+use Rattle.std.specs.Prelude.{◌≡◌, ◌≢◌, List, [], ◌∷◌, ◌++◌, AllPairs, Option, Some, None}
 use Rattle.std.specs.List.{filter_map}
 use Rattle.line_names.specs.declared.messages.MsgName.{MsgName}
 use Rattle.line_world.specs.declared.steps.Step.{Step}
@@ -22,6 +22,15 @@ Run old [] [] new = new ≡ old
 Run old (step ∷ steps) (answer ∷ answers) new = (mid : Machine) × Takes old step answer mid × Run mid steps answers new
 Run old [] (answer ∷ answers) new = ⊥
 Run old (step ∷ steps) [] new = ⊥
+
+-- a run of some steps and of more: the answers and the machine between
+pub record IsParted (old : Machine) (steps more : List Step) (answers : List Answer) (new : Machine) : Type 0 where
+  pub first : List Answer
+  pub rest : List Answer
+  pub all : answers ≡ first ++ rest
+  pub mid : Machine
+  pub before : Run old steps first mid
+  pub after : Run mid more rest new
 
 -- the name that a reply tells of a message sent
 abbrev pub reply_name : Reply → Option MsgName

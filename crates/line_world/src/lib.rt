@@ -8,7 +8,7 @@ mod replies;
 mod steps;
 mod worlds;
 
-pub use laws::runs_name_apart;
+pub use laws::{runs_keep_rounds, runs_name_apart};
 pub use line_moves::{Mode, Round};
 pub use replies::{Answer, Reply, RunStopped, StepError};
 pub use steps::Step;

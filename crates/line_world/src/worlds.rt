@@ -168,6 +168,7 @@ impl World {
         ensures done { IfOk result (λ reply. Takes self.old (Send from to body.now) (Done reply) self.new) }
         ensures refused { IfErr result (λ e. e ≢ StepError.OutOfMemory → Takes self.old (Send from to body.now) (Refused e) self.new) }
         ensures memory { IsErrOf result StepError.OutOfMemory → self.new ≡ self.old }
+        ensures unrefused { IsErrOf result StepError.OutOfMemory → refusal_of self.old (Send from to body.now) ≡ None }
     {
         if let Some(e) = self.send_refusal(from, to) {
             return Err(e);
@@ -206,6 +207,7 @@ impl World {
         ensures refused { IfErr result (λ e. e ≢ StepError.OutOfMemory
             → Takes self.old (Deliver from to pick _state.now) (Refused e) self.new) }
         ensures memory { IsErrOf result StepError.OutOfMemory → self.new ≡ self.old }
+        ensures unrefused { IsErrOf result StepError.OutOfMemory → refusal_of self.old (Deliver from to pick _state.now) ≡ None }
     {
         let _history = self.catalogue.history();
         if self.is_full(to, 1) {
@@ -246,6 +248,7 @@ impl World {
         ensures refused { IfErr result (λ e. e ≢ StepError.OutOfMemory
             → Takes self.old (Deliver from to pick state.now) (Refused e) self.new) }
         ensures memory { IsErrOf result StepError.OutOfMemory → self.new ≡ self.old }
+        ensures unrefused { IsErrOf result StepError.OutOfMemory → refusal_of self.old (Deliver from to pick state.now) ≡ None }
     {
         let _history = self.catalogue.history();
         if self.is_full(to, 2) {
@@ -285,6 +288,7 @@ impl World {
         ensures refused { IfErr result (λ e. e ≢ StepError.OutOfMemory
             → Takes self.old (Deliver from to pick state.now) (Refused e) self.new) }
         ensures memory { IsErrOf result StepError.OutOfMemory → self.new ≡ self.old }
+        ensures unrefused { IsErrOf result StepError.OutOfMemory → refusal_of self.old (Deliver from to pick state.now) ≡ None }
     {
         let _n = self.catalogue.n();
         match fate_of(self.mode, self.catalogue.history(), to, message) {
@@ -313,6 +317,7 @@ impl World {
         ensures refused { IfErr result (λ e. e ≢ StepError.OutOfMemory
             → Takes self.old (Deliver from to 0 state.now) (Refused e) self.new) }
         ensures memory { IsErrOf result StepError.OutOfMemory → self.new ≡ self.old }
+        ensures unrefused { IsErrOf result StepError.OutOfMemory → refusal_of self.old (Deliver from to 0 state.now) ≡ None }
     {
         let _n = self.catalogue.n();
         let forced = is_forced(&self.running, self.catalogue.history(), from, to, round);
@@ -350,6 +355,7 @@ impl World {
         ensures refused { IfErr result (λ e. e ≢ StepError.OutOfMemory
             → Takes self.old (Deliver from to pick state.now) (Refused e) self.new) }
         ensures memory { IsErrOf result StepError.OutOfMemory → self.new ≡ self.old }
+        ensures unrefused { IsErrOf result StepError.OutOfMemory → refusal_of self.old (Deliver from to pick state.now) ≡ None }
     {
         if let Some(e) = self.link_refusal(from, to, pick, state) {
             return Err(e);
@@ -375,6 +381,7 @@ impl World {
         ensures done { IfOk result (λ reply. Takes self.old (Check at state.now) (Done reply) self.new) }
         ensures refused { IfErr result (λ e. e ≢ StepError.OutOfMemory → Takes self.old (Check at state.now) (Refused e) self.new) }
         ensures memory { IsErrOf result StepError.OutOfMemory → self.new ≡ self.old }
+        ensures unrefused { IsErrOf result StepError.OutOfMemory → refusal_of self.old (Check at state.now) ≡ None }
     {
         if let Some(e) = self.check_refusal(at, state) {
             return Err(e);
@@ -396,6 +403,7 @@ impl World {
         ensures done { IfOk result (λ reply. Takes self.old (Begin at state.now) (Done reply) self.new) }
         ensures refused { IfErr result (λ e. e ≢ StepError.OutOfMemory → Takes self.old (Begin at state.now) (Refused e) self.new) }
         ensures memory { IsErrOf result StepError.OutOfMemory → self.new ≡ self.old }
+        ensures unrefused { IsErrOf result StepError.OutOfMemory → refusal_of self.old (Begin at state.now) ≡ None }
     {
         self.rounds.reserve(1)?;
         let (begun, check) = begin_round(
@@ -427,6 +435,7 @@ impl World {
         ensures done { IfOk result (λ reply. Takes self.old (Begin at state.now) (Done reply) self.new) }
         ensures refused { IfErr result (λ e. e ≢ StepError.OutOfMemory → Takes self.old (Begin at state.now) (Refused e) self.new) }
         ensures memory { IsErrOf result StepError.OutOfMemory → self.new ≡ self.old }
+        ensures unrefused { IsErrOf result StepError.OutOfMemory → refusal_of self.old (Begin at state.now) ≡ None }
     {
         let n = self.catalogue.n();
         let round = self.last_round + 1;
@@ -452,6 +461,7 @@ impl World {
         ensures done { IfOk result (λ reply. Takes self.old (Begin at state.now) (Done reply) self.new) }
         ensures refused { IfErr result (λ e. e ≢ StepError.OutOfMemory → Takes self.old (Begin at state.now) (Refused e) self.new) }
         ensures memory { IsErrOf result StepError.OutOfMemory → self.new ≡ self.old }
+        ensures unrefused { IsErrOf result StepError.OutOfMemory → refusal_of self.old (Begin at state.now) ≡ None }
     {
         if let Some(e) = self.begin_refusal(at, state) {
             return Err(e);
@@ -467,6 +477,7 @@ impl World {
         ensures done { IfOk result (λ reply. Takes self.old (Turn at state.now) (Done reply) self.new) }
         ensures refused { IfErr result (λ e. e ≢ StepError.OutOfMemory → Takes self.old (Turn at state.now) (Refused e) self.new) }
         ensures memory { IsErrOf result StepError.OutOfMemory → self.new ≡ self.old }
+        ensures unrefused { IsErrOf result StepError.OutOfMemory → refusal_of self.old (Turn at state.now) ≡ None }
     {
         if let Some(e) = self.turn_refusal(at, state) {
             return Err(e);
@@ -494,6 +505,7 @@ impl World {
         ensures done { IfOk result (λ reply. Takes self.old (Damage at check) (Done reply) self.new) }
         ensures refused { IfErr result (λ e. e ≢ StepError.OutOfMemory → Takes self.old (Damage at check) (Refused e) self.new) }
         ensures memory { IsErrOf result StepError.OutOfMemory → self.new ≡ self.old }
+        ensures unrefused { IsErrOf result StepError.OutOfMemory → refusal_of self.old (Damage at check) ≡ None }
     {
         if at.get() >= self.catalogue.n() {
             return Err(StepError::NoSuchProcess);
@@ -526,6 +538,7 @@ impl World {
         ensures done { IfOk result (λ reply. Takes self.old (Recover failed.now) (Done reply) self.new) }
         ensures refused { IfErr result (λ e. e ≢ StepError.OutOfMemory → Takes self.old (Recover failed.now) (Refused e) self.new) }
         ensures memory { IsErrOf result StepError.OutOfMemory → self.new ≡ self.old }
+        ensures unrefused { IsErrOf result StepError.OutOfMemory → refusal_of self.old (Recover failed.now) ≡ None }
     {
         let plan = self.plan_for(alloc, failed)?;
         let history = self.catalogue.history();
@@ -562,6 +575,7 @@ impl World {
         ensures done { IfOk result (λ reply. Takes self.old step.now (Done reply) self.new) }
         ensures refused { IfErr result (λ e. e ≢ StepError.OutOfMemory → Takes self.old step.now (Refused e) self.new) }
         ensures memory { IsErrOf result StepError.OutOfMemory → self.new ≡ self.old }
+        ensures unrefused { IsErrOf result StepError.OutOfMemory → refusal_of self.old step.now ≡ None }
     {
         match step {
             Step::Send { from, to, body } => self.send(*from, *to, body),

@@ -4,6 +4,7 @@ use Rattle.line_tape.specs.declared.items.Item.{Item}
 use Rattle.line_tape.specs.declared.events.Event.TheVariants.{Send as SendEvent}
 use Rattle.line_tape.specs.History.{Process, tape_at, incarnation_at, with_event}
 use Rattle.line_world.specs.declared.replies.Reply.TheVariants.{Sent}
+use Rattle.line_world.specs.declared.replies.StepError.TheVariants.{OutOfMemory}
 use Rattle.line_world.specs.declared.steps.Step.TheVariants.{Send}
 use Rattle.line_world.specs.Machine.{Machine}
 use Rattle.line_world.specs.Refusals.{refusal_of}
@@ -15,7 +16,7 @@ use Rattle.line_moves.specs.declared.modes.Mode.{Mode}
 use Rattle.line_tape.specs.declared.events.Event.{Event}
 use Rattle.line_moves.proofs.OpeningLemmas.{AreRounds-kept, IsOpening-kept, none_listed}
 use Rattle.line_world.proofs.PaintLemmas.{ArePainted-send}
-use Rattle.line_world.proofs.StepLemmas.{Takes-refused, may_send}
+use Rattle.line_world.proofs.StepLemmas.{Takes-refused, may_send, send_memory}
 use Rattle.line_moves.proofs.WorldLemmas.{IsWorld-send}
 use Rattle.line_world.proofs.SeenLemmas.{Sends-seen, seen}
 use Rattle.line_world.proofs.worlds.World.send.Goals as goal
@@ -23,6 +24,14 @@ use Rattle.line_world.proofs.worlds.World.send.Goals as goal
 pub returns-in-Some-clause-refused : goal.returns-in-Some-clause-refused
 returns-in-Some-clause-refused c = λ other.
     Takes-refused c.args.self.now (Send c.args.from c.args.to c.args.body.now) c.in-Some.e (sym c.in-Some.is ∙ c.send_refusal.ensures c.args.body.now)
+
+pub returns-in-Some-clause-unrefused : goal.returns-in-Some-clause-unrefused
+returns-in-Some-clause-unrefused c = λ wanted.
+    let same : c.in-Some.e ≡ OutOfMemory = cc (wanted) in
+    absurd (send_memory c.args.self.now c.args.from c.args.to c.args.body.now c.in-Some.e (sym c.in-Some.is ∙ c.send_refusal.ensures c.args.body.now) same)
+
+pub returns-in_err-message-clause-unrefused : goal.returns-in_err-message-clause-unrefused
+returns-in_err-message-clause-unrefused c = λ wanted. sym (c.send_refusal.ensures c.args.body.now) ∙ c.in_default.is
 
 pub put_message-requires-clause-from : goal.put_message-requires-clause-from
 put_message-requires-clause-from c =
