@@ -1,13 +1,13 @@
-ghost use Rattle.std.specs.Prelude.{◌<◌};
+ghost use Rattle.std.specs.Prelude.{◌<◌, ◌-◌, ◌^◌, None};
 
 use super::*;
 use line_check::CertFault;
-use line_devices::{MemSink, MemSource, Sink, Source};
+use line_devices::{DeviceFault, MemSink, MemSource, Sink, Source};
 use line_fields::{Draft, RecordWriter};
 use line_names::{Certificate, Choice, Line, MsgName, Passed, ProcId, ProcSet};
 use line_plan::Plan;
 use line_tape::State;
-use line_world::{Answer, Mode, Reply, Step, StepError};
+use line_world::{Answer, Mode, Reply, Step, StepError, World};
 use std::alloc::{AllocError, Global};
 use std::fmt::Write;
 use std::test::Fail;
@@ -684,4 +684,68 @@ fn runs_rounds(rt: HostRuntime) -> Result<(), Fail> {
         assert_eq!(rt; ran.put.as_slice(), want, "at {text:?}");
     }
     Ok(())
+}
+
+// A check of a process, a mark on its initial state, which is refused, and a mark on that check.
+fn a_refusal_in_the_middle(alloc: Global) -> Result<Vec<Step>, Fail> {
+    let at = ProcId::try_new(0, 1)?;
+    let state = State::of(Vec::new(alloc));
+    let mut steps = Vec::with_capacity(alloc, 3)?;
+    steps.push(Step::Check { at, state })?;
+    steps.push(Step::Damage { at, check: 0 })?;
+    steps.push(Step::Damage { at, check: 1 })?;
+    Ok(steps)
+}
+
+#[test]
+fn a_run_goes_on_after_a_refusal(rt: HostRuntime) -> Result<(), Fail> {
+    let steps = a_refusal_in_the_middle(rt.alloc())?;
+    let mut world = World::new(rt.alloc(), 1, Mode::Fifo)?;
+    let answers = world.run(rt.alloc(), &steps)?;
+    assert_eq!(rt; answers.len(), 3);
+    assert!(rt;
+        matches!(
+            answers.get(1),
+            Some(Answer::Refused(StepError::InitialDamage))
+        )
+    );
+    assert!(rt; matches!(answers.last(), Some(Answer::Done(Reply::Damaged { .. }))));
+    Ok(())
+}
+
+// A source that gives more than an input may have.
+#[derive(Drop)]
+struct Endless {
+    left: u64,
+}
+
+impl Source for Endless {
+    ghost left = { λ _. None };
+
+    ghost given = { λ s. 2 ^ 64 - 1 - s.left };
+
+    ghost faults = { λ _. 0 };
+
+    fn fill(&mut self, into: &mut [u8]) -> Result<usize, DeviceFault> {
+        let count = self.left.min(into.len() as u64);
+        self.left -= count;
+        Ok(count as usize)
+    }
+
+    fn failures(&self) -> u64 {
+        0
+    }
+}
+
+#[test]
+fn refuses_an_input_above_the_limit(rt: HostRuntime) {
+    let mut source = Endless { left: u64::MAX };
+    let mut sink = MemSink::new(rt.alloc(), 1, None);
+    let fault = TextFault {
+        record_number: 0,
+        code: 36,
+    };
+    assert_eq!(rt; run_text(rt.alloc(), &mut source, &mut sink), Err(fault));
+    assert_eq!(rt; check_text(rt.alloc(), &mut source, &mut sink), Err(fault));
+    assert_eq!(rt; sink.bytes().len(), 0);
 }
