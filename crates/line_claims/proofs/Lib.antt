@@ -6,6 +6,7 @@ pub mod EntryAgainLemmas
 pub mod EntryLemmas
 pub mod FaultLemmas
 pub mod FrontLemmas
+pub mod MemoryLemmas
 pub mod PartLemmas
 pub mod SpellLemmas
 pub mod WriteLemmas

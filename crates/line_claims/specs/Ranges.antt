@@ -1,5 +1,5 @@
 -- What keeps to the ranges that the fields of its records have.
-use Rattle.std.specs.Prelude.{◌≡◌, ℕ, ◌≤◌, ◌<◌, ◌==◌, false, List, [], ◌∷◌, ◌++◌, length, Option, Some, None}
+use Rattle.std.specs.Prelude.{◌≡◌, ℕ, ◌≤◌, ◌<◌, ◌^◌, ◌==◌, false, List, [], ◌∷◌, ◌++◌, length, Option, Some, None}
 use Rattle.std.specs.List.{AllByRecursion, list_any}
 use Rattle.line_names.specs.declared.certificates.Passed.{Passed}
 use Rattle.line_names.specs.declared.choices.Choice.{Choice}
@@ -41,6 +41,33 @@ pub record IsHistoryInRange (history : List Process) : Type 0 where
   pub some : 1 ≤ length history
   pub few : length history ≤ MOST_PROCESSES
   pub tapes : AllByRecursion (IsTapeInRange (length history)) history
+
+-- the numbers of an event fit the words that memory holds them in: incarnations 16 bits, others 32, and bytes 8
+abbrev pub FitsWords : Event → Type 0
+FitsWords (Send to inc body) = (to < 2 ^ 32) × (inc < 2 ^ 16) × AllByRecursion (λ byte. byte < 2 ^ 8) body
+FitsWords (Recv message) = (message.from < 2 ^ 32) × (message.inc < 2 ^ 16) × (message.number < 2 ^ 32)
+FitsWords (Check state None) = AllByRecursion (λ byte. byte < 2 ^ 8) state
+FitsWords (Check state (Some round)) = AllByRecursion (λ byte. byte < 2 ^ 8) state × (round < 2 ^ 32)
+FitsWords (Mark from round) = (from < 2 ^ 32) × (round < 2 ^ 32)
+
+-- so do those of a process
+abbrev pub FitsProcess : Process → Type 0
+FitsProcess process = (process.incarnation < 2 ^ 16) × AllByRecursion FitsWords process.tape
+
+-- a history can stand in memory
+pub record FitsMemory (history : List Process) : Type 0 where
+  pub few : length history < 2 ^ 32
+  pub processes : AllByRecursion FitsProcess history
+
+-- the round of an event, if it has one, is from 1 to 65,535
+abbrev pub IsRoundInRange : Event → Type 0
+IsRoundInRange (Check state round) = IsRound round
+IsRoundInRange (Mark from round) = IsRound (Some round)
+IsRoundInRange other = Unit {0}
+
+-- so are the rounds of a history
+abbrev pub AreRoundsInRange : List Process → Type 0
+AreRoundsInRange history = AllByRecursion (λ process. AllByRecursion IsRoundInRange process.tape) history
 
 -- a choice
 abbrev pub IsChoice : Choice → Type 0

@@ -4,17 +4,20 @@ ghost use Rattle.std.specs.Prelude.{◌≡◌, ◌++◌, List, Ok, length};
 ghost use Rattle.line_fields.specs.Texts.{records_text};
 ghost use Rattle.line_tape.specs.History.{Process};
 ghost use Rattle.line_claims.specs.Claims.{Claim};
-ghost use Rattle.line_claims.specs.Ranges.{IsClaimInRange, IsHistoryInRange};
+ghost use Rattle.line_claims.specs.Ranges.{FitsMemory, IsClaimInRange, IsHistoryInRange};
 ghost use Rattle.line_claims.specs.Records.{claim_records, history_records};
 ghost use Rattle.line_claims.specs.Texts.{certificate_of_text, check_of_text, history_of_text};
 
-/// A history is read again from its own text where its numbers keep to the ranges of their fields. So no
-/// two such histories have one text.
+/// A history is read again from its own text where its numbers keep to the ranges of their fields. Of a
+/// `History` only the rounds can be outside of these ranges: they are from 1 to 65,535.
 ///
-/// Of a `History` only the rounds can be outside of these ranges: they are from 1 to 65,535.
+/// The records of a history that can stand in memory, in range or not, are those of no other, and so is its
+/// text.
 pub fn histories_are_read_again()
     ensures same { (history : List Process) → IsHistoryInRange history → history_of_text (records_text (history_records history)) ≡ Ok history }
-    ensures apart { (history other : List Process) → IsHistoryInRange history → IsHistoryInRange other
+    ensures records { (history other : List Process) → FitsMemory history → FitsMemory other
+        → history_records history ≡ history_records other → history ≡ other }
+    ensures apart { (history other : List Process) → FitsMemory history → FitsMemory other
         → records_text (history_records history) ≡ records_text (history_records other) → history ≡ other }
 {}
 

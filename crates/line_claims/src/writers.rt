@@ -1,10 +1,13 @@
 //! Histories, written record by record.
 
-ghost use Rattle.std.specs.Prelude.{◌≡◌, ◌<◌, ◌++◌, ◌∷◌, [], Some, IfOk, OnErr, OnOk, length, map};
+ghost use Rattle.std.specs.Prelude.{◌≡◌, ◌<◌, ◌^◌, ◌++◌, ◌∷◌, [], Ok, Some, IfOk, OnErr, OnOk, length, map};
+ghost use Rattle.std.specs.List.{AllByRecursion};
 ghost use Rattle.line_devices.specs.Devices.{PutsFront};
 ghost use Rattle.line_fields.specs.Texts.{record_text, records_text};
 ghost use Rattle.line_tape.specs.History.{process_at};
+ghost use Rattle.line_claims.specs.Ranges.{AreRoundsInRange, FitsMemory, FitsProcess, FitsWords, IsHistoryInRange};
 ghost use Rattle.line_claims.specs.Records as spec;
+ghost use Rattle.line_claims.specs.Texts.{history_of_text};
 
 use line_fields::{Draft, RecordWriter};
 use line_names::{Body, Choice, MsgName, ProcId};
@@ -21,12 +24,14 @@ fn put_send(
 ) -> Result<(), AllocError>
     ensures ok { OnOk result (writer.new ≡ writer.old ++ record_text (spec.event_record (Event.Send to inc body.now))) }
     ensures err { OnErr result (writer.new ≡ writer.old) }
+    ensures fits { OnOk result (FitsWords (Event.Send to inc body.now)) }
 {
     draft.clear();
     draft.word(b"send")?;
     draft.number(u64::from(to.get()))?;
     draft.number(u64::from(inc))?;
-    draft.bytes(body.bytes())?;
+    let bytes = body.bytes();
+    draft.bytes(bytes)?;
     writer.put(draft)
 }
 
@@ -38,6 +43,7 @@ fn put_recv(
 ) -> Result<(), AllocError>
     ensures ok { OnOk result (writer.new ≡ writer.old ++ record_text (spec.event_record (Event.Recv message))) }
     ensures err { OnErr result (writer.new ≡ writer.old) }
+    ensures fits { OnOk result (FitsWords (Event.Recv message)) }
 {
     draft.clear();
     draft.word(b"recv")?;
@@ -66,10 +72,12 @@ fn put_check(
 ) -> Result<(), AllocError>
     ensures ok { OnOk result (writer.new ≡ writer.old ++ record_text (spec.event_record (Event.Check state.now round))) }
     ensures err { OnErr result (writer.new ≡ writer.old) }
+    ensures fits { OnOk result (FitsWords (Event.Check state.now round)) }
 {
     draft.clear();
     draft.word(b"check")?;
-    draft.bytes(state.bytes())?;
+    let bytes = state.bytes();
+    draft.bytes(bytes)?;
     add_round(draft, round)?;
     writer.put(draft)
 }
@@ -83,6 +91,7 @@ fn put_mark(
 ) -> Result<(), AllocError>
     ensures ok { OnOk result (writer.new ≡ writer.old ++ record_text (spec.event_record (Event.Mark from round))) }
     ensures err { OnErr result (writer.new ≡ writer.old) }
+    ensures fits { OnOk result (FitsWords (Event.Mark from round)) }
 {
     draft.clear();
     draft.word(b"mark")?;
@@ -95,6 +104,7 @@ fn put_mark(
 fn put_event(writer: &mut RecordWriter, draft: &mut Draft, event: &Event) -> Result<(), AllocError>
     ensures ok { OnOk result (writer.new ≡ writer.old ++ record_text (spec.event_record event.now)) }
     ensures err { OnErr result (writer.new ≡ writer.old) }
+    ensures fits { OnOk result (FitsWords event.now) }
 {
     match event {
         Event::Send { to, inc, body } => put_send(writer, draft, *to, *inc, body),
@@ -112,6 +122,7 @@ fn put_events(
 ) -> Result<(), AllocError>
     ensures ok { OnOk result (writer.new ≡ writer.old ++ records_text (map spec.event_record events.now)) }
     ensures err { OnErr result (PutsFront (Some writer.old) (Some writer.new) (records_text (map spec.event_record events.now))) }
+    ensures fits { OnOk result (AllByRecursion FitsWords events.now) }
 {
     for event in events {
         put_event(writer, draft, event)?;
@@ -146,6 +157,7 @@ fn put_tape(
 ) -> Result<(), AllocError>
     ensures ok { OnOk result (writer.new ≡ writer.old ++ records_text (spec.tape_records p (record { incarnation = inc; tape = events.now }))) }
     ensures err { OnErr result (PutsFront (Some writer.old) (Some writer.new) (records_text (spec.tape_records p (record { incarnation = inc; tape = events.now })))) }
+    ensures fits { OnOk result (FitsProcess (record { incarnation = inc; tape = events.now })) }
 {
     put_tape_head(writer, draft, p, inc)?;
     put_events(writer, draft, events)
@@ -161,6 +173,7 @@ fn put_tape_of(
     requires { p < length history.now.processes }
     ensures ok { OnOk result (writer.new ≡ writer.old ++ records_text (spec.tape_records p (process_at history.now.processes p))) }
     ensures err { OnErr result (PutsFront (Some writer.old) (Some writer.new) (records_text (spec.tape_records p (process_at history.now.processes p)))) }
+    ensures fits { OnOk result (FitsProcess (process_at history.now.processes p)) }
 {
     let inc = history.incarnation(p);
     let events = history.tape(p).front(Choice::Now);
@@ -182,7 +195,8 @@ fn put_count(writer: &mut RecordWriter, draft: &mut Draft, n: u32) -> Result<(),
 /// Writes the records of a history behind those that were written before.
 ///
 /// Where a growth is refused, a front of them may be written. The draft is room for one record at a time,
-/// and what it held is lost.
+/// and what it held is lost. What was written stood in memory, so it is known to be in the ranges of its
+/// fields where its rounds are.
 pub fn put_history(
     writer: &mut RecordWriter,
     draft: &mut Draft,
@@ -190,6 +204,8 @@ pub fn put_history(
 ) -> Result<(), AllocError>
     ensures ok { OnOk result (writer.new ≡ writer.old ++ records_text (spec.history_records history.now.processes)) }
     ensures err { OnErr result (PutsFront (Some writer.old) (Some writer.new) (records_text (spec.history_records history.now.processes))) }
+    ensures fits { OnOk result (FitsMemory history.now.processes) }
+    ensures range { OnOk result (AreRoundsInRange history.now.processes → IsHistoryInRange history.now.processes) }
 {
     let n = history.n();
     put_count(writer, draft, n)?;
@@ -202,9 +218,14 @@ pub fn put_history(
     Ok(())
 }
 
-/// The text of a history.
+/// The text of a history. `read_history` takes it back where the rounds of the history are from 1 to
+/// 65,535.
 pub fn write_history(alloc: Global, history: &History) -> Result<Vec<u8>, AllocError>
-    ensures { IfOk result (λ text. text.items ≡ records_text (spec.history_records history.now.processes)) }
+    ensures text { IfOk result (λ text. text.items ≡ records_text (spec.history_records history.now.processes)) }
+    ensures again { IfOk result (λ text. AreRoundsInRange history.now.processes → history_of_text text.items ≡ Ok history.now.processes) }
+
+    // So it is known to be of that history alone.
+    ensures fits { OnOk result (FitsMemory history.now.processes) }
 {
     let mut draft = Draft::new(alloc);
     let mut writer = RecordWriter::new(alloc);

@@ -64,3 +64,11 @@ all_read (Some p) (Some q) None text n into xs told h none k done = absurd k
 all_read (Some p) (Some q) (Some r) text n into xs told h none k done =
     let same : q ≡ r = k ∙ ap (λ (i : ℕ). take i into ++ r) none in
     ap Some (sym same ∙ done)
+
+-- nothing is left: what came is all that was told at first
+pub all_told : (a b : Option (List ℕ)) (text xs : List ℕ) → a ≡ Some xs → Fills a b text → IsDone b → text ≡ xs
+all_told None b text xs told h done = cc told
+all_told (Some p) None text xs told h done = absurd h
+all_told (Some p) (Some q) text xs told h done =
+    let same : p ≡ xs = cc told in
+    sym (append-nil text) ∙ ap (λ (t : List ℕ). text ++ t) (sym done) ∙ sym h ∙ same

@@ -1,9 +1,10 @@
 -- What the devices over memory are: their bytes, their step, the call that fails and their faults.
 use Rattle.std.specs.Prelude.{ℕ, ◌-◌, List, Option, option_map}
 
--- a source: the bytes still to come, the most that come at a time, how many calls ahead the failing one is, and the faults so far
+-- a source: the bytes still to come, how many it gave, the most that come at a time, how many calls ahead the failing one is, and the faults so far
 pub record GivesOf : Type 0 where
   pub left : List ℕ
+  pub given : ℕ
   pub step : ℕ
   pub fail_at : Option ℕ
   pub faults : ℕ

@@ -1,6 +1,6 @@
 //! A source and a sink over memory, which stand for the devices of a system.
 
-ghost use Rattle.std.specs.Prelude.{◌≡◌, ◌++◌, ◌<◌, ◌≤◌, ◌↔◌, [], Some, IfOk, IsErr, IsTrue, OnErr, OnOk, length, take, min};
+ghost use Rattle.std.specs.Prelude.{◌≡◌, ◌++◌, ◌+◌, ◌<◌, ◌≤◌, ◌↔◌, [], Some, IfOk, IsErr, IsTrue, OnErr, OnOk, length, take, min};
 ghost use Rattle.line_devices.specs.Devices.{one_more};
 ghost use Rattle.line_devices.specs.Memory.{next_call};
 
@@ -46,7 +46,7 @@ impl Model for MemSource {
 
     ghost Value = { GivesOf };
 
-    ghost view = { λ s. record { left = drop s.at s.bytes.items; step = s.step; fail_at = s.fail_at; faults = s.faults } };
+    ghost view = { λ s. record { left = drop s.at s.bytes.items; given = s.at; step = s.step; fail_at = s.fail_at; faults = s.faults } };
 
     ghost invariant = { λ s. (s.at ≤ vec_len s.bytes) × (0 < s.step) };
 }
@@ -57,7 +57,7 @@ impl MemSource {
     /// The call `fail_at`, counted from 1, fails, and no other; `None` and `Some(0)` name no call.
     pub fn new(bytes: Vec<u8>, step: usize, fail_at: Option<u64>) -> Self
         requires { 0 < step }
-        ensures { result ≡ record { left = bytes.items; step = step; fail_at = fail_at; faults = 0 } }
+        ensures { result ≡ record { left = bytes.items; given = 0; step = step; fail_at = fail_at; faults = 0 } }
     {
         MemSource {
             bytes,
@@ -74,6 +74,8 @@ impl Source for MemSource {
 
     ghost left = { λ s. Some s.left };
 
+    ghost given = { λ s. s.given };
+
     ghost faults = { λ s. s.faults };
 
     fn fill(&mut self, into: &mut [u8]) -> Result<usize, DeviceFault>
@@ -84,7 +86,7 @@ impl Source for MemSource {
         // It fails at its one call, and loses nothing then.
         ensures fails { IsErr result ↔ (self.old.fail_at ≡ Some 1) }
         ensures count { IfOk result (λ n. n ≡ min (min (length self.old.left) self.old.step) (length into.old)) }
-        ensures ok { OnOk result (self.new ≡ record self.old { left = self.new.left; fail_at = next_call self.old.fail_at }) }
+        ensures ok { IfOk result (λ n. self.new ≡ record self.old { left = self.new.left; given = self.old.given + n; fail_at = next_call self.old.fail_at }) }
         ensures err { OnErr result (self.new ≡ record self.old { fail_at = next_call self.old.fail_at; faults = one_more self.old.faults }) }
     {
         if is_struck(&mut self.fail_at) {

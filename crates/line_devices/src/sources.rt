@@ -1,8 +1,8 @@
 //! Where bytes come from.
 
-ghost use Rattle.std.specs.Prelude.{◌≡◌, ◌<◌, ◌≤◌, [], ℕ, List, Option, Some, IfErr, IfOk, OnErr, OnOk, length, take};
+ghost use Rattle.std.specs.Prelude.{◌≡◌, ◌<◌, ◌≤◌, ◌+◌, ℕ, List, Option, IfErr, IfOk, OnErr, OnOk, length, take};
 ghost use Rattle.line_devices.specs.Devices.{Fills, FillsFront, IsDone, one_more};
-ghost use Rattle.line_devices.specs.Reads.{CountsFault};
+ghost use Rattle.line_devices.specs.Reads.{CountsFault, GivesAll, IsTooLong};
 
 use crate::DeviceFault;
 use std::alloc::Global;
@@ -13,18 +13,24 @@ pub trait Source {
     /// The bytes that are still to come, where the source tells.
     ghost left: { Self → Option (List ℕ) };
 
+    /// How many bytes it gave so far.
+    ghost given: { Self → ℕ };
+
     /// How often it failed.
     ghost faults: { Self → ℕ };
 
     /// Moves bytes into the front of the slice, and says how many: none only where nothing is left
     /// or the slice is empty. What the rest of the slice holds then is left open.
     ///
-    /// After a failure the count of failures has risen by one, and some bytes may be lost.
+    /// After a failure the count of failures has risen by one, and some bytes may be lost, which count
+    /// as not given.
     fn fill(&mut self, into: &mut [u8]) -> Result<usize, DeviceFault>
         ensures within { IfOk result (λ n. n ≤ length into.old) }
         ensures moves { IfOk result (λ n. Fills (left self.old) (left self.new) (take n into.new)) }
+        ensures gives { IfOk result (λ n. given self.new ≡ given self.old + n) }
         ensures end { IfOk result (λ n. 0 < length into.old → n ≡ 0 → IsDone (left self.old)) }
         ensures lost { OnErr result (FillsFront (left self.old) (left self.new)) }
+        ensures none { OnErr result (given self.new ≡ given self.old) }
         ensures sound { OnOk result (faults self.new ≡ faults self.old) }
         ensures failed { OnErr result (faults self.new ≡ one_more (faults self.old)) };
 
@@ -55,14 +61,12 @@ const CHUNK: usize = 4096;
 
 /// Reads a source to its end, or until it has given more than `MOST_INPUT` bytes.
 ///
-/// It stops at the first failure, and asks for at most 4,096 bytes more than it takes. It takes time
-/// and memory in proportion to the bytes read.
+/// It stops at the first failure and at the first call that gives nothing, and asks for at most 4,096
+/// bytes more than it takes. It takes time and memory in proportion to the bytes read.
 pub fn read_all<S: Source>(alloc: Global, source: &mut S) -> Result<Vec<u8>, ReadRefused>
-    ensures whole { IfOk result (λ v. (xs : List ℕ) → S.left source.old ≡ Some xs → v.items ≡ xs) }
-    ensures bound { IfOk result (λ v. length v.items ≤ MOST_INPUT) }
-    ensures ended { OnOk result ((xs : List ℕ) → S.left source.old ≡ Some xs → S.left source.new ≡ Some []) }
-
-    ensures too_long { result ≡ Err ReadRefused.TooLong → (xs : List ℕ) → S.left source.old ≡ Some xs → MOST_INPUT < length xs }
+    // All that the source gave in this call is answered, and nothing is left.
+    ensures whole { IfOk result (λ v. GivesAll v.items (S.left source.old) (S.left source.new) (S.given source.old) (S.given source.new)) }
+    ensures too_long { result ≡ Err ReadRefused.TooLong → IsTooLong (S.left source.old) (S.given source.old) (S.given source.new) }
     ensures lost { OnErr result (FillsFront (S.left source.old) (S.left source.new)) }
 
     // Only a failure of the source is counted.

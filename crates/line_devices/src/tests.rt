@@ -43,9 +43,11 @@ struct Zeros {
 }
 
 impl Source for Zeros {
-    ghost use Rattle.std.specs.Prelude.{None};
+    ghost use Rattle.std.specs.Prelude.{◌-◌, ◌^◌, None};
 
     ghost left = { λ _. None };
+
+    ghost given = { λ s. 2 ^ 64 - 1 - s.left };
 
     ghost faults = { λ _. 0 };
 
@@ -70,6 +72,8 @@ impl Source for Broken {
     ghost use Rattle.std.specs.Prelude.{None};
 
     ghost left = { λ _. None };
+
+    ghost given = { λ _. 0 };
 
     ghost faults = { λ s. s.faults };
 

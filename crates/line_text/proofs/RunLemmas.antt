@@ -1,12 +1,14 @@
 -- A run grows by one command, and so do its text and its count of refusals.
-use Rattle.std.proofs.Common.{◌≡◌, ◌<◌, ◌≤◌, ℕ, ◌+◌, cond, List, [], ◌∷◌, ◌++◌, Option, Some, None, append_assoc, drop, get_or, length, take, refl, sym, ap, ◌∙◌, subst, arith}
-use Rattle.std.specs.Prelude.{Bool, IsTrue, Ok}
+use Rattle.std.proofs.Common.{inl, inr, ◌≡◌, ◌<◌, ◌≤◌, ℕ, ◌+◌, cond, List, [], ◌∷◌, ◌++◌, Option, Some, None, append_assoc, drop, get_or, length, take, refl, sym, ap, ◌∙◌, subst, arith}
+use Rattle.std.specs.Prelude.{◌⊎◌, Bool, Err, IsTrue, Ok, Result}
 use Rattle.std.specs.List.{flat_map}
 use Rattle.std.proofs.lemmas.Grind.{flat_map-append}
 use Rattle.std.proofs.lemmas.List.{append-nil, drop_more, take_more}
 use Rattle.std.proofs.lemmas.List.Sums.{count_by-le-length, sum_by-append}
 use Rattle.line_devices.specs.Devices.{Puts, PutsFront}
+use Rattle.line_claims.specs.declared.faults.TextFault.{TextFault}
 use Rattle.line_claims.specs.Claims.{Claim}
+use Rattle.line_claims.specs.Reads.{IsOfText, no_memory}
 use Rattle.line_claims.specs.Records.{check_records, history_records, in_order}
 use Rattle.line_fields.specs.declared.faults.Fault.TheVariants.{NoSuchProcess}
 use Rattle.line_fields.specs.Faults.{code_of}
@@ -267,3 +269,8 @@ stops_text text script first commands i old new spelt start all runs = record {
   spelt = spelt;
   runs = subst (λ (m : Machine). StopsAt m script.commands i (Puts old new)) start (subst (λ (cs : List Command). StopsAt first cs i (Puts old new)) all runs);
 }
+
+-- a fault of a text that was read is the first one
+pub fault_of_text : {A : Type 0} (read : Result A TextFault) (fault : TextFault) → (fault ≡ no_memory) ⊎ (read ≡ Err fault) → IsOfText fault → read ≡ Err fault
+fault_of_text read fault (inl none) of_text = let zero : fault.code ≡ 0 = ap (λ (f : TextFault). f.code) none in absurd (omega (arith, zero, of_text.0))
+fault_of_text read fault (inr first) of_text = first

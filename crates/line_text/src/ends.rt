@@ -1,9 +1,9 @@
 //! The two ends of a text's way: a whole input, and bytes that are put.
 
-ghost use Rattle.std.specs.Prelude.{◌≡◌, ◌⊎◌, ℕ, List, Some, IfErr, IfOk, OnErr, OnOk};
+ghost use Rattle.std.specs.Prelude.{◌≡◌, ◌≢◌, ◌⊎◌, IfErr, IfOk, OnErr, OnOk};
 ghost use Rattle.line_claims.specs.Reads.{no_memory};
 ghost use Rattle.line_devices.specs.Devices.{Puts, PutsFront, one_more};
-ghost use Rattle.line_text.specs.Ends.{IsTooLong};
+ghost use Rattle.line_devices.specs.Reads.{GivesAll, IsTooLong};
 
 use line_claims::TextFault;
 use line_devices::{DeviceFault, ReadRefused, Sink, Source, put_all, read_all};
@@ -27,10 +27,12 @@ pub(crate) fn fault_of(code: u32) -> TextFault
 
 /// Reads the whole input.
 pub(crate) fn read_input<S: Source>(alloc: Global, source: &mut S) -> Result<Vec<u8>, TextFault>
-    ensures whole { IfOk result (λ text. (xs : List ℕ) → S.left source.old ≡ Some xs → text.items ≡ xs) }
+    ensures whole { IfOk result (λ text. GivesAll text.items (S.left source.old) (S.left source.new) (S.given source.old) (S.given source.new)) }
     ensures codes { IfErr result (λ fault. (fault ≡ no_memory) ⊎ (fault ≡ record { record_number = 0; code = READ_FAULT })) }
     ensures failed { IfErr result (λ fault. fault.code ≡ READ_FAULT
-        → (S.faults source.new ≡ one_more (S.faults source.old)) ⊎ IsTooLong (S.left source.old)) }
+        → (S.faults source.new ≡ one_more (S.faults source.old)) ⊎ IsTooLong (S.left source.old) (S.given source.old) (S.given source.new)) }
+    ensures heard { OnOk result (S.faults source.new ≡ S.faults source.old) }
+    ensures told { IfErr result (λ fault. fault.code ≢ READ_FAULT → S.faults source.new ≡ S.faults source.old) }
 {
     match read_all(alloc, source) {
         Ok(text) => Ok(text),

@@ -1,13 +1,13 @@
 //! Scripts that are run: a text in, the text of the replies out.
 
-ghost use Rattle.std.specs.Prelude.{◌≡◌, ◌<◌, ◌≤◌, ◌++◌, ◌+◌, ◌^◌, ◌⊎◌, ℕ, List, [], Err, Some, length, IfOk, IfErr, OnErr, OnOk};
+ghost use Rattle.std.specs.Prelude.{◌≡◌, ◌≢◌, ◌<◌, ◌≤◌, ◌++◌, ◌+◌, ◌^◌, ◌⊎◌, ℕ, List, [], Err, Some, length, IfOk, IfErr, OnErr, OnOk};
 ghost use Rattle.line_devices.specs.Devices.{Puts, PutsFront, one_more};
+ghost use Rattle.line_devices.specs.Reads.{GivesAll, IsTooLong};
 ghost use Rattle.line_fields.specs.Texts.{record_text, records_text};
 ghost use Rattle.line_replies.specs.Rounds.{rounds_records};
 ghost use Rattle.line_names.specs.declared.limits.TheConstants.{MOST_PROCESSES};
 ghost use Rattle.line_claims.specs.Reads.{IsOfText, no_memory};
 ghost use Rattle.line_text.specs.declared.ends.TheConstants.{READ_FAULT, WRITE_FAULT};
-ghost use Rattle.line_text.specs.Ends.{IsTooLong};
 ghost use Rattle.line_scripts.specs.Reads.{seen};
 ghost use Rattle.line_replies.specs.Replies.{refused as refused_record};
 ghost use Rattle.line_text.specs.Runs as spec;
@@ -240,32 +240,38 @@ pub fn run_text<S: Source, K: Sink>(
     source: &mut S,
     sink: &mut K,
 ) -> Result<Done, TextFault>
-    ensures done { IfOk result (λ done. (xs : List ℕ) → S.left source.old ≡ Some xs
-        → spec.RunsText xs done.refused (K.taken sink.old) (K.taken sink.new)) }
+    // What the source gave, to its end and within the limit, is a script that was run.
+    ensures done { IfOk result (λ done. (text : List ℕ) × GivesAll text (S.left source.old) (S.left source.new) (S.given source.old) (S.given source.new)
+        × spec.RunsText text done.refused (K.taken sink.old) (K.taken sink.new)) }
 
     // A fault of the text is its first, and then nothing is written.
     ensures text { IfErr result (λ fault. IsOfText fault
-        → (sink.new ≡ sink.old) × ((xs : List ℕ) → S.left source.old ≡ Some xs → script_of_text xs ≡ Err fault)) }
+        → (sink.new ≡ sink.old)
+        × ((text : List ℕ) × GivesAll text (S.left source.old) (S.left source.new) (S.given source.old) (S.given source.new) × (script_of_text text ≡ Err fault))) }
 
     // So it is where the source failed or the input is too long.
     ensures read { IfErr result (λ fault. fault.code ≡ READ_FAULT
         → (fault.record_number ≡ 0) × (sink.new ≡ sink.old)
-        × ((S.faults source.new ≡ one_more (S.faults source.old)) ⊎ IsTooLong (S.left source.old))) }
+        × ((S.faults source.new ≡ one_more (S.faults source.old)) ⊎ IsTooLong (S.left source.old) (S.given source.old) (S.given source.new))) }
 
     // Where the sink failed, what it took is a front of the replies.
     ensures write { IfErr result (λ fault. fault.code ≡ WRITE_FAULT
         → (fault.record_number ≡ 0) × (K.faults sink.new ≡ one_more (K.faults sink.old))
-        × ((xs : List ℕ) → S.left source.old ≡ Some xs → spec.RunsTextFront xs (K.taken sink.old) (K.taken sink.new))) }
+        × ((text : List ℕ) × GivesAll text (S.left source.old) (S.left source.new) (S.given source.old) (S.given source.new)
+        × spec.RunsTextFront text (K.taken sink.old) (K.taken sink.new))) }
 
     // Want of memory is of no record, and nothing is written, or it is of a command, and the replies to
     // those before it are written, and perhaps a front of its own.
     ensures memory { IfErr result (λ fault. fault.code ≡ 0
         → ((fault.record_number ≡ 0) × (sink.new ≡ sink.old))
-        ⊎ ((xs : List ℕ) → S.left source.old ≡ Some xs → spec.StopsText xs fault.record_number (K.taken sink.old) (K.taken sink.new))) }
+        ⊎ ((text : List ℕ) × GivesAll text (S.left source.old) (S.left source.new) (S.given source.old) (S.given source.new)
+        × spec.StopsText text fault.record_number (K.taken sink.old) (K.taken sink.new))) }
 
-    // There are no other faults, and a sound sink is not blamed.
+    // There are no other faults, a sound sink is not blamed, and no failure of the source is passed over.
     ensures codes { IfErr result (λ fault. fault.code ≤ WRITE_FAULT) }
     ensures sound { OnOk result (K.faults sink.new ≡ K.faults sink.old) }
+    ensures heard { OnOk result (S.faults source.new ≡ S.faults source.old) }
+    ensures told { IfErr result (λ fault. fault.code ≢ READ_FAULT → S.faults source.new ≡ S.faults source.old) }
 {
     let text = read_input(alloc, source)?;
     let script = read_script(alloc, &text)?;

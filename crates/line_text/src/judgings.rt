@@ -1,13 +1,13 @@
 //! Check texts that are judged: a text in, a verdict out.
 
-ghost use Rattle.std.specs.Prelude.{◌≡◌, ◌++◌, ◌∷◌, ◌≤◌, ◌⊎◌, [], ℕ, List, Err, Some, IfErr, IfOk, OnOk};
+ghost use Rattle.std.specs.Prelude.{◌≡◌, ◌≢◌, ◌++◌, ◌∷◌, ◌≤◌, ◌⊎◌, [], ℕ, List, Err, Some, IfErr, IfOk, OnOk};
 ghost use Rattle.line_claims.specs.Reads.{IsOfText};
 ghost use Rattle.line_claims.specs.Records.{number_text};
 ghost use Rattle.line_claims.specs.Texts.{check_of_text, seen_check};
 ghost use Rattle.line_devices.specs.Devices.{one_more};
+ghost use Rattle.line_devices.specs.Reads.{GivesAll, IsTooLong};
 ghost use Rattle.line_fields.specs.Texts.{record_text};
 ghost use Rattle.line_text.specs.declared.ends.TheConstants.{READ_FAULT, WRITE_FAULT};
-ghost use Rattle.line_text.specs.Ends.{IsTooLong};
 ghost use Rattle.line_text.specs.Judgings as spec;
 
 use crate::ends::{WRITE_FAULT, fault_of, put, read_input};
@@ -103,29 +103,34 @@ pub fn check_text<S: Source, K: Sink>(
     source: &mut S,
     sink: &mut K,
 ) -> Result<Option<CertFault>, TextFault>
-    ensures done { IfOk result (λ verdict. (xs : List ℕ) → S.left source.old ≡ Some xs
-        → spec.JudgesText xs verdict (K.taken sink.old) (K.taken sink.new)) }
+    // What the source gave, to its end and within the limit, is a check text that was judged.
+    ensures done { IfOk result (λ verdict. (text : List ℕ) × GivesAll text (S.left source.old) (S.left source.new) (S.given source.old) (S.given source.new)
+        × spec.JudgesText text verdict (K.taken sink.old) (K.taken sink.new)) }
 
     // A fault of the text is its first, and then nothing is written.
     ensures text { IfErr result (λ fault. IsOfText fault
-        → (sink.new ≡ sink.old) × ((xs : List ℕ) → S.left source.old ≡ Some xs → check_of_text xs ≡ Err fault)) }
+        → (sink.new ≡ sink.old)
+        × ((text : List ℕ) × GivesAll text (S.left source.old) (S.left source.new) (S.given source.old) (S.given source.new) × (check_of_text text ≡ Err fault))) }
 
     // So it is where the source failed or the input is too long.
     ensures read { IfErr result (λ fault. fault.code ≡ READ_FAULT
         → (fault.record_number ≡ 0) × (sink.new ≡ sink.old)
-        × ((S.faults source.new ≡ one_more (S.faults source.old)) ⊎ IsTooLong (S.left source.old))) }
+        × ((S.faults source.new ≡ one_more (S.faults source.old)) ⊎ IsTooLong (S.left source.old) (S.given source.old) (S.given source.new))) }
 
     // Where the sink failed, what it took is a front of the verdict.
     ensures write { IfErr result (λ fault. fault.code ≡ WRITE_FAULT
         → (fault.record_number ≡ 0) × (K.faults sink.new ≡ one_more (K.faults sink.old))
-        × ((xs : List ℕ) → S.left source.old ≡ Some xs → spec.JudgesTextFront xs (K.taken sink.old) (K.taken sink.new))) }
+        × ((text : List ℕ) × GivesAll text (S.left source.old) (S.left source.new) (S.given source.old) (S.given source.new)
+        × spec.JudgesTextFront text (K.taken sink.old) (K.taken sink.new))) }
 
     // Want of memory is of no record, and then nothing is written.
     ensures memory { IfErr result (λ fault. fault.code ≡ 0 → (fault.record_number ≡ 0) × (sink.new ≡ sink.old)) }
 
-    // There are no other faults, and a sound sink is not blamed.
+    // There are no other faults, a sound sink is not blamed, and no failure of the source is passed over.
     ensures codes { IfErr result (λ fault. fault.code ≤ WRITE_FAULT) }
     ensures sound { OnOk result (K.faults sink.new ≡ K.faults sink.old) }
+    ensures heard { OnOk result (S.faults source.new ≡ S.faults source.old) }
+    ensures told { IfErr result (λ fault. fault.code ≢ READ_FAULT → S.faults source.new ≡ S.faults source.old) }
 {
     let text = read_input(alloc, source)?;
     let check = read_check_text(alloc, &text)?;

@@ -55,6 +55,29 @@ fn a_run_answers_each_step(rt: HostRuntime) -> Result<(), Fail> {
     Ok(())
 }
 
+/// A check of a process, a mark on its initial state, which is refused, and a mark on that check.
+fn a_refusal_in_the_middle(alloc: Global) -> Result<Vec<Step>, Fail> {
+    let at = ProcId::try_new(0, 1)?;
+    let state = State::of(Vec::new(alloc));
+    let mut steps = Vec::with_capacity(alloc, 3)?;
+    steps.push(Step::Check { at, state })?;
+    steps.push(Step::Damage { at, check: 0 })?;
+    steps.push(Step::Damage { at, check: 1 })?;
+    Ok(steps)
+}
+
+#[test]
+fn a_run_goes_on_after_a_refusal(rt: HostRuntime) -> Result<(), Fail> {
+    let steps = a_refusal_in_the_middle(rt.alloc())?;
+    let mut world = World::new(rt.alloc(), 1, Mode::Fifo)?;
+    let answers = world.run(rt.alloc(), &steps)?;
+    assert_eq!(rt; answers.len(), 3);
+    assert_eq!(rt; answers.first().map(seen), Some(Told::Checked(1)));
+    assert_eq!(rt; answers.get(1).map(seen), Some(Told::Refused));
+    assert_eq!(rt; answers.last().map(seen), Some(Told::Else));
+    Ok(())
+}
+
 #[test]
 fn refusals_of_steps_read_well(rt: HostRuntime) -> Result<(), Fail> {
     let links = format!(in rt.alloc();

@@ -1,8 +1,8 @@
 //! Runs and judgements of texts over devices that fail or give a byte at a time, and the calls on one text.
-ghost use Rattle.std.specs.Prelude.{◌<◌};
+ghost use Rattle.std.specs.Prelude.{◌<◌, ◌-◌, ◌^◌, None};
 
 use line_check::CertFault;
-use line_devices::{MemSink, MemSource, Sink, Source};
+use line_devices::{DeviceFault, MemSink, MemSource, Sink, Source};
 use line_names::{MsgName, ProcId};
 use line_text::{Done, TextFault, check_text, read_script, run_text, write_reply};
 use line_world::{Mode, Reply};
@@ -45,7 +45,7 @@ fn writes_a_reply(rt: HostRuntime) -> Result<(), Fail> {
     Ok(())
 }
 
-// What a run came to, and how often its devices failed.
+/// What a run came to, and how often its devices failed.
 #[derive(Drop)]
 struct Ran {
     answer: Result<Done, TextFault>,
@@ -54,7 +54,7 @@ struct Ran {
     write_failures: u64,
 }
 
-// Runs a text over memory, in steps of so many bytes, where these calls fail.
+/// Runs a text over memory, in steps of so many bytes, where these calls fail.
 fn run(
     alloc: Global,
     text: &[u8],
@@ -118,7 +118,7 @@ fn tells_that_the_sink_failed(rt: HostRuntime) -> Result<(), Fail> {
     Ok(())
 }
 
-// More replies than are put at a time.
+/// More replies than are put at a time.
 #[test]
 fn puts_long_replies_in_pieces(rt: HostRuntime) -> Result<(), Fail> {
     let mut text = Vec::from_slice(rt.alloc(), b"world,1,2,fifo\n")?;
@@ -138,14 +138,14 @@ fn puts_long_replies_in_pieces(rt: HostRuntime) -> Result<(), Fail> {
     Ok(())
 }
 
-// What a judgement came to.
+/// What a judgement came to.
 #[derive(Drop)]
 struct Judged {
     answer: Result<Option<CertFault>, TextFault>,
     put: Vec<u8>,
 }
 
-// Judges a text over memory, in steps of so many bytes, where these calls fail.
+/// Judges a text over memory, in steps of so many bytes, where these calls fail.
 fn judge(
     alloc: Global,
     text: &[u8],
@@ -180,4 +180,41 @@ fn judges_nothing_where_a_device_fails(rt: HostRuntime) -> Result<(), Fail> {
         assert_eq!(rt; judged.put.len(), put);
     }
     Ok(())
+}
+
+/// A source that gives more than an input may have.
+#[derive(Drop)]
+struct Endless {
+    left: u64,
+}
+
+impl Source for Endless {
+    ghost left = { λ _. None };
+
+    ghost given = { λ s. 2 ^ 64 - 1 - s.left };
+
+    ghost faults = { λ _. 0 };
+
+    fn fill(&mut self, into: &mut [u8]) -> Result<usize, DeviceFault> {
+        let count = self.left.min(into.len() as u64);
+        self.left -= count;
+        Ok(count as usize)
+    }
+
+    fn failures(&self) -> u64 {
+        0
+    }
+}
+
+#[test]
+fn refuses_an_input_above_the_limit(rt: HostRuntime) {
+    let mut source = Endless { left: u64::MAX };
+    let mut sink = MemSink::new(rt.alloc(), 1, None);
+    let fault = TextFault {
+        record_number: 0,
+        code: 36,
+    };
+    assert_eq!(rt; run_text(rt.alloc(), &mut source, &mut sink), Err(fault));
+    assert_eq!(rt; check_text(rt.alloc(), &mut source, &mut sink), Err(fault));
+    assert_eq!(rt; sink.bytes().len(), 0);
 }

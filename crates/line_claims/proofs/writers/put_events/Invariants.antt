@@ -1,8 +1,13 @@
 use Rattle.std.proofs.Common.{◌≡◌, ◌++◌, take}
 use Rattle.std.specs.Prelude.{map}
+use Rattle.std.specs.List.{AllByRecursion}
 use Rattle.line_fields.specs.Texts.{records_text}
+use Rattle.line_claims.specs.Ranges.{FitsWords}
 use Rattle.line_claims.specs.Records.{event_record}
 use Rattle.line_claims.proofs.writers.put_events.Given as goal
 
 abbrev pub invariant-loop-event : goal.invariant-loop-event
-invariant-loop-event l = l.writer ≡ l.fn.writer ++ records_text (map event_record (take l.event-index l.events))
+invariant-loop-event l = record {
+  written : l.writer ≡ l.fn.writer ++ records_text (map event_record (take l.event-index l.events));
+  fits : AllByRecursion FitsWords (take l.event-index l.events);
+}

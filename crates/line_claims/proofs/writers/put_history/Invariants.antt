@@ -1,8 +1,13 @@
-use Rattle.std.proofs.Common.{drop}
+use Rattle.std.proofs.Common.{drop, take}
+use Rattle.std.specs.List.{AllByRecursion}
 use Rattle.line_fields.specs.Texts.{records_text}
+use Rattle.line_claims.specs.Ranges.{FitsProcess}
 use Rattle.line_claims.specs.Records.{history_records, tapes_records}
 use Rattle.line_claims.proofs.PartLemmas.{IsPart}
 use Rattle.line_claims.proofs.writers.put_history.Given as goal
 
 abbrev pub invariant-loop-p : goal.invariant-loop-p
-invariant-loop-p l = IsPart l.fn.writer l.writer (records_text (history_records l.history.processes)) (records_text (tapes_records l.p (drop l.p l.history.processes)))
+invariant-loop-p l = record {
+  part : IsPart l.fn.writer l.writer (records_text (history_records l.history.processes)) (records_text (tapes_records l.p (drop l.p l.history.processes)));
+  fits : AllByRecursion FitsProcess (take l.p l.history.processes);
+}

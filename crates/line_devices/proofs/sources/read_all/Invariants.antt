@@ -1,4 +1,4 @@
-use Rattle.std.proofs.Common.{◌≡◌, ◌≤◌, length}
+use Rattle.std.proofs.Common.{◌≡◌, ◌≤◌, ◌+◌, length}
 use Rattle.line_devices.specs.Devices.{Fills}
 use Rattle.line_devices.proofs.sources.read_all.Given as goal
 
@@ -7,5 +7,6 @@ invariant-loop-turn g l = record {
   moved : l.turn ≤ length l.text.items;
   within : length l.text.items ≤ 67108864;
   sound : g.S.Source.faults l.source ≡ g.S.Source.faults l.fn.source;
+  counted : g.S.Source.given l.source ≡ g.S.Source.given l.fn.source + length l.text.items;
   read : Fills (g.S.Source.left l.fn.source) (g.S.Source.left l.source) l.text.items;
 }
