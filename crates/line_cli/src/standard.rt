@@ -4,16 +4,21 @@ ghost use Rattle.std.specs.Prelude.{None};
 use line_devices::{DeviceFault, Sink, Source};
 use std::io::{Read, Write};
 
-/// The bytes of a reader.
+/// The bytes of a reader, which are counted. A reader that gave 2^64 bytes has failed.
 pub struct ReadSource<R: Read> {
     reader: R,
+    given: u64,
     faults: u64,
 }
 
 impl<R: Read> ReadSource<R> {
     /// A source of what the reader gives.
     pub fn new(reader: R) -> Self {
-        ReadSource { reader, faults: 0 }
+        ReadSource {
+            reader,
+            given: 0,
+            faults: 0,
+        }
     }
 }
 
@@ -21,6 +26,7 @@ impl<R: Read + Drop> Drop for ReadSource<R> {
     fn drop(self) {
         let ReadSource {
             reader: _,
+            given: _,
             faults: _,
         } = self;
     }
@@ -29,16 +35,19 @@ impl<R: Read + Drop> Drop for ReadSource<R> {
 impl<R: Read> Source for ReadSource<R> {
     ghost left = { λ _. None };
 
+    ghost given = { λ s. s.given };
+
     ghost faults = { λ s. s.faults };
 
     fn fill(&mut self, into: &mut [u8]) -> Result<usize, DeviceFault> {
-        match self.reader.read(into) {
-            Ok(count) => Ok(count),
-            Err(_) => {
-                self.faults = self.faults.saturating_add(1);
-                Err(DeviceFault)
+        if let Ok(count) = self.reader.read(into) {
+            if let Some(given) = self.given.checked_add(count as u64) {
+                self.given = given;
+                return Ok(count);
             }
         }
+        self.faults = self.faults.saturating_add(1);
+        Err(DeviceFault)
     }
 
     fn failures(&self) -> u64 {

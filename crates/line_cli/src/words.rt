@@ -1,7 +1,7 @@
 //! The command line.
 ghost use Rattle.std.specs.Prelude.{◌≡◌, ◌∷◌, [], IfOk, IfErr, Some, codes, true, map};
-ghost use Rattle.clap.specs.Words.{kind_of, subcommand_of, subcommand_rows_of, takes};
-ghost use Rattle.line_cli.specs.Words.{recline, named, word_of};
+ghost use Rattle.clap.specs.Words.{FailsBy, kind_of, subcommand_of, subcommand_rows_of, takes};
+ghost use Rattle.line_cli.specs.Words.{HasCause, IsToldAs, named, recline, refusals_of, word_of};
 
 use clap::error::ErrorKind;
 use clap::{ArgMatches, Command, Error};
@@ -31,6 +31,7 @@ fn matches_of_words<'a>(alloc: Global, words: &'a [&'a str]) -> Result<ArgMatche
     ensures ok { IfOk result (λ m. subcommand_rows_of m ≡ subcommand_of recline (map (λ w. w.now) words.entry.now)) }
     ensures err { IfErr result (λ e. takes recline (map (λ w. w.now) words.entry.now) ≡ true
         → kind_of e ≡ ErrorKind.OutOfMemory) }
+    ensures kinds { FailsBy (refusals_of (map (λ w. w.now) words.entry.now)) result }
 {
     let run = Command::new(alloc, "run").about(
         "Reads a script on standard input and writes the replies on standard output",
@@ -47,7 +48,8 @@ fn matches_of_words<'a>(alloc: Global, words: &'a [&'a str]) -> Result<ArgMatche
 
 /// What a failed look at the words tells.
 fn fault_of(alloc: Global, error: &Error) -> LineFault
-    ensures { kind_of error.now ≡ ErrorKind.OutOfMemory → result ≡ LineFault.OutOfMemory }
+    ensures memory { kind_of error.now ≡ ErrorKind.OutOfMemory → result ≡ LineFault.OutOfMemory }
+    ensures told { IsToldAs (kind_of error.now) result }
 {
     match error.kind() {
         ErrorKind::DisplayHelp => match format!(in alloc; "{error}") {
@@ -66,6 +68,9 @@ pub fn command_of<'a>(alloc: Global, words: &'a [&'a str]) -> Result<Job, LineFa
     // A command line that names a job is refused for want of memory alone.
     ensures err { IfErr result (λ fault. (job : Job) → takes recline (map (λ w. w.now) words.entry.now) ≡ true
         → named (map (λ w. w.now) words.entry.now) ≡ Some (word_of job) → fault ≡ LineFault.OutOfMemory) }
+
+    // Help is told where it was asked for, and words are bad where they are refused or name no job.
+    ensures causes { IfErr result (λ fault. HasCause (map (λ w. w.now) words.entry.now) fault) }
 {
     match matches_of_words(alloc, words) {
         Ok(matches) => match matches.subcommand_name() {

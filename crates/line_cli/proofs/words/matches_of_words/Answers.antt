@@ -1,15 +1,24 @@
 -- The command that is built is the one that the definition says.
-use Rattle.std.proofs.Common.{rules, Bor, ap, ap₂, refl, codes, true, map, List, ◌≡◌, ◌∙◌}
+use Rattle.std.proofs.Common.{rules, Bor, ap, ap₂, refl, subst, codes, true, map, List, Result, ◌≡◌, ◌∙◌}
 use Rattle.std.proofs.lemmas.Result.{IfErr-weaker, IfOk-weaker}
-use Rattle.clap.specs.Words.{App, app_of, is_simple, new_app, Text, subcommand_of, takes, with_subcommand}
+use Rattle.clap.specs.Words.{App, FailsBy, app_of, fault_of, is_simple, is_simple_and_free, new_app, Text, subcommand_of, takes, with_subcommand}
 use Rattle.clap.proofs.OnLiterals.{clap_on_literals}
 use Rattle.clap.specs.Simple.{app_of_fields}
-use Rattle.line_cli.specs.Words.{recline}
+use Rattle.clap.specs.declared.error.Error.{Error}
+use Rattle.line_cli.specs.Words.{recline, refusals_of}
 use Rattle.line_cli.proofs.words.matches_of_words.Goals as goal
+
+free : is_simple_and_free recline ≡ true
+unfolding clap_on_literals
+free = refl
 
 simple : is_simple recline ≡ true
 unfolding clap_on_literals
 simple = refl
+
+fails_as : {T : Type 0} (a : App) (words : List Text) (result : Result T Error) → a ≡ recline → (is_simple_and_free a ≡ true → FailsBy (fault_of a words) result) → FailsBy (refusals_of words) result
+unfolding refusals_of
+fails_as a words result same h = subst (λ (x : App). FailsBy (fault_of x words) result) same (h (ap is_simple_and_free same ∙ free))
 
 pub returns : goal.returns
 returns c =
@@ -24,4 +33,5 @@ returns c =
     record {
       ok = IfOk-weaker parse.result _ _ (λ m h. (h (ap is_simple recline_is ∙ simple)).1 ∙ ap (λ (a : App). subcommand_of a words) recline_is) parse.ensures.matches;
       err = IfErr-weaker parse.result _ _ (λ e h t. h (ap (λ (a : App). takes a words) recline_is ∙ t)) parse.ensures.passes;
+      kinds = fails_as _ words parse.result recline_is parse.ensures.kinds;
     }
