@@ -1,12 +1,13 @@
 -- Each kind of step keeps what a world keeps true, in each mode.
-use Rattle.std.proofs.Common.{◌≡◌, ◌≢◌, ℕ, zero, suc, ◌<◌, Bool, true, false, cond, List, [], ◌∷◌, ◌++◌, length, drop, get_or, map, Some, None, refl, sym, ap, ◌∙◌, subst, arith, inl, inr}
+use Rattle.std.proofs.Common.{◌≡◌, ◌≢◌, ℕ, zero, suc, ◌<◌, Bool, true, false, cond, List, [], ◌∷◌, ◌++◌, length, drop, get_or, map, set, Some, None, refl, sym, ap, ◌∙◌, subst, arith, inl, inr}
 use Rattle.std.specs.Prelude.{◌==◌, ◌&&◌, not, if◌then◌else◌}
 use Rattle.std.specs.List.{All, Contains, filter_map, slice_get}
 use Rattle.std.specs.Cmp.Derive.{both_true}
 use Rattle.std.proofs.lemmas.Bool.{cases_eq, cases_lt, eq-eqb, ne_eqb}
-use Rattle.std.proofs.lemmas.List.{append-nil, length-set, get_or-set_same, get_or-set_other, get_or_past}
+use Rattle.std.proofs.Math.ListN.{get_or-map}
+use Rattle.std.proofs.lemmas.List.{append-nil, length-map, length-set, map-set, get_or-set_same, get_or-set_other, get_or_past}
 use Rattle.std.proofs.lemmas.List.FromFn.{get_or-map-range_with_len, length-map-range_with_len}
-use Rattle.std.proofs.lemmas.List.Elements.{All-nil, All-push, filter_map-append, Contains-append_right}
+use Rattle.std.proofs.lemmas.List.Elements.{All-append, All-head, All-map, All-nil, All-push, All-tail, filter_map-append, Contains-append_right}
 use Rattle.line_names.specs.declared.choices.Choice.{Choice}
 use Rattle.line_names.specs.declared.messages.MsgName.{MsgName}
 use Rattle.line_tape.specs.declared.events.Event.{Event}
@@ -38,7 +39,7 @@ use Rattle.line_moves.specs.Modes.{IsFitIn, copies_in, items_in}
 use Rattle.line_moves.specs.Queues.{with_on_each, with_on_others, taken_off}
 use Rattle.line_turns.specs.Tables.{between, with_list, IsTable}
 use Rattle.line_moves.specs.Restarts.{restarted_copies}
-use Rattle.line_moves.specs.Worlds.{IsItemOf, message_of, messages_at, AreQueues, IsLinked, IsWorld}
+use Rattle.line_moves.specs.Worlds.{IsItemOf, message_of, messages_at, names_on, AreQueues, HoldMessages, IsLinked, IsMessage, IsWorld}
 use Rattle.line_moves.proofs.FateLemmas.{held-true}
 use Rattle.line_moves.proofs.LinkLemmas.{length-with_event, first_rest, IsOrdered-check, IsOrdered-mark, IsOrdered-round, IsOrdered-send, IsOrdered-take}
 use Rattle.line_turns.proofs.TableLemmas.{between-other, between-same, table_of-all, IsTable-written}
@@ -48,10 +49,31 @@ pub IsFit-world : (mode : Mode) (history : List Process) (queues : List (List (L
 IsFit-world Fifo history queues world = world.linked.fit
 IsFit-world Unordered history queues world = world.linked.fit
 
+-- the messages on a queue of a table
+pub names-at : (queues : List (List (List Item))) (p q : ℕ) → between (names_on queues) p q ≡ messages_at queues p q
+names-at queues p q =
+    let names : List Item → List MsgName = λ items. filter_map message_of items in
+    ap (λ (row : List (List MsgName)). get_or row q []) (get_or-map (λ row. map names row) queues p []) ∙ get_or-map names (get_or queues p []) q []
+
+-- and of all, once one queue is written
+pub names-with : (queues : List (List (List Item))) (p q : ℕ) (items : List Item) → names_on (with_list queues p q items) ≡ with_list (names_on queues) p q (filter_map message_of items)
+names-with queues p q items =
+    let names : List Item → List MsgName = λ items. filter_map message_of items in
+    let each : List (List Item) → List (List MsgName) = λ row. map names row in
+    map-set each queues p (set (get_or queues p []) q items)
+    ∙ ap (λ (row : List (List MsgName)). set (map each queues) p row)
+    (map-set names (get_or queues p []) q items ∙ ap (λ (row : List (List MsgName)). set row q (names items)) (sym (get_or-map each queues p [])))
+
+-- items that are messages, by their messages
+names-back : (items : List Item) → All IsMessage items → map (λ m. Message m) (filter_map message_of items) ≡ items
+names-back [] all = refl
+names-back (Message message ∷ items) all = ap (λ (xs : List Item). Message message ∷ xs) (names-back items (All-tail IsMessage (Message message) items all))
+names-back (Marker round ∷ items) all = absurd (All-head IsMessage (Marker round) items all)
+
 -- a queue is what its link holds
-pub items-world : (mode : Mode) (history : List Process) (queues : List (List (List Item))) → IsWorld mode history queues → (p q : ℕ) → p < length history → q < length history → p ≢ q → between queues p q ≡ items_in mode history (copies_in mode queues) p q
+pub items-world : (mode : Mode) (history : List Process) (queues : List (List (List Item))) → IsWorld mode history queues → (p q : ℕ) → p < length history → q < length history → p ≢ q → between queues p q ≡ items_in mode history (names_on (copies_in mode queues)) p q
 items-world Fifo history queues world p q p_within q_within apart = world.linked.links p q p_within q_within apart
-items-world Unordered history queues world p q p_within q_within apart = refl
+items-world Unordered history queues world p q p_within q_within apart = sym (ap (λ (ms : List MsgName). map (λ m. Message m) ms) (names-at queues p q) ∙ names-back (between queues p q) (world.only p q))
 
 -- what is taken of copies is held, and new
 taken-means : (held received : Bool) → (if not held then Stale else if received then Repeated else Taken) ≡ Taken → (held ≡ true) × (received ≡ false)
@@ -139,16 +161,35 @@ module _ (history : List Process) (queues : List (List (List Item))) (are : AreQ
       and-false true y e = e
       and-false false y e = refl
 
+-- a queue with one more message holds no marker
+only-put : (mode : Mode) (history : List Process) (queues : List (List (List Item))) → AreQueues history queues → (p q : ℕ) → p < length history → q < length history → (message : MsgName)
+    → HoldMessages mode queues → HoldMessages mode (with_list queues p q (between queues p q ++ Message message ∷ []))
+only-put Fifo history queues are p q p_within q_within message all = tt
+only-put Unordered history queues are p q p_within q_within message all = λ a b.
+    let items : List Item = between queues p q ++ Message message ∷ [] in
+    let row_is : p < length queues = row history queues are p q p_within q_within in
+    elim (cases_eq a p) [
+      | inl a_same ↦ elim (cases_eq b q) [
+        | inl b_same ↦ subst (λ (v : ℕ). All IsMessage (between (with_list queues p q items) v b)) (sym a_same)
+            (subst (λ (v : ℕ). All IsMessage (between (with_list queues p q items) p v)) (sym b_same)
+            (subst (λ (xs : List Item). All IsMessage xs) (sym (between-same queues p q items row_is (column history queues are p q p_within q_within)))
+            (All-push IsMessage (between queues p q) (Message message) (all p q) tt)))
+        | inr b_other ↦ subst (λ (xs : List Item). All IsMessage xs) (sym (between-other queues p q items row_is a b (λ e. b_other e.1))) (all a b)
+      ]
+      | inr a_other ↦ subst (λ (xs : List Item). All IsMessage xs) (sym (between-other queues p q items row_is a b (λ e. a_other e.0))) (all a b)
+    ]
+
 module _ (history : List Process) (queues : List (List (List Item))) where
   -- a check of a round of colours
   pub IsWorld-turn : IsWorld Unordered history queues → (at : ℕ) (state : List ℕ) (r : ℕ) → at < length history → IsWorld Unordered (with_event history at (Check state (Some r))) queues
   IsWorld-turn world at state r within = record {
     queued = AreQueues-kept history queues at (Check state (Some r)) world.queued;
     linked = unordered_event history at (Check state (Some r)) (messages_at queues) (messages_at queues) world.linked within tt (λ p q p_within q_within. sym (append-nil (messages_at queues p q)));
+    only = world.only;
   }
 
   pub IsWorld-check : (mode : Mode) → IsWorld mode history queues → (at : ℕ) (state : List ℕ) → at < length history → IsWorld mode (with_event history at (Check state None)) queues
-  IsWorld-check mode world at state within = record { queued = AreQueues-kept history queues at (Check state None) world.queued; linked = linked mode world.linked }
+  IsWorld-check mode world at state within = record { queued = AreQueues-kept history queues at (Check state None) world.queued; linked = linked mode world.linked; only = world.only }
     where
       linked : (m : Mode) → IsLinked m history queues → IsLinked m (with_event history at (Check state None)) queues
       linked Fifo is = IsOrdered-check history queues world.queued is at state within
@@ -161,6 +202,7 @@ module _ (history : List Process) (queues : List (List (List Item))) where
       queued = AreQueues-kept history (with_list queues from to (between queues from to ++ Message (next_name history from) ∷ [])) from (Send to (incarnation_at history from) body)
           (AreQueues-put history queues world.queued from to from_within to_within (next_name history from) refl);
       linked = linked mode world.linked;
+      only = only-put mode history queues world.queued from to from_within to_within (next_name history from) world.only;
     }
       where
         linked : (m : Mode) → IsLinked m history queues → IsLinked m (with_event history from (Send to (incarnation_at history from) body)) (with_list queues from to (between queues from to ++ Message (next_name history from) ∷ []))
@@ -189,10 +231,12 @@ module _ (history : List Process) (queues : List (List (List Item))) where
       IsWorld-take apart Fifo world first taken = record {
         queued = AreQueues-kept history (taken_off Fifo queues from to) to (Recv message) (AreQueues-off history queues world.queued from to from_within to_within);
         linked = IsOrdered-take history queues world.queued world.linked from to from_within to_within apart message (ap (λ (k : ℕ). slice_get (between queues from to) k) (sym (first refl)) ∙ at) named;
+        only = tt;
       }
       IsWorld-take apart Unordered world first taken = record {
         queued = AreQueues-kept history queues to (Recv message) world.queued;
         linked = unordered_event history to (Recv message) (messages_at queues) (messages_at queues) world.linked to_within (next_receipt world taken) (λ p q p_within q_within. sym (append-nil (messages_at queues p q)));
+        only = world.only;
       }
 
       -- after a check of a round that it forces
@@ -206,6 +250,7 @@ module _ (history : List Process) (queues : List (List (List Item))) where
             queued = AreQueues-kept one queues to (Recv message) mid.queued;
             linked = unordered_event one to (Recv message) (messages_at queues) (messages_at queues) mid.linked (omega (arith, to_within, length-with_event history to e))
                 (receipt_waits history to state (Some r) message to_within (next_receipt world taken)) (λ p q p_within q_within. sym (append-nil (messages_at queues p q)));
+            only = world.only;
           }
 
 -- the world once a marker has come
@@ -215,6 +260,7 @@ module _ (history : List Process) (queues : List (List (List Item))) (world : Is
   IsWorld-mark from to r from_within to_within apart first begun = record {
     queued = AreQueues-kept history (taken_off Fifo queues from to) to (Mark from r) (AreQueues-off history queues world.queued from to from_within to_within);
     linked = IsOrdered-mark history queues world.queued world.linked from to from_within to_within apart r first begun;
+    only = tt;
   }
 
 -- the world once a check of a round has put its marker on the link to each other process
@@ -260,6 +306,7 @@ module _ (history : List Process) (queues : List (List (List Item))) (world : Is
   IsWorld-round at state r within none = record {
     queued = AreQueues-kept history (with_on_each queues at (Marker r)) at (Check state (Some r)) (AreQueues-each at r within);
     linked = IsOrdered-round history queues world.queued world.linked at within state r none;
+    only = tt;
   }
 
   -- its sender has the check of the round
@@ -284,6 +331,16 @@ module _ (history : List Process) (queues : List (List (List Item))) (world : Is
       (first_still to from to r r to_within apart first)
       (ap (has_check_of r) (tape_same history to e to to_within refl) ∙ is_checked_now r (tape_at history to) e (eq-eqb r r refl))
 
+-- there are as many lists of messages as queues
+pub names-shape : (n : ℕ) (queues : List (List (List Item))) → IsTable n queues → IsTable n (names_on queues)
+names-shape n queues is =
+    let names : List Item → List MsgName = λ items. filter_map message_of items in
+    let each : List (List Item) → List (List MsgName) = λ row. map names row in
+    record {
+      rows = length-map queues each ∙ is.rows;
+      columns = λ p within. ap (λ (row : List (List MsgName)). length row) (get_or-map each queues p []) ∙ length-map (get_or queues p []) names ∙ is.columns p within;
+    }
+
 -- the messages of items that are messages
 messages-back : (ms : List MsgName) → filter_map message_of (map (λ m. Message m) ms) ≡ ms
 messages-back [] = refl
@@ -300,8 +357,24 @@ module _ (history : List Process) (queues new : List (List (List Item))) (line :
       messages = queued.messages;
     };
     linked = linked mode world.linked put;
+    only = only mode world.only put;
   }
     where
+      only : (m : Mode) → HoldMessages m queues
+          → ((p q : ℕ) → p < length history → q < length history → between new p q ≡ between (copies_in m queues) p q ++ map (λ m. Message m) (in_transit_between history line p q))
+          → HoldMessages m new
+      only Fifo all put = tt
+      only Unordered all put = λ p q. elim (cases_lt p (length history)) [
+        | inl p_within ↦ elim (cases_lt q (length history)) [
+          | inl q_within ↦
+              let ms : List MsgName = in_transit_between history line p q in
+              subst (λ (xs : List Item). All IsMessage xs) (sym (put p q p_within q_within))
+              (All-append IsMessage (between queues p q) (map (λ m. Message m) ms) (all p q) (All-map IsMessage (λ (m : MsgName). Message m) ms (λ k d within. tt)))
+          | inr q_past ↦ subst (λ (xs : List Item). All IsMessage xs) (sym (get_or_past (get_or new p []) q [] (omega (arith, q_past, queued.shape.columns p p_within)))) (All-nil IsMessage)
+        ]
+        | inr p_past ↦ subst (λ (lists : List (List Item)). All IsMessage (get_or lists q [])) (sym (get_or_past new p [] (omega (arith, p_past, queued.shape.rows)))) (All-nil IsMessage)
+      ]
+
       linked : (m : Mode) → IsLinked m history queues
           → ((p q : ℕ) → p < length history → q < length history → between new p q ≡ between (copies_in m queues) p q ++ map (λ m. Message m) (in_transit_between history line p q))
           → IsLinked m (restarted history line) new
@@ -318,7 +391,13 @@ module _ (history : List Process) (queues new : List (List (List Item))) (line :
   -- the copies then
   pub seen-restart : (mode : Mode)
       → ((p q : ℕ) → p < length history → q < length history → between new p q ≡ between (copies_in mode queues) p q ++ map (λ m. Message m) (in_transit_between history line p q))
-      → copies_in mode new ≡ restarted_copies mode history line (copies_in mode queues)
+      → names_on (copies_in mode new) ≡ restarted_copies mode history line (names_on (copies_in mode queues))
   seen-restart Fifo put = refl
   seen-restart Unordered put =
-      table_of-all (length history) (λ p q. between queues p q ++ map (λ m. Message m) (in_transit_between history line p q)) new queued.shape put
+      let transit : ℕ → ℕ → List MsgName = in_transit_between history line in
+      table_of-all (length history) (λ p q. between (names_on queues) p q ++ transit p q) (names_on new) (names-shape (length history) new queued.shape) (λ p q p_within q_within.
+      names-at new p q
+      ∙ ap (λ (xs : List Item). filter_map message_of xs) (put p q p_within q_within)
+      ∙ filter_map-append message_of (between queues p q) (map (λ m. Message m) (transit p q))
+      ∙ ap (λ (ms : List MsgName). messages_at queues p q ++ ms) (messages-back (transit p q))
+      ∙ ap (λ (ms : List MsgName). ms ++ transit p q) (sym (names-at queues p q)))

@@ -52,8 +52,7 @@ abbrev pub marker_events : Bool → ℕ → List ℕ → ℕ → List Event
 marker_events true from state round = Check state (Some round) ∷ Mark from round ∷ []
 marker_events false from state round = Mark from round ∷ []
 
--- the events of process `to` by an item from another process; links without an order hold no markers
+-- the events of process `to` by an item from another process
 abbrev pub events_taken : Mode → List Process → ℕ → ℕ → List ℕ → Item → List Event
 events_taken mode history from to state (Message message) = events_of (fate_of mode history to message) (forced_round mode history to message) state message
-events_taken Fifo history from to state (Marker round) = marker_events (is_forced history to round) from state round
-events_taken Unordered history from to state (Marker round) = []
+events_taken mode history from to state (Marker round) = marker_events (is_forced history to round) from state round

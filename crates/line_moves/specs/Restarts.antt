@@ -2,11 +2,10 @@
 use Rattle.std.specs.Prelude.{ℕ, List, ◌++◌, length, map, Option, Some, None}
 use Rattle.std.specs.List.{range_with_len}
 use Rattle.line_names.specs.declared.choices.Choice.{Choice}
+use Rattle.line_names.specs.declared.messages.MsgName.{MsgName}
 use Rattle.line_names.specs.declared.choices.Choice.TheVariants.{Check as AtCheck, Now}
 use Rattle.line_names.specs.Lines.{choice_at}
 use Rattle.line_tape.specs.declared.events.Event.{Event}
-use Rattle.line_tape.specs.declared.items.Item.{Item}
-use Rattle.line_tape.specs.declared.items.Item.TheVariants.{Message}
 use Rattle.line_tape.specs.Event.{stored_state}
 use Rattle.line_tape.specs.History.{Process, tape_at}
 use Rattle.line_tape.specs.Transit.{in_transit_between}
@@ -24,6 +23,6 @@ abbrev pub restored_states : List Process → List Choice → List (Option (List
 restored_states history line = map (λ p. restored (tape_at history p) (choice_at line p)) (range_with_len 0 (length history))
 
 -- what the links hold after a restart at a line: each has one more copy of what is in transit on it; none are kept in `Fifo`
-abbrev pub restarted_copies : Mode → List Process → List Choice → List (List (List Item)) → List (List (List Item))
+abbrev pub restarted_copies : Mode → List Process → List Choice → List (List (List MsgName)) → List (List (List MsgName))
 restarted_copies mode history line copies =
-    copies_in mode (table_of (length history) (λ p q. between copies p q ++ map (λ m. Message m) (in_transit_between history line p q)))
+    copies_in mode (table_of (length history) (λ p q. between copies p q ++ in_transit_between history line p q))

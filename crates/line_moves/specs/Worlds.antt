@@ -1,5 +1,5 @@
 -- What a world keeps true of its queues and of its rounds.
-use Rattle.std.specs.Prelude.{◌≡◌, ◌≢◌, ℕ, ◌<◌, ◌≤◌, true, List, length, All, AllPairs, Option, Some, None}
+use Rattle.std.specs.Prelude.{◌≡◌, ◌≢◌, ℕ, ◌<◌, ◌≤◌, true, List, length, map, All, AllPairs, Option, Some, None}
 use Rattle.std.specs.List.{filter_map}
 use Rattle.line_names.specs.declared.messages.MsgName.{MsgName}
 use Rattle.line_tape.specs.declared.items.Item.{Item}
@@ -30,6 +30,20 @@ message_of (Marker round) = None
 abbrev pub messages_at : List (List (List Item)) → ℕ → ℕ → List MsgName
 messages_at queues p q = filter_map message_of (between queues p q)
 
+-- the messages on all queues
+abbrev pub names_on : List (List (List Item)) → List (List (List MsgName))
+names_on queues = map (λ row. map (λ items. filter_map message_of items) row) queues
+
+-- the item is a message
+abbrev pub IsMessage : Item → Type 0
+IsMessage (Message message) = Unit {0}
+IsMessage (Marker round) = ⊥
+
+-- without an order there are no markers on the queues
+abbrev pub HoldMessages : Mode → List (List (List Item)) → Type 0
+HoldMessages Fifo queues = Unit {0}
+HoldMessages Unordered queues = (p q : ℕ) → All IsMessage (between queues p q)
+
 -- there is a queue for each pair of processes, and the messages that it holds are of its sender
 pub record AreQueues (history : List Process) (queues : List (List (List Item))) : Type 0 where
   pub shape : IsTable (length history) queues
@@ -49,6 +63,7 @@ IsLinked Unordered history queues = IsUnordered history (messages_at queues)
 pub record IsWorld (mode : Mode) (history : List Process) (queues : List (List (List Item))) : Type 0 where
   pub queued : AreQueues history queues
   pub linked : IsLinked mode history queues
+  pub only : HoldMessages mode queues
 
 -- listed rounds stand in the order of their numbers, which are all below one
 pub record AreNumbered (first : ℕ) (rounds : List Listed) : Type 0 where

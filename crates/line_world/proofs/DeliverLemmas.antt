@@ -21,7 +21,7 @@ use Rattle.std.specs.List.{All}
 use Rattle.std.proofs.lemmas.List.Elements.{All-head, All-tail}
 use Rattle.line_moves.specs.Queues.{taken_off}
 use Rattle.line_turns.specs.Tables.{between}
-use Rattle.line_moves.specs.Worlds.{IsItemOf, IsWorld}
+use Rattle.line_moves.specs.Worlds.{names_on, IsItemOf, IsMessage, IsWorld}
 use Rattle.line_world.specs.Machine.{Machine, items_on, with_step}
 use Rattle.line_moves.specs.Modes.{copies_in}
 use Rattle.line_moves.specs.Moves.{with_events}
@@ -39,7 +39,7 @@ pub step_seen : (mode : Mode) (history after : List Process) (marks marks_after 
 step_seen mode history after marks marks_after last next rounds new queues queues_after p events done marked kept listed =
     ap (λ (h : List Process). seen mode h marks_after next (rounds ++ new) queues_after) done
     ∙ ap (λ (v : MarksView). seen mode (with_events history p events) v next (rounds ++ new) queues_after) marked
-    ∙ ap (λ (copies : List (List (List Item))). let m : Machine = record { mode = mode; history = with_events history p events; marks = marks; last_round = next; rounds = rounds ++ new; copies = copies } in m) kept
+    ∙ ap (λ (copies : List (List (List Item))). let m : Machine = record { mode = mode; history = with_events history p events; marks = marks; last_round = next; rounds = rounds ++ new; copies = names_on copies } in m) kept
     ∙ ap (λ (ls : List Listed). seen mode (with_events history p events) marks next (rounds ++ ls) queues) listed
 
 -- a step that adds no event
@@ -117,6 +117,14 @@ module _ (mode : Mode) (history : List Process) (marks : MarksView) (last : ℕ)
 
   pub picked_of : IsItemOf from item
   picked_of = at_place (IsItemOf from) (between queues from to) pick item (world.queued.messages from to) picked_at
+
+  -- without an order it is a message
+  pub picked_message : mode ≡ Unordered → IsMessage item
+  picked_message e = told mode world picked_at e
+    where
+      told : (m : Mode) → IsWorld m history queues → slice_get (between queues from to) pick ≡ Some item → m ≡ Unordered → IsMessage item
+      told Fifo world at e = absurd (cc)
+      told Unordered world at e = at_place IsMessage (between queues from to) pick item (world.only from to) at
 
   pub first_in_order : mode ≡ Fifo → pick ≡ 0
   first_in_order e = may.first (ap (λ (m : Machine). m.mode) (sym view) ∙ e)

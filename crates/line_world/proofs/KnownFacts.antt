@@ -1,5 +1,5 @@
 -- What is known of a world once nothing refuses its step, and what a check of a round leaves of it.
-use Rattle.std.proofs.Common.{◌≡◌, ◌≢◌, ℕ, ◌<◌, ◌++◌, false, List, length, Option, Some, None, sym, ap, ◌∙◌, subst, arith}
+use Rattle.std.proofs.Common.{◌≡◌, ◌≢◌, ℕ, zero, suc, ◌<◌, ◌++◌, false, List, [], ◌∷◌, length, Option, Some, None, sym, ap, ◌∙◌, subst, arith}
 use Rattle.std.specs.Prelude.{◌&&◌, not, slice_get}
 use Rattle.std.proofs.lemmas.Bool.{both_ways}
 use Rattle.line_names.specs.declared.messages.MsgName.{MsgName}
@@ -16,13 +16,14 @@ use Rattle.line_moves.specs.declared.modes.Mode.TheVariants.{Fifo, Unordered}
 use Rattle.line_moves.specs.Fates.{fate_of, forced_round}
 use Rattle.line_moves.specs.Listed.{Listed, is_begun, is_completed}
 use Rattle.line_moves.specs.Openings.{OpenView, left_open, newly_closed, opened, opened_by, opened_turning, IsOpenTurning, IsSettled}
-use Rattle.line_moves.specs.Worlds.{ArePainted, AreRounds, IsItemOf, IsPainted, IsWorld}
+use Rattle.line_moves.specs.Worlds.{ArePainted, AreRounds, IsItemOf, IsMessage, IsPainted, IsWorld}
 use Rattle.line_moves.proofs.TurnFacts.{may_turn_none, open_is}
+use Rattle.line_moves.proofs.WorldLemmas.{items-world}
 use Rattle.line_world.specs.declared.steps.Step.TheVariants.{Begin, Turn}
 use Rattle.line_world.specs.declared.worlds.World.TheInside.{Inside}
 use Rattle.line_world.specs.Machine.{Machine, is_open, items_on}
 use Rattle.line_world.specs.Refusals.{first_cause, link_causes, may_turn, refusal_of}
-use Rattle.line_world.proofs.DeliverLemmas.{first_in_order, from_within, picked_at, picked_of, to_within}
+use Rattle.line_world.proofs.DeliverLemmas.{first_in_order, from_within, picked_at, picked_message, picked_of, to_within}
 use Rattle.line_world.proofs.SeenLemmas.{seen}
 use Rattle.line_world.proofs.StepLemmas.{may_begin, may_deliver, may_turn_at, turns_anew}
 use Rattle.line_world.proofs.TurnedFacts.{has_none, none_is_open}
@@ -59,6 +60,7 @@ pub record IsPicked (w : Inside) (from to pick : ℕ) (item : Item) : Type 0 whe
   pub at : slice_get (between w.links from to) pick ≡ Some item
   pub of_sender : IsItemOf from item
   pub first : w.mode ≡ Fifo → pick ≡ 0
+  pub only : w.mode ≡ Unordered → IsMessage item
 
 -- process p may begin a round
 pub record MayStart (w : Inside) (p : ℕ) : Type 0 where
@@ -127,6 +129,12 @@ module _ (w : Inside) (machine : Machine) (view : shown w ≡ machine) (kept : I
         lacks = turns_anew (is_begun w.catalogue.processes w.last_round && not (is_completed Unordered w.catalogue.processes w.last_round)) (has_check_of w.last_round (tape_at w.catalogue.processes p)) (turns ∙ may.may);
       }
 
+  -- a queue is what its link holds
+  pub shows : (from to : ℕ) → from < length machine.history → to < length machine.history → from ≢ to → between w.links from to ≡ items_on machine from to
+  shows from to from_within to_within apart =
+      let size : length w.catalogue.processes ≡ length machine.history = ap (λ (m : Machine). length m.history) view in
+      items-world w.mode w.catalogue.processes w.links kept.0 from to (omega (arith, from_within, size)) (omega (arith, to_within, size)) apart ∙ ap (λ (m : Machine). items_on m from to) view
+
   module _ (from to pick : ℕ) (state : List ℕ) (passed : first_cause (link_causes machine from to pick state) ≡ None) where
     pub is_picked : (item : Item) → slice_get (items_on machine from to) pick ≡ Some item → IsPicked w from to pick item
     is_picked item picked = record {
@@ -135,6 +143,7 @@ module _ (w : Inside) (machine : Machine) (view : shown w ≡ machine) (kept : I
       apart = (may_deliver machine from to pick state passed).apart;
       at = picked_at w.mode w.catalogue.processes w.catalogue.marks w.last_round w.rounds.items w.links machine view kept.0 from to pick state item passed picked;
       of_sender = picked_of w.mode w.catalogue.processes w.catalogue.marks w.last_round w.rounds.items w.links machine view kept.0 from to pick state item passed picked;
+      only = picked_message w.mode w.catalogue.processes w.catalogue.marks w.last_round w.rounds.items w.links machine view kept.0 from to pick state item passed picked;
       first = first_in_order w.mode w.catalogue.processes w.catalogue.marks w.last_round w.rounds.items w.links machine view kept.0 from to pick state item passed picked;
     }
 
@@ -190,3 +199,9 @@ coloured_kept w mode_is history middle after same last colours turning rounds se
           (subst (λ (ls : List Listed). AreRounds Unordered after last (left_open Unordered middle (Some new)) ls) (sym settled.listed) are))),
       subst (λ (m : Mode). ArePainted m history colours) (sym mode_is) (subst (λ (h : List Process). IsPainted h colours) (sym same) painted),
     )
+
+-- there is an item at each place of a list
+pub at_each : (items : List Item) (k : ℕ) → k < length items → slice_get items k ≡ None → ⊥
+at_each [] k within none = absurd (omega (arith, within))
+at_each (item ∷ items) zero within none = absurd (cc)
+at_each (item ∷ items) (suc k) within none = at_each items k (omega (arith, within)) none

@@ -28,7 +28,6 @@ use Rattle.line_world.specs.Runs.{Takes, Run, reply_name, answer_name}
 use Rattle.line_world.proofs.StepLemmas.{may_turn_at, may_send, may_deliver_at, may_begin, may_check}
 use Rattle.line_moves.proofs.LinkLemmas.{length-with_event}
 use Rattle.line_moves.specs.declared.modes.Mode.{Mode}
-use Rattle.line_moves.specs.declared.modes.Mode.TheVariants.{Fifo, Unordered}
 use Rattle.line_tape.specs.declared.items.Item.{Item}
 use Rattle.line_tape.specs.declared.items.Item.TheVariants.{Message, Marker}
 
@@ -78,8 +77,7 @@ quiet_marker false from state round = (refl, tt)
 
 quiet_taken : (mode : Mode) (history : List Process) (from to : ℕ) (state : List ℕ) (item : Item) → AreQuiet (events_taken mode history from to state item)
 quiet_taken mode history from to state (Message message) = quiet_of (fate_of mode history to message) (forced_round mode history to message) state message
-quiet_taken Fifo history from to state (Marker round) = quiet_marker (is_forced history to round) from state round
-quiet_taken Unordered history from to state (Marker round) = tt
+quiet_taken mode history from to state (Marker round) = quiet_marker (is_forced history to round) from state round
 
 told_of : (fate : Fate) (forced : Option ℕ) (message : MsgName) → reply_name (reply_of fate forced message) ≡ None
 told_of Taken forced message = refl
@@ -88,8 +86,7 @@ told_of IsRepeated forced message = refl
 
 told_taken : (mode : Mode) (history : List Process) (to : ℕ) (item : Item) → reply_name (reply_taken mode history to item) ≡ None
 told_taken mode history to (Message message) = told_of (fate_of mode history to message) (forced_round mode history to message) message
-told_taken Fifo history to (Marker round) = refl
-told_taken Unordered history to (Marker round) = refl
+told_taken mode history to (Marker round) = refl
 
 -- each step that is done
 names-done : (old new : Machine) (step : Step) (reply : Reply) → HasNoLaterSend old.history → refusal_of old step ≡ None → Does old step reply new → KeepsNames old.history new.history × IsNamed old.history new.history (reply_name reply)

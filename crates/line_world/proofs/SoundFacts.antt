@@ -38,10 +38,10 @@ use Rattle.line_moves.specs.Modes.{copies_in, items_in}
 use Rattle.line_moves.specs.Moves.{with_events}
 use Rattle.line_moves.specs.Queues.{taken_off, with_on_each}
 use Rattle.line_moves.specs.Restarts.{restarted_copies}
-use Rattle.line_moves.specs.Worlds.{AreQueues, IsItemOf, IsWorld}
+use Rattle.line_moves.specs.Worlds.{names_on, AreQueues, IsItemOf, IsMessage, IsWorld}
 use Rattle.line_moves.proofs.LinkLemmas.{length-with_event}
 use Rattle.line_moves.proofs.OpeningLemmas.{any_found, begun_by, completed_has, counted_snapshot, forced_none, listed_snapshot}
-use Rattle.line_moves.proofs.WorldLemmas.{items-world, marker_sent, next_receipt, IsFit-world, IsWorld-caught, IsWorld-check, IsWorld-forced, IsWorld-mark, IsWorld-restart, IsWorld-round, IsWorld-send, IsWorld-take, IsWorld-turn}
+use Rattle.line_moves.proofs.WorldLemmas.{items-world, marker_sent, next_receipt, seen-restart, IsFit-world, IsWorld-caught, IsWorld-check, IsWorld-forced, IsWorld-mark, IsWorld-restart, IsWorld-round, IsWorld-send, IsWorld-take, IsWorld-turn}
 use Rattle.line_world.specs.declared.replies.Answer.{Answer}
 use Rattle.line_world.specs.declared.replies.Answer.TheVariants.{Done, Refused}
 use Rattle.line_world.specs.declared.replies.Reply.{Reply}
@@ -59,7 +59,7 @@ use Rattle.line_world.proofs.DeliverLemmas.{at_place, copies_off}
 use Rattle.line_world.proofs.GrowthFacts.{grown_completes, grown_listed, grows_check, grows_idle, grows_more, grows_next, grows_none, restart_completes, restart_listed, AreListed, Grows}
 use Rattle.line_world.proofs.PaintLemmas.{forced_by, unforced}
 use Rattle.line_world.proofs.SeenLemmas.{copy_kept}
-use Rattle.line_world.proofs.StartLemmas.{tape-start, IsWorld-start}
+use Rattle.line_world.proofs.StartLemmas.{copies-start, tape-start, IsWorld-start}
 use Rattle.line_world.proofs.StepLemmas.{may_begin, may_check, may_deliver, may_send, may_turn_at, turns_anew}
 
 -- no process received a message of a greater colour than its own; links in order need no colours
@@ -68,14 +68,14 @@ AreColouredIn Fifo history = Unit {0}
 AreColouredIn Unordered history = AreColoured history
 
 -- queues as a world keeps them, of which these are the copies
-pub record HasQueues (mode : Mode) (history : List Process) (copies : List (List (List Item))) : Type 0 where
+pub record HasQueues (mode : Mode) (history : List Process) (copies : List (List (List MsgName))) : Type 0 where
   pub queues : List (List (List Item))
-  pub copies_are : copies_in mode queues ≡ copies
+  pub copies_are : names_on (copies_in mode queues) ≡ copies
   pub world : IsWorld mode history queues
   pub coloured : AreColouredIn mode history
 
 -- a move of the history, and the copies then
-record Moves (mode : Mode) (old new : List Process) (last next : ℕ) (copies : List (List (List Item))) : Type 0 where
+record Moves (mode : Mode) (old new : List Process) (last next : ℕ) (copies : List (List (List MsgName))) : Type 0 where
   pub grows : Grows mode old new last next
   pub linked : HasQueues mode new copies
 
@@ -109,7 +109,7 @@ round_least Unordered history r e coloured begun =
     omega (arith, less)
 
 -- the links once a process has taken its check of a round
-round_linked : (mode : Mode) (history : List Process) (copies : List (List (List Item))) → HasQueues mode history copies → (at : ℕ) (state : List ℕ) (r : ℕ) → at < length history → has_check_of r (tape_at history at) ≡ false
+round_linked : (mode : Mode) (history : List Process) (copies : List (List (List MsgName))) → HasQueues mode history copies → (at : ℕ) (state : List ℕ) (r : ℕ) → at < length history → has_check_of r (tape_at history at) ≡ false
     → (mode ≡ Unordered → colour (tape_at history at) < r) → HasQueues mode (with_event history at (CheckEvent state (Some r))) copies
 round_linked Fifo history copies linked at state r within none less = record {
   queues = with_on_each linked.queues at (Marker r);
@@ -124,12 +124,12 @@ round_linked Unordered history copies linked at state r within none less = recor
   coloured = coloured_event history at (CheckEvent state (Some r)) linked.world.linked.fit linked.coloured within tt (less refl);
 }
 
-module _ (mode : Mode) (history : List Process) (last : ℕ) (rounds : List Listed) (copies : List (List (List Item))) (are : AreListed mode history last rounds) (linked : HasQueues mode history copies) where
+module _ (mode : Mode) (history : List Process) (last : ℕ) (rounds : List Listed) (copies : List (List (List MsgName))) (are : AreListed mode history last rounds) (linked : HasQueues mode history copies) where
   moves_none : 0 < length history → Moves mode history history last last copies
   moves_none some = record { grows = grows_none mode history last some; linked = linked }
 
   moves_send : (from to : ℕ) (body : List ℕ) → from < length history → to < length history
-      → Moves mode history (with_event history from (SendEvent to (incarnation_at history from) body)) last last (copies_in mode (with_list copies from to (between copies from to ++ Message (next_name history from) ∷ [])))
+      → Moves mode history (with_event history from (SendEvent to (incarnation_at history from) body)) last last (copies_in mode (with_list copies from to (between copies from to ++ next_name history from ∷ [])))
   moves_send from to body from_within to_within =
       let e : Event = SendEvent to (incarnation_at history from) body in
       let item : Item = Message (next_name history from) in
@@ -137,7 +137,7 @@ module _ (mode : Mode) (history : List Process) (last : ℕ) (rounds : List List
         grows = grows_idle mode history from e from_within (λ r. refl) last;
         linked = record {
           queues = with_list linked.queues from to (between linked.queues from to ++ item ∷ []);
-          copies_are = copy_kept mode linked.queues from to item ∙ ap (λ (cs : List (List (List Item))). copies_in mode (with_list cs from to (between cs from to ++ item ∷ []))) linked.copies_are;
+          copies_are = copy_kept mode linked.queues from to (next_name history from) ∙ ap (λ (cs : List (List (List MsgName))). copies_in mode (with_list cs from to (between cs from to ++ next_name history from ∷ []))) linked.copies_are;
           world = IsWorld-send history linked.queues from to from_within to_within mode linked.world body;
           coloured = coloured_next mode history linked.queues from e from_within linked.world (λ m. (refl, tt)) linked.coloured;
         };
@@ -178,7 +178,7 @@ taken_coloured Unordered history queues from to from_within to_within message na
     coloured_event history to (Recv message) world.linked.fit is to_within (next_receipt history queues from to from_within to_within message named pick at world taken) (unforced history to message none)
 
 -- or one that does
-moves_caught : (mode : Mode) (history : List Process) (last : ℕ) (rounds : List Listed) (copies : List (List (List Item))) → AreListed mode history last rounds → (linked : HasQueues mode history copies)
+moves_caught : (mode : Mode) (history : List Process) (last : ℕ) (rounds : List Listed) (copies : List (List (List MsgName))) → AreListed mode history last rounds → (linked : HasQueues mode history copies)
     → (from to pick : ℕ) (state : List ℕ) → from < length history → to < length history → (message : MsgName) → message.from ≡ from → slice_get (between linked.queues from to) pick ≡ Some (Message message)
     → fate_of mode history to message ≡ Taken → (r : ℕ) → forced_round mode history to message ≡ Some r
     → Moves mode history (with_event (with_event history to (CheckEvent state (Some r))) to (Recv message)) last last copies
@@ -212,7 +212,7 @@ moves_caught Unordered history last rounds copies are linked from to pick state 
     })
 
 -- a marker comes
-module _ (history : List Process) (last : ℕ) (rounds : List Listed) (copies : List (List (List Item))) (are : AreListed Fifo history last rounds) (linked : HasQueues Fifo history copies)
+module _ (history : List Process) (last : ℕ) (rounds : List Listed) (copies : List (List (List MsgName))) (are : AreListed Fifo history last rounds) (linked : HasQueues Fifo history copies)
     (from to : ℕ) (state : List ℕ) (from_within : from < length history) (to_within : to < length history) (apart : from ≢ to) (round : ℕ) (first : slice_get (between linked.queues from to) 0 ≡ Some (Marker round)) where
   moves_marked : (forced : Bool) → forced ≡ is_forced history to round → Moves Fifo history (with_events history to (marker_events forced from state round)) last last copies
   moves_marked true is =
@@ -247,7 +247,7 @@ module _ (history : List Process) (last : ℕ) (rounds : List Listed) (copies : 
   }
 
 -- a process takes or looks at an item
-moves_item : (mode : Mode) (history : List Process) (last : ℕ) (rounds : List Listed) (copies : List (List (List Item))) → AreListed mode history last rounds → (linked : HasQueues mode history copies)
+moves_item : (mode : Mode) (history : List Process) (last : ℕ) (rounds : List Listed) (copies : List (List (List MsgName))) → AreListed mode history last rounds → (linked : HasQueues mode history copies)
     → (from to pick : ℕ) (state : List ℕ) → from < length history → to < length history → from ≢ to → (mode ≡ Fifo → pick ≡ 0) → (item : Item) → slice_get (between linked.queues from to) pick ≡ Some item → IsItemOf from item
     → Moves mode history (with_events history to (events_taken mode history from to state item)) last last copies
 moves_item mode history last rounds copies are linked from to pick state from_within to_within apart first (Message message) at named = by_fate (fate_of mode history to message) (forced_round mode history to message) refl refl
@@ -257,7 +257,7 @@ moves_item mode history last rounds copies are linked from to pick state from_wi
       grows = grows_idle mode history to (Recv message) to_within (λ r. refl) last;
       linked = record {
         queues = taken_off mode linked.queues from to;
-        copies_are = copies_off mode linked.queues from to ∙ linked.copies_are;
+        copies_are = ap names_on (copies_off mode linked.queues from to) ∙ linked.copies_are;
         world = IsWorld-take history linked.queues from to from_within to_within message named pick at apart mode linked.world first taken;
         coloured = taken_coloured mode history linked.queues from to from_within to_within message named pick at linked.world taken none linked.coloured;
       };
@@ -267,7 +267,7 @@ moves_item mode history last rounds copies are linked from to pick state from_wi
     by_fate IsRepeated forced is round = moves_none mode history last rounds copies are linked (omega (arith, to_within))
 moves_item Fifo history last rounds copies are linked from to pick state from_within to_within apart first (Marker round) at named =
     moves_marked history last rounds copies are linked from to state from_within to_within apart round (ap (λ (k : ℕ). slice_get (between linked.queues from to) k) (sym (first refl)) ∙ at) (is_forced history to round) refl
-moves_item Unordered history last rounds copies are linked from to pick state from_within to_within apart first (Marker round) at named = moves_none Unordered history last rounds copies are linked (omega (arith, to_within))
+moves_item Unordered history last rounds copies are linked from to pick state from_within to_within apart first (Marker round) at named = absurd (at_place IsMessage (between linked.queues from to) pick (Marker round) (linked.world.only from to) at)
 
 -- what every run keeps true
 pub record Stands (machine : Machine) : Type 0 where
@@ -285,7 +285,7 @@ holds_in Fifo history queues world coloured r completed = listed_snapshot histor
 holds_in Unordered history queues world coloured r completed = counted_snapshot history r world.linked.fit coloured completed
 
 -- the machine with these events, and with these copies
-abbrev moved : Machine → ℕ → List Event → ℕ → List (List (List Item)) → Machine
+abbrev moved : Machine → ℕ → List Event → ℕ → List (List (List MsgName)) → Machine
 moved old p events next copies = record {
   mode = old.mode;
   history = with_events old.history p events;
@@ -295,7 +295,7 @@ moved old p events next copies = record {
   copies = copies;
 }
 
-goes_on : (old new : Machine) (p : ℕ) (events : List Event) (next : ℕ) (copies : List (List (List Item))) → Stands old → Moves old.mode old.history (with_events old.history p events) old.last_round next copies
+goes_on : (old new : Machine) (p : ℕ) (events : List Event) (next : ℕ) (copies : List (List (List MsgName))) → Stands old → Moves old.mode old.history (with_events old.history p events) old.last_round next copies
     → new ≡ moved old p events next copies → Goes old new
 goes_on old new p events next copies stands moves is =
     let after : List Process = with_events old.history p events in
@@ -358,6 +358,9 @@ module _ (mode : Mode) (history : List Process) (queues : List (List (List Item)
   after_world : IsWorld mode (restarted history line) after
   after_world = IsWorld-restart history queues after line size consistent after_queues mode world (λ p q p_within q_within. between-of (length history) put p q p_within q_within)
 
+  after_copies : names_on (copies_in mode after) ≡ restarted_copies mode history line (names_on (copies_in mode queues))
+  after_copies = seen-restart history queues after line size consistent after_queues mode (λ p q p_within q_within. between-of (length history) put p q p_within q_within)
+
 coloured_back : (mode : Mode) (history : List Process) (line : List Choice) → length line ≡ length history → AreColouredIn mode (restarted history line)
 coloured_back Fifo history line size = tt
 coloured_back Unordered history line size = coloured_restarted history line size
@@ -367,7 +370,8 @@ goes_back old line size consistent stands = record {
   stands = record {
     linked = record {
       queues = after old.mode old.history stands.linked.queues line size consistent stands.linked.world;
-      copies_are = ap (λ (cs : List (List (List Item))). restarted_copies old.mode old.history line cs) stands.linked.copies_are;
+      copies_are = after_copies old.mode old.history stands.linked.queues line size consistent stands.linked.world
+          ∙ ap (λ (cs : List (List (List MsgName))). restarted_copies old.mode old.history line cs) stands.linked.copies_are;
       world = after_world old.mode old.history stands.linked.queues line size consistent stands.linked.world;
       coloured = coloured_back old.mode old.history line size;
     };
@@ -381,7 +385,7 @@ goes-done : (old new : Machine) (step : Step) (reply : Reply) → Stands old →
 goes-done old new (Send from to body) reply stands none does =
     let may = may_send old from to body none in
     goes_on old new from (SendEvent to (incarnation_at old.history from) body ∷ []) old.last_round
-    (copies_in old.mode (with_list old.copies from to (between old.copies from to ++ Message (next_name old.history from) ∷ []))) stands
+    (copies_in old.mode (with_list old.copies from to (between old.copies from to ++ next_name old.history from ∷ []))) stands
     (moves_send old.mode old.history old.last_round old.rounds old.copies stands.are stands.linked from to body may.named.from_within may.named.to_within) does.new_is
 goes-done old new (Deliver from to pick state) reply stands none does =
     let may = may_deliver old from to pick state (first_part (link_causes old from to pick state) ((is_full_for old from to state (slice_get (items_on old from to) pick), TapeFull) ∷ []) none) in
@@ -389,7 +393,7 @@ goes-done old new (Deliver from to pick state) reply stands none does =
     let world : IsWorld old.mode old.history queues = stands.linked.world in
     let at : slice_get (between queues from to) pick ≡ Some does.item =
     ap (λ (items : List Item). slice_get items pick) (items-world old.mode old.history queues world from to may.named.from_within may.named.to_within may.apart)
-    ∙ ap (λ (cs : List (List (List Item))). slice_get (items_in old.mode old.history cs from to) pick) stands.linked.copies_are
+    ∙ ap (λ (cs : List (List (List MsgName))). slice_get (items_in old.mode old.history cs from to) pick) stands.linked.copies_are
     ∙ does.picked in
     goes_on old new to (events_taken old.mode old.history from to state does.item) old.last_round old.copies stands
     (moves_item old.mode old.history old.last_round old.rounds old.copies stands.are stands.linked from to pick state may.named.from_within may.named.to_within may.apart may.first does.item at
@@ -460,7 +464,7 @@ coloured_at_start n Unordered = coloured_start n
 pub Stands-start : (n : ℕ) (mode : Mode) → Stands (start n mode)
 Stands-start n mode =
     record {
-      linked = record { queues = replicate n (replicate n []); copies_are = refl; world = IsWorld-start n mode; coloured = coloured_at_start n mode };
+      linked = record { queues = replicate n (replicate n []); copies_are = copies-start n mode; world = IsWorld-start n mode; coloured = coloured_at_start n mode };
       are = record {
         numbers = λ p r has. absurd (none n p r has);
         others = λ p r has apart. absurd (none n p r has);

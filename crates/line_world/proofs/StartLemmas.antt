@@ -4,6 +4,7 @@ use Rattle.std.specs.List.{All, filter_map}
 use Rattle.std.proofs.lemmas.Bool.{both_ways, cases_lt}
 use Rattle.std.proofs.lemmas.List.Elements.{All-nil}
 use Rattle.std.proofs.lemmas.List.{get_or-replicate, get_or_past, length-replicate}
+use Rattle.line_names.specs.declared.messages.MsgName.{MsgName}
 use Rattle.line_tape.specs.declared.events.Event.{Event}
 use Rattle.line_tape.specs.declared.items.Item.{Item}
 use Rattle.line_tape.specs.Fit.{items_sent, item_received, IsPrefix, AreDistinct, MarksFollow}
@@ -15,9 +16,11 @@ use Rattle.line_moves.specs.declared.modes.Mode.{Mode}
 use Rattle.line_moves.specs.declared.modes.Mode.TheVariants.{Fifo, Unordered}
 use Rattle.line_turns.specs.Tables.{between, IsTable}
 use Rattle.line_turns.specs.Kept.{Turned, AreTurned}
+use Rattle.line_moves.specs.Modes.{copies_in}
 use Rattle.line_moves.specs.Openings.{OpenView, opened}
-use Rattle.line_turns.proofs.TableLemmas.{between-none, IsTable-none}
-use Rattle.line_moves.specs.Worlds.{IsItemOf, message_of, messages_at, AreQueues, ArePainted, AreRounds, IsOrderedWorld, IsLinked, IsWorld}
+use Rattle.line_moves.proofs.WorldLemmas.{names-at, names-shape}
+use Rattle.line_turns.proofs.TableLemmas.{between-none, table_of-all, IsTable-none}
+use Rattle.line_moves.specs.Worlds.{IsItemOf, message_of, messages_at, names_on, AreQueues, ArePainted, AreRounds, HoldMessages, IsOrderedWorld, IsLinked, IsMessage, IsWorld}
 use Rattle.line_moves.specs.Listed.{Listed, IsSnapshotOf}
 
 get_or-replicate_self : {X : Type 0} (n i : ℕ) (x : X) → get_or (replicate n x) i x ≡ x
@@ -68,11 +71,23 @@ module _ (n : ℕ) where
   }
 
   pub IsWorld-start : (mode : Mode) → IsWorld mode (replicate n fresh) (replicate n (replicate n []))
-  IsWorld-start mode = record { queued = AreQueues-start; linked = linked mode }
+  IsWorld-start mode = record { queued = AreQueues-start; linked = linked mode; only = only mode }
     where
+      only : (m : Mode) → HoldMessages m (replicate n (replicate n []))
+      only Fifo = tt
+      only Unordered = λ p q. subst (λ (xs : List Item). All IsMessage xs) (sym (queue-start p q)) (All-nil IsMessage)
+
       linked : (m : Mode) → IsLinked m (replicate n fresh) (replicate n (replicate n []))
       linked Fifo = IsOrdered-start
       linked Unordered = unordered_start n (messages_at (replicate n (replicate n []))) (λ p q. ap (filter_map message_of) (queue-start p q))
+
+  -- there are no copies
+  pub copies-start : (mode : Mode) → names_on (copies_in mode (replicate n (replicate n []))) ≡ copies_in mode (replicate n (replicate n []))
+  copies-start Fifo = refl
+  copies-start Unordered =
+      let none : List MsgName = [] in
+      table_of-all n (λ p q. none) (names_on (replicate n (replicate n []))) (names-shape n (replicate n (replicate n [])) (IsTable-none n)) (λ p q p_within q_within. names-at (replicate n (replicate n [])) p q ∙ ap (filter_map message_of) (queue-start p q))
+      ∙ sym (table_of-all n (λ p q. none) (replicate n (replicate n [])) (IsTable-none n) (λ p q p_within q_within. between-none n p q))
 
   -- no round was begun
   pub AreRounds-start : (mode : Mode) → AreRounds mode (replicate n fresh) 0 (opened mode None None) []

@@ -1,6 +1,7 @@
 -- The machine's state: what each process did, which checks are damaged, and which rounds were completed. What the links hold is read off it where they keep their order (Chandy and Lamport, ACM TOCS 3(1), 1985); else they deliver in any order, as Lai and Yang allow (Information Processing Letters 25(3), 1987), and then each holds copies.
 use Rattle.std.specs.Prelude.{ℕ, Bool, not, ◌&&◌, List, [], ◌∷◌, ◌++◌, replicate}
 use Rattle.line_tape.specs.declared.events.Event.{Event}
+use Rattle.line_names.specs.declared.messages.MsgName.{MsgName}
 use Rattle.line_tape.specs.declared.items.Item.{Item}
 use Rattle.line_tape.specs.History.{Process, fresh}
 use Rattle.line_tape.specs.Views.{MarksView}
@@ -19,8 +20,8 @@ pub record Machine : Type 0 where
   pub last_round : ℕ
   -- the completed rounds, the oldest first
   pub rounds : List Listed
-  -- from each process to each, the oldest first; none are kept in `Fifo`
-  pub copies : List (List (List Item))
+  -- of messages, from each process to each, the oldest first; none are kept in `Fifo`
+  pub copies : List (List (List MsgName))
 
 -- the empty state of n processes
 abbrev pub start : ℕ → Mode → Machine
@@ -56,6 +57,6 @@ abbrev pub is_open : Machine → Bool
 is_open machine = is_begun machine.history machine.last_round && not (is_completed machine.mode machine.history machine.last_round)
 
 -- the machine with one more copy from process p to q, which isn't kept in `Fifo`
-abbrev pub with_copy : Machine → ℕ → ℕ → Item → Machine
-with_copy machine p q item =
-    record machine { copies = copies_in machine.mode (with_list machine.copies p q (between machine.copies p q ++ item ∷ [])) }
+abbrev pub with_copy : Machine → ℕ → ℕ → MsgName → Machine
+with_copy machine p q message =
+    record machine { copies = copies_in machine.mode (with_list machine.copies p q (between machine.copies p q ++ message ∷ [])) }

@@ -1,5 +1,5 @@
 -- What an accepted step replies and leaves.
-use Rattle.std.specs.Prelude.{◌≡◌, ℕ, ◌+◌, ◌≤◌, Bool, false, List, [], ◌∷◌, length, map, filter, slice_get, Option, Some, None}
+use Rattle.std.specs.Prelude.{◌≡◌, ℕ, ◌+◌, ◌≤◌, Bool, List, [], ◌∷◌, length, map, filter, slice_get, Option, Some, None}
 use Rattle.line_names.specs.declared.choices.Choice.{Choice}
 use Rattle.line_names.specs.declared.messages.MsgName.{MsgName}
 use Rattle.line_plan.specs.declared.plans.Plan.{Plan}
@@ -16,7 +16,6 @@ use Rattle.line_tape.specs.Views.{with_mark}
 use Rattle.line_moves.specs.declared.fates.Fate.{Fate}
 use Rattle.line_moves.specs.declared.fates.Fate.TheVariants.{Taken as IsTaken, Stale as IsStale, Repeated as IsRepeated}
 use Rattle.line_moves.specs.declared.modes.Mode.{Mode}
-use Rattle.line_moves.specs.declared.modes.Mode.TheVariants.{Fifo, Unordered}
 use Rattle.line_world.specs.declared.steps.Step.{Step}
 use Rattle.line_world.specs.declared.steps.Step.TheVariants.{Send, Deliver, Check, Begin, Turn, Damage, Recover}
 use Rattle.line_world.specs.declared.replies.Reply.{Reply}
@@ -30,7 +29,7 @@ use Rattle.line_moves.specs.Restarts.{restored_states, restarted_copies}
 -- Send adds a send of the present incarnation, and in `Unordered` a copy
 pub record Sends (old : Machine) (from to : ℕ) (body : List ℕ) (reply : Reply) (new : Machine) : Type 0 where
   pub reply_is : reply ≡ Sent (next_name old.history from)
-  pub new_is : new ≡ with_copy (with_step old from (SendEvent to (incarnation_at old.history from) body ∷ []) old.last_round) from to (Message (next_name old.history from))
+  pub new_is : new ≡ with_copy (with_step old from (SendEvent to (incarnation_at old.history from) body ∷ []) old.last_round) from to (next_name old.history from)
 
 -- what is told of a message that a delivery picks
 abbrev pub reply_of : Fate → Option ℕ → MsgName → Reply
@@ -38,11 +37,10 @@ reply_of IsTaken forced message = Took message forced
 reply_of IsStale forced message = Stale message
 reply_of IsRepeated forced message = Repeated message
 
--- and of an item; links without an order hold no markers
+-- and of an item
 abbrev pub reply_taken : Mode → List Process → ℕ → Item → Reply
 reply_taken mode history to (Message message) = reply_of (fate_of mode history to message) (forced_round mode history to message) message
-reply_taken Fifo history to (Marker round) = Marked round (is_forced history to round)
-reply_taken Unordered history to (Marker round) = Marked round false
+reply_taken mode history to (Marker round) = Marked round (is_forced history to round)
 
 -- Deliver has the process take or look at the item that is picked: a copy stays on the link in any case
 pub record Delivers (old : Machine) (from to pick : ℕ) (state : List ℕ) (reply : Reply) (new : Machine) : Type 0 where

@@ -56,7 +56,7 @@ impl Model for World {
 
     ghost use Rattle.line_moves.specs.Modes.{copies_in};
     ghost use Rattle.line_moves.specs.Openings.{opened};
-    ghost use Rattle.line_moves.specs.Worlds.{ArePainted, AreRounds, IsWorld};
+    ghost use Rattle.line_moves.specs.Worlds.{names_on, ArePainted, AreRounds, IsWorld};
 
     ghost view = { λ w. record {
       mode = w.mode;
@@ -64,7 +64,7 @@ impl Model for World {
       marks = w.catalogue.marks;
       last_round = w.last_round;
       rounds = w.rounds.items;
-      copies = copies_in w.mode w.links;
+      copies = names_on (copies_in w.mode w.links);
     } };
 
     ghost invariant = { λ w. IsWorld w.mode w.catalogue.processes w.links
@@ -368,10 +368,7 @@ impl World {
             }
             Item::Marker(round) => match self.mode {
                 Mode::Fifo => self.deliver_marker(alloc, from, to, state, round),
-                Mode::Unordered => Ok(Reply::Marked {
-                    round,
-                    forced: false,
-                }),
+                Mode::Unordered => unreachable!(),
             },
         }
     }

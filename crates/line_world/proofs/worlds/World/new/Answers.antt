@@ -1,12 +1,32 @@
 -- Nothing was done yet.
-use Rattle.std.proofs.Common.{List, None, replicate, sym, subst}
+use Rattle.std.proofs.Common.{ℕ, List, [], None, replicate, sym, ap, ◌∙◌, subst}
+use Rattle.line_names.specs.declared.messages.MsgName.{MsgName}
 use Rattle.line_tape.specs.declared.items.Item.{Item}
 use Rattle.line_tape.specs.History.{Process, fresh}
+use Rattle.line_tape.specs.Views.{MarksView}
+use Rattle.line_moves.specs.declared.modes.Mode.{Mode}
 use Rattle.line_moves.specs.Listed.{Listed}
 use Rattle.line_moves.specs.Openings.{opened}
 use Rattle.line_moves.specs.Worlds.{ArePainted, AreRounds, IsWorld}
-use Rattle.line_world.proofs.StartLemmas.{AreRounds-start, ArePainted-start, IsWorld-start}
+use Rattle.line_world.proofs.StartLemmas.{copies-start, AreRounds-start, ArePainted-start, IsWorld-start}
+use Rattle.line_world.proofs.SeenLemmas.{seen}
+use Rattle.line_world.specs.Machine.{Machine}
 use Rattle.line_world.proofs.worlds.World.new.Goals as goal
+
+-- no copies are on the links
+pub returns-clause-ok : goal.returns-clause-ok
+returns-clause-ok c =
+    let n : ℕ = c.args.n in
+    let mode : Mode = c.args.mode in
+    let history : List Process = replicate n fresh in
+    let rounds : List Listed = c.new-4.result.items in
+    let links : List (List (List Item)) = c.in_ok-links.links in
+    let marks : MarksView = record { damaged = replicate n [] } in
+    ap (λ (h : List Process). seen mode h c.in_ok-catalogue.catalogue.marks 0 rounds links) c.in_ok-catalogue.ensures.processes
+    ∙ ap (λ (damaged : List (List ℕ)). let v : MarksView = record { damaged = damaged } in seen mode history v 0 rounds links) c.in_ok-catalogue.ensures.marks
+    ∙ ap (λ (ls : List Listed). seen mode history marks 0 ls links) c.new-4.ensures.items
+    ∙ ap (λ (queues : List (List (List Item))). seen mode history marks 0 [] queues) c.in_ok-links.ensures
+    ∙ ap (λ (copies : List (List (List MsgName))). let m : Machine = record { mode = mode; history = history; marks = marks; last_round = 0; rounds = []; copies = copies } in m) (copies-start n mode)
 
 pub invariant_of-result : goal.invariant_of-result
 invariant_of-result c = (

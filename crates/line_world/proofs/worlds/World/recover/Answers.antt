@@ -2,6 +2,7 @@
 use Rattle.std.proofs.Common.{◌≡◌, ◌<◌, ◌++◌, ℕ, List, length, map, Option, None, refl, sym, ap, ◌∙◌, subst}
 use Rattle.std.proofs.lemmas.Bool.{both_ways, false_from_ne_true}
 use Rattle.line_names.specs.declared.choices.Choice.{Choice}
+use Rattle.line_names.specs.declared.messages.MsgName.{MsgName}
 use Rattle.line_tape.specs.declared.items.Item.{Item}
 use Rattle.line_tape.specs.declared.items.Item.TheVariants.{Message}
 use Rattle.line_tape.specs.History.{Process}
@@ -125,7 +126,7 @@ returns-clause-done c =
         new_is = ap (λ (h : List Process). seen mode h c.restart.new.self.marks last c.keep_rounds.new.rounds.items new) c.restart.ensures.processes
             ∙ ap (λ (v : MarksView). seen mode (restarted old line) v last c.keep_rounds.new.rounds.items new) c.restart.ensures.marks
             ∙ ap (λ (rounds : List Listed). seen mode (restarted old line) (restarted_marks marks line) last rounds new) c.keep_rounds.ensures
-            ∙ ap (λ (copies : List (List (List Item))). let m : Machine = record { mode = mode; history = restarted old line; marks = restarted_marks marks line; last_round = last; rounds = filter (stays line) c.self.inside.rounds.items; copies = copies } in m)
+            ∙ ap (λ (copies : List (List (List MsgName))). let m : Machine = record { mode = mode; history = restarted old line; marks = restarted_marks marks line; last_round = last; rounds = filter (stays line) c.self.inside.rounds.items; copies = copies } in m)
             (seen-restart old links new line size consistent queued mode
             (subst (λ (h : List Process). (p q : ℕ) → p < length h → q < length h → between new p q ≡ between (copies_in mode links) p q ++ map (λ m. Message m) (in_transit_between h line p q)) c.history-history.ensures.processes c.in_ok-links.ensures.put))
             ∙ ap (λ (m : Machine). restarted_machine m line) c.self.view_is;

@@ -1,0 +1,18 @@
+-- The queue is what the link holds.
+use Rattle.std.proofs.Common.{◌≡◌, ℕ, List, length, sym, ap, ◌∙◌}
+use Rattle.std.specs.Prelude.{nat_le}
+use Rattle.line_tape.specs.declared.items.Item.{Item}
+use Rattle.line_moves.specs.declared.modes.Mode.{Mode}
+use Rattle.line_moves.specs.declared.modes.Mode.TheVariants.{Unordered}
+use Rattle.line_world.specs.Machine.{Machine, items_on}
+use Rattle.line_world.specs.Refusals.{is_bad_pick}
+use Rattle.line_world.proofs.KnownFacts.{shows}
+use Rattle.line_world.proofs.worlds.World.is_bad_pick.Goals as goal
+
+pub returns-in-Unordered : goal.returns-in-Unordered
+returns-in-Unordered c =
+    let machine : Machine = c.args.self.now in
+    let unordered : machine.mode ≡ Unordered = ap (λ (v : Machine). v.mode) (sym c.self.view_is) ∙ c.in-Unordered.is in
+    let held = shows c.self.inside c.args.self.now c.self.view_is c.self.invariant c.args.from c.args.to c.requires.from c.requires.to c.requires.other in
+    ap (λ (k : ℕ). nat_le k c.args.pick) (c.len.ensures ∙ ap (λ (items : List Item). length items) held)
+    ∙ sym (ap (λ (v : Mode). is_bad_pick v (items_on machine c.args.from c.args.to) c.args.pick) unordered)
