@@ -1,23 +1,25 @@
 -- What a catalogue keeps, as its history grows and as its checks are marked.
-use Rattle.std.proofs.Common.{◌≡◌, ℕ, zero, suc, ◌<◌, ◌≤◌, List, [], ◌∷◌, ◌++◌, length, get_or, set, min, inl, inr, Option, refl, sym, ap, ◌∙◌, subst, arith}
+use Rattle.std.proofs.Common.{◌≡◌, ℕ, zero, suc, ◌+◌, ◌<◌, ◌≤◌, List, [], ◌∷◌, ◌++◌, length, get_or, set, min, inl, inr, refl, sym, ap, ◌∙◌, subst, arith}
 use Rattle.std.specs.List.{All}
 use Rattle.std.specs.Prelude.{replicate}
 use Rattle.std.proofs.lemmas.Bool.{cases_eq, cases_lt}
 use Rattle.std.proofs.lemmas.List.{length-set, length-replicate, get_or-set_same, get_or-set_other, get_or-replicate, get_or_past}
 use Rattle.std.proofs.lemmas.List.Elements.{All-nil, All-push, All-weaker}
 use Rattle.line_tape.specs.declared.events.Event.{Event}
-use Rattle.line_tape.specs.Event.{checks}
+use Rattle.line_tape.specs.Event.{checks, sends, NamesBelow}
 use Rattle.line_tape.specs.History.{Process, tape_at, with_event}
 use Rattle.line_tape.specs.Views.{MarksView, with_mark, damaged_at}
 use Rattle.line_tape.proofs.RowLemmas.{checks-push}
 use Rattle.line_catalogue.specs.declared.rows.Row.{Row}
 use Rattle.line_catalogue.specs.Agreement.{AgreesNext}
 use Rattle.line_catalogue.specs.Damage.{AreOnChecks}
-use Rattle.line_catalogue.specs.Kept.{rows_at, IsCatalogue}
-use Rattle.line_catalogue.specs.Rows.{AreRows, IsRowAdded, with_row, with_damage}
+use Rattle.line_catalogue.specs.Kept.{rows_at, present_at, IsCatalogue}
+use Rattle.line_catalogue.specs.Rows.{AreRows, heard_more, row_added, with_row, with_damage}
 use Rattle.line_catalogue.specs.Views.{lesser_rooms}
 use Rattle.line_catalogue.proofs.AgreementLemmas.{tape-here, tape-other}
-use Rattle.line_catalogue.proofs.CheckLemmas.{AreRows-damage, AreRows-added}
+use Rattle.line_catalogue.proofs.CheckLemmas.{AreRows-damage, AreRows-added, heard-added}
+use Rattle.line_vectors.specs.Reach.{reach_of}
+use Rattle.line_vectors.proofs.ReachLemmas.{length-reach}
 
 -- the lesser room at a process
 pub lesser_at : (rooms others : List ℕ) (p : ℕ) → get_or (lesser_rooms rooms others) p 0 ≡ min (get_or rooms p 0) (get_or others p 0)
@@ -70,46 +72,72 @@ AreOnChecks-below history marks count below = record {
   ];
 }
 
-module _ (history : List Process) (marks : MarksView) (rows : List (List Row)) (p : ℕ) (within : p < length history) where
-  -- an event that agrees, and the row that it adds
-  pub IsCatalogue-event : (event : Event) (row : Option Row) → AgreesNext history p event → IsRowAdded (tape_at history p) event row → IsCatalogue history marks rows → IsCatalogue (with_event history p event) marks (set rows p (with_row (rows_at rows p) row))
-  IsCatalogue-event event row next added is =
-      let same : length (with_event history p event) ≡ length history = length-set history p _ in
+-- the vector of where a process stands has a lane for each
+pub length-present : (history : List Process) (marks : MarksView) (rows : List (List Row)) (presents : List (List ℕ)) (p : ℕ) → p < length history → IsCatalogue history marks rows presents → length (present_at presents p) ≡ length history
+length-present history marks rows presents p within is = ap (λ (xs : List ℕ). length xs) (is.heard p within) ∙ length-reach (length history) (tape_at history p)
+
+module _ (history : List Process) (marks : MarksView) (rows : List (List Row)) (presents : List (List ℕ)) (p : ℕ) (within : p < length history) where
+  -- an event that agrees, the row that it adds, and what it lets the process hear
+  pub IsCatalogue-event : (event : Event) (place sent : ℕ) → place ≡ length (tape_at history p) + 1 → sent ≡ sends (tape_at history p) → NamesBelow (length history) event → AgreesNext history p event → IsCatalogue history marks rows presents
+      → IsCatalogue (with_event history p event) marks (set rows p (with_row (rows_at rows p) (row_added place sent (present_at presents p) event))) (set presents p (heard_more (present_at presents p) event))
+  IsCatalogue-event event place sent place_is sent_is named next is =
+      let n : ℕ = length history in
+      let grown : List Process = with_event history p event in
+      let same : length grown ≡ n = length-set history p _ in
+      let tape : List Event = tape_at history p in
+      let there : List Row = with_row (rows_at rows p) (row_added place sent (present_at presents p) event) in
+      let further : List ℕ = heard_more (present_at presents p) event in
+      let new : AreRows n (tape ++ event ∷ []) (damaged_at marks p) there =
+      subst (λ k. AreRows n (tape ++ event ∷ []) (damaged_at marks p) (with_row (rows_at rows p) (row_added k sent (present_at presents p) event))) (sym place_is)
+      (subst (λ k. AreRows n (tape ++ event ∷ []) (damaged_at marks p) (with_row (rows_at rows p) (row_added (length tape + 1) k (present_at presents p) event))) (sym sent_is)
+      (AreRows-added n tape event (damaged_at marks p) (rows_at rows p) (present_at presents p) (is.marked.each p) (is.heard p within) (is.shown p within)))
+      in
       record {
         agrees = next.agrees;
         marked = AreOnChecks-event history marks p event within is.marked;
         marks_count = is.marks_count ∙ sym same;
-        rows_count = length-set rows p (with_row (rows_at rows p) row) ∙ is.rows_count ∙ sym same;
-        shown = λ q h. elim (cases_eq q p) [
+        rows_count = length-set rows p there ∙ is.rows_count ∙ sym same;
+        presents_count = length-set presents p further ∙ is.presents_count ∙ sym same;
+        shown = λ q h. subst (λ k. AreRows k (tape_at grown q) (damaged_at marks q) (rows_at (set rows p there) q)) (sym same) (elim (cases_eq q p) [
           | inl here ↦
-              let read : rows_at (set rows p (with_row (rows_at rows p) row)) p ≡ with_row (rows_at rows p) row = get_or-set_same rows p (with_row (rows_at rows p) row) [] (omega (arith, is.rows_count)) in
-              let new : AreRows (tape_at history p ++ event ∷ []) (damaged_at marks p) (with_row (rows_at rows p) row) = AreRows-added (tape_at history p) event (damaged_at marks p) (rows_at rows p) row (is.marked.each p) added (is.shown p within) in
-              subst (λ (v : ℕ). AreRows (tape_at (with_event history p event) v) (damaged_at marks v) (rows_at (set rows p (with_row (rows_at rows p) row)) v)) (sym here)
-              (subst (λ (tape : List Event). AreRows tape (damaged_at marks p) (rows_at (set rows p (with_row (rows_at rows p) row)) p)) (sym (tape-here history p event within p refl))
-              (subst (AreRows (tape_at history p ++ event ∷ []) (damaged_at marks p)) (sym read) new))
+              let read : rows_at (set rows p there) p ≡ there = get_or-set_same rows p there [] (omega (arith, is.rows_count)) in
+              subst (λ (v : ℕ). AreRows n (tape_at grown v) (damaged_at marks v) (rows_at (set rows p there) v)) (sym here)
+              (subst (λ (es : List Event). AreRows n es (damaged_at marks p) (rows_at (set rows p there) p)) (sym (tape-here history p event within p refl))
+              (subst (AreRows n (tape ++ event ∷ []) (damaged_at marks p)) (sym read) new))
           | inr apart ↦
-              subst (λ (tape : List Event). AreRows tape (damaged_at marks q) (rows_at (set rows p (with_row (rows_at rows p) row)) q)) (sym (tape-other history p event within q apart))
-              (subst (AreRows (tape_at history q) (damaged_at marks q)) (sym (get_or-set_other rows p q (with_row (rows_at rows p) row) [] apart)) (is.shown q (omega arith)))
+              subst (λ (es : List Event). AreRows n es (damaged_at marks q) (rows_at (set rows p there) q)) (sym (tape-other history p event within q apart))
+              (subst (AreRows n (tape_at history q) (damaged_at marks q)) (sym (get_or-set_other rows p q there [] apart)) (is.shown q (omega arith)))
+        ]);
+        heard = λ q h. elim (cases_eq q p) [
+          | inl here ↦
+              ap (present_at (set presents p further)) here ∙ get_or-set_same presents p further [] (omega (arith, is.presents_count)) ∙ heard-added n tape event (present_at presents p) named (is.heard p within)
+              ∙ ap (reach_of n) (sym (tape-here history p event within q here ∙ ap (λ k. tape_at history k ++ event ∷ []) here)) ∙ ap (λ k. reach_of k (tape_at grown q)) (sym same)
+          | inr apart ↦
+              get_or-set_other presents p q further [] apart ∙ is.heard q (omega arith) ∙ ap (reach_of n) (sym (tape-other history p event within q apart)) ∙ ap (λ k. reach_of k (tape_at grown q)) (sym same)
         ];
       }
 
   -- a mark, and the row that it changes
-  pub IsCatalogue-mark : (c : ℕ) → c ≤ checks (tape_at history p) → IsCatalogue history marks rows → IsCatalogue history (with_mark marks p c) (set rows p (with_damage (rows_at rows p) c))
-  IsCatalogue-mark c there is = record {
-    agrees = is.agrees;
-    marked = AreOnChecks-mark history marks p c (omega (arith, is.marks_count)) there is.marked;
-    marks_count = length-set marks.damaged p (damaged_at marks p ++ c ∷ []) ∙ is.marks_count;
-    rows_count = length-set rows p (with_damage (rows_at rows p) c) ∙ is.rows_count;
-    shown = λ q h. elim (cases_eq q p) [
-      | inl here ↦
-          let read : rows_at (set rows p (with_damage (rows_at rows p) c)) p ≡ with_damage (rows_at rows p) c = get_or-set_same rows p (with_damage (rows_at rows p) c) [] (omega (arith, is.rows_count)) in
-          let marked : damaged_at (with_mark marks p c) p ≡ damaged_at marks p ++ c ∷ [] = get_or-set_same marks.damaged p (damaged_at marks p ++ c ∷ []) [] (omega (arith, is.marks_count)) in
-          let new : AreRows (tape_at history p) (damaged_at marks p ++ c ∷ []) (with_damage (rows_at rows p) c) = AreRows-damage (tape_at history p) (damaged_at marks p) (rows_at rows p) c there (is.shown p within) in
-          subst (λ (v : ℕ). AreRows (tape_at history v) (damaged_at (with_mark marks p c) v) (rows_at (set rows p (with_damage (rows_at rows p) c)) v)) (sym here)
-          (subst (λ (xs : List ℕ). AreRows (tape_at history p) xs (rows_at (set rows p (with_damage (rows_at rows p) c)) p)) (sym marked)
-          (subst (AreRows (tape_at history p) (damaged_at marks p ++ c ∷ [])) (sym read) new))
-      | inr apart ↦
-          subst (λ (xs : List ℕ). AreRows (tape_at history q) xs (rows_at (set rows p (with_damage (rows_at rows p) c)) q)) (sym (get_or-set_other marks.damaged p q (damaged_at marks p ++ c ∷ []) [] apart))
-          (subst (AreRows (tape_at history q) (damaged_at marks q)) (sym (get_or-set_other rows p q (with_damage (rows_at rows p) c) [] apart)) (is.shown q h))
-    ];
-  }
+  pub IsCatalogue-mark : (c : ℕ) → c ≤ checks (tape_at history p) → IsCatalogue history marks rows presents → IsCatalogue history (with_mark marks p c) (set rows p (with_damage (rows_at rows p) c)) presents
+  IsCatalogue-mark c there is =
+      let n : ℕ = length history in
+      record {
+        agrees = is.agrees;
+        marked = AreOnChecks-mark history marks p c (omega (arith, is.marks_count)) there is.marked;
+        marks_count = length-set marks.damaged p (damaged_at marks p ++ c ∷ []) ∙ is.marks_count;
+        rows_count = length-set rows p (with_damage (rows_at rows p) c) ∙ is.rows_count;
+        presents_count = is.presents_count;
+        heard = is.heard;
+        shown = λ q h. elim (cases_eq q p) [
+          | inl here ↦
+              let read : rows_at (set rows p (with_damage (rows_at rows p) c)) p ≡ with_damage (rows_at rows p) c = get_or-set_same rows p (with_damage (rows_at rows p) c) [] (omega (arith, is.rows_count)) in
+              let marked : damaged_at (with_mark marks p c) p ≡ damaged_at marks p ++ c ∷ [] = get_or-set_same marks.damaged p (damaged_at marks p ++ c ∷ []) [] (omega (arith, is.marks_count)) in
+              let new : AreRows n (tape_at history p) (damaged_at marks p ++ c ∷ []) (with_damage (rows_at rows p) c) = AreRows-damage n (tape_at history p) (damaged_at marks p) (rows_at rows p) c there (is.shown p within) in
+              subst (λ (v : ℕ). AreRows n (tape_at history v) (damaged_at (with_mark marks p c) v) (rows_at (set rows p (with_damage (rows_at rows p) c)) v)) (sym here)
+              (subst (λ (xs : List ℕ). AreRows n (tape_at history p) xs (rows_at (set rows p (with_damage (rows_at rows p) c)) p)) (sym marked)
+              (subst (AreRows n (tape_at history p) (damaged_at marks p ++ c ∷ [])) (sym read) new))
+          | inr apart ↦
+              subst (λ (xs : List ℕ). AreRows n (tape_at history q) xs (rows_at (set rows p (with_damage (rows_at rows p) c)) q)) (sym (get_or-set_other marks.damaged p q (damaged_at marks p ++ c ∷ []) [] apart))
+              (subst (AreRows n (tape_at history q) (damaged_at marks q)) (sym (get_or-set_other rows p q (with_damage (rows_at rows p) c) [] apart)) (is.shown q h))
+        ];
+      }

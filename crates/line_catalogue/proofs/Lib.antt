@@ -1,6 +1,6 @@
 pub mod AgreementLemmas
+pub mod LaneLemmas
 pub mod CheckLemmas
 pub mod CatalogueLemmas
 pub mod RestartLemmas
 pub mod TableLemmas
-pub mod CutLemmas

@@ -1,5 +1,5 @@
 -- A catalogue whose processes went on from their choices of a consistent line.
-use Rattle.std.proofs.Common.{◌≡◌, ℕ, ◌<◌, ◌≤◌, Bool, true, false, cond, List, [], ◌∷◌, length, get_or, filter, inl, inr, Some, refl, sym, ap, ◌∙◌, subst, arith}
+use Rattle.std.proofs.Common.{◌≡◌, ℕ, ◌+◌, ◌<◌, ◌≤◌, Bool, true, false, cond, List, [], ◌∷◌, length, get_or, filter, inl, inr, Some, refl, sym, ap, ◌∙◌, subst, arith}
 use Rattle.std.specs.List.{All, AllByRecursion, Contains, filter_map, slice_get}
 use Rattle.std.proofs.lemmas.Bool.{cases_lt, leb-true}
 use Rattle.std.proofs.lemmas.List.{take_all}
@@ -21,8 +21,10 @@ use Rattle.line_tape.proofs.LineLemmas.{front-empty, tape_at-past}
 use Rattle.line_catalogue.specs.declared.rows.Row.{Row}
 use Rattle.line_catalogue.specs.Agreement.{EventAgrees, Agrees}
 use Rattle.line_catalogue.specs.Damage.{AreOnChecks}
-use Rattle.line_catalogue.specs.Kept.{rows_at, IsCatalogue}
-use Rattle.line_catalogue.specs.Rows.{AreRows}
+use Rattle.line_catalogue.specs.Kept.{rows_at, present_at, IsCatalogue}
+use Rattle.line_catalogue.specs.Rows.{AreRows, WithPlaces, rows_kept, vector_at}
+use Rattle.line_catalogue.proofs.CheckLemmas.{AreRows-left, length-kept, vector-left}
+use Rattle.line_vectors.specs.Reach.{reach_of}
 use Rattle.line_catalogue.proofs.AgreementLemmas.{Agrees-below}
 use Rattle.line_catalogue.proofs.CatalogueLemmas.{AreOnChecks-below}
 use Rattle.line_tape.proofs.RowLemmas.{checks_front}
@@ -95,7 +97,7 @@ module _ (history : List Process) (line : List Choice) (is_line : IsLine history
     length-marks = ap (λ (xs : List (List ℕ)). length xs) (damage-each marks.damaged line) ∙ length-each kept_damage marks.damaged line (omega (arith, enough)) ∙ count
 
     -- the marks that are left
-    marks-restarted : (p : ℕ) → p < length history → damaged_at (restarted_marks marks line) p ≡ filter (is_kept (choice_at line p)) (damaged_at marks p)
+    pub marks-restarted : (p : ℕ) → p < length history → damaged_at (restarted_marks marks line) p ≡ filter (is_kept (choice_at line p)) (damaged_at marks p)
     marks-restarted p within =
         ap (λ (xs : List (List ℕ)). get_or xs p []) (damage-each marks.damaged line) ∙ each_at kept_damage marks.damaged line p [] [] (AtCheck 0) (omega arith) (omega (arith, enough))
 
@@ -110,29 +112,46 @@ module _ (history : List Process) (line : List Choice) (is_line : IsLine history
         let left : All (λ check. check ≤ checks (tape_at (restarted history line) p)) kept = λ k d l. omega (arith, checks-restarted p within, kept_within (tape_at history p) choice (get_or kept k d) (is_line.exist p) (there k d l) (pass k d l)) in
         subst (All (λ check. check ≤ checks (tape_at (restarted history line) p))) (sym (marks-restarted p within)) left)
 
-module _ (history : List Process) (marks : MarksView) (rows : List (List Row)) (line : List Choice) (is : IsCatalogue history marks rows) (is_line : IsLine history line) where
-  -- what the rows are made anew from
-  pub marked-restarted : AreOnChecks (restarted history line) (restarted_marks marks line)
-  marked-restarted = AreOnChecks-restarted history line is_line marks is.marks_count is.marked
+module _ (history : List Process) (marks : MarksView) (rows : List (List Row)) (presents : List (List ℕ)) (line : List Choice) (is : IsCatalogue history marks rows presents) (is_line : IsLine history line) where
+  -- there is a row of each choice
+  pub there-restarted : (p c : ℕ) → p < length history → choice_at line p ≡ AtCheck c → c < length (rows_at rows p)
+  there-restarted p c within at =
+      let has : c ≤ checks (tape_at history p) = subst (HasChoice (tape_at history p)) at (is_line.exist p) in
+      omega (arith, has, (is.shown p within).count)
 
-  pub marks_count-restarted : length (restarted_marks marks line).damaged ≡ length (restarted history line)
-  marks_count-restarted = length-marks history line is_line marks is.marks_count ∙ sym (length-restarted history line is_line)
+  -- and one of each check that is left
+  pub left-restarted : (p : ℕ) → p < length history → length (rows_kept (choice_at line p) (rows_at rows p)) ≡ checks (tape_at (restarted history line) p) + 1
+  left-restarted p within =
+      length-kept (length history) (tape_at history p) (damaged_at marks p) (choice_at line p) (rows_at rows p) (is_line.exist p) (is.shown p within) ∙ ap (λ (tape : List Event). checks tape + 1) (sym (tape-restarted history line is_line p within))
 
-  pub rows_count-restarted : length rows ≡ length (restarted history line)
-  rows_count-restarted = is.rows_count ∙ sym (length-restarted history line is_line)
-
-  -- the rows that there are leave room for those of fewer checks
-  pub enough-restarted : (p : ℕ) → p < length (restarted history line) → checks (tape_at (restarted history line) p) < length (rows_at rows p)
-  enough-restarted p h =
-      let within : p < length history = omega (arith, length-restarted history line is_line) in
-      omega (arith, checks-fewer history line is_line p within, (is.shown p within).count)
-
-  -- with them the catalogue is one again
-  pub IsCatalogue-restarted : (new : List (List Row)) → IsConsistent history line → length new ≡ length (restarted history line) → ((p : ℕ) → p < length (restarted history line) → AreRows (tape_at (restarted history line) p) (damaged_at (restarted_marks marks line) p) (rows_at new p)) → IsCatalogue (restarted history line) (restarted_marks marks line) new
-  IsCatalogue-restarted new consistent count shown = record {
-    agrees = Agrees-restarted history line is_line consistent;
-    marked = marked-restarted;
-    marks_count = marks_count-restarted;
-    rows_count = count;
-    shown = shown;
-  }
+  -- with the rows of what is left the catalogue is one again
+  pub IsCatalogue-restarted : (new : List (List Row)) (presents' : List (List ℕ)) → IsConsistent history line → length new ≡ length history → length presents' ≡ length history
+      → ((p : ℕ) → p < length history → WithPlaces (tape_at (restarted history line) p) (rows_kept (choice_at line p) (rows_at rows p)) (rows_at new p))
+      → ((p : ℕ) → p < length history → present_at presents' p ≡ vector_at (rows_at rows p) (present_at presents p) (choice_at line p))
+      → IsCatalogue (restarted history line) (restarted_marks marks line) new presents'
+  IsCatalogue-restarted new presents' consistent count presents_count placed kept =
+      let n : ℕ = length history in
+      let same : length (restarted history line) ≡ n = length-restarted history line is_line in
+      record {
+        agrees = Agrees-restarted history line is_line consistent;
+        marked = AreOnChecks-restarted history line is_line marks is.marks_count is.marked;
+        marks_count = length-marks history line is_line marks is.marks_count ∙ sym same;
+        rows_count = count ∙ sym same;
+        presents_count = presents_count ∙ sym same;
+        shown = λ p h.
+            let within : p < n = omega (arith, same) in
+            let tape : List Event = tape_at history p in
+            let choice : Choice = choice_at line p in
+            let left : List Event = filter_map restarted_event (front tape choice) in
+            let is_left : tape_at (restarted history line) p ≡ left = tape-restarted history line is_line p within in
+            let on : WithPlaces left (rows_kept choice (rows_at rows p)) (rows_at new p) = subst (λ (es : List Event). WithPlaces es (rows_kept choice (rows_at rows p)) (rows_at new p)) is_left (placed p within) in
+            let made : AreRows n left (filter (is_kept choice) (damaged_at marks p)) (rows_at new p) = AreRows-left n tape (damaged_at marks p) choice (rows_at rows p) (rows_at new p) (is_line.exist p) (is.shown p within) on in
+            subst (λ k. AreRows k (tape_at (restarted history line) p) (damaged_at (restarted_marks marks line) p) (rows_at new p)) (sym same)
+            (subst (λ (es : List Event). AreRows n es (damaged_at (restarted_marks marks line) p) (rows_at new p)) (sym is_left)
+            (subst (λ (xs : List ℕ). AreRows n left xs (rows_at new p)) (sym (marks-restarted history line is_line marks is.marks_count p within)) made));
+        heard = λ p h.
+            let within : p < n = omega (arith, same) in
+            let tape : List Event = tape_at history p in
+            kept p within ∙ vector-left n tape (damaged_at marks p) (choice_at line p) (rows_at rows p) (present_at presents p) (is_line.exist p) (is.shown p within) (is.heard p within)
+            ∙ ap (reach_of n) (sym (tape-restarted history line is_line p within)) ∙ ap (λ k. reach_of k (tape_at (restarted history line) p)) (sym same);
+      }

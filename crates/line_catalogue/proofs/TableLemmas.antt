@@ -1,44 +1,26 @@
 -- What is seen of a table once the rows of one process are written.
-use Rattle.std.proofs.Common.{◌≡◌, ◌≢◌, ℕ, ◌<◌, List, [], length, map, get_or, set, sym, ap, ◌∙◌, arith}
+use Rattle.std.proofs.Common.{◌≡◌, ◌≢◌, ℕ, ◌<◌, List, length, map, get_or, set, sym, ap, ◌∙◌, arith}
 use Rattle.std.proofs.lemmas.List.{map-set, get_or-map, get_or-set_same, get_or-set_other, length-map}
 use Rattle.std.proofs.Math.Seq.{map-set_same}
-use Rattle.line_catalogue.specs.declared.rows.ProcessRows.{ProcessRows}
-use Rattle.line_catalogue.specs.Kept.{rows_at}
-use Rattle.line_catalogue.specs.Plain.{plain, room_of}
+use Rattle.line_catalogue.specs.Kept.{RowsView}
 
-module _ (items : List ProcessRows) (p : ℕ) (old new : ProcessRows) (within : p < length items) (is : old ≡ get_or items p old) where
-  -- the rows that stood there
-  pub rows-old : rows_at (map plain items) p ≡ plain old
-  rows-old = get_or-map plain items p old [] within ∙ ap plain (sym is)
+module _ {A : Type 0} (see : RowsView → A) (d : A) (items : List RowsView) (p : ℕ) (old new : RowsView) (within : p < length items) (is : old ≡ get_or items p old) where
+  -- what was seen there
+  pub seen-old : get_or (map see items) p d ≡ see old
+  seen-old = get_or-map see items p old d within ∙ ap see (sym is)
 
-  -- other rows in their place
-  pub rows-written : map plain (set items p new) ≡ set (map plain items) p (plain new)
-  rows-written = map-set plain items p new
+  -- something else in its place
+  pub seen-written : map see (set items p new) ≡ set (map see items) p (see new)
+  seen-written = map-set see items p new
 
-  -- the rows there
-  pub rows-new : rows_at (map plain (set items p new)) p ≡ plain new
-  rows-new = ap (λ xs. rows_at xs p) (map-set plain items p new) ∙ get_or-set_same (map plain items) p (plain new) [] (omega (arith, length-map items plain))
+  -- what is seen there
+  pub seen-new : get_or (map see (set items p new)) p d ≡ see new
+  seen-new = ap (λ xs. get_or xs p d) (map-set see items p new) ∙ get_or-set_same (map see items) p (see new) d (omega (arith, length-map items see))
 
-  -- the rows elsewhere
-  pub rows-other : (q : ℕ) → q ≢ p → rows_at (map plain (set items p new)) q ≡ rows_at (map plain items) q
-  rows-other q apart = ap (λ xs. rows_at xs q) (map-set plain items p new) ∙ get_or-set_other (map plain items) p q (plain new) [] apart
+  -- what is seen elsewhere
+  pub seen-other : (q : ℕ) → q ≢ p → get_or (map see (set items p new)) q d ≡ get_or (map see items) q d
+  seen-other q apart = ap (λ xs. get_or xs q d) (map-set see items p new) ∙ get_or-set_other (map see items) p q (see new) d apart
 
-  -- the same rows in their place
-  pub rows-same : plain new ≡ plain old → map plain (set items p new) ≡ map plain items
-  rows-same same = map-set_same plain items p new old (same ∙ ap plain is)
-
-  -- the same room in its place
-  pub rooms-same : room_of new ≡ room_of old → map room_of (set items p new) ≡ map room_of items
-  rooms-same same = map-set_same room_of items p new old (same ∙ ap room_of is)
-
-  -- the room before
-  pub room-old : get_or (map room_of items) p 0 ≡ room_of old
-  room-old = get_or-map room_of items p old 0 within ∙ ap room_of (sym is)
-
-  -- the room there
-  pub room-new : get_or (map room_of (set items p new)) p 0 ≡ room_of new
-  room-new = ap (λ xs. get_or xs p 0) (map-set room_of items p new) ∙ get_or-set_same (map room_of items) p (room_of new) 0 (omega (arith, length-map items room_of))
-
-  -- the room elsewhere
-  pub room-other : (q : ℕ) → q ≢ p → get_or (map room_of (set items p new)) q 0 ≡ get_or (map room_of items) q 0
-  room-other q apart = ap (λ xs. get_or xs q 0) (map-set room_of items p new) ∙ get_or-set_other (map room_of items) p q (room_of new) 0 apart
+  -- the same in its place
+  pub seen-same : see new ≡ see old → map see (set items p new) ≡ map see items
+  seen-same same = map-set_same see items p new old (same ∙ ap see is)

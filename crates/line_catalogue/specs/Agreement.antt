@@ -1,9 +1,9 @@
 -- Histories that agree: no message was received under a name that its sender could not have given it.
-use Rattle.std.specs.Prelude.{◌≡◌, ℕ, ◌≤◌, ◌⊎◌, List, All}
+use Rattle.std.specs.Prelude.{◌≡◌, ℕ, ◌≤◌, ◌⊎◌, List, All, slice_index_or}
 use Rattle.line_names.specs.declared.messages.MsgName.{MsgName}
 use Rattle.line_tape.specs.declared.events.Event.{Event}
 use Rattle.line_tape.specs.declared.events.Event.TheVariants.{Send, Recv, Check, Mark}
-use Rattle.line_tape.specs.Event.{Holds, sends}
+use Rattle.line_tape.specs.Event.{Holds, incarnations_sent, sends}
 use Rattle.line_tape.specs.History.{Process, tape_at, incarnation_at, with_event}
 
 -- the sender's send of that number has that incarnation, or it is still to come and the incarnation is the present one
@@ -33,3 +33,8 @@ IsSentAsNow history p (Mark from round) = Unit {0}
 pub record AgreesNext (history : List Process) (p : ℕ) (event : Event) : Type 0 where
   pub agrees : Agrees (with_event history p event)
   pub present : IsSentAsNow history p event
+
+-- the name of the message of process p with this number: under the incarnation of that send, and where it is still to come under the present one
+abbrev pub named : List Process → ℕ → ℕ → MsgName
+named history p number =
+    record { from = p; inc = slice_index_or (incarnations_sent (tape_at history p)) number (incarnation_at history p); number = number }

@@ -5,4 +5,3 @@ pub mod Views
 pub mod Kept
 pub mod Plain
 pub mod Refusals
-pub mod Cuts

@@ -1,12 +1,16 @@
--- What the rows of a process show of what is kept of them.
-use Rattle.std.specs.Prelude.{ℕ, ◌-◌, List, vec_len, vec_capacity}
-use Rattle.line_catalogue.specs.declared.rows.ProcessRows.{ProcessRows}
+-- What a table shows of each of its processes.
+use Rattle.std.specs.Prelude.{ℕ, List}
 use Rattle.line_catalogue.specs.declared.rows.Row.{Row}
+use Rattle.line_catalogue.specs.Kept.{RowsView}
 
--- the rows themselves
-abbrev pub plain : ProcessRows → List Row
-plain kept = kept.rows.items
+-- its rows
+abbrev pub plain : RowsView → List Row
+plain kept = kept.rows
 
--- how many further rows are taken with no more memory
-abbrev pub room_of : ProcessRows → ℕ
-room_of kept = vec_capacity kept.rows - vec_len kept.rows
+-- the vector of where it stands
+abbrev pub present_of : RowsView → List ℕ
+present_of kept = kept.present
+
+-- how many further events are taken with no more memory
+abbrev pub room_of : RowsView → ℕ
+room_of kept = kept.room

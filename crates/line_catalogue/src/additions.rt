@@ -3,13 +3,11 @@ ghost use Rattle.std.specs.Prelude.{◌≡◌, ◌≢◌, ◌<◌, ◌≤◌, �
 ghost use Rattle.line_tape.specs.Event.{HasLongState, NamesBelow};
 ghost use Rattle.line_tape.specs.History.{tape_at};
 ghost use Rattle.line_catalogue.specs.Agreement.{Agrees, AgreesNext};
-ghost use Rattle.line_catalogue.specs.Rows.{IsRowAdded};
 
 use crate::agreement::name_agrees;
 use crate::refusals::AddError;
-use crate::rows::Row;
 use line_names::ProcId;
-use line_tape::{Event, History, MOST_EVENTS, MOST_STATE, Tape};
+use line_tape::{Event, History, MOST_EVENTS, MOST_STATE};
 
 /// Whether the event stores more than a tape takes.
 fn has_long_state(event: &Event) -> bool
@@ -71,20 +69,4 @@ pub fn test_event(history: &History, p: ProcId, event: &Event) -> Result<(), Add
         return Err(AddError::NamesDisagree);
     }
     Ok(())
-}
-
-/// The row that an event adds to those of its tape, where it is a check.
-pub fn row_added(tape: &Tape, event: &Event) -> Option<Row>
-    ensures { IsRowAdded tape.now.events event.now result }
-{
-    match event {
-        Event::Check { .. } => Some(Row {
-            place: tape.len() + 1,
-            sends: tape.sends(),
-            damaged: false,
-        }),
-        Event::Send { .. } => None,
-        Event::Recv { .. } => None,
-        Event::Mark { .. } => None,
-    }
 }

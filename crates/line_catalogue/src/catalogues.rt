@@ -1,12 +1,13 @@
 //! A history that agrees, with its marks of damage.
-ghost use Rattle.std.specs.Prelude.{◌≡◌, ◌≢◌, ◌<◌, ◌≤◌, ◌+◌, ◌↔◌, ◌⊎◌, ℕ, [], length, replicate, IfOk, IsOk, OnOk, OnErr, IsErrOf, IsTrue, IfSome};
+ghost use Rattle.std.specs.Prelude.{◌≡◌, ◌≢◌, ◌<◌, ◌≤◌, ◌+◌, ◌↔◌, ◌⊎◌, ℕ, [], List, length, replicate, IfOk, IsOk, OnOk, OnErr, IsErrOf, IsTrue, IfSome};
 ghost use Rattle.std.specs.Option.{SomeIff};
 ghost use Rattle.line_names.specs.declared.choices.Choice.{Choice};
 ghost use Rattle.line_names.specs.Order.{IsNoLater};
 ghost use Rattle.line_tape.specs.Chain.{latest_check, next_lower};
 ghost use Rattle.line_tape.specs.Event.{checks, HasLongState, NamesBelow};
 ghost use Rattle.line_tape.specs.History.{fresh, tape_at, with_event, IsHistory};
-ghost use Rattle.line_tape.specs.Line.{events_before, IsLine, IsConsistent, IsFoundAmong};
+ghost use Rattle.line_tape.specs.Front.{front, HasChoice};
+ghost use Rattle.line_tape.specs.Line.{IsLine, IsConsistent, AreSentBefore};
 ghost use Rattle.line_tape.specs.Restart.{restarted, restarted_marks, HaveFurther};
 ghost use Rattle.line_tape.specs.Survival.{survives, is_damaged};
 ghost use Rattle.line_tape.specs.Views.{with_mark, damaged_at};
@@ -14,27 +15,28 @@ ghost use Rattle.line_catalogue.specs.Agreement.{Agrees, AgreesNext};
 ghost use Rattle.line_catalogue.specs.Damage.{AreOnChecks};
 ghost use Rattle.line_catalogue.specs.Rows.{AreRows};
 ghost use Rattle.line_catalogue.specs.Views.{room_at};
+ghost use Rattle.line_vectors.specs.Reach.{reach_before, sents_of};
+ghost use Rattle.line_vectors.specs.Vectors.{Fits};
 
-use crate::additions::{row_added, test_event};
+use crate::additions::test_event;
 use crate::agreement::{agrees, are_on_checks};
-use crate::cuts::Cut;
 use crate::refusals::{AddError, CatalogueError, DamageError};
-use crate::rows::{Row, RowTable};
-use line_names::{Choice, Line, MOST_PROCESSES, MsgName, ProcId, ProcSet};
-use line_tape::{CountError, Event, History, MOST_EVENTS, Marks, orphan_among};
+use crate::rows::Row;
+use crate::tables::RowTable;
+use line_names::{Choice, Line, MOST_PROCESSES, ProcId, ProcSet};
+use line_tape::{CountError, Event, History, MOST_EVENTS, Marks};
+use line_vectors::Reach;
 use std::alloc::{AllocError, Global};
 use std::marker::Model;
 
 /// A history that agrees, with marks of damage on its checks.
 ///
-/// It answers what a planner asks of choices from rows that it keeps beside them, one for each check, and grows with its history event by event.
+/// It answers what a planner asks of choices from rows that it keeps beside them, one for each check, and grows with its history event by event. A row has the vector of its check, and each process one of where it stands: how much was received from each other process before. So a history of n processes takes 4n bytes more for each check, and no question looks at its events.
 #[derive(Drop)]
 pub struct Catalogue {
     history: History,
     marks: Marks,
     rows: RowTable,
-    /// What the last restart left, and nothing before the first one: no message is received there that isn't sent there.
-    cut: Cut,
 }
 
 impl Model for Catalogue {
@@ -42,7 +44,6 @@ impl Model for Catalogue {
 
     ghost Value = { CatalogueView };
 
-    ghost use Rattle.line_catalogue.specs.Cuts.{IsConsistentCut};
     ghost use Rattle.line_catalogue.specs.Kept.{IsCatalogue};
 
     ghost view = { λ c. record {
@@ -51,7 +52,7 @@ impl Model for Catalogue {
       rooms = lesser_rooms c.history.rooms c.rows.rooms;
     } };
 
-    ghost invariant = { λ c. IsCatalogue c.history.processes c.marks c.rows.rows × IsConsistentCut c.history.processes c.cut };
+    ghost invariant = { λ c. IsCatalogue c.history.processes c.marks c.rows.rows c.rows.presents };
 }
 
 impl Catalogue {
@@ -64,12 +65,10 @@ impl Catalogue {
         let history = History::new(alloc, n)?;
         let marks = Marks::new(alloc, n)?;
         let rows = RowTable::of(alloc, &history, &marks)?;
-        let cut = Cut::new(alloc, n)?;
         Ok(Catalogue {
             history,
             marks,
             rows,
-            cut,
         })
     }
 
@@ -95,12 +94,10 @@ impl Catalogue {
         let rows = RowTable::of(alloc, history, marks)?;
         let history = history.copy(alloc)?;
         let marks = marks.copy(alloc)?;
-        let cut = Cut::new(alloc, history.n())?;
         Ok(Catalogue {
             history,
             marks,
             rows,
-            cut,
         })
     }
 
@@ -132,7 +129,7 @@ impl Catalogue {
     /// What is known of each check of a process: first its initial state, then the checks in their order. It costs nothing.
     pub fn rows(&self, p: ProcId) -> &[Row]
         requires { p < length self.now.processes }
-        ensures { AreRows (tape_at self.now.processes p) (damaged_at self.now.marks p) result.now }
+        ensures { AreRows (length self.now.processes) (tape_at self.now.processes p) (damaged_at self.now.marks p) result.now }
     {
         self.rows.at(p)
     }
@@ -184,20 +181,18 @@ impl Catalogue {
         }
     }
 
-    /// An orphan at a process, if there is one: of several that of the lowest sender, and of that sender the one with the greatest number.
+    /// The vector of a choice of a process: for each process one more than the greatest number received from it before the choice, or 0. It costs nothing.
     ///
-    /// It looks once at each process, and at each event before the choice that came since the last restart; at all of them where a choice of the line is before what that restart left.
-    pub fn orphan_at(&self, line: &Line, p: ProcId) -> Option<MsgName>
-        requires line { IsLine self.now.processes line.now }
+    /// It fits the sends before a line exactly where each message received before the choice is sent before the line.
+    pub fn reach(&self, p: ProcId, choice: Choice) -> &Reach
         requires process { p < length self.now.processes }
-        ensures { IsFoundAmong self.now.processes line.now (events_before self.now.processes line.now p) result }
+        requires choice { HasChoice (tape_at self.now.processes p) choice }
+        ensures value { result.now ≡ reach_before self.now.processes p choice }
+        ensures decides { (line : List Choice) → Fits result.now (sents_of self.now.processes line)
+            ↔ AreSentBefore self.now.processes line (front (tape_at self.now.processes p) choice) }
     {
-        let events = self.history.tape(p).front(line.at(p));
-        if self.cut.is_before(&self.history, line) {
-            orphan_among(&self.history, line, &events[self.cut.events(p) as usize..])
-        } else {
-            orphan_among(&self.history, line, events)
-        }
+        let _n = self.history.n();
+        self.rows.reach(p, choice)
     }
 
     /// Makes room for so many further events of a process: its next `k` additions take no memory.
@@ -229,12 +224,14 @@ impl Catalogue {
         ensures spent { room_at self.old p ≤ room_at self.new p + 1 }
         ensures others { (q : ℕ) → q ≢ p → room_at self.new q ≡ room_at self.old q }
     {
-        let row = row_added(self.history.tape(p), &event);
+        let tape = self.history.tape(p);
+        let place = tape.len() + 1;
+        let sends = tape.sends();
+        self.rows.append(p, &event, place, sends);
         self.history.push(p, event).unwrap();
-        self.rows.append(p, row);
     }
 
-    /// Adds an event at the end of the tape of a process. Its cost is constant.
+    /// Adds an event at the end of the tape of a process. A check costs a vector; any other event costs the same however much was added before.
     pub fn add(&mut self, p: ProcId, event: Event) -> Result<(), AddError>
         ensures ok { OnOk result (self.new.processes ≡ with_event self.old.processes p event) }
         ensures err { OnErr result (self.new.processes ≡ self.old.processes) }
@@ -289,7 +286,7 @@ impl Catalogue {
 
     /// Has each process go on from its choice of a consistent line, as `History::restart` does, and takes the marks off the checks that it cuts off. It takes no memory and cannot fail.
     ///
-    /// Each message that is received before a consistent line is sent before it, so the history goes on to agree. It looks at each check, and otherwise costs what `History::restart` does.
+    /// Each message that is received before a consistent line is sent before it, so the history goes on to agree. It looks at each check and at one vector of each process, and otherwise costs what `History::restart` does.
     #[tactic(auto, using(crate::proofs::CatalogueLemmas::lesser_at))]
     pub fn restart(&mut self, line: &Line)
         requires line { IsLine self.old.processes line.now }
@@ -301,7 +298,6 @@ impl Catalogue {
     {
         self.history.restart(line);
         self.marks.restart(line);
-        self.rows.restart(&self.history, &self.marks);
-        self.cut.move_to_end(&self.history);
+        self.rows.restart(&self.history, line);
     }
 }

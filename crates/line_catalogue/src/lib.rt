@@ -6,10 +6,12 @@
 mod additions;
 mod agreement;
 mod catalogues;
-mod cuts;
+mod laws;
 mod refusals;
 mod rows;
+mod tables;
 
 pub use catalogues::Catalogue;
+pub use laws::{lanes_name_orphans, numbers_decide, vectors_decide};
 pub use refusals::{AddError, CatalogueError, DamageError};
 pub use rows::Row;

@@ -1,75 +1,175 @@
-//! The rows that tell of the checks of each process.
-ghost use Rattle.std.specs.Prelude.{◌≡◌, ◌≢◌, ◌<◌, ◌≤◌, ◌+◌, ℕ, [], All, length, slice_set, slice_index_or, vec_len, vec_capacity, IfOk, IsOk, OnOk};
-ghost use Rattle.line_tape.specs.Event.{checks};
-ghost use Rattle.line_tape.specs.History.{tape_at};
-ghost use Rattle.line_catalogue.specs.Damage.{AreOnChecks};
-ghost use Rattle.line_tape.specs.Views.{damaged_at};
-ghost use Rattle.line_catalogue.specs.Kept.{rows_at};
-ghost use Rattle.line_catalogue.specs.Plain.{plain, room_of};
-ghost use Rattle.line_catalogue.specs.Rows.{IsRow, AreRows, with_damage, with_row};
+//! What is known of the checks of one process, and of where it stands.
+ghost use Rattle.std.specs.Prelude.{◌≡◌, ◌<◌, ◌≤◌, ◌+◌, ◌-◌, ℕ, [], ◌∷◌, ◌++◌, length, replicate, vec_len, vec_capacity, IfOk, IsOk, OnOk};
+ghost use Rattle.line_names.specs.declared.choices.Choice.TheVariants.{Check as AtCheck};
+ghost use Rattle.line_tape.specs.Event.{checks, NamesBelow};
+ghost use Rattle.line_vectors.specs.Reach.{nearest};
+ghost use Rattle.line_catalogue.specs.Kept.{AreEven, AreRowsEven};
+ghost use Rattle.line_catalogue.specs.Rows.{WithPlaces, heard_more, new_row, row_added, rows_kept, vector_at, with_damage, with_row};
 
-use line_names::{Choice, ProcId};
-use line_tape::{History, Marks, Tape};
+use line_names::{Choice, MOST_PROCESSES, MsgName};
+use line_tape::{Event, Tape};
+use line_vectors::{LAST_NUMBER, Reach};
 use std::alloc::{AllocError, Global};
 use std::marker::Model;
 
-/// What is known of a check: how many events of its tape, and how many sends among them, stand before the choice of it, and whether it is damaged.
-#[derive(Clone, Copy, Debug, PartialEq, Eq)]
+/// What is known of a check: how many events of its tape, and how many sends among them, stand before the choice of it, whether it is damaged, and how much the process had heard of each other one.
+#[derive(Drop)]
 pub struct Row {
     pub place: u32,
     pub sends: u32,
     pub damaged: bool,
+    pub reach: Reach,
 }
 
-/// The rows of one process, from its initial state on.
+/// The rows of one process, from its initial state on, and the vector of where it stands.
 #[derive(Drop)]
-struct ProcessRows {
+pub struct ProcessRows {
     rows: Vec<Row>,
+    present: Reach,
+    /// Vectors that lie ready for the rows of checks to come.
+    spares: Vec<Reach>,
 }
 
-/// The rows of all processes.
-#[derive(Drop)]
-pub struct RowTable {
-    table: Vec<ProcessRows>,
+impl Model for ProcessRows {
+    ghost use Rattle.std.specs.Prelude.{◌-◌, min, length, vec_len, vec_capacity};
+    ghost use Rattle.line_catalogue.specs.Kept.{RowsView};
+
+    ghost Value = { RowsView };
+
+    ghost use Rattle.line_catalogue.specs.Kept.{AreEven, AreRowsEven};
+
+    ghost view = { λ p. record {
+      rows = p.rows.items;
+      present = p.present;
+      room = min (vec_capacity p.rows - vec_len p.rows) (vec_len p.spares);
+    } };
+
+    ghost invariant = { λ p. AreRowsEven (length p.present) p.rows.items × AreEven (length p.present) p.spares.items };
 }
 
-impl Model for RowTable {
-    ghost use Rattle.std.specs.Prelude.{map};
-    ghost use Rattle.line_catalogue.specs.Kept.{TableView};
-
-    ghost Value = { TableView };
-
-    ghost use Rattle.line_catalogue.specs.Plain.{plain, room_of};
-
-    ghost view = { λ t. record { rows = map plain t.table.items; rooms = map room_of t.table.items } };
-}
-
-/// The row of a check, with no damage.
-fn plain_row(tape: &Tape, check: u32) -> Row
-    requires { check ≤ checks tape.now.events }
-    ensures { IsRow tape.now.events [] check result }
+/// The name under which a vector notes a message.
+fn nearest(message: &MsgName) -> MsgName
+    ensures { result ≡ nearest message.now }
 {
-    let choice = Choice::Check(check);
-    match tape.place(choice) {
-        Some(place) => Row {
-            place,
-            sends: tape.sends_before(choice),
-            damaged: false,
-        },
-        None => unreachable!(),
+    MsgName {
+        from: message.from,
+        inc: message.inc,
+        number: message.number.min(LAST_NUMBER - 1),
     }
 }
 
-/// Puts the rows of a tape, with no damage, in place of others, in the room that those leave.
-fn fill(rows: &mut Vec<Row>, tape: &Tape)
-    requires { checks tape.now.events < vec_capacity rows.old }
-    ensures rows { AreRows tape.now.events [] rows.new.items }
+/// Adds the row of a check, with a copy of a vector, in memory that lies ready.
+fn add_row(rows: &mut Vec<Row>, spares: &mut Vec<Reach>, present: &Reach, place: u32, sends: u32)
+    requires some { 0 < vec_len spares.old }
+    requires room { vec_len rows.old < vec_capacity rows.old }
+    requires even { AreEven (length present.now) spares.old.items }
+    ensures rows { rows.new.items ≡ rows.old.items ++ new_row place sends present.now ∷ [] }
+    ensures len { vec_len rows.new ≡ vec_len rows.old + 1 }
     ensures capacity { vec_capacity rows.old ≤ vec_capacity rows.new }
+    ensures spent { vec_len spares.old ≡ vec_len spares.new + 1 }
+    ensures even { AreEven (length present.now) spares.new.items }
 {
-    rows.clear();
-    for check in 0..tape.checks() + 1 {
-        rows.push(plain_row(tape, check)).unwrap();
+    let mut reach = spares.pop().unwrap();
+    reach.set_to(present);
+    rows.push(Row {
+        place,
+        sends,
+        damaged: false,
+        reach,
+    })
+    .unwrap();
+}
+
+/// Follows an event of the tape: a receipt is noted, and a check has a row of its own.
+fn follow(
+    rows: &mut Vec<Row>,
+    spares: &mut Vec<Reach>,
+    present: &mut Reach,
+    event: &Event,
+    place: u32,
+    sends: u32,
+)
+    requires some { 0 < vec_len spares.old }
+    requires room { vec_len rows.old < vec_capacity rows.old }
+    requires even { AreEven (length present.old) spares.old.items }
+    requires named { NamesBelow (length present.old) event.now }
+    ensures rows { rows.new.items ≡ with_row rows.old.items (row_added place sends present.old event.now) }
+    ensures present { present.new ≡ heard_more present.old event.now }
+    ensures lanes { length present.new ≡ length present.old }
+    ensures even { AreRowsEven (length present.old) rows.old.items → AreRowsEven (length present.old) rows.new.items }
+    ensures spares { AreEven (length present.old) spares.new.items }
+    ensures room { vec_capacity rows.old - vec_len rows.old ≤ vec_capacity rows.new - vec_len rows.new + 1 }
+    ensures spent { vec_len spares.old ≤ vec_len spares.new + 1 }
+{
+    match event {
+        Event::Send { .. } => {}
+        Event::Recv { message } => present.note(&nearest(message)),
+        Event::Check { .. } => add_row(rows, spares, present, place, sends),
+        Event::Mark { .. } => {}
     }
+}
+
+/// Lets go of the rows behind a choice, whose vector becomes that of where the process stands.
+fn go_back(rows: &mut Vec<Row>, present: &mut Reach, choice: Choice)
+    requires even { AreRowsEven (length present.old) rows.old.items }
+    requires there { (c : ℕ) → choice ≡ AtCheck c → c < vec_len rows.old }
+    ensures rows { rows.new.items ≡ rows_kept choice rows.old.items }
+    ensures present { present.new ≡ vector_at rows.old.items present.old choice }
+    ensures lanes { length present.new ≡ length present.old }
+    ensures even { AreRowsEven (length present.old) rows.new.items }
+    ensures room { vec_capacity rows.old - vec_len rows.old ≤ vec_capacity rows.new - vec_len rows.new }
+{
+    match choice {
+        Choice::Check(c) => {
+            present.set_to(&rows[c as usize].reach);
+            rows.truncate(c as usize + 1);
+        }
+        Choice::Now => {}
+    }
+}
+
+/// Notes anew where the checks stand on a tape.
+fn place_rows(rows: &mut Vec<Row>, tape: &Tape)
+    requires { vec_len rows.old ≡ checks tape.now.events + 1 }
+    ensures rows { WithPlaces tape.now.events rows.old.items rows.new.items }
+    ensures room { (vec_capacity rows.new ≡ vec_capacity rows.old) × (vec_len rows.new ≡ vec_len rows.old) }
+{
+    for c in 0..tape.checks() + 1 {
+        match tape.place(Choice::Check(c)) {
+            Some(place) => rows[c as usize].place = place,
+            None => unreachable!(),
+        }
+    }
+}
+
+/// Makes spare vectors, as long as this one, until there are so many.
+fn fill(spares: &mut Vec<Reach>, like: &Reach, k: usize) -> Result<(), AllocError>
+    requires even { AreEven (length like.now) spares.old.items }
+    ensures even { AreEven (length like.now) spares.new.items }
+    ensures ok { OnOk result (k ≤ vec_len spares.new) }
+    ensures more { vec_len spares.old ≤ vec_len spares.new }
+    ensures succeeds { k ≤ vec_len spares.old → IsOk result }
+{
+    for _i in spares.len()..k {
+        spares.push(like.copy()?)?;
+    }
+    Ok(())
+}
+
+/// The only row of a process that has done nothing.
+fn first_rows(alloc: Global, n: u32) -> Result<Vec<Row>, AllocError>
+    requires { n ≤ MOST_PROCESSES }
+    ensures { IfOk result (λ rows. rows.items ≡ new_row 0 0 (replicate n 0) ∷ []) }
+{
+    let mut rows = Vec::with_capacity(alloc, 1)?;
+    let reach = Reach::new(alloc, n)?;
+    rows.push(Row {
+        place: 0,
+        sends: 0,
+        damaged: false,
+        reach,
+    })?;
+    Ok(rows)
 }
 
 /// Notes that a check is damaged.
@@ -81,133 +181,90 @@ fn set_damaged(rows: &mut Vec<Row>, check: u32)
     rows[check as usize].damaged = true;
 }
 
-/// Puts the rows of a tape with these damaged checks in place of others, in the room that those leave.
-fn refill(rows: &mut Vec<Row>, tape: &Tape, damaged: &[u32])
-    requires room { checks tape.now.events < vec_capacity rows.old }
-    requires marked { All (λ check. check ≤ checks tape.now.events) damaged.now }
-    ensures rows { AreRows tape.now.events damaged.now rows.new.items }
-    ensures capacity { vec_capacity rows.old ≤ vec_capacity rows.new }
-{
-    fill(rows, tape);
-    for check in damaged {
-        set_damaged(rows, *check);
-    }
-}
-
-/// The rows of a tape with these damaged checks.
-fn rows_of(alloc: Global, tape: &Tape, damaged: &[u32]) -> Result<Vec<Row>, AllocError>
-    requires { All (λ check. check ≤ checks tape.now.events) damaged.now }
-    ensures { IfOk result (λ rows. AreRows tape.now.events damaged.now rows.items) }
-{
-    let mut rows = Vec::with_capacity(alloc, tape.checks() as usize + 1)?;
-    refill(&mut rows, tape, damaged);
-    Ok(rows)
-}
-
-/// Adds a row, if there is one, in room that was made for it.
-fn push_row(rows: &mut Vec<Row>, row: Option<Row>)
-    requires { vec_len rows.old < vec_capacity rows.old }
-    ensures rows { rows.new.items ≡ with_row rows.old.items row }
-    ensures room { (vec_capacity rows.old ≤ vec_capacity rows.new) × (vec_len rows.new ≤ vec_len rows.old + 1) }
-{
-    if let Some(row) = row {
-        rows.push(row).unwrap();
-    }
-}
-
-/// Puts the rows of a tape with these damaged checks in place of those of a tape that had no fewer checks.
-fn refill_process(process: &mut ProcessRows, tape: &Tape, damaged: &[u32])
-    requires enough { checks tape.now.events < length (plain process.old) }
-    requires marked { All (λ check. check ≤ checks tape.now.events) damaged.now }
-    ensures rows { AreRows tape.now.events damaged.now (plain process.new) }
-    ensures room { room_of process.old ≤ room_of process.new }
-{
-    refill(&mut process.rows, tape, damaged);
-}
-
-impl RowTable {
-    /// The rows of a history and its marks. It looks once at each check and at each mark.
-    pub fn of(alloc: Global, history: &History, marks: &Marks) -> Result<RowTable, AllocError>
-        requires marked { AreOnChecks history.now.processes marks.now }
-        requires count { length marks.now.damaged ≡ length history.now.processes }
-        ensures count { IfOk result (λ table. length table.rows ≡ length history.now.processes) }
-        ensures shown { IfOk result (λ table. (p : ℕ) → p < length history.now.processes
-            → AreRows (tape_at history.now.processes p) (damaged_at marks.now p) (rows_at table.rows p)) }
+impl ProcessRows {
+    /// The rows of one of `n` processes that has done nothing yet.
+    pub fn new(alloc: Global, n: u32) -> Result<ProcessRows, AllocError>
+        requires { n ≤ MOST_PROCESSES }
+        ensures rows { IfOk result (λ process. process.rows ≡ new_row 0 0 (replicate n 0) ∷ []) }
+        ensures present { IfOk result (λ process. process.present ≡ replicate n 0) }
     {
-        let n = history.n();
-        let mut table = Vec::with_capacity(alloc, n as usize)?;
-        for q in 0..n {
-            let p = ProcId::try_new(q, n).unwrap();
-            let rows = rows_of(alloc, history.tape(p), marks.checks(q as usize))?;
-            table.push(ProcessRows { rows })?;
+        let rows = first_rows(alloc, n)?;
+        let present = Reach::new(alloc, n)?;
+        let spares = Vec::new(alloc);
+        Ok(ProcessRows {
+            rows,
+            present,
+            spares,
+        })
+    }
+
+    /// The rows.
+    pub fn rows(&self) -> &[Row]
+        ensures { result.now ≡ self.now.rows }
+    {
+        self.rows.as_slice()
+    }
+
+    /// The vector of a choice.
+    pub fn reach(&self, choice: Choice) -> &Reach
+        requires { (c : ℕ) → choice ≡ AtCheck c → c < length self.now.rows }
+        ensures { result.now ≡ vector_at self.now.rows self.now.present choice }
+    {
+        match choice {
+            Choice::Check(c) => &self.rows[c as usize].reach,
+            Choice::Now => &self.present,
         }
-        Ok(RowTable { table })
     }
 
-    /// The rows of a process.
-    pub fn at(&self, p: ProcId) -> &[Row]
-        requires { p < length self.now.rows }
-        ensures { result.now ≡ rows_at self.now.rows p }
+    /// Makes room for so many further events.
+    pub fn reserve(&mut self, k: u32) -> Result<(), AllocError>
+        ensures same { (self.new.rows ≡ self.old.rows) × (self.new.present ≡ self.old.present) }
+        ensures ok { OnOk result (k ≤ self.new.room) }
+        ensures succeeds { k ≤ self.old.room → IsOk result }
+        ensures room { self.old.room ≤ self.new.room }
     {
-        let process = &self.table[p.get() as usize];
-        process.rows.as_slice()
+        fill(&mut self.spares, &self.present, k as usize)?;
+        self.rows.reserve(k as usize)
     }
 
-    /// Makes room for so many further rows of a process.
-    pub fn reserve(&mut self, p: ProcId, k: u32) -> Result<(), AllocError>
-        requires { p < length self.old.rows }
-        ensures same { self.new.rows ≡ self.old.rows }
-        ensures ok { OnOk result (k ≤ slice_index_or self.new.rooms p 0) }
-        ensures succeeds { k ≤ slice_index_or self.old.rooms p 0 → IsOk result }
-        ensures room { slice_index_or self.old.rooms p 0 ≤ slice_index_or self.new.rooms p 0 }
-        ensures others { (q : ℕ) → q ≢ p → slice_index_or self.new.rooms q 0 ≡ slice_index_or self.old.rooms q 0 }
+    /// Follows an event of the tape, in room that was made for it; the place and the sends are those of the row, where it is a check.
+    pub fn append(&mut self, event: &Event, place: u32, sends: u32)
+        requires room { 0 < self.old.room }
+        requires named { NamesBelow (length self.old.present) event.now }
+        ensures rows { self.new.rows ≡ with_row self.old.rows (row_added place sends self.old.present event.now) }
+        ensures present { self.new.present ≡ heard_more self.old.present event.now }
+        ensures lanes { length self.new.present ≡ length self.old.present }
+        ensures room { self.old.room ≤ self.new.room + 1 }
     {
-        self.table[p.get() as usize].rows.reserve(k as usize)
+        follow(
+            &mut self.rows,
+            &mut self.spares,
+            &mut self.present,
+            event,
+            place,
+            sends,
+        );
     }
 
-    /// Adds a row of a process, if there is one, in room that was made for it.
-    pub fn append(&mut self, p: ProcId, row: Option<Row>)
-        requires process { p < length self.old.rows }
-        requires room { 0 < slice_index_or self.old.rooms p 0 }
-        ensures rows { self.new.rows ≡ slice_set self.old.rows p (with_row (rows_at self.old.rows p) row) }
-        ensures room { slice_index_or self.old.rooms p 0 ≤ slice_index_or self.new.rooms p 0 + 1 }
-        ensures others { (q : ℕ) → q ≢ p → slice_index_or self.new.rooms q 0 ≡ slice_index_or self.old.rooms q 0 }
+    /// Notes that a check is damaged.
+    pub fn damage(&mut self, check: u32)
+        requires { check < length self.old.rows }
+        ensures rows { self.new.rows ≡ with_damage self.old.rows check }
+        ensures present { self.new.present ≡ self.old.present }
+        ensures room { self.new.room ≡ self.old.room }
     {
-        push_row(&mut self.table[p.get() as usize].rows, row);
+        set_damaged(&mut self.rows, check);
     }
 
-    /// Notes that a check of a process is damaged.
-    pub fn damage(&mut self, p: ProcId, check: u32)
-        requires process { p < length self.old.rows }
-        requires check { check < length (rows_at self.old.rows p) }
-        ensures rows { self.new.rows ≡ slice_set self.old.rows p (with_damage (rows_at self.old.rows p) check) }
-        ensures rooms { self.new.rooms ≡ self.old.rooms }
+    /// Goes on from a choice, on what is left of the tape. It takes no memory.
+    pub fn restart(&mut self, tape: &Tape, choice: Choice)
+        requires there { (c : ℕ) → choice ≡ AtCheck c → c < length self.old.rows }
+        requires left { length (rows_kept choice self.old.rows) ≡ checks tape.now.events + 1 }
+        ensures rows { WithPlaces tape.now.events (rows_kept choice self.old.rows) self.new.rows }
+        ensures present { self.new.present ≡ vector_at self.old.rows self.old.present choice }
+        ensures room { self.old.room ≤ self.new.room }
     {
-        set_damaged(&mut self.table[p.get() as usize].rows, check);
-    }
-
-    /// Puts the rows of a history and its marks in place of those of a history that had no fewer checks. It takes no memory.
-    ///
-    /// It looks once at each check and at each mark.
-    pub fn restart(&mut self, history: &History, marks: &Marks)
-        requires marked { AreOnChecks history.now.processes marks.now }
-        requires marks_count { length marks.now.damaged ≡ length history.now.processes }
-        requires count { length self.old.rows ≡ length history.now.processes }
-        requires enough { (p : ℕ) → p < length history.now.processes
-            → checks (tape_at history.now.processes p) < length (rows_at self.old.rows p) }
-        ensures count { length self.new.rows ≡ length history.now.processes }
-        ensures shown { (p : ℕ) → p < length history.now.processes
-            → AreRows (tape_at history.now.processes p) (damaged_at marks.now p) (rows_at self.new.rows p) }
-        ensures rooms { (p : ℕ) → slice_index_or self.old.rooms p 0 ≤ slice_index_or self.new.rooms p 0 }
-    {
-        let n = history.n();
-        for q in 0..n {
-            let p = ProcId::try_new(q, n).unwrap();
-            refill_process(
-                &mut self.table[q as usize],
-                history.tape(p),
-                marks.checks(q as usize),
-            );
-        }
+        go_back(&mut self.rows, &mut self.present, choice);
+        place_rows(&mut self.rows, tape);
     }
 }

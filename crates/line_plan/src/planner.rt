@@ -2,14 +2,18 @@
 ghost use Rattle.std.specs.Prelude.{◌≡◌, ◌<◌, ◌≤◌, ◌+◌, false, length, vec_len, OnOk, IfOk};
 ghost use Rattle.line_tape.specs.Chain.{latest_choice, first_ceilings, IsChain, IsLed};
 ghost use Rattle.line_tape.specs.Height.{height};
-ghost use Rattle.line_tape.specs.Line.{events_before, IsOrphan, AreSentBefore};
+ghost use Rattle.line_tape.specs.Line.{events_before, IsLine, IsOrphan, AreSentBefore};
 ghost use Rattle.line_tape.specs.Survival.{IsLatest};
 ghost use Rattle.line_tape.specs.Transit.{in_transit};
-ghost use Rattle.line_plan.specs.Search.{IsMoved, AreSentBelow};
+ghost use Rattle.line_plan.specs.Search.{IsMoved, AreSentBelow, AreClean, AreCleanBut, AreHearersDirty, AreStillDirty};
+ghost use Rattle.line_vectors.specs.Reach.{sents_of};
 
+use crate::dirty::Dirty;
+use crate::orphans::orphan_at;
 use crate::plans::{Plan, PlanError};
 use line_catalogue::Catalogue;
 use line_names::{Choice, Line, MsgName, Passed, ProcId, ProcSet};
+use line_vectors::{LAST_NUMBER, Sent};
 use std::alloc::{AllocError, Global};
 
 /// The latest surviving choice of a process. It looks at one check for each that does not survive.
@@ -36,21 +40,43 @@ fn first_ceilings(catalogue: &Catalogue, failed: &ProcSet) -> Line
     line
 }
 
-/// Passes the choice of a process over, for an orphan that it has received.
+/// Notes each process to be visited that has received, at any time, a message of p past so many first ones. It looks at one lane of each process.
+fn mark_hearers(catalogue: &Catalogue, p: ProcId, count: u32, dirty: &mut Dirty)
+    requires process { p < length catalogue.now.processes }
+    requires few { count < LAST_NUMBER }
+    ensures heard { AreHearersDirty catalogue.now.processes p count dirty.new }
+    ensures still { AreStillDirty dirty.old dirty.new }
+{
+    let n = catalogue.n();
+    for q in 0..n {
+        let hearer = ProcId::try_new(q, n).unwrap();
+        let was = dirty.has(hearer);
+        let lane = catalogue.reach(hearer, Choice::Now).lane(p);
+        dirty.set(hearer, was || lane > count);
+    }
+}
+
+/// Passes the choice of a process over, for an orphan that it has received; whoever received what it has then no longer sent is to be visited.
 fn pass_over(
     catalogue: &Catalogue,
     failed: &ProcSet,
     at: ProcId,
     message: MsgName,
     line: &mut Line,
+    sent: &mut Sent,
+    dirty: &mut Dirty,
     certificate: &mut Vec<Passed>,
 ) -> Result<(), AllocError>
     requires process { at < length catalogue.now.processes }
     requires led { IsLed catalogue.now.processes catalogue.now.marks failed.now certificate.old.items line.old }
     requires orphan { IsOrphan catalogue.now.processes line.old at message }
+    requires sent { sent.old ≡ sents_of catalogue.now.processes line.old }
+    requires clean { AreCleanBut catalogue.now.processes line.old dirty.old at }
     ensures led { OnOk result (IsLed catalogue.now.processes catalogue.now.marks failed.now certificate.new.items line.new) }
     ensures longer { OnOk result (vec_len certificate.new ≡ vec_len certificate.old + 1) }
     ensures lower { OnOk result (height catalogue.now.processes line.new < height catalogue.now.processes line.old) }
+    ensures sent { OnOk result (sent.new ≡ sents_of catalogue.now.processes line.new) }
+    ensures clean { OnOk result (AreCleanBut catalogue.now.processes line.new dirty.new at) }
 {
     let choice = line.at(at);
     let next = catalogue.next_lower(at, choice, failed).unwrap();
@@ -60,6 +86,9 @@ fn pass_over(
         message,
     })?;
     line.set(at, next);
+    let count = catalogue.history().tape(at).sends_before(next);
+    sent.set(at, count);
+    mark_hearers(catalogue, at, count, dirty);
     Ok(())
 }
 
@@ -69,20 +98,35 @@ fn visit(
     failed: &ProcSet,
     at: ProcId,
     line: &mut Line,
+    sent: &mut Sent,
+    dirty: &mut Dirty,
     certificate: &mut Vec<Passed>,
 ) -> Result<bool, AllocError>
     requires process { at < length catalogue.now.processes }
     requires led { IsLed catalogue.now.processes catalogue.now.marks failed.now certificate.old.items line.old }
+    requires sent { sent.old ≡ sents_of catalogue.now.processes line.old }
+    requires clean { AreCleanBut catalogue.now.processes line.old dirty.old at }
     ensures led { OnOk result (IsLed catalogue.now.processes catalogue.now.marks failed.now certificate.new.items line.new) }
     ensures none { OnOk result (AreSentBefore catalogue.now.processes line.new (events_before catalogue.now.processes line.new at)) }
+    ensures sent { OnOk result (sent.new ≡ sents_of catalogue.now.processes line.new) }
+    ensures clean { OnOk result (AreCleanBut catalogue.now.processes line.new dirty.new at) }
     ensures moved { IfOk result (λ lowered.
         IsMoved catalogue.now.processes line.old (vec_len certificate.old) lowered line.new (vec_len certificate.new)) }
 {
     let mut lowered = false;
     'orphans: loop {
-        match catalogue.orphan_at(line, at) {
+        match orphan_at(catalogue, line, sent, at) {
             Some(message) => {
-                pass_over(catalogue, failed, at, message, line, certificate)?;
+                pass_over(
+                    catalogue,
+                    failed,
+                    at,
+                    message,
+                    line,
+                    sent,
+                    dirty,
+                    certificate,
+                )?;
                 lowered = true;
             }
             None => return Ok(lowered),
@@ -90,15 +134,50 @@ fn visit(
     }
 }
 
-/// Visits each process once, and says whether one was lowered.
+/// Visits a process if it is to be visited, after which it is not, and says whether it was lowered.
+fn visit_dirty(
+    catalogue: &Catalogue,
+    failed: &ProcSet,
+    at: ProcId,
+    line: &mut Line,
+    sent: &mut Sent,
+    dirty: &mut Dirty,
+    certificate: &mut Vec<Passed>,
+) -> Result<bool, AllocError>
+    requires process { at < length catalogue.now.processes }
+    requires led { IsLed catalogue.now.processes catalogue.now.marks failed.now certificate.old.items line.old }
+    requires sent { sent.old ≡ sents_of catalogue.now.processes line.old }
+    requires clean { AreClean catalogue.now.processes line.old dirty.old }
+    ensures led { OnOk result (IsLed catalogue.now.processes catalogue.now.marks failed.now certificate.new.items line.new) }
+    ensures none { OnOk result (AreSentBefore catalogue.now.processes line.new (events_before catalogue.now.processes line.new at)) }
+    ensures sent { OnOk result (sent.new ≡ sents_of catalogue.now.processes line.new) }
+    ensures clean { OnOk result (AreClean catalogue.now.processes line.new dirty.new) }
+    ensures moved { IfOk result (λ lowered.
+        IsMoved catalogue.now.processes line.old (vec_len certificate.old) lowered line.new (vec_len certificate.new)) }
+{
+    if !dirty.has(at) {
+        return Ok(false);
+    }
+    let lowered = visit(catalogue, failed, at, line, sent, dirty, certificate)?;
+    dirty.set(at, false);
+    Ok(lowered)
+}
+
+/// Visits each process that is to be visited once, in their order, and says whether one was lowered.
 fn sweep(
     catalogue: &Catalogue,
     failed: &ProcSet,
     line: &mut Line,
+    sent: &mut Sent,
+    dirty: &mut Dirty,
     certificate: &mut Vec<Passed>,
 ) -> Result<bool, AllocError>
     requires led { IsLed catalogue.now.processes catalogue.now.marks failed.now certificate.old.items line.old }
+    requires sent { sent.old ≡ sents_of catalogue.now.processes line.old }
+    requires clean { AreClean catalogue.now.processes line.old dirty.old }
     ensures led { OnOk result (IsLed catalogue.now.processes catalogue.now.marks failed.now certificate.new.items line.new) }
+    ensures sent { OnOk result (sent.new ≡ sents_of catalogue.now.processes line.new) }
+    ensures clean { OnOk result (AreClean catalogue.now.processes line.new dirty.new) }
     ensures none { IfOk result (λ lowered. lowered ≡ false
         → AreSentBelow catalogue.now.processes line.new (length catalogue.now.processes)) }
     ensures moved { IfOk result (λ lowered.
@@ -108,17 +187,33 @@ fn sweep(
     let mut lowered = false;
     for q in 0..n {
         let at = ProcId::try_new(q, n).unwrap();
-        let moved = visit(catalogue, failed, at, line, certificate)?;
+        let moved = visit_dirty(catalogue, failed, at, line, sent, dirty, certificate)?;
         lowered |= moved;
     }
     Ok(lowered)
 }
 
+/// How many sends of each process stand before its choice of the line.
+fn sents_before(alloc: Global, catalogue: &Catalogue, line: &Line) -> Result<Sent, AllocError>
+    requires { IsLine catalogue.now.processes line.now }
+    ensures { IfOk result (λ sent. sent ≡ sents_of catalogue.now.processes line.now) }
+{
+    let n = catalogue.n();
+    let mut sent = Sent::new(alloc, n)?;
+    for q in 0..n {
+        let p = ProcId::try_new(q, n).unwrap();
+        sent.set(p, catalogue.history().tape(p).sends_before(line.at(p)));
+    }
+    Ok(sent)
+}
+
 /// Plans the latest line of surviving choices that has no orphan.
 ///
-/// The ceilings start at each process's latest surviving choice. A sweep visits the processes in the order of their numbers; at a visit a process is lowered to its next lower surviving choice while it has received an orphan, and each choice passed over is written down with the orphan from the lowest sender, of its messages the one with the greatest number. Sweeps go on until one lowers nothing.
+/// The ceilings start at each process's latest surviving choice. A sweep visits the processes in the order of their numbers; at a visit a process is lowered to its next lower surviving choice while it has received an orphan, and each choice passed over is written down with the orphan from the lowest sender, of its messages the one with the greatest number. Sweeps go on until one lowers nothing; that one counts too.
 ///
-/// A visit looks at each process, and at each event before the ceiling of the one visited that came since the last restart; at all of them where a ceiling is before what that restart left. At the end each event before the line is looked at once more, for what is in transit there.
+/// The first sweep visits all processes. A later one visits those that received, at any time, a message that is no longer sent since their last visit, of one that was lowered: no other process can have an orphan, so the line, the entries and the sweeps are those of visiting all.
+///
+/// Each choice passed over costs one look at a vector, and at one lane of each process; a visit that lowers nothing costs a look at a vector. At the end each event before the line is looked at once, for what is in transit there.
 pub fn plan(alloc: Global, catalogue: &Catalogue, failed: &ProcSet) -> Result<Plan, PlanError>
     ensures latest { IfOk result (λ plan. IsLatest catalogue.now.processes catalogue.now.marks failed.now plan.line) }
     ensures chain { IfOk result (λ plan.
@@ -129,10 +224,19 @@ pub fn plan(alloc: Global, catalogue: &Catalogue, failed: &ProcSet) -> Result<Pl
 {
     let _n = catalogue.n();
     let mut line = first_ceilings(catalogue, failed);
+    let mut sent = sents_before(alloc, catalogue, &line)?;
+    let mut dirty = Dirty::everyone();
     let mut certificate = Vec::new(alloc);
     let mut sweeps = 0u32;
     'sweeps: loop {
-        let lowered = sweep(catalogue, failed, &mut line, &mut certificate)?;
+        let lowered = sweep(
+            catalogue,
+            failed,
+            &mut line,
+            &mut sent,
+            &mut dirty,
+            &mut certificate,
+        )?;
         sweeps += 1;
         if !lowered {
             let replays = catalogue.history().transit(alloc, &line)?;

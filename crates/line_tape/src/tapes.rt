@@ -149,6 +149,13 @@ impl Tape {
         &self.events[i as usize]
     }
 
+    /// The incarnation under which the send of that number, counted from 0, was made.
+    pub fn sent_under(&self, number: u32) -> Option<u16>
+        ensures { result ≡ slice_get (incarnations_sent self.now.events) number }
+    {
+        self.incarnations.get(number as usize).copied()
+    }
+
     /// The process that the send of that number, counted from 0, names.
     pub fn addressee(&self, number: u32) -> Option<ProcId>
         ensures { result ≡ slice_get (addressees self.now.events) number }

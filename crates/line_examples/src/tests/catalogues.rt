@@ -2,7 +2,7 @@
 use crate::tests::build::{catalogue_of, failed, history_of, process};
 use crate::tests::{DOMINO, ROUND};
 use line_catalogue::{AddError, Catalogue, CatalogueError, DamageError, Row};
-use line_names::{Body, Choice, MsgName};
+use line_names::{Body, Choice, MsgName, Passed};
 use line_plan::{PlanError, plan};
 use line_tape::{Event, History, Marks};
 use std::test::Fail;
@@ -21,6 +21,33 @@ fn send(inc: u16) -> Result<Event, Fail> {
     Ok(Event::Send { to, inc, body })
 }
 
+/// Whether two rows tell the same of a check.
+fn is_same_row(one: &Row, other: &Row) -> bool {
+    one.place == other.place
+        && one.sends == other.sends
+        && one.damaged == other.damaged
+        && one.reach.lanes() == other.reach.lanes()
+}
+
+/// Whether two catalogues show the same of a process: its rows, one by one, and the vector of where it stands.
+fn show_the_same(one: &Catalogue, other: &Catalogue, p: u32) -> Result<bool, Fail> {
+    let p = process(p)?;
+    if p.get() >= one.n() || p.get() >= other.n() {
+        return Ok(false);
+    }
+    let rows = one.rows(p);
+    let others = other.rows(p);
+    if rows.len() != others.len() {
+        return Ok(false);
+    }
+    for i in 0..rows.len() {
+        if !is_same_row(&rows[i], &others[i]) {
+            return Ok(false);
+        }
+    }
+    Ok(one.reach(p, Choice::Now).lanes() == other.reach(p, Choice::Now).lanes())
+}
+
 #[test]
 fn fed_event_by_event(rt: HostRuntime) -> Result<(), Fail> {
     let history = history_of(rt.alloc(), &ROUND)?;
@@ -28,11 +55,9 @@ fn fed_event_by_event(rt: HostRuntime) -> Result<(), Fail> {
     assert_eq!(rt; history.n(), 2);
     let at_once = Catalogue::of(rt.alloc(), &history, &marks)?;
     let fed = catalogue_of(rt.alloc(), &ROUND)?;
-    assert_eq!(rt; at_once.n(), 2);
-    assert_eq!(rt; fed.n(), 2);
-    let (first, second) = (process(0)?, process(1)?);
-    assert_eq!(rt; fed.rows(first), at_once.rows(first));
-    assert_eq!(rt; fed.rows(second), at_once.rows(second));
+    for p in 0..2 {
+        assert!(rt; show_the_same(&fed, &at_once, p)?, "at {p}");
+    }
     Ok(())
 }
 
@@ -92,6 +117,32 @@ fn a_history_that_disagrees(rt: HostRuntime) -> Result<(), Fail> {
 }
 
 #[test]
+fn plans_with_the_greatest_number(rt: HostRuntime) -> Result<(), Fail> {
+    let mut history = History::new(rt.alloc(), 2)?;
+    history.push(process(1)?, receipt(0, 4_294_967_295)?)?;
+    assert_eq!(rt; history.n(), 2);
+    let marks = Marks::new(rt.alloc(), 2)?;
+    let catalogue = Catalogue::of(rt.alloc(), &history, &marks)?;
+    let plan = plan(rt.alloc(), &catalogue, &failed(&[])?)?;
+    assert_eq!(rt;
+        plan.line.choices(),
+        [Choice::Now, Choice::Check(0)].as_slice()
+    );
+    let entry = Passed {
+        at: process(1)?,
+        choice: Choice::Now,
+        message: MsgName {
+            from: process(0)?,
+            inc: 0,
+            number: 4_294_967_295,
+        },
+    };
+    assert_eq!(rt; plan.certificate.as_slice(), [entry].as_slice());
+    assert_eq!(rt; (plan.sweeps, plan.replays.len()), (2, 0));
+    Ok(())
+}
+
+#[test]
 fn rows_and_lower_choices(rt: HostRuntime) -> Result<(), Fail> {
     let mut catalogue = catalogue_of(rt.alloc(), &DOMINO)?;
     let first = process(0)?;
@@ -109,12 +160,13 @@ fn rows_and_lower_choices(rt: HostRuntime) -> Result<(), Fail> {
     );
     assert_eq!(rt; catalogue.next_lower(first, Choice::Check(0), &lost), None);
     assert_eq!(rt; catalogue.survives(first, Choice::Check(1), &lost), false);
-    let check = Row {
-        place: 3,
-        sends: 1,
-        damaged: true,
-    };
-    assert_eq!(rt; catalogue.rows(first).last(), Some(&check));
+    match catalogue.rows(first).last() {
+        Some(row) => {
+            assert_eq!(rt; (row.place, row.sends, row.damaged), (3, 1, true));
+            assert_eq!(rt; row.reach.lanes(), [0, 1].as_slice());
+        }
+        None => assert!(rt; false),
+    }
     Ok(())
 }
 

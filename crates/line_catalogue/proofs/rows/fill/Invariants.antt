@@ -1,11 +1,10 @@
-use Rattle.std.proofs.Common.{◌≡◌, ℕ, ◌<◌, ◌≤◌, [], length, get_or, vec_capacity}
-use Rattle.line_catalogue.specs.declared.rows.Row.{Row}
-use Rattle.line_catalogue.specs.Rows.{IsRow}
+use Rattle.std.proofs.Common.{◌≡◌, ◌≤◌, length, vec_len}
+use Rattle.line_catalogue.specs.Kept.{AreEven}
 use Rattle.line_catalogue.proofs.rows.fill.Given as goal
 
-abbrev pub invariant-loop-check : goal.invariant-loop-check
-invariant-loop-check l = record {
-  count : length l.rows.items ≡ l.check;
-  each : (c : ℕ) (d : Row) → c < l.check → IsRow l.tape.events [] c (get_or l.rows.items c d);
-  room : vec_capacity l.fn.rows ≤ vec_capacity l.rows;
+abbrev pub invariant-loop-i : goal.invariant-loop-i
+invariant-loop-i l = record {
+  count : vec_len l.spares ≡ l._i;
+  even : AreEven (length l.like) l.spares.items;
+  more : vec_len l.fn.spares ≤ vec_len l.spares;
 }

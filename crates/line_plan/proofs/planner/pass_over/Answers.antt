@@ -1,21 +1,29 @@
--- The entry is right, and its process has a lower choice afterwards.
-use Rattle.std.proofs.Common.{◌≡◌, ◌<◌, ◌++◌, ◌∷◌, [], List, Bool, set, sym, ap, ◌∙◌, subst}
+-- The entry is right, its process has a lower choice afterwards, and those who heard of what it no longer sent are to be visited.
+use Rattle.std.proofs.Common.{◌≡◌, ◌<◌, ◌≤◌, ◌++◌, ◌∷◌, [], ℕ, List, Bool, length, set, sym, ap, ◌∙◌, subst, arith}
 use Rattle.line_names.specs.declared.certificates.Passed.{Passed}
 use Rattle.line_names.specs.declared.choices.Choice.{Choice}
 use Rattle.line_names.specs.Lines.{choice_at}
+use Rattle.line_tape.specs.declared.events.Event.{Event}
 use Rattle.line_tape.specs.Chain.{first_ceilings, next_lower, lowered, IsLed}
-use Rattle.line_tape.specs.History.{Process}
+use Rattle.line_tape.specs.Event.{sends}
+use Rattle.line_tape.specs.Front.{place, front}
+use Rattle.line_tape.specs.declared.limits.TheConstants.{MOST_EVENTS}
+use Rattle.line_tape.proofs.CutLemmas.{sends_take}
+use Rattle.line_tape.proofs.RowLemmas.{sends_le}
+use Rattle.line_tape.specs.History.{Process, tape_at}
 use Rattle.line_tape.specs.Line.{IsLine}
 use Rattle.line_tape.specs.Views.{MarksView}
 use Rattle.line_tape.specs.Height.{height}
 use Rattle.line_tape.proofs.LedLemmas.{LeadsTo-push, height-lowered, IsLine-led}
+use Rattle.line_vectors.specs.Reach.{sents_of}
+use Rattle.line_plan.specs.Search.{AreCleanBut, AreHearersDirty}
+use Rattle.line_vectors.proofs.ReachLemmas.{length-sents}
+use Rattle.line_plan.proofs.SearchLemmas.{sents-set, clean-lowered}
 use Rattle.line_plan.proofs.planner.pass_over.Goals as goal
 
-lower : (c : goal.After-set) → c.unwrap-next.result ≡ next_lower c.args.catalogue.now.processes c.args.catalogue.now.marks c.args.failed.now c.args.at (choice_at c.args.line.now c.args.at)
-lower c = (rw c.unwrap-next.ensures at c.next_lower.ensures.value).1 ∙ ap (next_lower c.args.catalogue.now.processes c.args.catalogue.now.marks c.args.failed.now c.args.at) c.at-choice.ensures
-
-after : (c : goal.After-set) → c.set.new.self ≡ lowered c.args.catalogue.now.processes c.args.catalogue.now.marks c.args.failed.now c.args.line.now c.args.at
-after c = c.set.ensures ∙ ap (set c.args.line.now c.args.at) (lower c)
+pub set-requires-2 : goal.set-requires-2
+set-requires-2 c =
+    omega (arith, c.requires.process, ap (λ (xs : List ℕ). length xs) c.requires.sent, length-sents c.args.catalogue.now.processes c.args.line.now)
 
 pub returns-clause-led : goal.returns-clause-led
 returns-clause-led c =
@@ -23,16 +31,51 @@ returns-clause-led c =
     let marks : MarksView = c.args.catalogue.now.marks in
     let failed : List Bool = c.args.failed.now in
     let line : List Choice = c.args.line.now in
+    let lower : c.unwrap-next.result ≡ next_lower history marks failed c.args.at (choice_at line c.args.at) = (rw c.unwrap-next.ensures at c.next_lower.ensures.value).1 ∙ ap (next_lower history marks failed c.args.at) c.at-choice.ensures in
+    let after : c.set.new.self ≡ lowered history marks failed line c.args.at = c.set.ensures ∙ ap (set line c.args.at) lower in
     let entries : List Passed = c.args.certificate.now.items in
     let entry : Passed = record { at = c.args.at; choice = c.at-choice.result; message = c.args.message } in
     let top : c.at-choice.result ≡ choice_at line c.args.at = cc in
     let led : IsLed history marks failed (entries ++ entry ∷ []) (lowered history marks failed line c.args.at) = LeadsTo-push history marks failed (first_ceilings history marks failed) entries line entry c.requires.led (record { top = top; orphan = c.requires.orphan }) in
     let items : c.push.new.self.items ≡ entries ++ entry ∷ [] = c.in_ok-push.ensures.items in
-    subst (λ (es : List Passed). IsLed history marks failed es c.set.new.self) (sym items) (subst (IsLed history marks failed (entries ++ entry ∷ [])) (sym (after c)) led)
+    subst (λ (es : List Passed). IsLed history marks failed es c.set.new.self) (sym items) (subst (IsLed history marks failed (entries ++ entry ∷ [])) (sym after) led)
 
 pub returns-clause-lower : goal.returns-clause-lower
 returns-clause-lower c =
     let history : List Process = c.args.catalogue.now.processes in
+    let marks : MarksView = c.args.catalogue.now.marks in
+    let failed : List Bool = c.args.failed.now in
     let line : List Choice = c.args.line.now in
+    let lower : c.unwrap-next.result ≡ next_lower history marks failed c.args.at (choice_at line c.args.at) = (rw c.unwrap-next.ensures at c.next_lower.ensures.value).1 ∙ ap (next_lower history marks failed c.args.at) c.at-choice.ensures in
+    let after : c.set.new.self ≡ lowered history marks failed line c.args.at = c.set.ensures ∙ ap (set line c.args.at) lower in
+    let is_line : IsLine history line = IsLine-led history marks failed c.args.certificate.now.items line c.requires.led in
+    subst (λ (xs : List Choice). height history xs < height history line) (sym after) (height-lowered history marks failed line c.args.at c.args.message c.requires.process is_line.length_is c.requires.orphan)
+
+pub returns-clause-sent : goal.returns-clause-sent
+returns-clause-sent c =
+    let history : List Process = c.args.catalogue.now.processes in
+    let line : List Choice = c.args.line.now in
+    let at : ℕ = c.args.at in
+    let next : Choice = c.unwrap-next.result in
     let is_line : IsLine history line = IsLine-led history c.args.catalogue.now.marks c.args.failed.now c.args.certificate.now.items line c.requires.led in
-    subst (λ (xs : List Choice). height history xs < height history line) (sym (after c)) (height-lowered history c.args.catalogue.now.marks c.args.failed.now line c.args.at c.args.message c.requires.process is_line.length_is c.requires.orphan)
+    let tape : c.tape.result.now.events ≡ tape_at history at = c.tape.ensures.events ∙ ap (λ (h : List Process). tape_at h at) c.history.ensures.processes in
+    let count : c.sends_before-count.result ≡ sends (front (tape_at history at) next) = c.sends_before-count.ensures ∙ ap (λ (t : List Event). sends (front t next)) tape in
+    c.set-2.ensures ∙ ap (λ (xs : List ℕ). set xs at c.sends_before-count.result) c.requires.sent ∙ ap (set (sents_of history line) at) count ∙ sym (sents-set history line at next is_line.length_is c.requires.process) ∙ ap (sents_of history) (sym c.set.ensures)
+
+pub mark_hearers-requires-clause-few : goal.mark_hearers-requires-clause-few
+mark_hearers-requires-clause-few c =
+    let tape : List Event = c.tape.result.now.events in
+    let few : length tape ≤ MOST_EVENTS = subst (λ (t : List Event). length t ≤ MOST_EVENTS) (sym c.tape.ensures.events) c.tape.ensures.limits.tape.few in
+    omega (arith, c.sends_before-count.ensures, sends_take tape (place tape c.unwrap-next.result), sends_le tape, few)
+
+pub returns-clause-clean : goal.returns-clause-clean
+returns-clause-clean c =
+    let history : List Process = c.args.catalogue.now.processes in
+    let line : List Choice = c.args.line.now in
+    let at : ℕ = c.args.at in
+    let next : Choice = c.unwrap-next.result in
+    let is_line : IsLine history line = IsLine-led history c.args.catalogue.now.marks c.args.failed.now c.args.certificate.now.items line c.requires.led in
+    let tape : c.tape.result.now.events ≡ tape_at history at = c.tape.ensures.events ∙ ap (λ (h : List Process). tape_at h at) c.history.ensures.processes in
+    let count : c.sends_before-count.result ≡ sends (front (tape_at history at) next) = c.sends_before-count.ensures ∙ ap (λ (t : List Event). sends (front t next)) tape in
+    let heard : AreHearersDirty history at (sends (front (tape_at history at) next)) c.mark_hearers.new.dirty = subst (λ k. AreHearersDirty history at k c.mark_hearers.new.dirty) count c.mark_hearers.ensures.heard in
+    subst (λ (l : List Choice). AreCleanBut history l c.mark_hearers.new.dirty at) (sym c.set.ensures) (clean-lowered history line at next is_line.length_is c.args.dirty.now c.mark_hearers.new.dirty c.requires.process c.history.ensures.agrees c.mark_hearers.ensures.still heard c.requires.clean)

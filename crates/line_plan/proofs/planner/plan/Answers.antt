@@ -1,4 +1,13 @@
-use Rattle.std.proofs.Common.{List, sym, subst, arith}
+use Rattle.std.proofs.Common.{◌≡◌, ◌<◌, ℕ, Bool, true, false, List, [], length, replicate, refl, sym, ap, ◌∙◌, subst, arith}
+use Rattle.std.proofs.lemmas.Bool.{false≢true}
+use Rattle.std.proofs.lemmas.List.{get_or-replicate}
+use Rattle.line_names.specs.declared.limits.TheConstants.{MOST_PROCESSES}
+use Rattle.line_names.specs.declared.certificates.Passed.{Passed}
+use Rattle.line_names.specs.declared.choices.Choice.{Choice}
+use Rattle.line_names.specs.Sets.{is_member}
+use Rattle.line_tape.specs.Chain.{first_ceilings, IsLed}
+use Rattle.line_tape.specs.Height.{height}
+use Rattle.line_tape.specs.Views.{MarksView}
 use Rattle.line_tape.proofs.ChainLemmas.{latest_from_chain}
 use Rattle.line_tape.proofs.LineLemmas.{IsConsistent-below}
 use Rattle.line_tape.specs.History.{Process}
@@ -27,3 +36,23 @@ pub transit-requires : goal.transit-requires
 transit-requires c =
     subst (λ (h : List Process). IsLine h c.sweep.new.line) (sym c.history.ensures.processes)
     (IsLine-led c.args.catalogue.now.processes c.args.catalogue.now.marks c.args.failed.now c.sweep.new.certificate.items c.sweep.new.line c.in_ok-lowered.ensures.led)
+
+pub sents_before-requires : goal.sents_before-requires
+sents_before-requires c =
+    IsLine-led c.args.catalogue.now.processes c.args.catalogue.now.marks c.args.failed.now [] c.first_ceilings-line.result (sym c.first_ceilings-line.ensures)
+
+pub sweeps-init : goal.sweeps-init
+sweeps-init c =
+    let history : List Process = c.args.catalogue.now.processes in
+    let marks : MarksView = c.args.catalogue.now.marks in
+    let failed : List Bool = c.args.failed.now in
+    let line : List Choice = c.first_ceilings-line.result in
+    record {
+      led = subst (λ (es : List Passed). IsLed history marks failed es line) (sym c.new-certificate.ensures.items) (sym c.first_ceilings-line.ensures);
+      sent = c.in_ok-sent.ensures;
+      clean = λ q within none.
+          let all : is_member c.everyone-dirty.result q ≡ true = ap (λ set. is_member set q) c.everyone-dirty.ensures ∙ get_or-replicate MOST_PROCESSES q true false (omega (arith, within, c.n-n.ensures.limits.few)) in
+          absurd (false≢true (sym none ∙ all));
+      few = omega arith;
+      paid = omega (arith, c.new-certificate.ensures.len, ap (height history) c.first_ceilings-line.ensures);
+    }

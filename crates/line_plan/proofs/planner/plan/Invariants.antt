@@ -1,4 +1,6 @@
-use Rattle.std.proofs.Common.{◌≤◌, ◌+◌, vec_len}
+use Rattle.std.proofs.Common.{◌≡◌, ◌≤◌, ◌+◌, vec_len}
+use Rattle.line_vectors.specs.Reach.{sents_of}
+use Rattle.line_plan.specs.Search.{AreClean}
 use Rattle.line_tape.specs.Chain.{first_ceilings, IsLed}
 use Rattle.line_tape.specs.Height.{height}
 use Rattle.line_plan.proofs.planner.plan.Given as goal
@@ -6,6 +8,8 @@ use Rattle.line_plan.proofs.planner.plan.Given as goal
 abbrev pub invariant-sweeps : goal.invariant-sweeps
 invariant-sweeps l = record {
   led : IsLed l.catalogue.processes l.catalogue.marks l.failed l.certificate.items l.line;
+  sent : l.sent ≡ sents_of l.catalogue.processes l.line;
+  clean : AreClean l.catalogue.processes l.line l.dirty;
   few : l.sweeps ≤ vec_len l.certificate;
   paid : vec_len l.certificate + height l.catalogue.processes l.line ≤ height l.catalogue.processes (first_ceilings l.catalogue.processes l.catalogue.marks l.failed);
 }

@@ -8,8 +8,10 @@ loop-q-preserved c =
     let at : c.unwrap-at.result ≡ c.loop-q.q = (rw c.unwrap-at.ensures at c.try_new.ensures).1 in
     record {
       led = c.in_ok-moved.ensures.led;
-      moved = IsMoved-on c.args.catalogue.now.processes c.args.line.now c.loop-q.line c.visit.new.line (vec_len c.args.certificate.now) (vec_len c.loop-q.certificate) (vec_len c.visit.new.certificate) c.loop-q.lowered c.in_ok-moved.moved c.loop-q.invariant.moved c.in_ok-moved.ensures.moved;
-      none = AreSentBelow-on c.args.catalogue.now.processes c.loop-q.line c.visit.new.line (vec_len c.loop-q.certificate) (vec_len c.visit.new.certificate) c.loop-q.q c.loop-q.lowered c.in_ok-moved.moved c.in_ok-moved.ensures.moved c.loop-q.invariant.none (subst (λ (q : ℕ). AreSentBefore c.args.catalogue.now.processes c.visit.new.line (events_before c.args.catalogue.now.processes c.visit.new.line q)) at c.in_ok-moved.ensures.none);
+      sent = c.in_ok-moved.ensures.sent;
+      clean = c.in_ok-moved.ensures.clean;
+      moved = IsMoved-on c.args.catalogue.now.processes c.args.line.now c.loop-q.line c.visit_dirty.new.line (vec_len c.args.certificate.now) (vec_len c.loop-q.certificate) (vec_len c.visit_dirty.new.certificate) c.loop-q.lowered c.in_ok-moved.moved c.loop-q.invariant.moved c.in_ok-moved.ensures.moved;
+      none = AreSentBelow-on c.args.catalogue.now.processes c.loop-q.line c.visit_dirty.new.line (vec_len c.loop-q.certificate) (vec_len c.visit_dirty.new.certificate) c.loop-q.q c.loop-q.lowered c.in_ok-moved.moved c.in_ok-moved.ensures.moved c.loop-q.invariant.none (subst (λ (q : ℕ). AreSentBefore c.args.catalogue.now.processes c.visit_dirty.new.line (events_before c.args.catalogue.now.processes c.visit_dirty.new.line q)) at c.in_ok-moved.ensures.none);
     }
 
 pub returns-clause-none : goal.returns-clause-none

@@ -1,21 +1,20 @@
 -- The history takes the event, which agrees with it, and the rows tell of it.
-use Rattle.std.proofs.Common.{◌≡◌, ◌≢◌, ◌<◌, List, length, inl, inr, refl, sym, ap, subst, arith}
+use Rattle.std.proofs.Common.{◌≡◌, ◌≢◌, ◌+◌, ◌<◌, ℕ, List, length, set, inl, inr, refl, sym, ap, ◌∙◌, subst, arith}
 use Rattle.std.specs.Prelude.{Result, Ok, Err, IsOk}
 use Rattle.std.proofs.lemmas.Result.{IfOk-at_ok}
 use Rattle.line_tape.specs.declared.events.Event.{Event}
 use Rattle.line_tape.specs.declared.histories.HistoryError.{HistoryError}
 use Rattle.line_tape.specs.declared.histories.HistoryError.TheVariants.{OutOfMemory, NoSuchProcess, StateTooLong, TapeFull}
 use Rattle.line_tape.specs.declared.limits.TheConstants.{MOST_EVENTS}
-use Rattle.line_tape.specs.Event.{NamesBelow}
+use Rattle.line_tape.specs.Event.{sends, NamesBelow}
+use Rattle.line_tape.specs.Views.{MarksView}
 use Rattle.line_tape.specs.History.{Process, tape_at, with_event}
 use Rattle.line_catalogue.specs.declared.rows.Row.{Row}
 use Rattle.line_catalogue.specs.Agreement.{AgreesNext}
-use Rattle.line_catalogue.specs.Cuts.{IsConsistentCut}
-use Rattle.line_catalogue.specs.Kept.{IsCatalogue}
-use Rattle.line_catalogue.specs.Rows.{IsRowAdded}
+use Rattle.line_catalogue.specs.Kept.{present_at, IsCatalogue}
+use Rattle.line_catalogue.specs.Rows.{heard_more}
 use Rattle.line_catalogue.specs.Views.{CatalogueView, room_at}
-use Rattle.line_catalogue.proofs.CatalogueLemmas.{IsCatalogue-event, lesser_at}
-use Rattle.line_catalogue.proofs.CutLemmas.{IsConsistentCut-event}
+use Rattle.line_catalogue.proofs.CatalogueLemmas.{IsCatalogue-event, length-present, lesser_at}
 use Rattle.line_catalogue.proofs.catalogues.Catalogue.append.Goals as goal
 
 -- what is refused for no reason is taken
@@ -40,15 +39,31 @@ unwrap-requires c =
     (λ e. c.requires.short (c.push.ensures.long.0 e).2)
     (λ e. few (c.push.ensures.full.0 e).3)
 
+pub append-requires-clause-named : goal.append-requires-clause-named
+append-requires-clause-named c =
+    let history : List Process = c.self.inside.history.processes in
+    let seen : history ≡ c.args.self.now.processes = ap (λ (v : CatalogueView). v.processes) c.self.view_is in
+    let within : c.args.p < length history = omega (arith, c.requires.process, ap (λ (xs : List Process). length xs) seen) in
+    let long : length (present_at c.self.inside.rows.presents c.args.p) ≡ length c.args.self.now.processes = length-present history c.self.inside.marks c.self.inside.rows.rows c.self.inside.rows.presents c.args.p within c.self.invariant ∙ ap (λ (xs : List Process). length xs) seen in
+    subst (λ k. NamesBelow k c.args.event) (sym long) c.requires.named
+
 pub invariant_of-self : goal.invariant_of-self
 invariant_of-self c =
     let history : List Process = c.self.inside.history.processes in
+    let marks : MarksView = c.self.inside.marks in
     let rows : List (List Row) = c.self.inside.rows.rows in
+    let presents : List (List ℕ) = c.self.inside.rows.presents in
+    let p : ℕ = c.args.p in
+    let event : Event = c.args.event in
+    let place : ℕ = c.len-place.result + 1 in
     let seen : history ≡ c.args.self.now.processes = ap (λ (v : CatalogueView). v.processes) c.self.view_is in
-    let within : c.args.p < length history = omega (arith, c.requires.process, ap (λ (xs : List Process). length xs) seen) in
-    let next : AgreesNext history c.args.p c.args.event = subst (λ (xs : List Process). AgreesNext xs c.args.p c.args.event) (sym seen) c.requires.agrees in
-    let added : IsRowAdded (tape_at history c.args.p) c.args.event c.row_added-row.result = subst (λ (tape : List Event). IsRowAdded tape c.args.event c.row_added-row.result) c.tape.ensures.events c.row_added-row.ensures in
-    let grown : c.push.new.self.processes ≡ with_event history c.args.p c.args.event = IfOk-at_ok (λ x. c.push.new.self.processes ≡ with_event history c.args.p c.args.event) c.unwrap.ensures c.push.ensures.ok in (
-      subst (λ (xs : List Process). IsCatalogue xs c.self.inside.marks c.append.new.self.rows) (sym grown) (subst (IsCatalogue (with_event history c.args.p c.args.event) c.self.inside.marks) (sym c.append.ensures.rows) (IsCatalogue-event history c.self.inside.marks rows c.args.p within c.args.event c.row_added-row.result next added c.self.invariant.0)),
-      subst (λ (xs : List Process). IsConsistentCut xs c.self.inside.cut) (sym grown) (IsConsistentCut-event history c.self.inside.cut c.self.invariant.1 c.args.p c.args.event within),
-    )
+    let within : p < length history = omega (arith, c.requires.process, ap (λ (xs : List Process). length xs) seen) in
+    let named : NamesBelow (length history) event = subst (λ (xs : List Process). NamesBelow (length xs) event) (sym seen) c.requires.named in
+    let next : AgreesNext history p event = subst (λ (xs : List Process). AgreesNext xs p event) (sym seen) c.requires.agrees in
+    let place_is : place ≡ length (tape_at history p) + 1 = ap (λ k. k + 1) (c.len-place.ensures.value ∙ ap (λ (es : List Event). length es) c.tape-tape.ensures.events) in
+    let sent_is : c.sends-sends.result ≡ sends (tape_at history p) = c.sends-sends.ensures.value ∙ ap sends c.tape-tape.ensures.events in
+    let grown : c.push.new.self.processes ≡ with_event history p event = IfOk-at_ok (λ x. c.push.new.self.processes ≡ with_event history p event) c.unwrap.ensures c.push.ensures.ok in
+    subst (λ (xs : List Process). IsCatalogue xs marks c.append.new.self.rows c.append.new.self.presents) (sym grown)
+    (subst (λ (ys : List (List ℕ)). IsCatalogue (with_event history p event) marks c.append.new.self.rows ys) (sym c.append.ensures.presents)
+    (subst (λ (xs : List (List Row)). IsCatalogue (with_event history p event) marks xs (set presents p (heard_more (present_at presents p) event))) (sym c.append.ensures.rows)
+    (IsCatalogue-event history marks rows presents p within event place c.sends-sends.result place_is sent_is named next c.self.invariant)))

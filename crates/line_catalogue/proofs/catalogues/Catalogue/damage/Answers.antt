@@ -1,5 +1,5 @@
 -- The mark is on a check that there is, and its row tells of it.
-use Rattle.std.proofs.Common.{◌<◌, ◌≤◌, List, length, sym, ap, subst, arith}
+use Rattle.std.proofs.Common.{◌<◌, ◌≤◌, ℕ, List, length, sym, ap, subst, arith}
 use Rattle.line_tape.specs.Event.{checks}
 use Rattle.line_tape.specs.History.{Process, tape_at}
 use Rattle.line_tape.specs.Views.{MarksView, with_mark}
@@ -14,6 +14,9 @@ invariant_of-self-2 c =
     let history : List Process = c.self.inside.history.processes in
     let marks : MarksView = c.self.inside.marks in
     let rows : List (List Row) = c.self.inside.rows.rows in
+    let presents : List (List ℕ) = c.self.inside.rows.presents in
     let within : c.args.p < length history = omega (arith, c.requires, ap (λ (v : CatalogueView). length v.processes) c.self.view_is) in
-    let there : c.args.check ≤ checks (tape_at history c.args.p) = omega (arith, c.if-check-at.false, ap (λ (xs : List Row). length xs) c.at.ensures, (c.self.invariant.0.shown c.args.p within).count) in
-    (subst (λ (m : MarksView). IsCatalogue history m c.damage.new.self.rows) (sym c.in_ok-mark.ensures.ok) (subst (IsCatalogue history (with_mark marks c.args.p c.args.check)) (sym c.damage.ensures.rows) (IsCatalogue-mark history marks rows c.args.p within c.args.check there c.self.invariant.0)), c.self.invariant.1)
+    let there : c.args.check ≤ checks (tape_at history c.args.p) = omega (arith, c.if-check-at.false, ap (λ (xs : List Row). length xs) c.at.ensures, (c.self.invariant.shown c.args.p within).count) in
+    subst (λ (m : MarksView). IsCatalogue history m c.damage.new.self.rows c.damage.new.self.presents) (sym c.in_ok-mark.ensures.ok)
+    (subst (λ (ys : List (List ℕ)). IsCatalogue history (with_mark marks c.args.p c.args.check) c.damage.new.self.rows ys) (sym c.damage.ensures.presents)
+    (subst (λ (xs : List (List Row)). IsCatalogue history (with_mark marks c.args.p c.args.check) xs presents) (sym c.damage.ensures.rows) (IsCatalogue-mark history marks rows presents c.args.p within c.args.check there c.self.invariant)))

@@ -1,0 +1,88 @@
+-- The rows of one process get room, and nothing else is seen to change.
+use Rattle.std.proofs.Common.{◌≡◌, ◌<◌, ◌≤◌, length, map, get_or, set, [], List, ℕ, sym, ap, ◌∙◌, subst, arith}
+use Rattle.std.proofs.lemmas.List.{length-map}
+use Rattle.std.specs.Prelude.{OnOk}
+use Rattle.std.proofs.lemmas.Result.{on_ok_weaker}
+use Rattle.line_catalogue.specs.declared.rows.Row.{Row}
+use Rattle.line_catalogue.specs.Kept.{RowsView, TableView, rows_at, present_at}
+use Rattle.line_catalogue.specs.Plain.{plain, present_of, room_of}
+use Rattle.line_catalogue.proofs.TableLemmas.{seen-old, seen-new, seen-other, seen-same}
+use Rattle.line_catalogue.proofs.tables.RowTable.reserve.Goals as goal
+
+pub returns-clause-same : goal.returns-clause-same
+returns-clause-same c =
+    let items : List RowsView = c.self.inside.table.items in
+    let p : ℕ = c.args.p in
+    let k : ℕ = c.get.result in
+    let at : k ≡ p = c.get.ensures.value in
+    let rows : map plain items ≡ c.args.self.now.rows = ap (λ (t : TableView). t.rows) c.self.view_is in
+    let presents : map present_of items ≡ c.args.self.now.presents = ap (λ (t : TableView). t.presents) c.self.view_is in
+    let rooms : map room_of items ≡ c.args.self.now.rooms = ap (λ (t : TableView). t.rooms) c.self.view_is in
+    let within : k < length items = omega (arith, c.requires, ap (λ (xs : List (List Row)). length xs) rows, length-map items plain) in
+    let old : RowsView = c.index_mut.result.now in
+    let new : RowsView = c.reserve.new.self in
+    let is : old ≡ get_or items k old = c.index_mut.ensures.value in
+    seen-same plain [] items k old new within is c.reserve.ensures.same.0 ∙ rows
+
+pub returns-clause-presents : goal.returns-clause-presents
+returns-clause-presents c =
+    let items : List RowsView = c.self.inside.table.items in
+    let p : ℕ = c.args.p in
+    let k : ℕ = c.get.result in
+    let at : k ≡ p = c.get.ensures.value in
+    let rows : map plain items ≡ c.args.self.now.rows = ap (λ (t : TableView). t.rows) c.self.view_is in
+    let presents : map present_of items ≡ c.args.self.now.presents = ap (λ (t : TableView). t.presents) c.self.view_is in
+    let rooms : map room_of items ≡ c.args.self.now.rooms = ap (λ (t : TableView). t.rooms) c.self.view_is in
+    let within : k < length items = omega (arith, c.requires, ap (λ (xs : List (List Row)). length xs) rows, length-map items plain) in
+    let old : RowsView = c.index_mut.result.now in
+    let new : RowsView = c.reserve.new.self in
+    let is : old ≡ get_or items k old = c.index_mut.ensures.value in
+    seen-same present_of [] items k old new within is c.reserve.ensures.same.1 ∙ presents
+
+pub returns-clause-ok : goal.returns-clause-ok
+returns-clause-ok c =
+    let items : List RowsView = c.self.inside.table.items in
+    let p : ℕ = c.args.p in
+    let k : ℕ = c.get.result in
+    let at : k ≡ p = c.get.ensures.value in
+    let rows : map plain items ≡ c.args.self.now.rows = ap (λ (t : TableView). t.rows) c.self.view_is in
+    let presents : map present_of items ≡ c.args.self.now.presents = ap (λ (t : TableView). t.presents) c.self.view_is in
+    let rooms : map room_of items ≡ c.args.self.now.rooms = ap (λ (t : TableView). t.rooms) c.self.view_is in
+    let within : k < length items = omega (arith, c.requires, ap (λ (xs : List (List Row)). length xs) rows, length-map items plain) in
+    let old : RowsView = c.index_mut.result.now in
+    let new : RowsView = c.reserve.new.self in
+    let is : old ≡ get_or items k old = c.index_mut.ensures.value in
+    let there : get_or (map room_of (set items k new)) p 0 ≡ new.room = ap (λ j. get_or (map room_of (set items k new)) j 0) (sym at) ∙ seen-new room_of 0 items k old new within is in
+    subst (λ (n : ℕ). OnOk c.reserve.result (c.args.k ≤ n)) (sym there) c.reserve.ensures.ok
+
+pub returns-clause-room : goal.returns-clause-room
+returns-clause-room c =
+    let items : List RowsView = c.self.inside.table.items in
+    let p : ℕ = c.args.p in
+    let k : ℕ = c.get.result in
+    let at : k ≡ p = c.get.ensures.value in
+    let rows : map plain items ≡ c.args.self.now.rows = ap (λ (t : TableView). t.rows) c.self.view_is in
+    let presents : map present_of items ≡ c.args.self.now.presents = ap (λ (t : TableView). t.presents) c.self.view_is in
+    let rooms : map room_of items ≡ c.args.self.now.rooms = ap (λ (t : TableView). t.rooms) c.self.view_is in
+    let within : k < length items = omega (arith, c.requires, ap (λ (xs : List (List Row)). length xs) rows, length-map items plain) in
+    let old : RowsView = c.index_mut.result.now in
+    let new : RowsView = c.reserve.new.self in
+    let is : old ≡ get_or items k old = c.index_mut.ensures.value in
+    let here : get_or c.args.self.now.rooms p 0 ≡ old.room = ap (λ (xs : List ℕ). get_or xs p 0) (sym rooms) ∙ ap (λ j. get_or (map room_of items) j 0) (sym at) ∙ seen-old room_of 0 items k old new within is in
+    let there : get_or (map room_of (set items k new)) p 0 ≡ new.room = ap (λ j. get_or (map room_of (set items k new)) j 0) (sym at) ∙ seen-new room_of 0 items k old new within is in
+    omega (arith, c.reserve.ensures.room, here, there)
+
+pub returns-clause-others : goal.returns-clause-others
+returns-clause-others c =
+    let items : List RowsView = c.self.inside.table.items in
+    let p : ℕ = c.args.p in
+    let k : ℕ = c.get.result in
+    let at : k ≡ p = c.get.ensures.value in
+    let rows : map plain items ≡ c.args.self.now.rows = ap (λ (t : TableView). t.rows) c.self.view_is in
+    let presents : map present_of items ≡ c.args.self.now.presents = ap (λ (t : TableView). t.presents) c.self.view_is in
+    let rooms : map room_of items ≡ c.args.self.now.rooms = ap (λ (t : TableView). t.rooms) c.self.view_is in
+    let within : k < length items = omega (arith, c.requires, ap (λ (xs : List (List Row)). length xs) rows, length-map items plain) in
+    let old : RowsView = c.index_mut.result.now in
+    let new : RowsView = c.reserve.new.self in
+    let is : old ≡ get_or items k old = c.index_mut.ensures.value in
+    λ q apart. seen-other room_of 0 items k old new within is q (λ e. apart (e ∙ at)) ∙ ap (λ (xs : List ℕ). get_or xs q 0) rooms

@@ -1,0 +1,65 @@
+-- The counts of sends and the processes to be visited, as a process is lowered.
+use Rattle.std.proofs.Common.{◌≡◌, ◌≢◌, ℕ, zero, suc, ◌+◌, ◌<◌, ◌≤◌, Bool, true, false, List, [], ◌∷◌, ◌++◌, length, map, take, get_or, set, inl, inr, drop, Some, None, refl, sym, ap, ◌∙◌, subst, arith}
+use Rattle.std.specs.List.{Contains, range_with_len, slice_get, cons_option}
+use Rattle.std.proofs.lemmas.List.Elements.{filter_map-append}
+use Rattle.std.proofs.lemmas.Option.{get_or_from_slice_get, slice_get-get_or}
+use Rattle.line_tape.proofs.FrontLemmas.{slice_get-append_left}
+use Rattle.std.proofs.lemmas.Bool.{cases_eq}
+use Rattle.std.proofs.lemmas.List.{ext_get_or, length-map, length-set, get_or-set_same, get_or-set_other, get_or_push, length_push, append-nil, take_all, take_more, take-append-drop}
+use Rattle.std.proofs.lemmas.List.FromFn.{length-range_with_len}
+use Rattle.line_names.specs.declared.choices.Choice.{Choice}
+use Rattle.line_names.specs.declared.choices.Choice.TheVariants.{Check as AtCheck, Now}
+use Rattle.line_names.specs.declared.messages.MsgName.{MsgName}
+use Rattle.line_names.specs.Lines.{choice_at}
+use Rattle.line_names.specs.Sets.{is_member}
+use Rattle.line_tape.specs.declared.events.Event.{Event}
+use Rattle.line_tape.specs.declared.events.Event.TheVariants.{Recv}
+use Rattle.line_tape.specs.Event.{incarnation_of, incarnations_sent, sends, Holds}
+use Rattle.line_tape.specs.Front.{front}
+use Rattle.line_tape.specs.History.{Process, tape_at}
+use Rattle.line_tape.specs.Line.{events_before, IsLine, AreSentBefore}
+use Rattle.line_vectors.specs.Reach.{reach_from, sent_count, sents_of}
+use Rattle.line_catalogue.specs.Agreement.{Agrees}
+use Rattle.line_catalogue.proofs.LaneLemmas.{on_tape, numbers-decide}
+use Rattle.line_vectors.proofs.ReachLemmas.{length-sents, reach-above, sents-at}
+use Rattle.line_plan.specs.Search.{AreCleanBut, AreHearersDirty, AreStillDirty}
+
+module _ (history : List Process) (line : List Choice) (p : ℕ) (choice : Choice) (count : length line ≡ length history) where
+  -- what another process did before the line is what it was
+  pub before-other : (q : ℕ) → q ≢ p → events_before history (set line p choice) q ≡ events_before history line q
+  before-other q apart = ap (front (tape_at history q)) (get_or-set_other line p q choice (AtCheck 0) apart)
+
+  -- one count is set
+  pub sents-set : p < length history → sents_of history (set line p choice) ≡ set (sents_of history line) p (sends (front (tape_at history p) choice))
+  sents-set within =
+      let new : List ℕ = sents_of history (set line p choice) in
+      let old : List ℕ = sents_of history line in
+      let far : ℕ = sends (front (tape_at history p) choice) in
+      ext_get_or 0 new (set old p far) (length-sents history (set line p choice) ∙ sym (length-set old p far ∙ length-sents history line)) (λ q h.
+      let inside : q < length history = omega (arith, length-sents history (set line p choice)) in
+      sents-at history (set line p choice) q 0 inside ∙ elim (cases_eq q p) [
+        | inl here ↦
+            let at : choice_at (set line p choice) p ≡ choice = get_or-set_same line p choice (AtCheck 0) (omega (arith, count)) in
+            let read : get_or (set old p far) q 0 ≡ far = ap (λ k. get_or (set old p far) k 0) here ∙ get_or-set_same old p far 0 (omega (arith, length-sents history line)) in
+            ap (sent_count history (set line p choice)) here ∙ ap (λ (x : Choice). sends (front (tape_at history p) x)) at ∙ sym read
+        | inr apart ↦
+            let read : get_or (set old p far) q 0 ≡ get_or old q 0 = get_or-set_other old p q far 0 apart in
+            ap sends (before-other q apart) ∙ sym (sents-at history line q 0 inside) ∙ sym read
+      ])
+
+  -- a process that received nothing from p but what is still sent goes on to have no orphan
+  pub clean-on : (q : ℕ) → p < length history → Agrees history → q ≢ p → reach_from (tape_at history q) p ≤ sends (front (tape_at history p) choice) → AreSentBefore history line (events_before history line q) → AreSentBefore history (set line p choice) (events_before history (set line p choice) q)
+  clean-on q within agrees apart low sent message received =
+      let before : Contains (events_before history line q) (Recv message) = subst (λ (es : List Event). Contains es (Recv message)) (before-other q apart) received in
+      let there : Contains (tape_at history q) (Recv message) = on_tape (tape_at history q) (choice_at line q) (Recv message) before in
+      elim (cases_eq message.from p) [
+        | inl own ↦
+            let at : choice_at (set line p choice) p ≡ choice = get_or-set_same line p choice (AtCheck 0) (omega (arith, count)) in
+            let counted : sent_count history (set line p choice) message.from ≡ sends (front (tape_at history p) choice) = ap (sent_count history (set line p choice)) own ∙ ap (λ (x : Choice). sends (front (tape_at history p) x)) at in
+            (numbers-decide history (set line p choice) q message agrees there).1 (omega (arith, reach-above (tape_at history q) p message there own, low, counted))
+        | inr other ↦ subst (λ (es : List Event). Holds es message.inc message.number) (sym (before-other message.from other)) (sent message before)
+      ]
+
+  -- so those that are not to be visited once its hearers are go on to have none
+  pub clean-lowered : (old new : List Bool) → p < length history → Agrees history → AreStillDirty old new → AreHearersDirty history p (sends (front (tape_at history p) choice)) new → AreCleanBut history line old p → AreCleanBut history (set line p choice) new p
+  clean-lowered old new inside agrees still heard clean q within apart none = clean-on q inside agrees apart (heard q within none) (clean q within apart (still q none))

@@ -1,0 +1,120 @@
+//! How much a process has heard of the others.
+ghost use Rattle.std.specs.Prelude.{◌≡◌, ◌<◌, ◌≤◌, ◌↔◌, IsTrue, IfOk, MatchOption, length, replicate, slice_index};
+ghost use Rattle.line_lanes.specs.Lanes.{greater_of, over_count};
+ghost use Rattle.line_vectors.specs.Vectors.{noted, Fits, IsFirstBeyond};
+
+use crate::limits::LAST_NUMBER;
+use crate::sents::Sent;
+use line_lanes::{all_le, count_over, first_over, max_into};
+use line_names::{MOST_PROCESSES, MsgName, ProcId};
+use std::alloc::{AllocError, Global};
+use std::marker::Model;
+
+/// For each process one more than the greatest number noted of its messages, or 0: a lane for each.
+#[derive(Drop)]
+pub struct Reach {
+    lanes: Vec<u32>,
+}
+
+impl Model for Reach {
+    ghost use Rattle.std.specs.Prelude.{List, ℕ, ◌≤◌, length};
+    ghost use Rattle.line_names.specs.declared.limits.TheConstants.{MOST_PROCESSES};
+
+    ghost Value = { List ℕ };
+
+    ghost view = { λ r. r.lanes.items };
+
+    ghost invariant = { λ r. length r.lanes.items ≤ MOST_PROCESSES };
+}
+
+impl Reach {
+    /// The vector of nothing, of `n` processes: all lanes are 0.
+    pub fn new(alloc: Global, n: u32) -> Result<Reach, AllocError>
+        requires { n ≤ MOST_PROCESSES }
+        ensures { IfOk result (λ reach. reach ≡ replicate n 0) }
+    {
+        let mut lanes = Vec::with_capacity(alloc, n as usize)?;
+        for _p in 0..n {
+            lanes.push(0)?;
+        }
+        Ok(Reach { lanes })
+    }
+
+    /// The same lanes in memory of their own.
+    pub fn copy(&self) -> Result<Reach, AllocError>
+        ensures { IfOk result (λ reach. reach ≡ self.now) }
+    {
+        let lanes = self.lanes.clone()?;
+        Ok(Reach { lanes })
+    }
+
+    /// One more than the greatest number noted of a process's messages, or 0.
+    pub fn lane(&self, p: ProcId) -> u32
+        requires { p < length self.now }
+        ensures { result ≡ slice_index self.now p }
+    {
+        self.lanes[p.get() as usize]
+    }
+
+    /// The lanes in the order of the processes.
+    pub fn lanes(&self) -> &[u32]
+        ensures { result.now ≡ self.now }
+    {
+        self.lanes.as_slice()
+    }
+
+    /// Notes a message: the lane of its sender is past its number from now on. It costs one lane.
+    pub fn note(&mut self, message: &MsgName)
+        requires process { message.now.from < length self.old }
+        requires number { message.now.number < LAST_NUMBER }
+        ensures { self.new ≡ noted self.old message.now }
+    {
+        let p = message.from.get() as usize;
+        self.lanes[p] = self.lanes[p].max(message.number + 1);
+    }
+
+    /// Notes all that another vector has noted.
+    pub fn merge(&mut self, other: &Reach)
+        requires { length self.old ≡ length other.now }
+        ensures { self.new ≡ greater_of self.old other.now }
+    {
+        max_into(self.lanes.as_mut_slice(), other.lanes.as_slice());
+    }
+
+    /// Takes the lanes of another vector in place of its own.
+    pub fn set_to(&mut self, other: &Reach)
+        requires { length self.old ≡ length other.now }
+        ensures { self.new ≡ other.now }
+    {
+        self.lanes
+            .as_mut_slice()
+            .copy_from_slice(other.lanes.as_slice());
+    }
+
+    /// Whether no lane is over its process's count of sends.
+    pub fn fits(&self, sent: &Sent) -> bool
+        requires { length self.now ≡ length sent.now }
+        ensures { IsTrue result ↔ Fits self.now sent.now }
+    {
+        all_le(self.lanes.as_slice(), sent.counts())
+    }
+
+    /// The first process whose lane is over its count of sends, if there is one.
+    pub fn first_beyond(&self, sent: &Sent) -> Option<ProcId>
+        requires { length self.now ≡ length sent.now }
+        ensures { MatchOption result (Fits self.now sent.now) (IsFirstBeyond self.now sent.now) }
+    {
+        match first_over(self.lanes.as_slice(), sent.counts()) {
+            Some(p) => Some(ProcId::try_new(p as u32, self.lanes.len() as u32).unwrap()),
+            None => None,
+        }
+    }
+
+    /// How many lanes are over their processes' counts of sends.
+    pub fn beyond(&self, sent: &Sent) -> usize
+        requires { length self.now ≡ length sent.now }
+        ensures { result ≡ over_count self.now sent.now }
+    {
+        count_over(self.lanes.as_slice(), sent.counts())
+    }
+}
