@@ -9,10 +9,9 @@ use Rattle.line_fields.specs.Records.{Record}
 use Rattle.line_fields.specs.Texts.{hex_text}
 use Rattle.line_world.specs.declared.replies.Reply.{Reply}
 use Rattle.line_world.specs.declared.replies.Reply.TheVariants.{Sent, Took, Marked, Stale, Repeated, Checked, Begun, Turned, Damaged, Recovered}
-use Rattle.line_world.specs.declared.replies.StepError.{StepError}
-use Rattle.line_world.specs.declared.replies.StepError.TheVariants as errors
 use Rattle.line_world.specs.declared.replies.Answer.{Answer}
 use Rattle.line_world.specs.declared.replies.Answer.TheVariants as answers
+use Rattle.line_world.specs.Codes.{refusal_code}
 use Rattle.line_claims.specs.Faults.{name_of}
 use Rattle.line_claims.specs.Numbers.{none_text}
 use Rattle.line_claims.specs.Records.{choice_text, name_fields, number_text, pass_record}
@@ -107,24 +106,6 @@ reply_records (Begun at check round) = begun at check round ∷ []
 reply_records (Turned at check round) = turned at check round ∷ []
 reply_records (Damaged at check) = damaged at check ∷ []
 reply_records (Recovered plan states incarnations) = recovery plan.sweeps plan.certificate.items plan.replays.items plan.line incarnations.items states.items
-
--- the number of a refused step
-abbrev pub refusal_code : StepError → ℕ
-refusal_code errors.OutOfMemory = 0
-refusal_code errors.NoSuchProcess = 1
-refusal_code errors.TapeFull = 3
-refusal_code errors.NoSuchCheck = 4
-refusal_code errors.StateTooLong = 5
-refusal_code errors.InitialDamage = 7
-refusal_code errors.AlreadyDamaged = 8
-refusal_code errors.ToSelf = 17
-refusal_code errors.LinkEmpty = 18
-refusal_code errors.BadPick = 19
-refusal_code errors.RoundOpen = 20
-refusal_code errors.NothingToTurn = 21
-refusal_code errors.WrongMode = 22
-refusal_code errors.NoMoreRounds = 23
-refusal_code errors.NoMoreIncarnations = 24
 
 -- the records of an answer
 abbrev pub answer_records : Answer → List Record

@@ -5,6 +5,7 @@ ghost use Rattle.line_claims.specs.Records.{choice_text, name_fields, number_tex
 ghost use Rattle.line_devices.specs.Devices.{PutsFront};
 ghost use Rattle.line_fields.specs.Texts.{is_plain_field, record_text, records_text};
 ghost use Rattle.line_replies.specs.Replies as spec;
+ghost use Rattle.line_world.specs.Codes as numbers;
 
 use line_claims::name_of;
 use line_fields::{Draft, RecordWriter};
@@ -426,7 +427,7 @@ pub fn put_refusal(
 
 /// The number of a refused step.
 pub fn refusal_code(error: StepError) -> u32
-    ensures { result ≡ spec.refusal_code error }
+    ensures { result ≡ numbers.refusal_code error }
 {
     error.code()
 }

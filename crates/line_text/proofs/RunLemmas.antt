@@ -24,7 +24,8 @@ use Rattle.line_world.specs.declared.replies.Reply.{Reply}
 use Rattle.line_world.specs.declared.replies.StepError.{StepError}
 use Rattle.line_world.specs.declared.replies.Answer.TheVariants as answers
 use Rattle.line_world.specs.Runs.{Takes}
-use Rattle.line_replies.specs.Replies.{refusal_code, reply_records, refused as refused_record}
+use Rattle.line_world.specs.Codes.{refusal_code}
+use Rattle.line_replies.specs.Replies.{reply_records, refused as refused_record}
 use Rattle.line_replies.specs.Rounds.{rounds_records}
 use Rattle.line_text.specs.Runs.{Told, Answered, Refused, Listing, Shown, Claimed, IsClaimFor, told_records, is_refused, Tells, TellsAll, text_of, refusals, IsRunTo, PutsButEnd, Runs, RunsFront, RunsText, RunsTextFront, StopsAt, StopsText, Writes, WritesFront, first_of}
 use Rattle.line_scripts.specs.Scripts.{Script, script_of_text}

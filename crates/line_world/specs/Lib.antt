@@ -1,4 +1,5 @@
 pub mod Machine
+pub mod Codes
 pub mod Refusals
 pub mod Steps
 pub mod Runs

@@ -1,5 +1,6 @@
 //! What the machine answers.
 ghost use Rattle.std.specs.Prelude.{◌≡◌, ◌↔◌, IsTrue};
+ghost use Rattle.line_world.specs.Codes.{refusal_code};
 
 use line_catalogue::DamageError;
 use line_names::{MsgName, ProcId};
@@ -131,21 +132,7 @@ impl StepError {
 
     /// The number of the refusal, as replies show it.
     pub fn code(self) -> u32
-        ensures memory { self ≡ StepError.OutOfMemory → result ≡ 0 }
-        ensures process { self ≡ StepError.NoSuchProcess → result ≡ 1 }
-        ensures full { self ≡ StepError.TapeFull → result ≡ 3 }
-        ensures check { self ≡ StepError.NoSuchCheck → result ≡ 4 }
-        ensures long { self ≡ StepError.StateTooLong → result ≡ 5 }
-        ensures initial { self ≡ StepError.InitialDamage → result ≡ 7 }
-        ensures already { self ≡ StepError.AlreadyDamaged → result ≡ 8 }
-        ensures itself { self ≡ StepError.ToSelf → result ≡ 17 }
-        ensures empty { self ≡ StepError.LinkEmpty → result ≡ 18 }
-        ensures pick { self ≡ StepError.BadPick → result ≡ 19 }
-        ensures round { self ≡ StepError.RoundOpen → result ≡ 20 }
-        ensures turn { self ≡ StepError.NothingToTurn → result ≡ 21 }
-        ensures mode { self ≡ StepError.WrongMode → result ≡ 22 }
-        ensures rounds { self ≡ StepError.NoMoreRounds → result ≡ 23 }
-        ensures incarnations { self ≡ StepError.NoMoreIncarnations → result ≡ 24 }
+        ensures { result ≡ refusal_code self }
     {
         match self {
             StepError::OutOfMemory => 0,
