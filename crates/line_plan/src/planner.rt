@@ -211,7 +211,7 @@ fn sents_before(alloc: Global, catalogue: &Catalogue, line: &Line) -> Result<Sen
 ///
 /// The ceilings start at each process's latest surviving choice. A sweep visits the processes in the order of their numbers; at a visit a process is lowered to its next lower surviving choice while it has received an orphan, and each choice passed over is written down with the orphan from the lowest sender, of its messages the one with the greatest number. Sweeps go on until one lowers nothing; that one counts too.
 ///
-/// The first sweep visits all processes. A later one visits those that received, at any time, a message that is no longer sent since their last visit, of one that was lowered: no other process can have an orphan, so the line, the entries and the sweeps are those of visiting all.
+/// The first sweep visits all processes. A later one visits those alone that received, from a process lowered since their last visit, a message that is no longer sent: no other one can have an orphan. So the line, the entries and the sweeps are those of visiting all.
 ///
 /// Each choice passed over costs one look at a vector, and at one lane of each process; a visit that lowers nothing costs a look at a vector. At the end each event before the line is looked at once, for what is in transit there.
 pub fn plan(alloc: Global, catalogue: &Catalogue, failed: &ProcSet) -> Result<Plan, PlanError>
