@@ -1,10 +1,12 @@
 //! Catalogues: what they take, refuse and show.
 use crate::tests::build::{catalogue_of, failed, history_of, process};
-use crate::tests::{DOMINO, ROUND};
+use crate::tests::{DOMINO, ROUND, passed};
 use line_catalogue::{AddError, Catalogue, CatalogueError, DamageError, Row};
-use line_names::{Body, Choice, MsgName, Passed};
-use line_plan::{PlanError, plan};
+use line_names::{Body, Choice, MsgName, ProcId, ProcSet};
+use line_plan::{Plan, PlanError, plan};
 use line_tape::{Event, History, Marks};
+use std::alloc::Global;
+use std::process::Abort;
 use std::test::Fail;
 
 /// The receipt of a message of the first process.
@@ -21,6 +23,13 @@ fn send(inc: u16) -> Result<Event, Fail> {
     Ok(Event::Send { to, inc, body })
 }
 
+/// The catalogue that is made of a history of two processes at once, without marks.
+fn made_of(rt: &impl Abort, alloc: Global, history: &History) -> Result<Catalogue, Fail> {
+    let marks = Marks::new(alloc, 2)?;
+    assert_eq!(rt; history.n(), 2);
+    Ok(Catalogue::of(alloc, history, &marks)?)
+}
+
 /// Whether two rows tell the same of a check.
 fn is_same_row(one: &Row, other: &Row) -> bool {
     one.place == other.place
@@ -30,70 +39,82 @@ fn is_same_row(one: &Row, other: &Row) -> bool {
 }
 
 /// Whether two catalogues show the same of a process: its rows, one by one, and the vector of where it stands.
-fn show_the_same(one: &Catalogue, other: &Catalogue, p: u32) -> Result<bool, Fail> {
-    let p = process(p)?;
+fn show_the_same(one: &Catalogue, other: &Catalogue, p: ProcId) -> bool {
     if p.get() >= one.n() || p.get() >= other.n() {
-        return Ok(false);
+        return false;
     }
     let rows = one.rows(p);
     let others = other.rows(p);
     if rows.len() != others.len() {
-        return Ok(false);
+        return false;
     }
     for i in 0..rows.len() {
         if !is_same_row(&rows[i], &others[i]) {
-            return Ok(false);
+            return false;
         }
     }
-    Ok(one.reach(p, Choice::Now).lanes() == other.reach(p, Choice::Now).lanes())
+    one.reach(p, Choice::Now).lanes() == other.reach(p, Choice::Now).lanes()
+}
+
+/// Whether two catalogues show the same of each of two processes.
+fn are_the_same(one: &Catalogue, other: &Catalogue) -> Result<bool, Fail> {
+    Ok(show_the_same(one, other, process(0)?) && show_the_same(one, other, process(1)?))
 }
 
 #[test]
 fn fed_event_by_event(rt: HostRuntime) -> Result<(), Fail> {
     let history = history_of(rt.alloc(), &ROUND)?;
-    let marks = Marks::new(rt.alloc(), 2)?;
-    assert_eq!(rt; history.n(), 2);
-    let at_once = Catalogue::of(rt.alloc(), &history, &marks)?;
+    let at_once = made_of(&rt, rt.alloc(), &history)?;
     let fed = catalogue_of(rt.alloc(), &ROUND)?;
-    for p in 0..2 {
-        assert!(rt; show_the_same(&fed, &at_once, p)?, "at {p}");
-    }
+    assert!(rt; are_the_same(&fed, &at_once)?);
     Ok(())
+}
+
+/// The plan for a history of two processes without marks, where these failed.
+fn planned(rt: &impl Abort, alloc: Global, all: &History, lost: &ProcSet) -> Result<Plan, Fail> {
+    let catalogue = made_of(rt, alloc, all)?;
+    Ok(plan(alloc, &catalogue, lost)?)
 }
 
 #[test]
 fn plans_of_both_are_the_same(rt: HostRuntime) -> Result<(), Fail> {
     let history = history_of(rt.alloc(), &DOMINO)?;
-    let marks = Marks::new(rt.alloc(), 2)?;
-    assert_eq!(rt; history.n(), 2);
-    let at_once = Catalogue::of(rt.alloc(), &history, &marks)?;
-    let plan = plan(rt.alloc(), &at_once, &failed(&[0])?)?;
-    assert_eq!(rt;
-        plan.line.choices(),
-        [Choice::Check(0), Choice::Check(0)].as_slice()
-    );
+    let plan = planned(&rt, rt.alloc(), &history, &failed(&[0])?)?;
+    let back = [Choice::Check(0), Choice::Check(0)];
+    assert_eq!(rt; plan.line.choices(), back.as_slice());
     assert_eq!(rt; (plan.certificate.len(), plan.sweeps), (4, 3));
     Ok(())
+}
+
+/// What a catalogue says where its first process sends.
+fn sends(catalogue: &mut Catalogue, inc: u16) -> Result<Option<AddError>, Fail> {
+    let event = send(inc)?;
+    Ok(catalogue.add(process(0)?, event).err())
+}
+
+/// What a catalogue says where its second process receives from the first.
+fn receives(catalogue: &mut Catalogue, inc: u16, number: u32) -> Result<Option<AddError>, Fail> {
+    let event = receipt(inc, number)?;
+    Ok(catalogue.add(process(1)?, event).err())
+}
+
+/// A send of another incarnation, one of the present one, and three receipts.
+fn told_of_names(catalogue: &mut Catalogue) -> Result<[Option<AddError>; 5], Fail> {
+    Ok([
+        sends(catalogue, 1)?,
+        sends(catalogue, 0)?,
+        receives(catalogue, 1, 0)?,
+        receives(catalogue, 1, 7)?,
+        receives(catalogue, 0, 7)?,
+    ])
 }
 
 #[test]
 fn names_that_disagree(rt: HostRuntime) -> Result<(), Fail> {
     let mut catalogue = Catalogue::new(rt.alloc(), 2)?;
-    let (first, second) = (process(0)?, process(1)?);
-    assert_eq!(rt;
-        catalogue.add(first, send(1)?),
-        Err(AddError::NamesDisagree)
-    );
-    catalogue.add(first, send(0)?)?;
-    assert_eq!(rt;
-        catalogue.add(second, receipt(1, 0)?),
-        Err(AddError::NamesDisagree)
-    );
-    assert_eq!(rt;
-        catalogue.add(second, receipt(1, 7)?),
-        Err(AddError::NamesDisagree)
-    );
-    catalogue.add(second, receipt(0, 7)?)?;
+    let told = told_of_names(&mut catalogue)?;
+    let refused = Some(AddError::NamesDisagree);
+    assert_eq!(rt; told, [refused, None, refused, refused, None]);
     Ok(())
 }
 
@@ -116,57 +137,77 @@ fn a_history_that_disagrees(rt: HostRuntime) -> Result<(), Fail> {
     Ok(())
 }
 
+/// The second process received the message of the greatest number, which the first never sent.
+fn received_the_greatest(alloc: Global) -> Result<History, Fail> {
+    let mut history = History::new(alloc, 2)?;
+    let event = receipt(0, 4_294_967_295)?;
+    history.push(process(1)?, event)?;
+    Ok(history)
+}
+
 #[test]
 fn plans_with_the_greatest_number(rt: HostRuntime) -> Result<(), Fail> {
-    let mut history = History::new(rt.alloc(), 2)?;
-    history.push(process(1)?, receipt(0, 4_294_967_295)?)?;
-    assert_eq!(rt; history.n(), 2);
-    let marks = Marks::new(rt.alloc(), 2)?;
-    let catalogue = Catalogue::of(rt.alloc(), &history, &marks)?;
-    let plan = plan(rt.alloc(), &catalogue, &failed(&[])?)?;
-    assert_eq!(rt;
-        plan.line.choices(),
-        [Choice::Now, Choice::Check(0)].as_slice()
-    );
-    let entry = Passed {
-        at: process(1)?,
-        choice: Choice::Now,
-        message: MsgName {
-            from: process(0)?,
-            inc: 0,
-            number: 4_294_967_295,
-        },
-    };
-    assert_eq!(rt; plan.certificate.as_slice(), [entry].as_slice());
+    let history = received_the_greatest(rt.alloc())?;
+    let plan = planned(&rt, rt.alloc(), &history, &ProcSet::empty())?;
+    let line = [Choice::Now, Choice::Check(0)];
+    assert_eq!(rt; plan.line.choices(), line.as_slice());
+    let entries = [passed(1, Choice::Now, 0, 4_294_967_295)?];
+    assert_eq!(rt; plan.certificate.as_slice(), entries.as_slice());
     assert_eq!(rt; (plan.sweeps, plan.replays.len()), (2, 0));
     Ok(())
 }
 
-#[test]
-fn rows_and_lower_choices(rt: HostRuntime) -> Result<(), Fail> {
-    let mut catalogue = catalogue_of(rt.alloc(), &DOMINO)?;
+/// The domino, its first process's only check damaged, with room for three events more.
+fn damaged_domino(alloc: Global) -> Result<Catalogue, Fail> {
+    let mut catalogue = catalogue_of(alloc, &DOMINO)?;
     let first = process(0)?;
-    assert_eq!(rt; catalogue.n(), 2);
-    catalogue.reserve(first, 3)?;
-    let lost = failed(&[0])?;
-    assert_eq!(rt;
-        catalogue.next_lower(first, Choice::Now, &lost),
-        Some(Choice::Check(1))
-    );
-    catalogue.damage(first, 1)?;
-    assert_eq!(rt;
-        catalogue.next_lower(first, Choice::Now, &lost),
-        Some(Choice::Check(0))
-    );
-    assert_eq!(rt; catalogue.next_lower(first, Choice::Check(0), &lost), None);
-    assert_eq!(rt; catalogue.survives(first, Choice::Check(1), &lost), false);
-    match catalogue.rows(first).last() {
-        Some(row) => {
-            assert_eq!(rt; (row.place, row.sends, row.damaged), (3, 1, true));
-            assert_eq!(rt; row.reach.lanes(), [0, 1].as_slice());
-        }
-        None => assert!(rt; false),
+    if first.get() < catalogue.n() {
+        catalogue.reserve(first, 3)?;
+        catalogue.damage(first, 1)?;
     }
+    Ok(catalogue)
+}
+
+/// What a catalogue says of a failed first process: the choices below where it stands and below its initial state, and whether its check survives.
+fn choices_of(catalogue: &Catalogue) -> Result<(Option<Choice>, Option<Choice>, bool), Fail> {
+    let first = process(0)?;
+    let lost = failed(&[0])?;
+    if first.get() >= catalogue.n() {
+        return Ok((None, None, true));
+    }
+    Ok((
+        catalogue.next_lower(first, Choice::Now, &lost),
+        catalogue.next_lower(first, Choice::Check(0), &lost),
+        catalogue.survives(first, Choice::Check(1), &lost),
+    ))
+}
+
+#[test]
+fn lower_choices(rt: HostRuntime) -> Result<(), Fail> {
+    let sound = choices_of(&catalogue_of(rt.alloc(), &DOMINO)?)?;
+    assert_eq!(rt; sound, (Some(Choice::Check(1)), None, true));
+    let damaged = choices_of(&damaged_domino(rt.alloc())?)?;
+    assert_eq!(rt; damaged, (Some(Choice::Check(0)), None, false));
+    Ok(())
+}
+
+/// Whether the last row of a process has this place, these sends and this damage, and these lanes.
+fn ends_with(catalogue: &Catalogue, p: ProcId, row: (u32, u32, bool), lanes: &[u32]) -> bool {
+    if p.get() >= catalogue.n() {
+        return false;
+    }
+    match catalogue.rows(p).last() {
+        Some(last) => {
+            (last.place, last.sends, last.damaged) == row && last.reach.lanes() == lanes
+        }
+        None => false,
+    }
+}
+
+#[test]
+fn rows_of_a_damaged_check(rt: HostRuntime) -> Result<(), Fail> {
+    let catalogue = damaged_domino(rt.alloc())?;
+    assert!(rt; ends_with(&catalogue, process(0)?, (3, 1, true), &[0, 1]));
     Ok(())
 }
 

@@ -1,5 +1,5 @@
 //! The two rules at work, with memory enough.
-ghost use Rattle.std.specs.Prelude.{◌≡◌, ◌<◌, IfOk};
+ghost use Rattle.std.specs.Prelude.{◌≡◌, ◌<◌, ◌≤◌, IfOk, OnOk};
 
 use line_marker::{BeginError, Effect, Marker, MarkerError};
 use line_names::{MsgName, ProcId};
@@ -58,26 +58,35 @@ fn a_channel_ends_at_its_marker(rt: HostRuntime) -> Result<(), Fail> {
     Ok(())
 }
 
+/// What a marker of this round does, and whether round 1 is over then.
+fn hears(marker: &mut Marker, from: u32, round: u32) -> Result<(Effect, bool), Fail>
+    requires { (marker.old.n ≡ 3) × (marker.old.me ≡ 0) × (1 ≤ from) × (1 ≤ round) }
+    ensures of { OnOk result (marker.new.n ≡ 3) }
+    ensures me { OnOk result (marker.new.me ≡ 0) }
+{
+    let effect = marker.on_marker(process(from)?, round)?;
+    Ok((effect, marker.is_closed(1)))
+}
+
 #[test]
 fn a_round_is_over_with_its_last_marker(rt: HostRuntime) -> Result<(), Fail> {
     let mut marker = begun(rt)?;
-    let (one, two) = (process(1)?, process(2)?);
-    assert_eq!(rt; marker.on_marker(one, 1)?, Effect::Closed);
-    assert!(rt; !marker.is_closed(1));
-    assert_eq!(rt; marker.on_marker(two, 1)?, Effect::Closed);
-    assert!(rt; marker.is_closed(1));
+    let told = [hears(&mut marker, 1, 1)?, hears(&mut marker, 2, 1)?];
+    assert_eq!(rt; told, [(Effect::Closed, false), (Effect::Closed, true)]);
     Ok(())
 }
 
 #[test]
 fn a_marker_forces_a_round(rt: HostRuntime) -> Result<(), Fail> {
     let mut marker = begun(rt)?;
-    let (one, two) = (process(1)?, process(2)?);
-    assert_eq!(rt; marker.on_marker(two, 3)?, Effect::Forced);
-    assert_eq!(rt; marker.on_marker(one, 2)?, Effect::Ignored);
+    let told = [hears(&mut marker, 2, 3)?, hears(&mut marker, 1, 2)?];
+    assert_eq!(rt; told, [(Effect::Forced, false), (Effect::Ignored, false)]);
+    let two = process(2)?;
     let nothing: &[MsgName] = &[];
-    assert_eq!(rt; marker.channel(two, 3), Some(nothing));
-    assert_eq!(rt; marker.channel(two, 2), None);
+    assert_eq!(rt;
+        (marker.channel(two, 3), marker.channel(two, 2)),
+        (Some(nothing), None)
+    );
     assert_eq!(rt; marker.latest(), 3);
     Ok(())
 }

@@ -43,15 +43,26 @@ fn a_message_and_a_check(alloc: Global) -> Result<Vec<Step>, Fail> {
     Ok(steps)
 }
 
+/// How many answers a run of these steps has, and the first three.
+fn answers_of(alloc: Global, n: u32, steps: &[Step]) -> Result<(usize, [Option<Told>; 3]), Fail> {
+    let mut world = World::new(alloc, n, Mode::Fifo)?;
+    let answers = world.run(alloc, steps)?;
+    let first = answers.first().map(seen);
+    Ok((
+        answers.len(),
+        [first, answers.get(1).map(seen), answers.get(2).map(seen)],
+    ))
+}
+
 #[test]
 fn a_run_answers_each_step(rt: HostRuntime) -> Result<(), Fail> {
     let steps = a_message_and_a_check(rt.alloc())?;
-    let mut world = World::new(rt.alloc(), 2, Mode::Fifo)?;
-    let answers = world.run(rt.alloc(), &steps)?;
-    assert_eq!(rt; answers.len(), 3);
-    assert_eq!(rt; answers.first().map(seen), Some(Told::Sent(0)));
-    assert_eq!(rt; answers.get(1).map(seen), Some(Told::Took(0)));
-    assert_eq!(rt; answers.last().map(seen), Some(Told::Checked(1)));
+    let all = [
+        Some(Told::Sent(0)),
+        Some(Told::Took(0)),
+        Some(Told::Checked(1)),
+    ];
+    assert_eq!(rt; answers_of(rt.alloc(), 2, &steps)?, (3, all));
     Ok(())
 }
 
@@ -69,12 +80,12 @@ fn a_refusal_in_the_middle(alloc: Global) -> Result<Vec<Step>, Fail> {
 #[test]
 fn a_run_goes_on_after_a_refusal(rt: HostRuntime) -> Result<(), Fail> {
     let steps = a_refusal_in_the_middle(rt.alloc())?;
-    let mut world = World::new(rt.alloc(), 1, Mode::Fifo)?;
-    let answers = world.run(rt.alloc(), &steps)?;
-    assert_eq!(rt; answers.len(), 3);
-    assert_eq!(rt; answers.first().map(seen), Some(Told::Checked(1)));
-    assert_eq!(rt; answers.get(1).map(seen), Some(Told::Refused));
-    assert_eq!(rt; answers.last().map(seen), Some(Told::Else));
+    let all = [
+        Some(Told::Checked(1)),
+        Some(Told::Refused),
+        Some(Told::Else),
+    ];
+    assert_eq!(rt; answers_of(rt.alloc(), 1, &steps)?, (3, all));
     Ok(())
 }
 
