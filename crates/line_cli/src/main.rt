@@ -11,7 +11,7 @@ use crate::standard::{ReadSource, WriteSink};
 use crate::statuses::status_of_fault;
 use crate::words::{Job, LineFault, command_of};
 use line_text::{check_text, run_text};
-use std::alloc::Global;
+use std::alloc::{AllocError, Global};
 use std::process::ExitCode;
 use std::{env, io};
 
@@ -61,16 +61,23 @@ fn done(rt: &(impl Input + Print + Eprint), alloc: Global, words: &[&str]) -> io
     }
 }
 
-fn status(rt: &HostRuntime, alloc: Global) -> io::Result<u8> {
-    let mut given = Vec::new(alloc);
-    for word in env::args(rt)? {
-        given.push(word)?;
-    }
+/// These words, with the program's name before them.
+fn command_line<'a>(alloc: Global, given: &'a [String]) -> Result<Vec<&'a str>, AllocError> {
     let mut words = Vec::new(alloc);
     words.push("recline")?;
     for word in given.iter().skip(1) {
         words.push(word.as_str())?;
     }
+    Ok(words)
+}
+
+/// Does what the command line asks for, and says how that went.
+fn status(rt: &HostRuntime, alloc: Global) -> io::Result<u8> {
+    let mut given = Vec::new(alloc);
+    for word in env::args(rt)? {
+        given.push(word)?;
+    }
+    let words = command_line(alloc, &given)?;
     done(rt, alloc, &words)
 }
 

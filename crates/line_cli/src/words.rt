@@ -86,26 +86,3 @@ pub fn command_of<'a>(alloc: Global, words: &'a [&'a str]) -> Result<Job, LineFa
 pub fn jobs_are_taken()
     ensures { (job : Job) → (takes recline (codes "recline" ∷ word_of job ∷ []) ≡ true) × (named (codes "recline" ∷ word_of job ∷ []) ≡ Some (word_of job)) }
 {}
-
-#[cfg(test)]
-mod tests {
-    use super::*;
-    use std::test::Fail;
-
-    #[test]
-    fn words_ask_for_a_job(rt: HostRuntime) -> Result<(), Fail> {
-        let run = ["recline", "run"];
-        assert!(rt; matches!(command_of(rt.alloc(), &run), Ok(Job::Run)));
-        let check = ["recline", "check"];
-        assert!(rt; matches!(command_of(rt.alloc(), &check), Ok(Job::Check)));
-        let unknown = ["recline", "walk"];
-        assert!(rt; matches!(command_of(rt.alloc(), &unknown), Err(LineFault::Bad)));
-        let help = ["recline", "--help"];
-        assert!(rt; matches!(command_of(rt.alloc(), &help), Err(LineFault::Help(_))));
-        let nothing = ["recline"];
-        assert!(rt; matches!(command_of(rt.alloc(), &nothing), Err(LineFault::Bad)));
-        let more = ["recline", "run", "script"];
-        assert!(rt; matches!(command_of(rt.alloc(), &more), Err(LineFault::Bad)));
-        Ok(())
-    }
-}
