@@ -1,7 +1,22 @@
+ghost use Rattle.std.specs.Prelude.{◌<◌};
+
 use super::*;
+use std::alloc::Global;
 use std::test::Fail;
 
-// Sources of five bytes: how many are read, in what steps, and where a call fails.
+/// What reading five bytes in such steps comes to, where this call fails: how many are read, and how often a call failed.
+fn read(
+    alloc: Global,
+    step: usize,
+    fail_at: Option<u64>,
+) -> Result<(Result<usize, ReadRefused>, u64), Fail>
+    requires { 0 < step }
+{
+    let mut source = MemSource::new(b"abcde".to_vec(alloc)?, step, fail_at);
+    let got = read_all(alloc, &mut source).map(|text| text.len());
+    Ok((got, source.failures()))
+}
+
 #[test]
 fn reads_to_the_end_or_a_failure(rt: HostRuntime) -> Result<(), Fail> {
     for (step, fail_at, want, faults) in [
@@ -16,10 +31,8 @@ fn reads_to_the_end_or_a_failure(rt: HostRuntime) -> Result<(), Fail> {
         (1, Some(0), Ok(5), 0),
     ] {
         if step > 0 {
-            let mut source = MemSource::new(b"abcde".to_vec(rt.alloc())?, step, fail_at);
-            let got = read_all(rt.alloc(), &mut source);
-            assert_eq!(rt; got.map(|text| text.len()), want, "in steps of {step}");
-            assert_eq!(rt; source.failures(), faults, "in steps of {step}");
+            let told = read(rt.alloc(), step, fail_at)?;
+            assert_eq!(rt; told, (want, faults), "in steps of {step}");
         }
     }
     Ok(())
@@ -109,16 +122,22 @@ impl Sink for Broken {
     }
 }
 
+/// How many faults a source and a sink that only fail have counted after one call each; none where a call did not fail.
+fn counted(alloc: Global, faults: u64) -> Option<(u64, u64)> {
+    let mut source = Broken { faults };
+    let mut sink = Broken { faults };
+    match (read_all(alloc, &mut source), put_all(&mut sink, b"a")) {
+        (Err(ReadRefused::Failed), Err(_)) => {
+            Some((Source::failures(&source), Sink::failures(&sink)))
+        }
+        _ => None,
+    }
+}
+
 #[test]
 fn counts_failures_to_the_greatest_value(rt: HostRuntime) {
     for (faults, want) in [(0u64, 1u64), (u64::MAX - 1, u64::MAX), (u64::MAX, u64::MAX)] {
-        let mut source = Broken { faults };
-        let got = read_all(rt.alloc(), &mut source);
-        assert_eq!(rt; got.map(|text| text.len()), Err(ReadRefused::Failed));
-        assert_eq!(rt; Source::failures(&source), want);
-        let mut sink = Broken { faults };
-        assert_eq!(rt; put_all(&mut sink, b"a"), Err(DeviceFault));
-        assert_eq!(rt; Sink::failures(&sink), want);
+        assert_eq!(rt; counted(rt.alloc(), faults), Some((want, want)));
     }
 }
 
@@ -134,51 +153,50 @@ fn reads_no_more_than_the_limit(rt: HostRuntime) {
     }
 }
 
-// A sink of steps: how many of five bytes it holds after a put of them all and a finish.
+/// Whether each call succeeded, and what a sink of such steps holds and has counted, after a put of five bytes and a finish.
+fn put(alloc: Global, step: usize, fail_at: Option<u64>) -> (bool, bool, usize, u64)
+    requires { 0 < step }
+{
+    let mut sink = MemSink::new(alloc, step, fail_at);
+    let is_put = put_all(&mut sink, b"abcde").is_ok();
+    let is_finished = sink.finish().is_ok();
+    let held = if b"abcde".starts_with(sink.bytes()) {
+        sink.bytes().len()
+    } else {
+        usize::MAX
+    };
+    (is_put, is_finished, held, sink.failures())
+}
+
 #[test]
 fn puts_all_or_a_front(rt: HostRuntime) {
-    for (step, fail_at, put, finished, held) in [
-        (1usize, None, Ok(()), Ok(()), 5usize),
-        (2, None, Ok(()), Ok(()), 5),
-        (9, None, Ok(()), Ok(()), 5),
-        (2, Some(1u64), Err(DeviceFault), Ok(()), 0),
-        (2, Some(3), Err(DeviceFault), Ok(()), 4),
+    for (step, fail_at, want) in [
+        (1usize, None, (true, true, 5usize, 0u64)),
+        (2, None, (true, true, 5, 0)),
+        (9, None, (true, true, 5, 0)),
+        (2, Some(1u64), (false, true, 0, 1)),
+        (2, Some(3), (false, true, 4, 1)),
         // The fourth call is the finish.
-        (2, Some(4), Ok(()), Err(DeviceFault), 5),
+        (2, Some(4), (true, false, 5, 1)),
     ] {
         if step > 0 {
-            let mut sink = MemSink::new(rt.alloc(), step, fail_at);
-            assert_eq!(rt; put_all(&mut sink, b"abcde"), put, "in steps of {step}");
-            assert_eq!(rt; sink.finish(), finished, "in steps of {step}");
-            assert_eq!(rt; sink.bytes().len(), held, "in steps of {step}");
-            assert!(rt; b"abcde".starts_with(sink.bytes()), "in steps of {step}");
-            assert_eq!(rt;
-                sink.failures(),
-                u64::from(fail_at.is_some()),
-                "in steps of {step}"
-            );
+            assert_eq!(rt; put(rt.alloc(), step, fail_at), want, "in steps of {step}");
         }
     }
 }
 
 #[test]
 fn tells_what_is_wrong(rt: HostRuntime) -> Result<(), Fail> {
-    let alloc = rt.alloc();
+    let words = format!(in rt.alloc();
+        "{}; {}; {}; {}",
+        DeviceFault,
+        ReadRefused::OutOfMemory,
+        ReadRefused::Failed,
+        ReadRefused::TooLong
+    )?;
     assert_eq!(rt;
-        format!(in alloc; "{}", DeviceFault)?.as_str(),
-        "the device failed"
-    );
-    assert_eq!(rt;
-        format!(in alloc; "{}", ReadRefused::OutOfMemory)?.as_str(),
-        "no memory for the input"
-    );
-    assert_eq!(rt;
-        format!(in alloc; "{}", ReadRefused::Failed)?.as_str(),
-        "the source failed"
-    );
-    assert_eq!(rt;
-        format!(in alloc; "{}", ReadRefused::TooLong)?.as_str(),
-        "the input is longer than 67108864 bytes"
+        words.as_str(),
+        "the device failed; no memory for the input; the source failed; the input is longer than 67108864 bytes"
     );
     Ok(())
 }
