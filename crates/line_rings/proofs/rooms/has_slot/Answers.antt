@@ -1,0 +1,26 @@
+use Rattle.std.proofs.Common.{◌≡◌, ◌<◌, ◌∙◌, sym, ap, subst, arith}
+use Rattle.std.proofs.lemmas.List.{length-set}
+use Rattle.std.proofs.lemmas.Bool.{both_ways, not-true, not-false}
+use Rattle.rtrb.specs.Ring.{known_free}
+use Rattle.line_rings.specs.Ends.{producer_end}
+use Rattle.line_rings.proofs.EndLemmas.{seen_kept, producer_kept, free_set, free_other}
+use Rattle.line_rings.proofs.rooms.has_slot.Goals as goal
+
+pub returns-clause-ends : goal.returns-clause-ends
+returns-clause-ends g c =
+    seen_kept producer_end c.args.outs.now.items c.args.q c.is_full.new.self c.index_mut-end.result.now c.requires
+    (producer_kept c.index_mut-end.result.now c.is_full.new.self c.is_full.ensures.looked.0 c.is_full.ensures.looked.1 ∙ ap producer_end c.index_mut-end.ensures.value)
+
+pub returns-clause-long : goal.returns-clause-long
+returns-clause-long g c = length-set c.args.outs.now.items c.args.q c.is_full.new.self
+
+pub returns-clause-room : goal.returns-clause-room
+returns-clause-room g c = λ t.
+    (let ne : known_free c.is_full.new.self ≡ 0 → ⊥ = λ e. both_ways c.is_full.result (not-true c.is_full.result t) (c.is_full.ensures.value.1 e) in
+    subst (λ v. 0 < v) (sym (free_set c.args.outs.now.items c.args.q c.is_full.new.self c.requires)) (omega (arith, ne)))
+
+pub returns-clause-others : goal.returns-clause-others
+returns-clause-others g c = λ k ne. free_other c.args.outs.now.items c.args.q k c.is_full.new.self ne
+
+pub returns-clause-full : goal.returns-clause-full
+returns-clause-full g c = λ f. free_set c.args.outs.now.items c.args.q c.is_full.new.self c.requires ∙ c.is_full.ensures.value.0 (not-false c.is_full.result f)

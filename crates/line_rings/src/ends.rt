@@ -1,0 +1,98 @@
+//! One step on one end of a list of ends.
+ghost use Rattle.std.specs.Prelude.{◌≡◌, ◌≢◌, ◌++◌, ◌∷◌, [], ◌+◌, ◌<◌, ◌≤◌, ℕ, List, OnOk, IfErr, IsOk, IsTrue, Some, false, length};
+ghost use mathlib.Core.List.{IsPrefix};
+ghost use Rattle.line_rings.specs.Ends.{out_ends, in_ends, producer_end, free_at, known_at, with_item, items_at, ring_at};
+
+use rtrb::{Consumer, Producer};
+
+/// Pushes an item on the ring to process `q`, or hands it back where the ring has no free slot.
+///
+/// Whether there is one only the ring can tell, since the receiver takes items meanwhile; a slot
+/// that this end knows to be free stays free. It costs a constant.
+pub fn push_on<T>(outs: &mut Vec<Producer<T>>, q: usize, item: T) -> Result<(), T>
+    requires { q < length outs.old.items }
+    ensures ok { OnOk result
+        (out_ends outs.new.items ≡ with_item (out_ends outs.old.items) q item) }
+    ensures full { IfErr result (λ back.
+        (back ≡ item) × (out_ends outs.new.items ≡ out_ends outs.old.items)) }
+    ensures succeeds { 0 < free_at outs.old.items q → IsOk result }
+    ensures others { (k : ℕ) → k ≢ q → free_at outs.new.items k ≡ free_at outs.old.items k }
+{
+    let end = &mut outs[q];
+    if end.is_full() {
+        return Err(item);
+    }
+    end.push_reserved(item);
+    Ok(())
+}
+
+/// Whether the ring from process `p` has an item, so far as this end can see; the items seen are
+/// known from here on.
+///
+/// It moves nothing. What the sender pushes later is seen by a later look.
+pub fn look_at<T>(ins: &mut Vec<Consumer<T>>, p: usize) -> bool
+    requires { p < length ins.old.items }
+    ensures ends { in_ends ins.new.items ≡ in_ends ins.old.items }
+    ensures known { IsTrue result → 0 < length (known_at ins.new.items p) }
+    ensures none { result ≡ false → known_at ins.new.items p ≡ [] }
+    ensures seen { IsPrefix (known_at ins.old.items p) (known_at ins.new.items p) }
+    ensures others { (k : ℕ) → k ≢ p → known_at ins.new.items k ≡ known_at ins.old.items k }
+{
+    let end = &mut ins[p];
+    end.slots() > 0
+}
+
+/// The first of the known items from process `p`, which stays on its ring.
+pub fn front_at<T>(ins: &Vec<Consumer<T>>, p: usize) -> &T
+    requires within { p < length ins.now.items }
+    requires known { 0 < length (known_at ins.now.items p) }
+    ensures { (rest : List T) × (known_at ins.now.items p ≡ result.now ∷ rest) }
+{
+    let end = &ins[p];
+    end.peek_known()
+}
+
+/// Takes the first of the known items from process `p`, which frees its slot.
+pub fn take_at<T>(ins: &mut Vec<Consumer<T>>, p: usize) -> T
+    requires within { p < length ins.old.items }
+    requires known { 0 < length (known_at ins.old.items p) }
+    ensures ends { in_ends ins.new.items ≡ with_item (in_ends ins.old.items) p result }
+    ensures first { known_at ins.old.items p ≡ result ∷ known_at ins.new.items p }
+    ensures others { (k : ℕ) → k ≢ p → known_at ins.new.items k ≡ known_at ins.old.items k }
+{
+    let end = &mut ins[p];
+    end.pop_known()
+}
+
+/// Brings the two ends of one ring together: what was pushed is what was popped and then what lies
+/// between them. It answers how many items lie there, and moves none.
+///
+/// Each end knows its own past alone, so nothing that is claimed of both is known before this.
+pub fn meet<T>(outs: &mut Vec<Producer<T>>, q: usize, ins: &mut Vec<Consumer<T>>, p: usize) -> usize
+    requires out_within { q < length outs.old.items }
+    requires in_within { p < length ins.old.items }
+    requires pair { ring_at (out_ends outs.old.items) q ≡ ring_at (in_ends ins.old.items) p }
+    ensures outs { out_ends outs.new.items ≡ out_ends outs.old.items }
+    ensures ins { in_ends ins.new.items ≡ in_ends ins.old.items }
+    ensures fifo { (rest : List T) × (length rest ≡ result)
+        × (items_at (in_ends ins.old.items) p ++ rest ≡ items_at (out_ends outs.old.items) q) }
+{
+    let producer = &mut outs[q];
+    let consumer = &mut ins[p];
+    consumer.slots_beside(producer)
+}
+
+/// As `meet`, for a sending end that stands alone; what lies between the two ends is known from
+/// here on, so that it can be taken.
+pub fn meet_end<T>(out: &mut Producer<T>, ins: &mut Vec<Consumer<T>>, p: usize) -> usize
+    requires within { p < length ins.old.items }
+    requires pair { Some (producer_end out.old).ring ≡ ring_at (in_ends ins.old.items) p }
+    ensures out { producer_end out.new ≡ producer_end out.old }
+    ensures ins { in_ends ins.new.items ≡ in_ends ins.old.items }
+    ensures count { result ≡ length (known_at ins.new.items p) }
+    ensures fifo { items_at (in_ends ins.old.items) p ++ known_at ins.new.items p
+        ≡ (producer_end out.old).items }
+{
+    let consumer = &mut ins[p];
+    consumer.slots_beside(out)
+}
