@@ -1,0 +1,267 @@
+//! A tape, and what its process has recorded of rounds beside it.
+ghost use Rattle.std.specs.Prelude.{◌≡◌, ◌≢◌, ◌<◌, ◌≤◌, ◌+◌, ◌↔◌, ◌++◌, ◌∷◌, [], ℕ, IfOk, IsOk, OnOk, IsTrue, Some, None, true, false, length};
+ghost use Rattle.line_marker.specs.Recording.{latest, noted, with_marker, with_round};
+ghost use Rattle.line_tape.specs.declared.events.Event.TheVariants.{Send, Recv, Check, Mark};
+ghost use Rattle.line_tape.specs.History.{IsTape};
+ghost use Rattle.line_tape.specs.Event.{sends};
+ghost use Rattle.line_tape.specs.Rounds.{has_check_of, rounds_checked};
+ghost use Rattle.line_journals.specs.Journals.{rounds_by, IsOpen, IsRecorded, IsSameJournal};
+
+use crate::events::{check_event, has_check, mark_event, recv_event, round_event, send_event};
+use line_marker::Marker;
+use line_names::{Body, MsgName, ProcId};
+use line_tape::{MOST_EVENTS, MOST_STATE, State, Tape};
+use std::alloc::{AllocError, Global};
+use std::marker::Model;
+
+/// The tape of one process, and beside it what it has recorded of rounds.
+///
+/// A contract sees the number of processes, its own, the floor (rounds up to it are old), the tape,
+/// the recorded rounds, and two kinds of room: for how many further events the tape takes no
+/// memory, and for how many further calls the record takes none.
+#[derive(Drop)]
+pub struct Journal {
+    floor: u32,
+    tape: Tape,
+    marker: Marker,
+}
+
+impl Model for Journal {
+    ghost use Rattle.std.specs.Prelude.{◌≡◌};
+    ghost use Rattle.line_journals.specs.Journals.{JournalView, IsRecorded};
+
+    ghost Value = { JournalView };
+
+    ghost view = { λ j. record {
+      n = j.marker.n;
+      me = j.marker.me;
+      floor = j.floor;
+      tape = j.tape.events;
+      rounds = j.marker.rounds;
+      room = j.tape.room;
+      ready = j.marker.room;
+    } };
+
+    ghost invariant = { λ j. (j.marker.floor ≡ j.floor)
+        × IsRecorded j.marker.n j.floor j.tape.events j.marker.rounds };
+}
+
+impl Journal {
+    /// The journal of process `me` of `n` over a tape that has no check of a round; rounds up to
+    /// `floor` are old.
+    pub fn new(
+        alloc: Global,
+        n: u32,
+        me: ProcId,
+        tape: Tape,
+        floor: u32,
+    ) -> Result<Journal, AllocError>
+        requires me { me < n }
+        requires bare { rounds_checked tape.events ≡ [] }
+        ensures tape { IfOk result (λ j. (j.tape ≡ tape.events) × (j.rounds ≡ [])) }
+        ensures same { IfOk result (λ j. (j.n ≡ n) × (j.me ≡ me) × (j.floor ≡ floor)) }
+        ensures room { IfOk result (λ j. j.room ≡ tape.room) }
+    {
+        let marker = Marker::new(alloc, n, me, floor)?;
+        Ok(Journal {
+            floor,
+            tape,
+            marker,
+        })
+    }
+
+    /// The tape.
+    pub fn tape(&self) -> &Tape
+        ensures { result.now.events ≡ self.now.tape }
+    {
+        &self.tape
+    }
+
+    /// What is recorded of rounds: each as the tape has it.
+    pub fn marker(&self) -> &Marker
+        ensures rounds { result.now.rounds ≡ self.now.rounds }
+        ensures recorded { IsRecorded self.now.n self.now.floor self.now.tape self.now.rounds }
+    {
+        &self.marker
+    }
+
+    /// How many events the tape has.
+    pub fn len(&self) -> u32
+        ensures value { result ≡ length self.now.tape }
+        ensures limits { IsTape self.now.tape }
+    {
+        self.tape.len()
+    }
+
+    /// How many sends the tape has.
+    pub fn sends(&self) -> u32
+        ensures { result ≡ sends self.now.tape }
+    {
+        self.tape.sends()
+    }
+
+    /// The last round that was recorded, or the floor. The tape has no check of a later one.
+    pub fn latest(&self) -> u32
+        ensures value { result ≡ latest self.now.floor self.now.rounds }
+        ensures later { (r : ℕ) → result < r → has_check_of r self.now.tape ≡ false }
+    {
+        self.marker.latest()
+    }
+
+    /// Whether the last round that was recorded is still open: not every other process's marker has
+    /// come. It looks at each process.
+    pub fn is_open(&self) -> bool
+        ensures { IsTrue result ↔ IsOpen self.now.n self.now.me self.now.floor self.now.rounds }
+    {
+        let last = self.marker.latest();
+        last > self.floor && !self.marker.is_closed(last)
+    }
+
+    /// Whether the tape has the check of a round, of which a marker comes from another process.
+    ///
+    /// It looks through the recorded rounds from the newest on, and through the tape itself only
+    /// where the round was not recorded and is not new: where all workers record each round in turn
+    /// that never comes.
+    pub fn is_checked(&self, from: ProcId, round: u32) -> bool
+        requires process { from < self.now.n }
+        requires other { from ≢ self.now.me }
+        ensures { result ≡ has_check_of round self.now.tape }
+    {
+        if round > self.marker.latest() {
+            return false;
+        }
+        if self.marker.channel(from, round).is_some() {
+            return true;
+        }
+        has_check(&self.tape, round)
+    }
+
+    /// Makes room for so many further events on the tape, and for one call more in what is
+    /// recorded. All else is as it was, also where memory is out.
+    pub fn reserve(&mut self, k: u32) -> Result<(), AllocError>
+        ensures tape { self.new.tape ≡ self.old.tape }
+        ensures rounds { self.new.rounds ≡ self.old.rounds }
+        ensures same { IsSameJournal self.old self.new }
+        ensures room { OnOk result (k ≤ self.new.room) }
+        ensures ready { OnOk result (0 < self.new.ready) }
+        ensures kept { (self.old.room ≤ self.new.room) × (self.old.ready ≤ self.new.ready) }
+        ensures succeeds { k ≤ self.old.room → 0 < self.old.ready → IsOk result }
+    {
+        self.tape.reserve(k)?;
+        self.marker.reserve()
+    }
+
+    /// A message was sent.
+    pub fn send(&mut self, to: ProcId, inc: u16, body: Body)
+        requires few { length self.old.tape < MOST_EVENTS }
+        requires room { 0 < self.old.room }
+        ensures tape { self.new.tape ≡ self.old.tape ++ Send to inc body ∷ [] }
+        ensures rounds { self.new.rounds ≡ self.old.rounds }
+        ensures same { IsSameJournal self.old self.new }
+        ensures spent { (self.old.room ≤ self.new.room + 1) × (self.new.ready ≡ self.old.ready) }
+    {
+        let event = send_event(to, inc, body);
+        self.tape.push(event).unwrap();
+    }
+
+    /// A check of no round was taken.
+    pub fn check(&mut self, state: State)
+        requires few { length self.old.tape < MOST_EVENTS }
+        requires room { 0 < self.old.room }
+        requires short { length state ≤ MOST_STATE }
+        ensures tape { self.new.tape ≡ self.old.tape ++ Check state None ∷ [] }
+        ensures rounds { self.new.rounds ≡ self.old.rounds }
+        ensures same { IsSameJournal self.old self.new }
+        ensures spent { (self.old.room ≤ self.new.room + 1) × (self.new.ready ≡ self.old.ready) }
+    {
+        let event = check_event(state);
+        self.tape.push(event).unwrap();
+    }
+
+    /// A message was received. Each recorded round whose channel from its sender is not closed has
+    /// it from now on.
+    pub fn receive(&mut self, message: MsgName)
+        requires few { length self.old.tape < MOST_EVENTS }
+        requires room { 0 < self.old.room }
+        requires ready { 0 < self.old.ready }
+        requires process { message.from < self.old.n }
+        requires other { message.from ≢ self.old.me }
+        ensures tape { self.new.tape ≡ self.old.tape ++ Recv message ∷ [] }
+        ensures rounds { self.new.rounds ≡ noted self.old.rounds message }
+        ensures same { IsSameJournal self.old self.new }
+        ensures spent { self.old.room ≤ self.new.room + 1 }
+    {
+        let name = MsgName {
+            from: message.from,
+            inc: message.inc,
+            number: message.number,
+        };
+        let event = recv_event(name);
+        self.tape.push(event).unwrap();
+        self.marker.note(message).unwrap();
+    }
+
+    /// The check of a round that it begins was taken: the round is recorded, its channels open and
+    /// empty.
+    pub fn begin(&mut self, state: State, round: u32)
+        requires few { length self.old.tape < MOST_EVENTS }
+        requires room { 0 < self.old.room }
+        requires ready { 0 < self.old.ready }
+        requires short { length state ≤ MOST_STATE }
+        requires new { latest self.old.floor self.old.rounds < round }
+        ensures tape { self.new.tape ≡ self.old.tape ++ Check state (Some round) ∷ [] }
+        ensures rounds { self.new.rounds ≡ with_round self.old.rounds self.old.n round }
+        ensures same { IsSameJournal self.old self.new }
+        ensures spent { self.old.room ≤ self.new.room + 1 }
+    {
+        let event = round_event(state, round);
+        self.tape.push(event).unwrap();
+        self.marker.begin(round).unwrap();
+    }
+
+    /// The marker of a round was received, of which the tape has the check: the channel from its
+    /// sender is closed in that round, where it is recorded.
+    pub fn mark(&mut self, from: ProcId, round: u32)
+        requires few { length self.old.tape < MOST_EVENTS }
+        requires room { 0 < self.old.room }
+        requires ready { 0 < self.old.ready }
+        requires process { from < self.old.n }
+        requires other { from ≢ self.old.me }
+        requires checked { has_check_of round self.old.tape ≡ true }
+        ensures tape { self.new.tape ≡ self.old.tape ++ Mark from round ∷ [] }
+        ensures rounds { self.new.rounds ≡ with_marker self.old.rounds from round }
+        ensures same { IsSameJournal self.old self.new }
+        ensures spent { self.old.room ≤ self.new.room + 1 }
+    {
+        let event = mark_event(from, round);
+        self.tape.push(event).unwrap();
+        let _ = self.marker.on_marker(from, round);
+    }
+
+    /// The marker of a round was received, of which the tape has no check: the check comes first,
+    /// then the marker, and the channel from its sender is closed and empty in that round.
+    ///
+    /// One call for both, since room in what is recorded is for one call.
+    pub fn force(&mut self, from: ProcId, state: State, round: u32)
+        requires few { length self.old.tape + 1 < MOST_EVENTS }
+        requires room { 1 < self.old.room }
+        requires ready { 0 < self.old.ready }
+        requires short { length state ≤ MOST_STATE }
+        requires process { from < self.old.n }
+        requires other { from ≢ self.old.me }
+        requires unchecked { has_check_of round self.old.tape ≡ false }
+        ensures tape { self.new.tape
+            ≡ (self.old.tape ++ Check state (Some round) ∷ []) ++ Mark from round ∷ [] }
+        ensures rounds { self.new.rounds ≡ with_marker
+            (rounds_by self.old.n self.old.floor self.old.rounds (Check state (Some round)))
+            from round }
+        ensures same { IsSameJournal self.old self.new }
+        ensures spent { self.old.room ≤ self.new.room + 2 }
+    {
+        let check = round_event(state, round);
+        self.tape.push(check).unwrap();
+        let mark = mark_event(from, round);
+        self.tape.push(mark).unwrap();
+        let _ = self.marker.on_marker(from, round);
+    }
+}
