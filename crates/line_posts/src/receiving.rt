@@ -4,6 +4,7 @@ ghost use Rattle.std.specs.Prelude.{length};
 ghost use Rattle.line_rings.specs.Ends.{row_at};
 ghost use Rattle.line_posts.specs.Parcels.{letter_name};
 ghost use Rattle.line_posts.specs.Receipts.{HasReceived};
+ghost use Rattle.line_posts.specs.Generations.{IsSamePost};
 ghost use Rattle.line_posts.specs.Refusals.{IsNotReceived, MayReceive};
 ghost use Rattle.line_posts.specs.declared.receive.Received.TheVariants.{Message as TookMessage};
 
@@ -119,6 +120,7 @@ impl Post {
     pub fn receive(&mut self, from: ProcId, state: State) -> Result<Received, ReceiveWhy>
         ensures ok { IfOk result (λ r. HasReceived self.old from state r self.new) }
         ensures err { OnErr result (self.new ≡ self.old) }
+        ensures same { IsSamePost self.old self.new }
 
         // The refusals, in their order.
         ensures may { OnOk result (MayReceive self.old from state) }
