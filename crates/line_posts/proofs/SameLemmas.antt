@@ -9,8 +9,8 @@ use Rattle.line_rings.specs.Ends.{ring_at}
 use Rattle.line_rings.proofs.EndLemmas.{ring_item}
 use Rattle.line_posts.specs.Receipts.{HasReceived, HasTaken}
 use Rattle.line_posts.specs.Markers.{checked_by, marked_by}
-use Rattle.line_posts.specs.declared.receive.Received.{Received}
-use Rattle.line_posts.specs.declared.receive.Received.TheVariants.{Message, Marked}
+use Rattle.line_posts.specs.declared.receiving.Received.{Received}
+use Rattle.line_posts.specs.declared.receiving.Received.TheVariants.{Message, Marked}
 use Rattle.line_posts.proofs.MarkerLemmas.{ring_below}
 use Rattle.line_posts.specs.Posts.{checked_alone, sent_by, PostView}
 use Rattle.line_posts.specs.Reports.{HasReported}

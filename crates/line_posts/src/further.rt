@@ -11,7 +11,7 @@ ghost use Rattle.line_posts.specs.Gathered.{gathered_tape};
 ghost use Rattle.line_posts.specs.Gathering.{rows_of, AreFurtherBelow, AreReady, IsOnWay, IsReady};
 
 use crate::posts::Post;
-use crate::receive::{keeps, take_kept};
+use crate::queues::{keeps, take_kept};
 use crate::reports::copies;
 use line_catalogue::Catalogue;
 use line_names::{ProcId, ProcSet};

@@ -133,8 +133,8 @@ fn last_round(posts: &Vec<Post>) -> u32
 /// Gathers what the workers of a generation did: of those that did not fail all, of the failed ones
 /// what they reported. A refusal hands collector and posts back as they were.
 ///
-/// It looks at both ends of the ring between each two workers, and copies each event that the
-/// collector has not taken. It does not ask what lies on the rings.
+/// It compares the two ends of each ring, n² of them, and copies and adds each event that the
+/// collector has not taken. What still lies on the rings is not taken from them.
 pub fn gather(
     mut collector: Collector,
     mut posts: Vec<Post>,

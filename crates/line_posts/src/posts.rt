@@ -29,7 +29,7 @@ use std::snapshot::Snapshot;
 /// of the report line.
 ///
 /// It belongs to one thread at a time; no call waits. A call costs the same however much was done
-/// before.
+/// before, and where markers go out, a push for each process.
 #[derive(Drop)]
 pub struct Post {
     pub(crate) alloc: Global,

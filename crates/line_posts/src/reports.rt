@@ -14,10 +14,12 @@ use rtrb::Producer;
 use std::alloc::{AllocError, Global};
 use std::collections::VecDeque;
 
-/// How many events were put on the report line, and how many are left.
+/// What a call of `report` did.
 #[derive(Clone, Copy, Debug, PartialEq, Eq)]
 pub struct Reported {
+    /// How many events this call put there.
     pub sent: u32,
+    /// How many events of the tape are not reported yet.
     pub left: u32,
 }
 
