@@ -1,0 +1,112 @@
+-- The workers of a fleet, one by one.
+use Rattle.std.proofs.Common.{add-one, zero, suc, ◌≡◌, ◌∙◌, ◌+◌, ◌<◌, ◌++◌, ◌∷◌, [], ℕ, List, Some, length, map, drop, replicate, refl, sym, ap, inl, inr, arith, subst}
+use Rattle.std.specs.Prelude.{slice_get, option_map}
+use Rattle.std.proofs.lemmas.List.{length-map, length-drop, length_push}
+use Rattle.line_marker.specs.Recording.{Recorded}
+use Rattle.line_tape.specs.declared.events.Event.{Event}
+use Rattle.line_tape.specs.History.{Process, fresh, tape_at}
+use Rattle.line_tape.specs.Rounds.{rounds_checked}
+use Rattle.line_tape.proofs.SpentLemmas.{tape_start}
+use Rattle.line_tape.proofs.NextLemmas.{slice_get_push}
+use Rattle.line_rings.specs.Ends.{End, items_at, items_of, ring_at, row_at, AreFresh, AreLinked}
+use Rattle.line_posts.specs.declared.parcels.Letter.{Letter}
+use Rattle.line_posts.specs.declared.parcels.Parcel.{Parcel}
+use Rattle.line_posts.specs.Posts.{post_of, PostView}
+use Rattle.line_posts.specs.Collected.{collector_of, CollectorView}
+use Rattle.line_posts.specs.Generations.{AreLined, HasRing}
+use Rattle.line_posts.specs.Openings.{ArePlain, IsOpening}
+use Rattle.line_posts.specs.Fleets.{AreReplays}
+use Rattle.line_tape.specs.Views.{MarksView}
+use Rattle.line_posts.specs.Generations.{IsGeneration}
+use Rattle.line_posts.specs.Openings.{AreOpened}
+use Rattle.line_posts.specs.Fleets.{AreAllMade, AreMade, IsMade}
+
+-- the next row, and those after it
+pub next_row : {X : Type 0} (rows : List (List X)) (q : ℕ) (row : List X) (rest : List (List X)) → row ∷ rest ≡ drop q rows → (row_at rows q ≡ row) × (drop (suc q) rows ≡ rest)
+next_row [] zero row rest e = cc e
+next_row [] (suc q) row rest e = cc e
+next_row (x ∷ xs) zero row rest e = (cc e, cc e)
+next_row (x ∷ xs) (suc q) row rest e = next_row xs q row rest e
+
+pub opening_of : (opening : List Process) (q me n : ℕ) (tape : List Event) (kept : List (List Letter)) (outs ins : List (List (End Parcel))) (lines in_lines : List (List (End Event)))
+    (out in_ : List (End Parcel)) (line : End Event) (floor : ℕ) (rounds : List Recorded)
+    → me ≡ q → q < n → n ≡ length opening → tape ≡ tape_at opening me → AreReplays opening me kept → AreLinked n n outs ins → AreLinked n 1 lines in_lines
+    → out ≡ row_at outs q → in_ ≡ row_at ins q → line ∷ [] ≡ row_at lines q
+    → IsOpening (post_of me opening tape kept out in_ line floor rounds)
+opening_of opening q me n tape kept outs ins lines in_lines out in_ line floor rounds em lt long et ek l m eo ei el = record {
+  within = omega (arith, lt, long, em);
+  out_count = ap length eo ∙ (l.out_count q lt ∙ long);
+  in_count = ap length ei ∙ (l.in_count q lt ∙ long);
+  kept_count = ek.count;
+  tape = et;
+  outs = subst AreFresh (sym eo) (l.fresh q);
+  ins = subst AreFresh (sym ei) (λ p. ap items_of (sym (l.linked p q)) ∙ l.fresh p q);
+  line = ap (λ t. items_at t 0) el ∙ m.fresh q 0;
+  kept = ek.each;
+}
+
+pub rows_left : {X Y : Type 0} (f : X → List Y) (items : List X) (rows : List (List Y)) (q n : ℕ) → map f items ≡ drop q rows → length rows ≡ n → q < n → 0 < length items
+rows_left f items rows q n is long lt =
+    let a = length-map items f in
+    let b = length-drop q rows in
+    let e = ap length is in
+    omega (arith, a, b, e, long, lt)
+
+pub single : {X : Type 0} (xs : List X) (x : X) (ys : List X) → xs ≡ x ∷ ys → length xs ≡ 1 → xs ≡ x ∷ []
+single xs x [] e l = e
+single xs x (y ∷ ys) e l = (let k = ap length e in absurd (omega (arith, k, l)))
+
+pub made_more : (opening : List Process) (floor : ℕ) (outs ins : List (List (End Parcel))) (lines : List (List (End Event))) (q : ℕ) (lo li lo' li' : List (List (End Parcel))) (ll ll' : List (List (End Event))) (posts posts' : List PostView) (post : PostView)
+    (out in_ : List (End Parcel)) (line : List (End Event))
+    → AreMade opening floor outs ins lines q lo li ll posts → IsMade opening floor outs ins lines q post → posts' ≡ posts ++ post ∷ []
+    → lo ≡ out ∷ lo' → li ≡ in_ ∷ li' → ll ≡ line ∷ ll' → AreMade opening floor outs ins lines (q + 1) lo' li' ll' posts'
+made_more opening floor outs ins lines q lo li lo' li' ll ll' posts posts' post out in_ line h new ep eo ei el = record {
+  count = ap length ep ∙ (length_push posts post ∙ ap (λ t. t + 1) h.count);
+  made = λ k p at. elim (slice_get_push posts post p k (ap (λ t. slice_get t k) (sym ep) ∙ at)) [
+    | inl (lt, old) ↦ h.made k p old
+    | inr (last, same) ↦ subst (λ (v : PostView). IsMade opening floor outs ins lines k v) same (subst (λ n. IsMade opening floor outs ins lines n post) (sym (last ∙ h.count)) new)
+  ];
+  outs_left = sym ((next_row outs q out lo' (sym eo ∙ h.outs_left)).1) ∙ ap (λ k. drop k outs) (sym (add-one q));
+  ins_left = sym ((next_row ins q in_ li' (sym ei ∙ h.ins_left)).1) ∙ ap (λ k. drop k ins) (sym (add-one q));
+  lines_left = sym ((next_row lines q line ll' (sym el ∙ h.lines_left)).1) ∙ ap (λ k. drop k lines) (sym (add-one q));
+}
+
+pub made_of : (opening : List Process) (floor : ℕ) (outs ins : List (List (End Parcel))) (lines : List (List (End Event))) (q me : ℕ) (tape : List Event) (kept : List (List Letter)) (out in_ : List (End Parcel)) (line : End Event) (base : ℕ) (rounds : List Recorded) (post : PostView)
+    → post ≡ post_of me opening tape kept out in_ line base rounds → me ≡ q → IsOpening (post_of me opening tape kept out in_ line base rounds) → base ≡ floor → rounds ≡ [] → out ≡ row_at outs q → in_ ≡ row_at ins q → line ∷ [] ≡ row_at lines q → IsMade opening floor outs ins lines q post
+made_of opening floor outs ins lines q me tape kept out in_ line base rounds post e em o ef er eo ei el = rw e (record { number = em; opened = refl; opens = o; begun = (ef, er); outs_are = eo; ins_are = ei; line_is = el })
+
+-- all of them, with the other ends of their report lines
+pub opened_of : (opening : List Process) (floor : ℕ) (outs ins : List (List (End Parcel))) (lines in_lines : List (List (End Event))) (posts : List PostView) (n : ℕ) (row : List (End Event)) (rest : List (List (End Event)))
+    → n ≡ length opening → AreLinked n n outs ins → AreLinked n 1 lines in_lines → AreAllMade opening floor outs ins lines posts → in_lines ≡ row ∷ rest → AreOpened opening floor posts row
+opened_of opening floor outs ins lines in_lines posts n row rest long l m made er =
+    let first : row_at in_lines 0 ≡ row = ap (λ t. row_at t 0) er in
+    let ring : (i j : ℕ) (a b : PostView) → slice_get posts i ≡ Some a → slice_get posts j ≡ Some b → HasRing a b =
+    λ i j a b ha hb.
+    (let x = made.made i a ha in
+    let y = made.made j b hb in
+    ap (λ t. ring_at t b.number) x.outs_are
+    ∙ (ap (ring_at (row_at outs i)) y.number
+    ∙ (ap (option_map (λ (e : End Parcel). e.ring)) (l.linked i j)
+    ∙ (ap (ring_at (row_at ins j)) (sym x.number) ∙ ap (λ t. ring_at t a.number) (sym y.ins_are))))) in
+    record {
+      count = made.count;
+      order = λ p post at. ((made.made p post at).number, ap length ((made.made p post at).opened) ∙ sym made.count);
+      generation = λ i j a b ha hb. ((made.made i a ha).opened ∙ sym ((made.made j b hb).opened), ring i j a b ha hb, ring j i b a hb ha);
+      each = λ p post at. ((made.made p post at).opens, (made.made p post at).opened);
+      begun = λ p post at. (made.made p post at).begun;
+      line_count = ap length (sym first) ∙ (m.in_count 0 (omega arith) ∙ long);
+      lined = λ p post at.
+          let x = made.made p post at in
+          ap (λ t. ring_at t 0) x.line_is
+          ∙ (ap (option_map (λ (e : End Event). e.ring)) (m.linked p 0)
+          ∙ (ap (λ t. ring_at t p) first ∙ ap (ring_at row) (sym x.number)));
+      fresh = λ p. ap (λ t. items_at t p) (sym first) ∙ (ap items_of (sym (m.linked p 0)) ∙ m.fresh p 0);
+    }
+
+pub no_rounds_fresh : (n : ℕ) → ArePlain (replicate n fresh)
+no_rounds_fresh n p = ap rounds_checked (tape_start n p)
+
+-- the collector of a fleet has the other ends of its report lines
+pub fleet_lined : (v : CollectorView) (opening processes : List Process) (marks : MarksView) (lines : List (End Event)) (posts : List PostView)
+    → v ≡ collector_of opening processes marks lines → AreOpened opening 0 posts lines → IsGeneration posts × AreLined v posts
+fleet_lined v opening processes marks lines posts e o = (o.generation, rw e (λ i post at. ((o.each i post at).1, o.lined i post at)))

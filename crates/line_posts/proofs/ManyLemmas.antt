@@ -1,0 +1,83 @@
+-- Several reports at once.
+use Rattle.std.proofs.Common.{zero, suc, add-one, ◌≡◌, ◌∙◌, ◌+◌, ◌≤◌, ◌++◌, ◌∷◌, [], ℕ, List, Some, length, take, drop, refl, sym, ap, arith}
+use Rattle.std.specs.Prelude.{slice_get}
+use Rattle.std.proofs.lemmas.List.{append_assoc, append-nil, length-append, length-drop, length-take-le}
+use Rattle.line_tape.specs.declared.events.Event.{Event}
+use Rattle.line_rings.specs.Ends.{End}
+use Rattle.line_posts.specs.Posts.{opening_tape, told_count, IsPost, PostView}
+use Rattle.line_posts.specs.Reports.{with_items}
+
+at_drop : {X : Type 0} (xs : List X) (from i j : ℕ) (e : X) → j ≡ from + i → slice_get xs j ≡ Some e → slice_get (drop from xs) i ≡ Some e
+at_drop [] zero i j e is at = cc at
+at_drop [] (suc from) i j e is at = cc at
+at_drop (x ∷ xs) zero i j e is at = (let s : i ≡ j = omega (arith, is) in ap (slice_get (x ∷ xs)) s ∙ at)
+at_drop (x ∷ xs) (suc from) i zero e is at = absurd (omega (arith, is))
+at_drop (x ∷ xs) (suc from) i (suc j) e is at = at_drop xs from i j e (omega (arith, is)) at
+
+take_more : {X : Type 0} (xs : List X) (i : ℕ) (e : X) → slice_get xs i ≡ Some e → take (suc i) xs ≡ take i xs ++ e ∷ []
+take_more [] i e h = cc h
+take_more (x ∷ xs) zero e h = cc h
+take_more (x ∷ xs) (suc i) e h = ap (λ (t : List _). x ∷ t) (take_more xs i e h)
+
+-- one copy more
+pub copied_more : {X : Type 0} (xs done new : List X) (from i : ℕ) (e : X) → done ≡ take i (drop from xs) → slice_get xs (from + i) ≡ Some e → new ≡ done ++ e ∷ [] → new ≡ take (i + 1) (drop from xs)
+copied_more xs done new from i e is at more =
+    let there : slice_get (drop from xs) i ≡ Some e = at_drop xs from i (from + i) e refl at in
+    more ∙ (ap (λ t. t ++ e ∷ []) is ∙ (sym (take_more (drop from xs) i e there) ∙ ap (λ v. take v (drop from xs)) (sym (add-one i))))
+
+-- one put more
+pub put_more : {T : Type 0} (a b all : List T) (x : T) (rest rest' : List T) → a ++ rest ≡ all → rest ≡ x ∷ rest' → b ≡ a ++ x ∷ [] → b ++ rest' ≡ all
+put_more a b all x rest rest' is first more = ap (λ t. t ++ rest') more ∙ (append_assoc a (x ∷ []) rest' ∙ (ap (λ t. a ++ t) (sym first) ∙ is))
+
+pub end_is : {T : Type 0} (a b : End T) (items rest : List T) → a.ring ≡ b.ring → a.items ++ rest ≡ b.items ++ items → length rest ≡ 0 → a ≡ with_items b items
+end_is a b items [] r i l = ap (λ (v : List _). let x : End _ = record { ring = a.ring; items = v } in x) (sym (append-nil a.items) ∙ i) ∙ ap (λ v. let x : End _ = record { ring = v; items = b.items ++ items } in x) r
+end_is a b items (x ∷ rest) r i l = absurd (omega (arith, l))
+
+take-drop : {X : Type 0} (k : ℕ) (xs : List X) → take k xs ++ drop k xs ≡ xs
+take-drop zero [] = refl
+take-drop zero (x ∷ xs) = refl
+take-drop (suc k) [] = refl
+take-drop (suc k) (x ∷ xs) = ap (λ t. x ∷ t) (take-drop k xs)
+
+drop_front : {X : Type 0} (xs rest : List X) (n : ℕ) → n ≡ length xs → drop n (xs ++ rest) ≡ rest
+drop_front [] rest zero e = refl
+drop_front [] rest (suc n) e = absurd (omega (arith, e))
+drop_front (x ∷ xs) rest zero e = absurd (omega (arith, e))
+drop_front (x ∷ xs) rest (suc n) e = drop_front xs rest n (omega (arith, e))
+
+-- no more is told than there is
+pub told_within : (post : PostView) → IsPost post → told_count post ≤ length post.tape
+told_within post h =
+    let (rest, is) = h.told in
+    let a = ap length is in
+    let b = length-append (opening_tape post ++ post.line.items) rest in
+    let d = length-append (opening_tape post) post.line.items in
+    omega (arith, a, b, d)
+
+pub told_more : (post : PostView) (k : ℕ) → IsPost post → told_count post + k ≤ length post.tape → length (take k (drop (told_count post) post.tape)) ≡ k
+told_more post k h le = (let l = length-drop (told_count post) post.tape in length-take-le k (drop (told_count post) post.tape) (omega (arith, l, le)))
+
+pub tell_all : (post : PostView) (k : ℕ) (line : End Event) → IsPost post → line ≡ with_items post.line (take k (drop (told_count post) post.tape)) → IsPost (record post { line = line })
+tell_all post k line h el =
+    let O = opening_tape post in
+    let L = post.line.items in
+    let (rest, is) = h.told in
+    let long : told_count post ≡ length (O ++ L) = sym (length-append O L) in
+    let new = take k (drop (told_count post) post.tape) in
+    let left : drop (told_count post) post.tape ≡ rest = ap (drop (told_count post)) is ∙ drop_front (O ++ L) rest (told_count post) long in
+    let split : rest ≡ new ++ drop k rest = sym (take-drop k rest) ∙ ap (λ t. take k t ++ drop k rest) (sym left) in
+    rw el (record {
+      within = h.within;
+      out_count = h.out_count;
+      in_count = h.in_count;
+      kept_count = h.kept_count;
+      named = h.named;
+      told = (drop k rest, is ∙ (ap (λ t. (O ++ L) ++ t) split ∙ (sym (append_assoc (O ++ L) new (drop k rest)) ∙ ap (λ t. t ++ drop k rest) (append_assoc O L new))));
+      sends_are = h.sends_are;
+      receipts_are = h.receipts_are;
+      replays = h.replays;
+      alone = h.alone;
+      present = h.present;
+      rounds = h.rounds;
+      marks = h.marks;
+    })

@@ -1,0 +1,117 @@
+-- Taking a message keeps what holds of a worker.
+use Rattle.std.proofs.Common.{cond, ◌≡◌, ◌≢◌, ◌∙◌, ◌<◌, ◌++◌, ◌∷◌, [], ℕ, List, Option, Some, None, length, map, set, get_or, drop, refl, sym, ap, inl, inr, arith}
+use Rattle.std.proofs.lemmas.Bool.{cases_eq, eq-eqb, ne_eqb}
+use Rattle.std.proofs.lemmas.List.{append-nil, map-set, get_or-set_same, get_or-set_other, length-set, length-map}
+use Rattle.line_rings.specs.Ends.{row_at}
+use Rattle.line_rings.proofs.RowLemmas.{row_seen}
+use Rattle.std.specs.List.{filter_map}
+use Rattle.line_rings.specs.Ends.{End, items_at, with_item}
+use Rattle.line_rings.proofs.EndLemmas.{length_item, items_same, items_other}
+use Rattle.line_marker.specs.Recording.{Recorded}
+use Rattle.line_tape.specs.declared.events.Event.{Event}
+use Rattle.line_tape.specs.declared.events.Event.TheVariants.{Recv}
+use Rattle.line_tape.specs.declared.items.Item.{Item}
+use Rattle.line_tape.specs.declared.items.Item.TheVariants.{Message as item_message}
+use Rattle.line_tape.specs.Fit.{item_received}
+use Rattle.line_posts.specs.declared.parcels.Letter.{Letter}
+use Rattle.line_posts.specs.declared.parcels.Parcel.{Parcel}
+use Rattle.line_posts.specs.declared.parcels.Parcel.TheVariants.{Message}
+use Rattle.line_posts.specs.Parcels.{items_of_letters, letter_name}
+use Rattle.line_posts.specs.Posts.{IsPost, PostView}
+use Rattle.line_posts.specs.Receipts.{without_first}
+use Rattle.line_posts.proofs.StepLemmas.{IsStep, post_step}
+
+pub pop_row : {X Y : Type 0} (f : X → List Y) (xs : List X) (p : ℕ) (old new : X) (x : Y) → p < length xs → old ≡ get_or xs p old → f old ≡ x ∷ f new
+    → (row_at (map f xs) p ≡ x ∷ row_at (map f (set xs p new)) p) × (map f (set xs p new) ≡ without_first (map f xs) p)
+pop_row f xs p old new x lt at is =
+    let row : row_at (map f xs) p ≡ x ∷ f new = row_seen f xs p old lt ∙ (ap f (sym at) ∙ is) in
+    let put : map f (set xs p new) ≡ set (map f xs) p (f new) = map-set f xs p new in
+    let l = length-map xs f in
+    let back : row_at (map f (set xs p new)) p ≡ f new = ap (λ t. row_at t p) put ∙ get_or-set_same (map f xs) p (f new) [] (omega (arith, lt, l)) in
+    (row ∙ ap (λ t. x ∷ t) (sym back), put ∙ ap (λ t. set (map f xs) p t) (sym (ap (drop 1) row)))
+
+-- what a receipt of a letter from process `from` takes from p
+got_here : (p from : ℕ) (letter : Letter) → p ≡ from → filter_map (item_received p) (Recv (letter_name from letter) ∷ []) ≡ item_message (letter_name p letter) ∷ []
+got_here p from letter e =
+    ap (λ b. filter_map (λ (o : Option Item). o) (cond b (Some (item_message (letter_name from letter))) None ∷ [])) (eq-eqb from p (sym e)) ∙ ap (λ x. item_message (letter_name x letter) ∷ []) (sym e)
+
+got_apart : (p from : ℕ) (letter : Letter) → (p ≡ from → ⊥) → filter_map (item_received p) (Recv (letter_name from letter) ∷ []) ≡ []
+got_apart p from letter ne =
+    ap (λ b. filter_map (λ (o : Option Item). o) (cond b (Some (item_message (letter_name from letter))) None ∷ [])) (ne_eqb from p (λ e. ne (sym e)))
+
+-- the next of the ring, where no replay is kept
+pub next_step : (post : PostView) (from : ℕ) (letter : Letter) → IsPost post → from < length post.opening → from ≢ post.number → row_at post.kept from ≡ []
+    → IsStep post (Recv (letter_name from letter)) post.kept post.outs (with_item post.ins from (Message letter))
+next_step post from letter h lt ne bare =
+    let c = h.in_count in
+    record {
+      out_count = refl;
+      in_count = length_item post.ins from (Message letter);
+      kept_count = refl;
+      put = λ q within other. sym (append-nil (items_at post.outs q));
+      got = λ p. elim (cases_eq p from) [
+        | inl e ↦ (
+          Message letter ∷ [],
+          items_same post.ins from p (Message letter) (omega (arith, lt, c)) e,
+          ap (λ t. items_of_letters p t ++ item_message (letter_name p letter) ∷ []) (ap (row_at post.kept) e ∙ bare)
+              ∙ (sym (append-nil (item_message (letter_name p letter) ∷ []))
+              ∙ (ap (λ t. (item_message (letter_name p letter) ∷ []) ++ items_of_letters p t) (sym (ap (row_at post.kept) e ∙ bare))
+              ∙ ap (λ t. t ++ items_of_letters p (row_at post.kept p)) (sym (got_here p from letter e)))),
+        )
+        | inr apart ↦ (
+          [],
+          items_other post.ins from p (Message letter) apart ∙ sym (append-nil (items_at post.ins p)),
+          append-nil (items_of_letters p (row_at post.kept p)) ∙ ap (λ t. t ++ items_of_letters p (row_at post.kept p)) (sym (got_apart p from letter apart)),
+        )
+      ];
+      replays = λ p. elim (cases_eq p from) [
+        | inl e ↦ inl (ap (row_at post.kept) e ∙ bare)
+        | inr apart ↦ elim (h.replays p) [ inl none ↦ inl none | inr none ↦ inr (items_other post.ins from p (Message letter) apart ∙ none) ]
+      ];
+      alone = items_other post.ins from post.number (Message letter) (λ e. ne (sym e)) ∙ h.alone;
+      named = lt;
+      present = λ inc e. cc e;
+      rounds = λ r e. cc e;
+      marks = λ f r e. cc e;
+    }
+
+-- the first of the replays
+pub replay_step : (post : PostView) (from : ℕ) (letter : Letter) (rest : List Letter) → IsPost post → from < length post.opening → row_at post.kept from ≡ letter ∷ rest
+    → IsStep post (Recv (letter_name from letter)) (without_first post.kept from) post.outs post.ins
+replay_step post from letter rest h lt first =
+    let c = h.kept_count in
+    let left : row_at (without_first post.kept from) from ≡ rest = get_or-set_same post.kept from (drop 1 (row_at post.kept from)) [] (omega (arith, lt, c)) ∙ ap (drop 1) first in
+    record {
+      out_count = refl;
+      in_count = refl;
+      kept_count = length-set post.kept from (drop 1 (row_at post.kept from));
+      put = λ q within other. sym (append-nil (items_at post.outs q));
+      got = λ p. (
+        [],
+        sym (append-nil (items_at post.ins p)),
+        append-nil (items_of_letters p (row_at post.kept p)) ∙ elim (cases_eq p from) [
+          | inl e ↦ ap (λ t. items_of_letters p t) (ap (row_at post.kept) e ∙ first)
+              ∙ (ap (λ t. (item_message (letter_name p letter) ∷ []) ++ items_of_letters p t) (sym (ap (row_at (without_first post.kept from)) e ∙ left))
+              ∙ ap (λ t. t ++ items_of_letters p (row_at (without_first post.kept from) p)) (sym (got_here p from letter e)))
+          | inr apart ↦ ap (λ t. items_of_letters p t) (sym (get_or-set_other post.kept from p (drop 1 (row_at post.kept from)) [] apart))
+              ∙ ap (λ t. t ++ items_of_letters p (row_at (without_first post.kept from) p)) (sym (got_apart p from letter apart))
+        ],
+      );
+      replays = λ p. elim (cases_eq p from) [
+        | inl e ↦ elim (h.replays p) [ inl none ↦ (let s = ap (row_at post.kept) e ∙ first in cc (none, s)) | inr none ↦ inr none ]
+        | inr apart ↦ elim (h.replays p) [ inl none ↦ inl (get_or-set_other post.kept from p (drop 1 (row_at post.kept from)) [] apart ∙ none) | inr none ↦ inr none ]
+      ];
+      alone = h.alone;
+      named = lt;
+      present = λ inc e. cc e;
+      rounds = λ r e. cc e;
+      marks = λ f r e. cc e;
+    }
+
+pub next_keeps : (post : PostView) (from : ℕ) (letter : Letter) (tape : List Event) (ins : List (End Parcel)) (floor : ℕ) (rounds : List Recorded) → IsPost post → from < length post.opening → from ≢ post.number → row_at post.kept from ≡ []
+    → tape ≡ post.tape ++ Recv (letter_name from letter) ∷ [] → ins ≡ with_item post.ins from (Message letter) → IsPost (record post { tape = tape; ins = ins; floor = floor; rounds = rounds })
+next_keeps post from letter tape ins floor rounds h lt ne bare et ei = rw (et, ei) (post_step post _ _ _ _ floor rounds h (next_step post from letter h lt ne bare))
+
+pub replay_keeps : (post : PostView) (from : ℕ) (letter : Letter) (rest : List Letter) (tape : List Event) (kept : List (List Letter)) (floor : ℕ) (rounds : List Recorded) → IsPost post → from < length post.opening → row_at post.kept from ≡ letter ∷ rest
+    → tape ≡ post.tape ++ Recv (letter_name from letter) ∷ [] → kept ≡ without_first post.kept from → IsPost (record post { tape = tape; kept = kept; floor = floor; rounds = rounds })
+replay_keeps post from letter rest tape kept floor rounds h lt first et ek = rw (et, ek) (post_step post _ _ _ _ floor rounds h (replay_step post from letter rest h lt first))

@@ -1,0 +1,119 @@
+-- What links hold where a generation begins, read off the tapes.
+use Rattle.std.proofs.Common.{add-one, cond, zero, suc, ◌≡◌, ◌∙◌, ◌+◌, ◌-◌, ◌++◌, ◌∷◌, [], ℕ, List, Option, Some, None, length, take, drop, refl, sym, ap, inl, inr, arith}
+use Rattle.std.specs.Prelude.{slice_get}
+use Rattle.std.specs.List.{filter_map, cons_option}
+use Rattle.std.proofs.lemmas.Bool.{cases_lt, eq-eqb, ne_eqb}
+use Rattle.std.proofs.lemmas.List.{length-append, length_push, get_or_past, get_or_push, get_or_append_left}
+use Rattle.std.proofs.lemmas.List.Elements.{filter_map-append}
+use Rattle.line_tape.specs.declared.events.Event.{Event}
+use Rattle.line_tape.specs.declared.events.Event.TheVariants.{Send, Check}
+use Rattle.line_tape.specs.Event.{sends, incarnation_of, incarnations_sent}
+use Rattle.line_tape.specs.Fit.{item_received, received}
+use Rattle.line_tape.specs.History.{Process}
+use Rattle.line_tape.specs.Rounds.{checked_round, rounds_checked}
+use Rattle.line_tape.proofs.LineLemmas.{tape_at-past}
+use Rattle.line_rings.specs.Ends.{row_at}
+use Rattle.line_posts.specs.declared.parcels.Letter.{Letter}
+use Rattle.line_posts.specs.declared.parcels.Parcel.TheVariants.{Message}
+use Rattle.line_posts.specs.Parcels.{parcels_of, parcels_sent}
+use Rattle.line_posts.specs.Openings.{parcels_left}
+use Rattle.line_posts.specs.Fleets.{AreReplays, AreReplaysBelow}
+use Rattle.line_posts.proofs.ParcelLemmas.{parcels_append}
+
+pub take_next : {X : Type 0} (xs : List X) (i : ℕ) (x : X) → slice_get xs i ≡ Some x → take (i + 1) xs ≡ take i xs ++ x ∷ []
+take_next xs i x e = rw (add-one i) (go xs i x e)
+  where
+    go : {X : Type 0} (xs : List X) (i : ℕ) (x : X) → slice_get xs i ≡ Some x → take (suc i) xs ≡ take i xs ++ x ∷ []
+    go [] i x e = cc e
+    go (y ∷ ys) zero x e = ap (λ t. t ∷ []) (cc e)
+    go (y ∷ ys) (suc i) x e = ap (λ t. y ∷ t) (go ys i x e)
+
+-- what is left of a list that grew
+pub drop_grown : {X : Type 0} (k : ℕ) (xs ys : List X) → drop k (xs ++ ys) ≡ drop k xs ++ drop (k - length xs) ys
+drop_grown zero xs ys = (let e : 0 ≡ 0 - length xs = omega arith in ap (λ n. xs ++ drop n ys) e)
+drop_grown (suc k) [] ys = (let e : suc k ≡ suc k - 0 = omega arith in ap (λ n. drop n ys) e)
+drop_grown (suc k) (x ∷ xs) ys = (let e : k - length xs ≡ suc k - suc (length xs) = omega arith in drop_grown k xs ys ∙ ap (λ n. drop k xs ++ drop n ys) e)
+
+-- what an event puts on the ring to q, where it is no round's check
+pub sent_to : (q k to inc : ℕ) (body : List ℕ) → to ≡ q → parcels_sent q k (Send to inc body ∷ []) ≡ Message (record { inc = inc; number = k; body = body }) ∷ []
+sent_to q k to inc body e = ap (λ b. cond b (Message (record { inc = inc; number = k; body = body }) ∷ []) []) (eq-eqb to q e)
+
+pub sent_past : (q k to inc : ℕ) (body : List ℕ) → (to ≡ q → ⊥) → parcels_sent q k (Send to inc body ∷ []) ≡ []
+sent_past q k to inc body ne = ap (λ b. cond b (Message (record { inc = inc; number = k; body = body }) ∷ []) []) (ne_eqb to q ne)
+
+pub sent_none : (q k : ℕ) (state : List ℕ) (round : Option ℕ) → checked_round (Check state round) ≡ None → parcels_sent q k (Check state round ∷ []) ≡ []
+sent_none q k state None e = refl
+sent_none q k state (Some r) e = cc e
+
+-- one event further
+pub left_more : (q s : ℕ) (tape : List Event) (event : Event) (received received' : ℕ) (letters letters' : List Letter)
+    → received ≡ s - length (parcels_sent q 0 tape) → parcels_of letters ≡ drop s (parcels_sent q 0 tape)
+    → received' ≡ received - length (parcels_sent q (sends tape) (event ∷ [])) → parcels_of letters' ≡ parcels_of letters ++ drop received (parcels_sent q (sends tape) (event ∷ []))
+    → (received' ≡ s - length (parcels_sent q 0 (tape ++ event ∷ []))) × (parcels_of letters' ≡ drop s (parcels_sent q 0 (tape ++ event ∷ [])))
+left_more q s tape event received received' letters letters' er el nr nl =
+    let x = parcels_sent q (sends tape) (event ∷ []) in
+    let zero_on : 0 + sends tape ≡ sends tape = omega arith in
+    let all : parcels_sent q 0 (tape ++ event ∷ []) ≡ parcels_sent q 0 tape ++ x = parcels_append q 0 tape (event ∷ []) ∙ ap (λ n. parcels_sent q 0 tape ++ parcels_sent q n (event ∷ [])) zero_on in
+    let long = ap length all ∙ length-append (parcels_sent q 0 tape) x in (
+      omega (arith, er, nr, long),
+      nl ∙ (ap (λ t. t ++ drop received x) el ∙ (ap (λ n. drop s (parcels_sent q 0 tape) ++ drop n x) er ∙ (sym (drop_grown s (parcels_sent q 0 tape) x) ∙ ap (drop s) (sym all)))),
+    )
+
+pub left_at : (q s k i : ℕ) (all : List Event) (event : Event) (received received' : ℕ) (letters letters' : List Letter) → k ≡ sends (take i all) → slice_get all i ≡ Some event
+    → received ≡ s - length (parcels_sent q 0 (take i all)) → parcels_of letters ≡ drop s (parcels_sent q 0 (take i all))
+    → received' ≡ received - length (parcels_sent q k (event ∷ [])) → parcels_of letters' ≡ parcels_of letters ++ drop received (parcels_sent q k (event ∷ []))
+    → (received' ≡ s - length (parcels_sent q 0 (take (i + 1) all))) × (parcels_of letters' ≡ drop s (parcels_sent q 0 (take (i + 1) all)))
+left_at q s k i all event received received' letters letters' ek at er el nr nl =
+    rw (take_next all i event at)
+    (left_more q s (take i all) event received received' letters letters' er el
+    (nr ∙ ap (λ n. received - length (parcels_sent q n (event ∷ []))) ek)
+    (nl ∙ ap (λ n. parcels_of letters ++ drop received (parcels_sent q n (event ∷ []))) ek))
+
+pub sends_push : (tape : List Event) (event : Event) → sends (tape ++ event ∷ []) ≡ sends tape + sends (event ∷ [])
+sends_push tape event = ap length (filter_map-append incarnation_of tape (event ∷ [])) ∙ length-append (incarnations_sent tape) (incarnations_sent (event ∷ []))
+
+pub takes_push : (p : ℕ) (tape : List Event) (event : Event) → length (filter_map (item_received p) (tape ++ event ∷ [])) ≡ length (filter_map (item_received p) tape) + length (filter_map (item_received p) (event ∷ []))
+takes_push p tape event = ap length (filter_map-append (item_received p) tape (event ∷ [])) ∙ length-append (filter_map (item_received p) tape) (filter_map (item_received p) (event ∷ []))
+
+pub drop_none : {X : Type 0} (n : ℕ) → drop {A = X} n [] ≡ []
+drop_none zero = refl
+drop_none (suc n) = refl
+
+-- one sender further
+pub replays_more : (history : List Process) (q r : ℕ) (kept kept' : List (List Letter)) (letters : List Letter) → AreReplaysBelow r history q kept → parcels_of letters ≡ parcels_left history r q → kept' ≡ kept ++ letters ∷ [] → AreReplaysBelow (r + 1) history q kept'
+replays_more history q r kept kept' letters h e is = record {
+  count = ap length is ∙ (length_push kept letters ∙ ap (λ t. t + 1) h.count);
+  each = λ p lt. elim (cases_lt p r) [
+    | inl less ↦ (let c = h.count in ap (λ t. parcels_of (row_at t p)) is ∙ (ap parcels_of (get_or_append_left kept (letters ∷ []) [] p (omega (arith, less, c))) ∙ h.each p less))
+    | inr ge ↦ (let c = h.count in let same : r ≡ p = omega (arith, ge, lt) in ap (λ t. parcels_of (row_at t p)) is ∙ (ap parcels_of (get_or_push kept letters [] p (omega (arith, same, c))) ∙ (e ∙ ap (λ v. parcels_left history v q) same)))
+  ];
+}
+
+pub replays_all : (history : List Process) (q n : ℕ) (kept : List (List Letter)) → n ≡ length history → AreReplaysBelow n history q kept → AreReplays history q kept
+replays_all history q n kept long h = record {
+  count = h.count ∙ long;
+  each = λ p. elim (cases_lt p n) [
+    | inl lt ↦ h.each p lt
+    | inr past ↦
+        let c = h.count in
+        ap parcels_of (get_or_past kept p [] (omega (arith, past, c)))
+        ∙ (sym (drop_none (length (received history q p))) ∙ ap (λ t. drop (length (received history q p)) (parcels_sent q 0 t)) (sym (tape_at-past history p (omega (arith, past, long)))))
+  ];
+}
+
+some_same : {X : Type 0} (x y : X) → Some x ≡ Some y → x ≡ y
+some_same x y e = cc e
+
+first_none : {X : Type 0} (o : Option X) (xs : List X) → cons_option o xs ≡ [] → o ≡ None
+first_none None xs e = refl
+first_none (Some x) xs e = cc e
+
+rest_none : {X : Type 0} (o : Option X) (xs : List X) → cons_option o xs ≡ [] → xs ≡ []
+rest_none None xs e = e
+rest_none (Some x) xs e = cc e
+
+-- each event of a tape without rounds is no round's check
+pub plain_at : (tape : List Event) (i : ℕ) (event : Event) → rounds_checked tape ≡ [] → slice_get tape i ≡ Some event → checked_round event ≡ None
+plain_at [] i event e at = cc at
+plain_at (x ∷ xs) zero event e at = ap checked_round (sym (some_same x event at)) ∙ first_none (checked_round x) (rounds_checked xs) e
+plain_at (x ∷ xs) (suc i) event e at = plain_at xs i event (rest_none (checked_round x) (rounds_checked xs) e) at

@@ -1,0 +1,5 @@
+use Rattle.std.proofs.Common.{length}
+use Rattle.line_posts.proofs.accounts.+meet_all.Given as goal
+
+abbrev pub decreases-meet_all : goal.decreases-meet_all
+decreases-meet_all l = length l.posts.now.items

@@ -1,0 +1,162 @@
+use Rattle.std.proofs.Common.{◌≡◌, ◌∙◌, ◌++◌, ℕ, List, length, sym, ap, subst, arith}
+use Rattle.line_tape.specs.declared.events.Event.{Event}
+use Rattle.line_tape.specs.History.{Process, process_at, tape_at, incarnation_at}
+use Rattle.line_rings.specs.Ends.{in_ends, row_at}
+use Rattle.line_posts.specs.Posts.{PostView}
+use Rattle.line_posts.specs.Extension.{Extends}
+use Rattle.line_posts.specs.Collected.{collector_of, CollectorView}
+use Rattle.line_posts.specs.Generations.{own_history, AreLined}
+use Rattle.line_posts.specs.Gathering.{rows_of, AreFurtherBelow, AreReady}
+use Rattle.line_posts.proofs.OwnLemmas.{ready_of, way_of, gathered_of, begun_of, extends_of}
+use Rattle.line_posts.proofs.gathering.gather.Goals as goal
+
+added_process : List Process → ℕ → List (List Event) → Process
+added_process h p further = record { incarnation = incarnation_at h p; tape = tape_at h p ++ row_at further p }
+
+pub further_of_all-requires-clause-ready : goal.further_of_all-requires-clause-ready
+further_of_all-requires-clause-ready c =
+    let V = collector_of c.collector.inside.opening.value.processes c.collector.inside.catalogue.processes c.collector.inside.catalogue.marks (in_ends c.collector.inside.lines.items) in
+    let P = c.args.posts.items in
+    let lined = subst (λ (v : CollectorView). AreLined v P) (sym c.collector.view_is) c.requires.lines in
+    let t = c.if-not-account.false in
+    let known = c.account.ensures.known t in
+    let order = c.account.ensures.order.0 t in
+    let a = c.len.ensures in
+    let b = c.if-len-n.false in
+    let n = c.n-n.ensures.value in
+    let whole : length P ≡ length V.processes = (let k = c.args.posts.ok in omega (arith, a, b, n, k)) in
+    subst (λ (xs : List PostView). AreReady V.processes V.lines xs) (sym c.account.ensures.same) (ready_of V P c.collector.invariant lined known order whole)
+
+pub add_all-requires : goal.add_all-requires
+add_all-requires c =
+    let V = collector_of c.collector.inside.opening.value.processes c.collector.inside.catalogue.processes c.collector.inside.catalogue.marks (in_ends c.collector.inside.lines.items) in
+    let P = c.args.posts.items in
+    let lined = subst (λ (v : CollectorView). AreLined v P) (sym c.collector.view_is) c.requires.lines in
+    let t = c.if-not-account.false in
+    let known = c.account.ensures.known t in
+    let order = c.account.ensures.order.0 t in
+    let a = c.len.ensures in
+    let b = c.if-len-n.false in
+    let n = c.n-n.ensures.value in
+    let whole : length P ≡ length V.processes = (let k = c.args.posts.ok in omega (arith, a, b, n, k)) in
+    let fit = c.account.ensures.fit t in
+    let F = rows_of c.in-Ok.further.items in
+    let R = c.further_of_all.new.catalogue.rooms in
+    let more = subst (λ (xs : List PostView). AreFurtherBelow (length xs) c.args.failed V.processes R xs F) c.account.ensures.same c.in-Ok.ensures.further in
+    rw c.in-Ok.ensures.processes (record { way = way_of V P c.collector.invariant lined known order whole c.args.failed R F fit more })
+
+pub invariant_of-result : goal.invariant_of-result
+unfolding added_process
+invariant_of-result c =
+    let V = collector_of c.collector.inside.opening.value.processes c.collector.inside.catalogue.processes c.collector.inside.catalogue.marks (in_ends c.collector.inside.lines.items) in
+    let P = c.args.posts.items in
+    let lined = subst (λ (v : CollectorView). AreLined v P) (sym c.collector.view_is) c.requires.lines in
+    let t = c.if-not-account.false in
+    let known = c.account.ensures.known t in
+    let order = c.account.ensures.order.0 t in
+    let a = c.len.ensures in
+    let b = c.if-len-n.false in
+    let n = c.n-n.ensures.value in
+    let whole : length P ≡ length V.processes = (let k = c.args.posts.ok in omega (arith, a, b, n, k)) in
+    let fit = c.account.ensures.fit t in
+    let F = rows_of c.in-Ok.further.items in
+    let R = c.further_of_all.new.catalogue.rooms in
+    let more = subst (λ (xs : List PostView). AreFurtherBelow (length xs) c.args.failed V.processes R xs F) c.account.ensures.same c.in-Ok.ensures.further in
+    let G = c.add_all.new.catalogue.processes in
+    let long = c.add_all.ensures.count ∙ ap length c.in-Ok.ensures.processes in
+    let each : (p : ℕ) → process_at G p ≡ record { incarnation = incarnation_at V.processes p; tape = tape_at V.processes p ++ row_at F p } =
+    λ p. c.add_all.ensures.each p ∙ ap (λ (h : List Process). added_process h p F) c.in-Ok.ensures.processes in
+    (own_history P, fit, begun_of V P c.collector.invariant lined known order whole c.args.failed R F fit more G long each)
+
+pub returns-in-Ok-clause-gathered : goal.returns-in-Ok-clause-gathered
+unfolding added_process
+returns-in-Ok-clause-gathered c =
+    let V = collector_of c.collector.inside.opening.value.processes c.collector.inside.catalogue.processes c.collector.inside.catalogue.marks (in_ends c.collector.inside.lines.items) in
+    let P = c.args.posts.items in
+    let lined = subst (λ (v : CollectorView). AreLined v P) (sym c.collector.view_is) c.requires.lines in
+    let t = c.if-not-account.false in
+    let known = c.account.ensures.known t in
+    let order = c.account.ensures.order.0 t in
+    let a = c.len.ensures in
+    let b = c.if-len-n.false in
+    let n = c.n-n.ensures.value in
+    let whole : length P ≡ length V.processes = (let k = c.args.posts.ok in omega (arith, a, b, n, k)) in
+    let fit = c.account.ensures.fit t in
+    let F = rows_of c.in-Ok.further.items in
+    let R = c.further_of_all.new.catalogue.rooms in
+    let more = subst (λ (xs : List PostView). AreFurtherBelow (length xs) c.args.failed V.processes R xs F) c.account.ensures.same c.in-Ok.ensures.further in
+    let G = c.add_all.new.catalogue.processes in
+    let long = c.add_all.ensures.count ∙ ap length c.in-Ok.ensures.processes in
+    let each : (p : ℕ) → process_at G p ≡ record { incarnation = incarnation_at V.processes p; tape = tape_at V.processes p ++ row_at F p } =
+    λ p. c.add_all.ensures.each p ∙ ap (λ (h : List Process). added_process h p F) c.in-Ok.ensures.processes in
+    gathered_of V P c.collector.invariant lined known order whole c.args.failed R F fit more G long each
+
+pub returns-in-Ok-clause-begins : goal.returns-in-Ok-clause-begins
+unfolding added_process
+returns-in-Ok-clause-begins c =
+    let V = collector_of c.collector.inside.opening.value.processes c.collector.inside.catalogue.processes c.collector.inside.catalogue.marks (in_ends c.collector.inside.lines.items) in
+    let P = c.args.posts.items in
+    let lined = subst (λ (v : CollectorView). AreLined v P) (sym c.collector.view_is) c.requires.lines in
+    let t = c.if-not-account.false in
+    let known = c.account.ensures.known t in
+    let order = c.account.ensures.order.0 t in
+    let a = c.len.ensures in
+    let b = c.if-len-n.false in
+    let n = c.n-n.ensures.value in
+    let whole : length P ≡ length V.processes = (let k = c.args.posts.ok in omega (arith, a, b, n, k)) in
+    let fit = c.account.ensures.fit t in
+    let F = rows_of c.in-Ok.further.items in
+    let R = c.further_of_all.new.catalogue.rooms in
+    let more = subst (λ (xs : List PostView). AreFurtherBelow (length xs) c.args.failed V.processes R xs F) c.account.ensures.same c.in-Ok.ensures.further in
+    let G = c.add_all.new.catalogue.processes in
+    let long = c.add_all.ensures.count ∙ ap length c.in-Ok.ensures.processes in
+    let each : (p : ℕ) → process_at G p ≡ record { incarnation = incarnation_at V.processes p; tape = tape_at V.processes p ++ row_at F p } =
+    λ p. c.add_all.ensures.each p ∙ ap (λ (h : List Process). added_process h p F) c.in-Ok.ensures.processes in
+    begun_of V P c.collector.invariant lined known order whole c.args.failed R F fit more G long each
+
+pub returns-in-Ok-clause-onward : goal.returns-in-Ok-clause-onward
+unfolding added_process
+returns-in-Ok-clause-onward c =
+    let V = collector_of c.collector.inside.opening.value.processes c.collector.inside.catalogue.processes c.collector.inside.catalogue.marks (in_ends c.collector.inside.lines.items) in
+    let P = c.args.posts.items in
+    let lined = subst (λ (v : CollectorView). AreLined v P) (sym c.collector.view_is) c.requires.lines in
+    let t = c.if-not-account.false in
+    let known = c.account.ensures.known t in
+    let order = c.account.ensures.order.0 t in
+    let a = c.len.ensures in
+    let b = c.if-len-n.false in
+    let n = c.n-n.ensures.value in
+    let whole : length P ≡ length V.processes = (let k = c.args.posts.ok in omega (arith, a, b, n, k)) in
+    let fit = c.account.ensures.fit t in
+    let F = rows_of c.in-Ok.further.items in
+    let R = c.further_of_all.new.catalogue.rooms in
+    let more = subst (λ (xs : List PostView). AreFurtherBelow (length xs) c.args.failed V.processes R xs F) c.account.ensures.same c.in-Ok.ensures.further in
+    let G = c.add_all.new.catalogue.processes in
+    let long = c.add_all.ensures.count ∙ ap length c.in-Ok.ensures.processes in
+    let each : (p : ℕ) → process_at G p ≡ record { incarnation = incarnation_at V.processes p; tape = tape_at V.processes p ++ row_at F p } =
+    λ p. c.add_all.ensures.each p ∙ ap (λ (h : List Process). added_process h p F) c.in-Ok.ensures.processes in
+    subst (λ (v : CollectorView). Extends G v.processes) c.collector.view_is (extends_of V P c.collector.invariant lined known order whole c.args.failed R F fit more G long each)
+
+pub returns-in-Ok-clause-may : goal.returns-in-Ok-clause-may
+returns-in-Ok-clause-may c =
+    let t = c.if-not-account.false in
+    let a = c.len.ensures in
+    let b = c.if-len-n.false in
+    let n = c.n-n.ensures.value in
+    let k = c.args.posts.ok in
+    let o = ap (λ (v : CollectorView). length v.opening) c.collector.view_is in
+    let m = c.collector.invariant.count in (
+      λ q is. (let below = c.is_below.ensures.0 c.if-not-is_below.false q is in omega (arith, below, n, o, m)),
+      (omega (arith, a, b, n, k, o, m), c.account.ensures.order.0 t),
+    )
+
+pub returns-in-Err-clause-unfinished : goal.returns-in-Err-clause-unfinished
+returns-in-Err-clause-unfinished c =
+    let t = c.if-not-account.false in
+    let a = c.len.ensures in
+    let b = c.if-len-n.false in
+    let n = c.n-n.ensures.value in
+    let k = c.args.posts.ok in
+    let o = ap (λ (v : CollectorView). length v.opening) c.collector.view_is in
+    let m = c.collector.invariant.count in
+    (λ e. cc e, λ h. absurd (h.1 (omega (arith, a, b, n, k, o, m), c.account.ensures.order.0 t)))

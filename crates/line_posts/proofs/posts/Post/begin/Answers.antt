@@ -1,0 +1,16 @@
+use Rattle.std.proofs.Common.{◌∙◌, ◌+◌, arith}
+use Rattle.line_posts.proofs.MarkerLemmas.{check_keeps}
+use Rattle.line_posts.proofs.posts.Post.begin.Goals as goal
+
+pub invariant_of-self-2 : goal.invariant_of-self-2
+invariant_of-self-2 c =
+    let (h, inc, told, n, me_is) = c.self.invariant in
+    let pushed = c.begin.ensures.tape in
+    let same = c.reserve.ensures.tape in
+    let kept = c.reserve.ensures.same in
+    let begun = c.begin.ensures.same in
+    let put = c.push_markers.ensures in
+    let ends = c.has_room.ensures.ends in
+    let me = c.get-2.ensures.value in
+    let none = c.latest-last.ensures.later (c.latest-last.result + 1) (omega arith) in
+    (check_keeps _ c.args.state (c.latest-last.result + 1) _ _ _ _ h none (cc (pushed, same)) (cc (put, ends, me)), inc, told, begun.n_is ∙ (kept.n_is ∙ n), begun.me_is ∙ (kept.me_is ∙ me_is))

@@ -1,0 +1,7 @@
+use Rattle.std.proofs.Common.{◌∙◌, Some, ap, sym}
+use Rattle.line_posts.proofs.ManyLemmas.{copied_more}
+use Rattle.line_posts.proofs.reports.copies.Goals as goal
+
+pub loop-i-preserved : goal.loop-i-preserved
+loop-i-preserved c =
+    copied_more c.args.tape.now.events _ _ c.args.from c.loop-i.i c.in_ok-event.event c.loop-i.invariant (c.event.ensures ∙ ap (λ e. Some e) (sym c.in_ok-event.ensures)) c.in_ok-push_back.ensures.items

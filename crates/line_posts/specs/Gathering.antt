@@ -1,0 +1,93 @@
+-- How what the workers did is gathered, step by step.
+use Rattle.std.specs.Prelude.{◌≡◌, ◌<◌, ◌≤◌, ℕ, List, ◌++◌, length, map, slice_get}
+use Rattle.std.specs.Prelude.{slice_index_or, Bool, Some}
+use Rattle.std.specs.VecDeque.{deque_items}
+use Rattle.std.specs.declared.collections.VecDeque.{VecDeque}
+use Rattle.std.specs.declared.alloc.Global.{Global}
+use Rattle.line_names.specs.Sets.{is_member}
+use Rattle.line_tape.specs.declared.events.Event.{Event}
+use Rattle.line_tape.specs.Event.{sends, Holds}
+use Rattle.line_tape.specs.Fit.{IsFitFifo}
+use Rattle.line_tape.specs.History.{Process, process_at, tape_at, incarnation_at, IsProcess, IsTape}
+use Rattle.line_rings.specs.Ends.{End, items_at, ring_at, row_at}
+use Rattle.line_posts.specs.declared.parcels.Parcel.{Parcel}
+use Rattle.line_posts.specs.Gathered.{gathered_tape}
+use Rattle.line_posts.specs.Posts.{PostView, IsPost, opening_tape}
+
+-- what holds of each of them at any time
+abbrev pub AreKnown : List PostView → Type 0
+AreKnown posts = (p : ℕ) (post : PostView) → slice_get posts p ≡ Some post
+    → IsPost post × IsTape post.tape
+
+-- and each is in its place
+pub record AreAll (posts : List PostView) : Type 0 where
+  pub each : (p : ℕ) (post : PostView) → slice_get posts p ≡ Some post
+      → IsPost post × (post.number ≡ p) × (length post.opening ≡ length posts)
+
+-- what the second popped of the first begins what the first pushed to it
+abbrev pub AreMetTwo : PostView → PostView → Type 0
+AreMetTwo from to =
+    (rest : List Parcel) × (items_at to.ins from.number ++ rest ≡ items_at from.outs to.number)
+
+-- for each two
+abbrev pub AreMet : List PostView → Type 0
+AreMet posts = (i j : ℕ) (from to : PostView) → slice_get posts i ≡ Some from
+    → slice_get posts j ≡ Some to → AreMetTwo from to
+
+-- of each process: the gathered tape begins its own, and what it sent later than that it sent under
+-- its present incarnation
+pub record IsBetween (gathered own : List Process) : Type 0 where
+  pub incarnation : (p : ℕ) → incarnation_at gathered p ≡ incarnation_at own p
+  pub begins : (p : ℕ) → (lost : List Event) × (tape_at own p ≡ tape_at gathered p ++ lost)
+  pub present : (p k inc : ℕ) → sends (tape_at gathered p) ≤ k → Holds (tape_at own p) inc k
+      → inc ≡ incarnation_at own p
+
+-- the items of each queue
+abbrev pub rows_of : {X : Type 0} → List (VecDeque X Global) → List (List X)
+rows_of queues = map deque_items queues
+
+-- a worker at its place, with what the collector has of it
+pub record IsReady (processes : List Process) (lines : List (End Event)) (p : ℕ) (post : PostView)
+    : Type 0 where
+  pub number : post.number ≡ p
+  pub is : IsPost post
+  pub within : p < length lines
+  pub ring : Some post.line.ring ≡ ring_at lines p
+  pub seen : tape_at processes p ≡ opening_tape post ++ items_at lines p
+
+-- each of them
+abbrev pub AreReady : List Process → List (End Event) → List PostView → Type 0
+AreReady processes lines posts = (p : ℕ) (post : PostView) → slice_get posts p ≡ Some post
+    → IsReady processes lines p post
+
+-- events that each process may have next, one after another: with them the history is between what
+-- it is and an own one that fits
+pub record MayTake (history : List Process) (further : List (List Event)) (own : List Process)
+    : Type 0 where
+  pub count : length further ≡ length history
+  pub fit : IsFitFifo own
+  pub limits : (p : ℕ) → IsProcess (length history) (process_at own p)
+  pub incarnations : (p : ℕ) → incarnation_at history p ≡ incarnation_at own p
+  pub begins : (p : ℕ) → (lost : List Event)
+      × (tape_at own p ≡ (tape_at history p ++ row_at further p) ++ lost)
+  pub present : (p k inc : ℕ) → sends (tape_at history p) ≤ k → Holds (tape_at own p) inc k
+      → inc ≡ incarnation_at own p
+
+-- the same tapes in the end, and room for all that is still to come
+pub record IsOnWay (old : List Process) (old_further : List (List Event)) (history : List Process)
+    (rooms : List ℕ) (further : List (List Event)) : Type 0 where
+  pub own : List Process
+  pub may : MayTake history further own
+  pub long : length history ≡ length old
+  pub incarnation : (p : ℕ) → incarnation_at history p ≡ incarnation_at old p
+  pub same : (p : ℕ)
+      → tape_at history p ++ row_at further p ≡ tape_at old p ++ row_at old_further p
+  pub room : (p : ℕ) → length (row_at further p) ≤ slice_index_or rooms p 0
+
+-- the further events of the first n workers, with room for them
+pub record AreFurtherBelow (n : ℕ) (failed : List Bool) (processes : List Process) (rooms : List ℕ)
+    (posts : List PostView) (further : List (List Event)) : Type 0 where
+  pub count : length further ≡ n
+  pub each : (p : ℕ) (post : PostView) → p < n → slice_get posts p ≡ Some post
+      → tape_at processes p ++ row_at further p ≡ gathered_tape (is_member failed p) post
+  pub room : (p : ℕ) → p < n → length (row_at further p) ≤ slice_index_or rooms p 0

@@ -1,0 +1,13 @@
+pub mod Parcels
+pub mod Posts
+pub mod Receipts
+pub mod Markers
+pub mod Reports
+pub mod Refusals
+pub mod Extension
+pub mod Collected
+pub mod Generations
+pub mod Openings
+pub mod Fleets
+pub mod Gathered
+pub mod Gathering

@@ -1,0 +1,51 @@
+-- Rounds at a worker (Chandy and Lamport, ACM TOCS 3(1), 1985): markers go out with its check.
+use Rattle.std.specs.Prelude.{ℕ, zero, suc, List, [], ◌∷◌, ◌++◌, length, Some}
+use Rattle.line_marker.specs.Recording.{Recorded}
+use Rattle.line_tape.specs.declared.events.Event.{Event}
+use Rattle.line_tape.specs.declared.events.Event.TheVariants.{Check, Mark}
+use Rattle.line_rings.specs.Ends.{End, with_item}
+use Rattle.line_journals.specs.Journals.{rounds_by}
+use Rattle.line_posts.specs.declared.parcels.Parcel.TheVariants.{Marker}
+use Rattle.line_posts.specs.Posts.{PostView}
+
+-- an end after one more item
+abbrev pub and_item : {T : Type 0} → End T → T → End T
+and_item e item = record e { items = e.items ++ item ∷ [] }
+
+-- the first k of these ends, each after one more item
+abbrev pub with_first : {T : Type 0} → List (End T) → ℕ → T → List (End T)
+with_first [] k item = []
+with_first (e ∷ es) zero item = e ∷ es
+with_first (e ∷ es) (suc k) item = and_item e item ∷ with_first es k item
+
+-- the first k of these ends but the one at `me`, each after one more item
+abbrev pub with_others_below : {T : Type 0} → List (End T) → ℕ → ℕ → T → List (End T)
+with_others_below [] me k item = []
+with_others_below (e ∷ es) me zero item = e ∷ es
+with_others_below (e ∷ es) zero (suc k) item = e ∷ with_first es k item
+with_others_below (e ∷ es) (suc me) (suc k) item = and_item e item ∷ with_others_below es me k item
+
+-- each but the one at `me`
+abbrev pub with_others : {T : Type 0} → List (End T) → ℕ → T → List (End T)
+with_others ends me item = with_others_below ends me (length ends) item
+
+-- what a worker has recorded of rounds after an event
+abbrev pub recorded_by : PostView → Event → List Recorded
+recorded_by post event = rounds_by (length post.opening) post.floor post.rounds event
+
+-- the worker after its check of a round: the state is on its tape, and the marker on its ring to
+-- each other
+abbrev pub checked_by : PostView → List ℕ → ℕ → PostView
+checked_by post state round = record post {
+  tape = post.tape ++ Check state (Some round) ∷ [];
+  outs = with_others post.outs post.number (Marker round);
+  rounds = recorded_by post (Check state (Some round));
+}
+
+-- the worker after the marker of a round from a process
+abbrev pub marked_by : PostView → ℕ → ℕ → PostView
+marked_by post from round = record post {
+  tape = post.tape ++ Mark from round ∷ [];
+  ins = with_item post.ins from (Marker round);
+  rounds = recorded_by post (Mark from round);
+}

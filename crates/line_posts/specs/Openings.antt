@@ -1,0 +1,52 @@
+-- How a generation begins, from any history that links in order can lead to.
+use Rattle.std.specs.Prelude.{◌≡◌, ◌<◌, ℕ, List, [], length, drop, slice_get, Some}
+use Rattle.line_tape.specs.declared.events.Event.{Event}
+use Rattle.line_tape.specs.Fit.{received}
+use Rattle.line_tape.specs.History.{Process, tape_at}
+use Rattle.line_tape.specs.Rounds.{rounds_checked}
+use Rattle.line_rings.specs.Ends.{AreFresh, End, ring_at, row_at}
+use Rattle.line_posts.specs.declared.parcels.Parcel.{Parcel}
+use Rattle.line_posts.specs.Generations.{AreInOrder, IsGeneration}
+use Rattle.line_posts.specs.Parcels.{parcels_of, parcels_sent}
+use Rattle.line_posts.specs.Posts.{PostView}
+
+-- no check of any round
+abbrev pub ArePlain : List Process → Type 0
+ArePlain history = (p : ℕ) → rounds_checked (tape_at history p) ≡ []
+
+-- what the link from process p to q holds, bodies included: what was sent and is not received
+abbrev pub parcels_left : List Process → ℕ → ℕ → List Parcel
+parcels_left history p q =
+    drop (length (received history q p)) (parcels_sent q 0 (tape_at history p))
+
+-- its tape is the opening one, nothing has passed its rings and its report line, and it keeps what
+-- the links to it hold
+pub record IsOpening (post : PostView) : Type 0 where
+  pub within : post.number < length post.opening
+  pub out_count : length post.outs ≡ length post.opening
+  pub in_count : length post.ins ≡ length post.opening
+  pub kept_count : length post.kept ≡ length post.opening
+  pub tape : post.tape ≡ tape_at post.opening post.number
+  pub outs : AreFresh post.outs
+  pub ins : AreFresh post.ins
+  pub line : post.line.items ≡ []
+  pub kept : (p : ℕ) → parcels_of (row_at post.kept p) ≡ parcels_left post.opening p post.number
+
+-- rounds up to the floor are old, and no round is recorded yet
+abbrev pub HasBegun : ℕ → PostView → Type 0
+HasBegun floor post = (post.floor ≡ floor) × (post.rounds ≡ [])
+
+-- workers that begin a generation with this history and this floor, and the other ends of their
+-- report lines
+pub record AreOpened (opening : List Process) (floor : ℕ) (posts : List PostView)
+    (lines : List (End Event)) : Type 0 where
+  pub count : length posts ≡ length opening
+  pub order : AreInOrder posts
+  pub generation : IsGeneration posts
+  pub each : (p : ℕ) (post : PostView) → slice_get posts p ≡ Some post
+      → IsOpening post × (post.opening ≡ opening)
+  pub begun : (p : ℕ) (post : PostView) → slice_get posts p ≡ Some post → HasBegun floor post
+  pub line_count : length lines ≡ length opening
+  pub lined : (p : ℕ) (post : PostView) → slice_get posts p ≡ Some post
+      → Some post.line.ring ≡ ring_at lines post.number
+  pub fresh : AreFresh lines

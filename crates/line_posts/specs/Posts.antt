@@ -1,0 +1,103 @@
+-- What contracts see of a worker, and what holds of it through a generation.
+use Rattle.std.specs.Prelude.{◌≡◌, ◌≢◌, ◌<◌, ◌≤◌, ◌⊎◌, ◌+◌, ℕ, List, [], ◌∷◌, ◌++◌, length}
+use Rattle.std.specs.Prelude.{None, All}
+use Rattle.std.specs.List.{filter_map}
+use Rattle.line_marker.specs.Recording.{Recorded}
+use Rattle.line_names.specs.declared.messages.MsgName.{MsgName}
+use Rattle.line_tape.specs.declared.events.Event.{Event}
+use Rattle.line_tape.specs.declared.events.Event.TheVariants.{Send, Check}
+use Rattle.line_tape.specs.Event.{sends, Holds, NamesBelow}
+use Rattle.line_tape.specs.Fit.{sent, item_received, AreDistinct, MarksFollow}
+use Rattle.line_tape.specs.History.{Process, tape_at, incarnation_at}
+use Rattle.line_tape.specs.Rounds.{rounds_checked}
+use Rattle.line_rings.specs.Ends.{End, with_item, items_at, row_at}
+use Rattle.line_posts.specs.declared.parcels.Letter.{Letter}
+use Rattle.line_posts.specs.declared.parcels.Parcel.{Parcel}
+use Rattle.line_posts.specs.declared.parcels.Parcel.TheVariants.{Message}
+use Rattle.line_posts.specs.Parcels.{items_of_letters, items_of_parcels, parcels_sent}
+
+-- a worker: its number, the history that its generation opened with, its tape, the replays that it
+-- still keeps by sender, its ends of the rings to and from each process, its end of the report
+-- line, and what it has recorded of rounds, those up to the floor being old
+pub record PostView : Type 0 where
+  pub number : ℕ
+  pub opening : List Process
+  pub tape : List Event
+  pub kept : List (List Letter)
+  pub outs : List (End Parcel)
+  pub ins : List (End Parcel)
+  pub line : End Event
+  pub floor : ℕ
+  pub rounds : List Recorded
+
+abbrev pub post_of : ℕ → List Process → List Event → List (List Letter) → List (End Parcel)
+    → List (End Parcel) → End Event → ℕ → List Recorded → PostView
+post_of number opening tape kept outs ins line floor rounds = record {
+  number = number;
+  opening = opening;
+  tape = tape;
+  kept = kept;
+  outs = outs;
+  ins = ins;
+  line = line;
+  floor = floor;
+  rounds = rounds;
+}
+
+-- what its tape began with
+abbrev pub opening_tape : PostView → List Event
+opening_tape post = tape_at post.opening post.number
+
+-- the incarnation under which it sends
+abbrev pub incarnation_of_post : PostView → ℕ
+incarnation_of_post post = incarnation_at post.opening post.number
+
+-- what holds of a worker at any time
+pub record IsPost (post : PostView) : Type 0 where
+  pub within : post.number < length post.opening
+  pub out_count : length post.outs ≡ length post.opening
+  pub in_count : length post.ins ≡ length post.opening
+  pub kept_count : length post.kept ≡ length post.opening
+  pub named : All (NamesBelow (length post.opening)) post.tape
+  -- reports: its tape is the opening tape, then what it reported, then the rest
+  pub told : (rest : List Event) × (post.tape ≡ (opening_tape post ++ post.line.items) ++ rest)
+  -- links: what its tape sends to another is what the opening tape does, and then what it pushed
+  pub sends_are : (q : ℕ) → q < length post.opening → q ≢ post.number
+      → parcels_sent q 0 post.tape ≡ parcels_sent q 0 (opening_tape post) ++ items_at post.outs q
+  -- what its tape received, and then the replays still kept, is what the opening history sent to
+  -- it, and then what it popped; it pops nothing while it keeps a replay of that sender
+  pub receipts_are : (p : ℕ)
+      → filter_map (item_received p) post.tape ++ items_of_letters p (row_at post.kept p)
+      ≡ sent post.opening p post.number ++ items_of_parcels p (items_at post.ins p)
+  pub replays : (p : ℕ) → (row_at post.kept p ≡ []) ⊎ (items_at post.ins p ≡ [])
+  pub alone : items_at post.ins post.number ≡ []
+  -- what it sent since the opening has its present incarnation
+  pub present : (k inc : ℕ) → sends (opening_tape post) ≤ k → Holds post.tape inc k
+      → inc ≡ incarnation_of_post post
+  pub rounds : AreDistinct (rounds_checked post.tape)
+  pub marks : MarksFollow post.tape
+
+-- the name of its next message
+abbrev pub next_name : PostView → MsgName
+next_name post =
+    record { from = post.number; inc = incarnation_of_post post; number = sends post.tape }
+
+-- its next message to another process, with this body
+abbrev pub next_letter : PostView → List ℕ → Letter
+next_letter post body =
+    record { inc = incarnation_of_post post; number = sends post.tape; body = body }
+
+-- the worker after it has sent a message
+abbrev pub sent_by : PostView → ℕ → List ℕ → PostView
+sent_by post to body = record post {
+  tape = post.tape ++ Send to (incarnation_of_post post) body ∷ [];
+  outs = with_item post.outs to (Message (next_letter post body));
+}
+
+-- the worker after it has taken a check of no round
+abbrev pub checked_alone : PostView → List ℕ → PostView
+checked_alone post state = record post { tape = post.tape ++ Check state None ∷ [] }
+
+-- how many events of its tape are in the opening or were reported
+abbrev pub told_count : PostView → ℕ
+told_count post = length (opening_tape post) + length post.line.items

@@ -1,0 +1,17 @@
+-- What a worker puts on its report line.
+use Rattle.std.specs.Prelude.{◌≡◌, ℕ, List, ◌++◌, take, drop}
+use Rattle.line_tape.specs.declared.events.Event.{Event}
+use Rattle.line_rings.specs.Ends.{End}
+use Rattle.line_posts.specs.Posts.{PostView, told_count}
+
+-- an end after some more items
+abbrev pub with_items : {T : Type 0} → End T → List T → End T
+with_items e items = record e { items = e.items ++ items }
+
+-- the next k events that the worker has not reported yet
+abbrev pub next_events : PostView → ℕ → List Event
+next_events post k = take k (drop (told_count post) post.tape)
+
+-- the worker has put the next k events on its report line
+abbrev pub HasReported : PostView → ℕ → PostView → Type 0
+HasReported old k new = new ≡ record old { line = with_items old.line (next_events old k) }

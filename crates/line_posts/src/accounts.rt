@@ -1,0 +1,108 @@
+//! Workers that are back together.
+ghost use Rattle.std.specs.Prelude.{◌≡◌, ◌↔◌, ℕ, IsTrue, slice_get, Some, vec_capacity};
+ghost use Rattle.line_tape.specs.Fit.{IsFitFifo};
+ghost use Rattle.line_rings.specs.Ends.{ring_at};
+ghost use Rattle.line_posts.specs.Posts.{PostView};
+ghost use Rattle.line_posts.specs.Generations.{own_history, AreAccounted, AreInOrder, AreLinkedTwo};
+ghost use Rattle.line_posts.specs.Generations.{IsGeneration};
+ghost use Rattle.line_posts.specs.Gathering.{AreKnown, AreMet, AreMetTwo};
+
+use crate::posts::Post;
+use line_rings::meet;
+
+/// What lies on the ring from one worker to another is known from here on.
+fn meet_two(from: &mut Post, to: &mut Post)
+    requires opened { from.old.opening ≡ to.old.opening }
+    requires linked { ring_at from.old.outs to.old.number ≡ ring_at to.old.ins from.old.number }
+    ensures from { from.new ≡ from.old }
+    ensures to { to.new ≡ to.old }
+    ensures met { AreMetTwo from.old to.old }
+{
+    let q = to.me.get() as usize;
+    let p = from.me.get() as usize;
+    let _ = meet(&mut from.outs, q, &mut to.ins, p);
+}
+
+/// What lies on a worker's ring to itself.
+fn meet_self(post: &mut Post)
+    requires { ring_at post.old.outs post.old.number ≡ ring_at post.old.ins post.old.number }
+    ensures same { post.new ≡ post.old }
+    ensures met { AreMetTwo post.old post.old }
+{
+    let p = post.me.get() as usize;
+    let _ = meet(&mut post.outs, p, &mut post.ins, p);
+}
+
+/// On both rings of two workers.
+fn meet_both(one: &mut Post, other: &mut Post)
+    requires { AreLinkedTwo one.old other.old }
+    ensures one { one.new ≡ one.old }
+    ensures other { other.new ≡ other.old }
+    ensures met { AreMetTwo one.old other.old × AreMetTwo other.old one.old }
+{
+    meet_two(one, other);
+    meet_two(other, one);
+}
+
+/// Of one worker and each of others.
+fn meet_each(one: &mut Post, others: &mut Vec<Post>)
+    requires linked { (j : ℕ) (other : PostView) → slice_get others.old.items j ≡ Some other
+        → AreLinkedTwo one.old other }
+    ensures one { one.new ≡ one.old }
+    ensures others { others.new.items ≡ others.old.items }
+    ensures capacity { vec_capacity others.new ≡ vec_capacity others.old }
+    ensures met { (j : ℕ) (other : PostView) → slice_get others.old.items j ≡ Some other
+        → AreMetTwo one.old other × AreMetTwo other one.old }
+{
+    for j in 0..others.len() {
+        let other = &mut others[j];
+        meet_both(one, other);
+    }
+}
+
+/// Of each two workers.
+pub(crate) fn meet_all(posts: &mut Vec<Post>)
+    requires { IsGeneration posts.old.items }
+    ensures same { posts.new.items ≡ posts.old.items }
+    ensures capacity { vec_capacity posts.new ≡ vec_capacity posts.old }
+    ensures met { AreMet posts.old.items }
+{
+    let Some(mut last) = posts.pop() else {
+        return;
+    };
+    meet_self(&mut last);
+    meet_each(&mut last, posts);
+    meet_all(posts);
+    posts.push_reserved(last);
+}
+
+/// Whether they are one for each process, in order.
+fn are_in_order(posts: &Vec<Post>) -> bool
+    ensures order { IsTrue result ↔ AreInOrder posts.now.items }
+    ensures known { IsTrue result → AreKnown posts.now.items }
+{
+    for p in 0..posts.len() {
+        let post = &posts[p];
+        if post.number() as usize != p || post.n() != posts.len() {
+            return false;
+        }
+    }
+    true
+}
+
+/// Whether the workers are one for each process, in order; then what each received of each other,
+/// and what it keeps and what is on the way, is what the other sent.
+pub(crate) fn account(posts: &mut Vec<Post>) -> bool
+    requires { IsGeneration posts.old.items }
+    ensures same { posts.new.items ≡ posts.old.items }
+    ensures order { IsTrue result ↔ AreInOrder posts.old.items }
+    ensures accounted { IsTrue result → AreAccounted posts.old.items }
+    ensures fit { IsTrue result → IsFitFifo (own_history posts.old.items) }
+    ensures known { IsTrue result → AreKnown posts.old.items }
+{
+    if !are_in_order(posts) {
+        return false;
+    }
+    meet_all(posts);
+    true
+}

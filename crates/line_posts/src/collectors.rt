@@ -1,0 +1,162 @@
+//! The collector: what the workers have reported so far.
+ghost use Rattle.std.specs.Prelude.{◌≡◌, ◌<◌, ◌≤◌, ◌+◌, Bool, List, if◌then◌else◌, IfOk, MatchBool};
+ghost use Rattle.std.specs.Prelude.{OnErr, length};
+ghost use Rattle.line_tape.specs.Chain.{IsChain};
+ghost use Rattle.line_tape.specs.History.{Process};
+ghost use Rattle.line_tape.specs.Line.{IsConsistent};
+ghost use Rattle.line_tape.specs.Survival.{IsLatest};
+ghost use Rattle.line_tape.specs.Transit.{in_transit};
+ghost use Rattle.line_rings.specs.Ends.{in_ends, AreFresh};
+ghost use Rattle.line_posts.specs.Extension.{Extends};
+ghost use Rattle.line_posts.specs.Collected.{collector_of, passed, HasCollected, HasCollectedMore};
+ghost use Rattle.line_posts.specs.Collected.{HaveAllFailed, IsCollector};
+
+use line_catalogue::{AddError, Catalogue};
+use line_names::{MOST_PROCESSES, ProcId, ProcSet};
+use line_plan::{Plan, PlanError};
+use line_rings::{front_at, look_at, take_at};
+use line_tape::{Event, History};
+use rtrb::Consumer;
+use std::alloc::Global;
+use std::marker::Model;
+use std::snapshot::Snapshot;
+
+/// The history that was collected so far, as a catalogue, and the other ends of the report lines.
+///
+/// It belongs to one thread at a time; no call waits.
+#[derive(Drop)]
+pub struct Collector {
+    pub(crate) alloc: Global,
+    pub(crate) opening: Snapshot<History>,
+    pub(crate) catalogue: Catalogue,
+    pub(crate) lines: Vec<Consumer<Event>>,
+}
+
+impl Model for Collector {
+    ghost use Rattle.line_rings.specs.Ends.{in_ends};
+    ghost use Rattle.line_posts.specs.Collected.{collector_of, CollectorView, IsCollector};
+
+    ghost Value = { CollectorView };
+
+    ghost view = { λ c. collector_of c.opening.value.processes c.catalogue.processes
+        c.catalogue.marks (in_ends c.lines.items) };
+
+    ghost invariant = { λ c. IsCollector (collector_of c.opening.value.processes
+        c.catalogue.processes c.catalogue.marks (in_ends c.lines.items)) };
+}
+
+/// A collector at the opening of a generation.
+pub(crate) fn open_collector(
+    alloc: Global,
+    catalogue: Catalogue,
+    lines: Vec<Consumer<Event>>,
+) -> Collector
+    requires count { length lines.items ≡ length catalogue.processes }
+    requires fresh { AreFresh (in_ends lines.items) }
+    ensures { result ≡ collector_of catalogue.processes catalogue.processes catalogue.marks
+        (in_ends lines.items) }
+{
+    let opening = Snapshot::of(catalogue.history());
+    Collector {
+        alloc,
+        opening,
+        catalogue,
+        lines,
+    }
+}
+
+/// All processes below `n`.
+fn everyone(n: u32) -> ProcSet
+    requires { n ≤ MOST_PROCESSES }
+    ensures { HaveAllFailed n result }
+{
+    let mut all = ProcSet::empty();
+    for r in 0..n {
+        let p = ProcId::try_new(r, n).unwrap();
+        all = all.with(p);
+    }
+    all
+}
+
+impl Collector {
+    /// The history that was collected so far.
+    pub fn history(&self) -> &History
+        ensures value { result.now.processes ≡ self.now.processes }
+        ensures known { IsCollector self.now }
+    {
+        self.catalogue.history()
+    }
+
+    /// Plans the recovery line of what was collected so far, as if every process failed now.
+    ///
+    /// The line stays consistent in each later history, so that what lies before it can be kept.
+    pub fn plan_live(&self) -> Result<Plan, PlanError>
+        ensures latest { IfOk result (λ plan. (failed : List Bool)
+            × HaveAllFailed (length self.now.processes) failed
+            × IsLatest self.now.processes self.now.marks failed plan.line
+            × IsChain self.now.processes self.now.marks failed plan.certificate.items plan.line) }
+        ensures replays { IfOk result (λ plan.
+            plan.replays.items ≡ in_transit self.now.processes plan.line) }
+        ensures onward { IfOk result (λ plan. (later : List Process)
+            → Extends later self.now.processes → IsConsistent later plan.line) }
+    {
+        let failed = everyone(self.catalogue.n());
+        line_plan::plan(self.alloc, &self.catalogue, &failed)
+    }
+
+    /// Takes the next report of a process, if its line shows one; a refused one stays in front.
+    fn take_one(&mut self, p: ProcId) -> Result<bool, AddError>
+        requires { p < length self.old.opening }
+        ensures ok { IfOk result (λ did.
+            MatchBool did (HasCollected self.old p self.new) (self.new ≡ self.old)) }
+        ensures more { HasCollectedMore self.old self.new }
+        ensures count { IfOk result (λ did.
+            passed self.new.lines ≡ passed self.old.lines + (if did then 1 else 0)) }
+        ensures err { OnErr result (self.new ≡ self.old) }
+    {
+        let at = p.get() as usize;
+        if !look_at(&mut self.lines, at) {
+            return Ok(false);
+        }
+        let Ok(event) = front_at(&self.lines, at).copy(self.alloc) else {
+            return Err(AddError::OutOfMemory);
+        };
+        self.catalogue.add(p, event)?;
+        let _ = take_at(&mut self.lines, at);
+        Ok(true)
+    }
+
+    /// Takes reports of a process until its line shows none, and at most so many.
+    fn take_from(&mut self, p: ProcId, limit: u32) -> Result<u32, AddError>
+        requires { p < length self.old.opening }
+        ensures more { HasCollectedMore self.old self.new }
+        ensures limit { IfOk result (λ k. k ≤ limit) }
+        ensures count { IfOk result (λ k. passed self.new.lines ≡ passed self.old.lines + k) }
+    {
+        for i in 0..limit {
+            if !self.take_one(p)? {
+                return Ok(i);
+            }
+        }
+        Ok(limit)
+    }
+
+    /// Takes reports, of each process in turn until its line shows none, and at most so many; how
+    /// many it took is answered.
+    ///
+    /// A refused report stays in front of its line, and those taken before it stay taken. It costs
+    /// a look at each line, and for each report what `Catalogue::add` costs.
+    pub fn take(&mut self, limit: u32) -> Result<u32, AddError>
+        ensures more { HasCollectedMore self.old self.new }
+        ensures limit { IfOk result (λ k. k ≤ limit) }
+        ensures count { IfOk result (λ k. passed self.new.lines ≡ passed self.old.lines + k) }
+    {
+        let n = self.catalogue.n();
+        let mut taken = 0;
+        for p in 0..n {
+            let at = ProcId::try_new(p, n).unwrap();
+            taken += self.take_from(at, limit - taken)?;
+        }
+        Ok(taken)
+    }
+}

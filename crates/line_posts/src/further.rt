@@ -1,0 +1,161 @@
+//! What the collector has not taken of the workers when they are back, and how it is added.
+ghost use Rattle.std.specs.Prelude.{◌≡◌, ◌≢◌, ◌<◌, ◌≤◌, ◌++◌, [], ℕ, List, IfOk, IsTrue, Some};
+ghost use Rattle.std.specs.Prelude.{false, length, take};
+ghost use Rattle.std.specs.VecDeque.{deque_items};
+ghost use Rattle.line_tape.specs.declared.events.Event.{Event};
+ghost use Rattle.line_tape.specs.History.{process_at, tape_at, incarnation_at};
+ghost use Rattle.line_catalogue.specs.Views.{room_at};
+ghost use Rattle.line_rings.specs.Ends.{in_ends, items_at, ring_at, row_at};
+ghost use Rattle.line_posts.specs.Posts.{opening_tape};
+ghost use Rattle.line_posts.specs.Gathered.{gathered_tape};
+ghost use Rattle.line_posts.specs.Gathering.{rows_of, AreFurtherBelow, AreReady, IsOnWay, IsReady};
+
+use crate::posts::Post;
+use crate::receive::{keeps, take_kept};
+use crate::reports::copies;
+use line_catalogue::Catalogue;
+use line_names::{ProcId, ProcSet};
+use line_rings::meet_end;
+use line_tape::Event;
+use rtrb::Consumer;
+use std::alloc::{AllocError, Global};
+use std::collections::VecDeque;
+
+impl Post {
+    /// How many events of its tape are gathered of it: all, and where it failed those that it
+    /// reported. What lies on its report line is known from here on.
+    fn told_to(&mut self, lines: &mut Vec<Consumer<Event>>, p: usize, failed: bool) -> u32
+        requires within { p < length lines.old.items }
+        requires ring { Some self.old.line.ring ≡ ring_at (in_ends lines.old.items) p }
+        ensures post { self.new ≡ self.old }
+        ensures lines { in_ends lines.new.items ≡ in_ends lines.old.items }
+        ensures within { result ≤ length self.old.tape }
+        ensures told { take result self.old.tape ≡ gathered_tape failed self.old }
+        ensures known { (rest : List Event) × (gathered_tape failed self.old
+            ≡ (opening_tape self.old ++ items_at (in_ends lines.old.items) p) ++ rest) }
+    {
+        let _ = meet_end(&mut self.line, lines, p);
+        if failed {
+            self.told
+        } else {
+            self.journal.len()
+        }
+    }
+}
+
+/// The events of a worker that the collector has not taken, and room for them.
+fn further_of(
+    alloc: Global,
+    catalogue: &mut Catalogue,
+    lines: &mut Vec<Consumer<Event>>,
+    post: &mut Post,
+    p: ProcId,
+    failed: bool,
+) -> Result<VecDeque<Event>, AllocError>
+    requires within { p < length catalogue.old.processes }
+    requires ready { IsReady catalogue.old.processes (in_ends lines.old.items) p post.old }
+    ensures processes { catalogue.new.processes ≡ catalogue.old.processes }
+    ensures marks { catalogue.new.marks ≡ catalogue.old.marks }
+    ensures others { (q : ℕ) → q ≢ p → room_at catalogue.new q ≡ room_at catalogue.old q }
+    ensures lines { in_ends lines.new.items ≡ in_ends lines.old.items }
+    ensures post { post.new ≡ post.old }
+    ensures events { IfOk result (λ events.
+        tape_at catalogue.old.processes p ++ deque_items events ≡ gathered_tape failed post.old) }
+    ensures room { IfOk result (λ events. length (deque_items events) ≤ room_at catalogue.new p) }
+{
+    let from = catalogue.history().tape(p).len();
+    let upto = post.told_to(lines, p.get() as usize, failed);
+    let k = upto - from;
+    let events = copies(alloc, post.tape(), from, k)?;
+    catalogue.reserve(p, k)?;
+    Ok(events)
+}
+
+/// Those of each worker, and room for them.
+pub(crate) fn further_of_all(
+    alloc: Global,
+    catalogue: &mut Catalogue,
+    lines: &mut Vec<Consumer<Event>>,
+    posts: &mut Vec<Post>,
+    failed: &ProcSet,
+) -> Result<Vec<VecDeque<Event>>, AllocError>
+    requires count { length posts.old.items ≡ length catalogue.old.processes }
+    requires ready { AreReady catalogue.old.processes (in_ends lines.old.items) posts.old.items }
+    ensures processes { catalogue.new.processes ≡ catalogue.old.processes }
+    ensures marks { catalogue.new.marks ≡ catalogue.old.marks }
+    ensures lines { in_ends lines.new.items ≡ in_ends lines.old.items }
+    ensures posts { posts.new.items ≡ posts.old.items }
+    ensures further { IfOk result (λ further. AreFurtherBelow (length posts.old.items) failed.now
+        catalogue.old.processes catalogue.new.rooms posts.old.items (rows_of further.items)) }
+{
+    let n = catalogue.n();
+    let mut further = Vec::with_capacity(alloc, n as usize)?;
+    for r in 0..n {
+        let p = ProcId::try_new(r, n).unwrap();
+        let post = &mut posts[r as usize];
+        let events = further_of(alloc, catalogue, lines, post, p, failed.has(p))?;
+        further.push(events)?;
+    }
+    Ok(further)
+}
+
+/// Adds the next of the further events of a process, if there is one.
+fn add_next(catalogue: &mut Catalogue, further: &mut Vec<VecDeque<Event>>, p: ProcId) -> bool
+    requires within { p < length catalogue.old.processes }
+    requires way { IsOnWay catalogue.old.processes (rows_of further.old.items)
+        catalogue.old.processes catalogue.old.rooms (rows_of further.old.items) }
+    ensures way { IsOnWay catalogue.old.processes (rows_of further.old.items)
+        catalogue.new.processes catalogue.new.rooms (rows_of further.new.items) }
+    ensures marks { catalogue.new.marks ≡ catalogue.old.marks }
+    ensures more { IsTrue result → length (row_at (rows_of further.new.items) p)
+        < length (row_at (rows_of further.old.items) p) }
+    ensures none { result ≡ false → row_at (rows_of further.new.items) p ≡ [] }
+    ensures others { (k : ℕ) → k ≢ p
+        → row_at (rows_of further.new.items) k ≡ row_at (rows_of further.old.items) k }
+{
+    let at = p.get() as usize;
+    if !keeps(further, at) {
+        return false;
+    }
+    let event = take_kept(further, at);
+    catalogue.add(p, event).unwrap();
+    true
+}
+
+/// Adds the further events of a process.
+fn add_events(catalogue: &mut Catalogue, further: &mut Vec<VecDeque<Event>>, p: ProcId)
+    requires within { p < length catalogue.old.processes }
+    requires way { IsOnWay catalogue.old.processes (rows_of further.old.items)
+        catalogue.old.processes catalogue.old.rooms (rows_of further.old.items) }
+    ensures way { IsOnWay catalogue.old.processes (rows_of further.old.items)
+        catalogue.new.processes catalogue.new.rooms (rows_of further.new.items) }
+    ensures marks { catalogue.new.marks ≡ catalogue.old.marks }
+    ensures none { row_at (rows_of further.new.items) p ≡ [] }
+    ensures others { (k : ℕ) → k ≢ p
+        → row_at (rows_of further.new.items) k ≡ row_at (rows_of further.old.items) k }
+{
+    'events: loop {
+        if !add_next(catalogue, further, p) {
+            return;
+        }
+    }
+}
+
+/// Adds the further events of each process, in room that was made for them.
+pub(crate) fn add_all(catalogue: &mut Catalogue, further: &mut Vec<VecDeque<Event>>)
+    requires way { IsOnWay catalogue.old.processes (rows_of further.old.items)
+        catalogue.old.processes catalogue.old.rooms (rows_of further.old.items) }
+    ensures marks { catalogue.new.marks ≡ catalogue.old.marks }
+    ensures count { length catalogue.new.processes ≡ length catalogue.old.processes }
+    ensures each { (p : ℕ) → process_at catalogue.new.processes p
+        ≡ record {
+          incarnation = incarnation_at catalogue.old.processes p;
+          tape = tape_at catalogue.old.processes p ++ row_at (rows_of further.old.items) p;
+        } }
+{
+    let n = catalogue.n();
+    for r in 0..n {
+        let p = ProcId::try_new(r, n).unwrap();
+        add_events(catalogue, further, p);
+    }
+}

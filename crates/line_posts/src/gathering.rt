@@ -1,0 +1,203 @@
+//! All that the workers of a generation did, gathered in one history.
+ghost use Rattle.std.specs.Prelude.{◌≡◌, ◌≢◌, ◌<◌, ◌≤◌, ◌+◌, ◌↔◌, ℕ, IfOk, IfErr, IsErrOf, IsTrue};
+ghost use Rattle.std.specs.Prelude.{OnOk, OnErr, Some};
+ghost use Rattle.std.specs.Prelude.{length, slice_get, slice_index_or, vec_len};
+ghost use Rattle.line_marker.specs.Recording.{latest};
+ghost use Rattle.line_names.specs.Lines.{IsNowhereLater};
+ghost use Rattle.line_names.specs.declared.choices.Choice.TheVariants.{Check as AtCheck};
+ghost use Rattle.line_tape.specs.Chain.{IsChain};
+ghost use Rattle.line_tape.specs.Event.{checks};
+ghost use Rattle.line_tape.specs.Fit.{IsFitFifo};
+ghost use Rattle.line_tape.specs.History.{tape_at};
+ghost use Rattle.line_tape.specs.Rounds.{channel_fifo, check_line, checks_of, is_completed_fifo};
+ghost use Rattle.line_tape.specs.Rounds.{IsSnapshot};
+ghost use Rattle.line_tape.specs.Survival.{is_damaged, survives, IsLatest};
+ghost use Rattle.line_tape.specs.Transit.{in_transit};
+ghost use Rattle.line_tape.specs.Views.{with_mark};
+ghost use Rattle.line_posts.specs.Posts.{PostView};
+ghost use Rattle.line_posts.specs.Extension.{Extends};
+ghost use Rattle.line_posts.specs.Generations.{own_history, AreAccounted, AreLined, AreWhole};
+ghost use Rattle.line_posts.specs.Generations.{IsGeneration};
+ghost use Rattle.line_posts.specs.Gathered.{AreBelow, AreGathered, HasNoneFailed, HasOwn};
+ghost use Rattle.line_posts.specs.Gathered.{IsBegunOf};
+
+use crate::accounts::account;
+use crate::collectors::Collector;
+use crate::further::{add_all, further_of_all};
+use crate::posts::Post;
+use crate::refusals::GatherWhy;
+use line_catalogue::{Catalogue, DamageError};
+use line_names::{ProcId, ProcSet};
+use line_plan::{Plan, PlanError};
+use line_tape::History;
+use std::alloc::Global;
+use std::marker::Model;
+
+/// What was gathered of a generation: a history, marks of damage, who failed, and the last round
+/// that the lead recorded.
+#[derive(Drop)]
+pub struct Gathered {
+    alloc: Global,
+    catalogue: Catalogue,
+    failed: ProcSet,
+    floor: u32,
+}
+
+impl Model for Gathered {
+    ghost use Rattle.line_posts.specs.Gathered.{GatheredView, HasOwn};
+
+    ghost Value = { GatheredView };
+
+    ghost view = { λ g. record {
+      processes = g.catalogue.processes;
+      marks = g.catalogue.marks;
+      failed = g.failed;
+      floor = g.floor;
+    } };
+
+    ghost invariant = { λ g. HasOwn g.failed g.catalogue.processes };
+}
+
+impl Gathered {
+    /// The history that was gathered.
+    pub fn history(&self) -> &History
+        ensures value { result.now.processes ≡ self.now.processes }
+        ensures prefix { HasOwn self.now.failed self.now.processes }
+        ensures fit { HasNoneFailed self.now.failed → IsFitFifo self.now.processes }
+        ensures rounds { (r : ℕ) → IsTrue (is_completed_fifo self.now.processes r)
+            → IsSnapshot self.now.processes (checks_of self.now.processes r)
+            (channel_fifo self.now.processes r) }
+    {
+        self.catalogue.history()
+    }
+
+    /// Marks a check as damaged.
+    pub fn damage(&mut self, p: ProcId, check: u32) -> Result<(), DamageError>
+        requires { p < length self.old.processes }
+        ensures ok { OnOk result (self.new
+            ≡ record self.old { marks = with_mark self.old.marks p check }) }
+        ensures err { OnErr result (self.new ≡ self.old) }
+
+        // The refusals: no two causes hold at once.
+        ensures check { IsErrOf result DamageError.NoSuchCheck
+            ↔ (checks (tape_at self.old.processes p) < check) }
+        ensures initial { IsErrOf result DamageError.InitialDamage ↔ (check ≡ 0) }
+        ensures already { IsErrOf result DamageError.AlreadyDamaged
+            ↔ ((check ≤ checks (tape_at self.old.processes p)) × (check ≢ 0)
+            × IsTrue (is_damaged self.old.marks p check)) }
+    {
+        self.catalogue.damage(p, check)
+    }
+
+    /// Plans the recovery line of what was gathered: the latest line from which all can go on.
+    pub fn plan(&self) -> Result<Plan, PlanError>
+        ensures latest { IfOk result (λ plan.
+            IsLatest self.now.processes self.now.marks self.now.failed plan.line) }
+        ensures chain { IfOk result (λ plan.
+            IsChain self.now.processes self.now.marks self.now.failed plan.certificate.items
+            plan.line) }
+        ensures some_sweep { IfOk result (λ plan. 1 ≤ plan.sweeps) }
+        ensures few_sweeps { IfOk result (λ plan. plan.sweeps ≤ vec_len plan.certificate + 1) }
+        ensures replays { IfOk result (λ plan.
+            plan.replays.items ≡ in_transit self.now.processes plan.line) }
+        ensures rounds { IfOk result (λ plan. (r : ℕ)
+            → IsTrue (is_completed_fifo self.now.processes r)
+            → ((p : ℕ) → p < length self.now.processes
+            → IsTrue (survives self.now.processes self.now.marks self.now.failed p
+            (AtCheck (slice_index_or (checks_of self.now.processes r) p 0))))
+            → IsNowhereLater (check_line (checks_of self.now.processes r)) plan.line) }
+    {
+        line_plan::plan(self.alloc, &self.catalogue, &self.failed)
+    }
+}
+
+/// Workers and a collector that were not gathered, and why.
+#[derive(Drop)]
+pub struct GatherRefused {
+    pub why: GatherWhy,
+    pub collector: Collector,
+    pub posts: Vec<Post>,
+}
+
+/// The last round that the lead has recorded.
+fn last_round(posts: &Vec<Post>) -> u32
+    ensures { (lead : PostView) → slice_get posts.now.items 0 ≡ Some lead
+        → result ≡ latest lead.floor lead.rounds }
+{
+    if posts.len() == 0 {
+        return 0;
+    }
+    posts[0].latest()
+}
+
+/// Gathers what the workers of a generation did: of those that did not fail all, of the failed ones
+/// what they reported. A refusal hands collector and posts back as they were.
+///
+/// It looks at both ends of the ring between each two workers, and copies each event that the
+/// collector has not taken. It does not ask what lies on the rings.
+pub fn gather(
+    mut collector: Collector,
+    mut posts: Vec<Post>,
+    failed: ProcSet,
+) -> Result<Gathered, GatherRefused>
+    requires generation { IsGeneration posts.items }
+    requires lines { AreLined collector posts.items }
+    ensures gathered { IfOk result (λ g. AreGathered failed posts.items g.processes) }
+    ensures begins { IfOk result (λ g. IsBegunOf failed g.processes (own_history posts.items)) }
+    ensures fit { OnOk result (IsFitFifo (own_history posts.items)) }
+    ensures accounted { OnOk result (AreAccounted posts.items) }
+    ensures onward { IfOk result (λ g. Extends g.processes collector.processes) }
+    ensures rest { IfOk result (λ g. (g.failed ≡ failed) × (g.marks ≡ collector.marks)) }
+    ensures floor { IfOk result (λ g. (lead : PostView) → slice_get posts.items 0 ≡ Some lead
+        → g.floor ≡ latest lead.floor lead.rounds) }
+    ensures back { IfErr result (λ e. (e.collector ≡ collector) × (e.posts.items ≡ posts.items)) }
+
+    // The refusals, in their order.
+    ensures may { OnOk result (AreBelow (length collector.opening) failed
+        × AreWhole collector posts.items) }
+    ensures process { IfErr result (λ e. (e.why ≡ GatherWhy.NoSuchProcess)
+        ↔ (AreBelow (length collector.opening) failed → ⊥)) }
+    ensures unfinished { IfErr result (λ e. (e.why ≡ GatherWhy.Unfinished)
+        ↔ (AreBelow (length collector.opening) failed × (AreWhole collector posts.items → ⊥))) }
+{
+    let n = collector.catalogue.n();
+    if !failed.is_below(n) {
+        return Err(GatherRefused {
+            why: GatherWhy::NoSuchProcess,
+            collector,
+            posts,
+        });
+    }
+    if posts.len() != n as usize || !account(&mut posts) {
+        return Err(GatherRefused {
+            why: GatherWhy::Unfinished,
+            collector,
+            posts,
+        });
+    }
+    let alloc = collector.alloc;
+    match further_of_all(
+        alloc,
+        &mut collector.catalogue,
+        &mut collector.lines,
+        &mut posts,
+        &failed,
+    ) {
+        Ok(mut further) => {
+            let floor = last_round(&posts);
+            let mut catalogue = collector.catalogue;
+            add_all(&mut catalogue, &mut further);
+            Ok(Gathered {
+                alloc,
+                catalogue,
+                failed,
+                floor,
+            })
+        }
+        Err(_) => Err(GatherRefused {
+            why: GatherWhy::OutOfMemory,
+            collector,
+            posts,
+        }),
+    }
+}

@@ -1,0 +1,15 @@
+//! What a caller that moves workers between threads can rely on.
+ghost use Rattle.std.specs.Prelude.{List};
+ghost use Rattle.line_posts.specs.Posts.{PostView};
+ghost use Rattle.line_posts.specs.Collected.{CollectorView, HasCollectedMore};
+ghost use Rattle.line_posts.specs.Generations.{AreLined, AreSamePosts, IsGeneration};
+
+/// Workers that come back with the rings that they went with are of the generation that they were
+/// of, and so is a collector that took reports.
+pub fn generations_last()
+    ensures lines { (collector later : CollectorView) (old new : List PostView)
+        → HasCollectedMore collector later → AreSamePosts old new
+        → AreLined collector old → AreLined later new }
+    ensures workers { (old new : List PostView) → AreSamePosts old new
+        → IsGeneration old → IsGeneration new }
+{}

@@ -1,0 +1,30 @@
+//! Workers in threads: posts with rings between each two of them, and a collector of their reports.
+#![tactic(auto)]
+
+mod accounts;
+mod collectors;
+mod fleets;
+mod further;
+mod gathering;
+mod laws;
+mod markers;
+mod parcels;
+mod posts;
+mod receive;
+mod receiving;
+mod refusals;
+mod replays;
+mod reports;
+mod rounds;
+
+pub use collectors::Collector;
+pub use fleets::{MOST_CAPACITY, fleet};
+pub use gathering::{GatherRefused, Gathered, gather};
+pub use laws::generations_last;
+pub use parcels::{Letter, Parcel};
+pub use posts::Post;
+pub use receive::Received;
+pub use refusals::{
+    BeginWhy, FleetError, GatherWhy, ReceiveWhy, ReportError, SendRefused, SendWhy,
+};
+pub use reports::Reported;

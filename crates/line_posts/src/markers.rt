@@ -1,0 +1,51 @@
+//! Markers on the rings.
+ghost use Rattle.std.specs.Prelude.{◌≡◌, ◌≢◌, ◌<◌, ℕ, length};
+ghost use Rattle.line_rings.specs.Ends.{out_ends, in_ends, known_at, free_at, with_item};
+ghost use Rattle.line_rings.specs.Ends.{HasRoomBelow};
+ghost use Rattle.line_posts.specs.Receipts.{BeginsWithMarker};
+ghost use Rattle.line_posts.specs.Markers.{with_others, with_others_below};
+ghost use Rattle.line_posts.specs.declared.parcels.Parcel.TheVariants.{Marker};
+
+use crate::parcels::Parcel;
+use line_rings::{push_known, take_at};
+use rtrb::{Consumer, Producer};
+
+fn marker(round: u32) -> Parcel
+    ensures { result ≡ Marker round }
+{
+    Parcel::Marker { round }
+}
+
+/// Puts the marker of a round on the ring to one process, but not on the own one.
+fn push_other(outs: &mut Vec<Producer<Parcel>>, me: usize, q: usize, round: u32)
+    requires within { q < length outs.old.items }
+    requires room { 0 < free_at outs.old.items q }
+    ensures own { q ≡ me → out_ends outs.new.items ≡ out_ends outs.old.items }
+    ensures other { q ≢ me
+        → out_ends outs.new.items ≡ with_item (out_ends outs.old.items) q (Marker round) }
+    ensures others { (k : ℕ) → k ≢ q → free_at outs.new.items k ≡ free_at outs.old.items k }
+{
+    if q == me {
+        return;
+    }
+    push_known(outs, q, marker(round));
+}
+
+/// Puts the marker of a round on the ring to each other process, where slots are known to be free.
+pub(crate) fn push_markers(outs: &mut Vec<Producer<Parcel>>, me: usize, round: u32)
+    requires { HasRoomBelow (length outs.old.items) outs.old.items }
+    ensures { out_ends outs.new.items ≡ with_others (out_ends outs.old.items) me (Marker round) }
+{
+    for q in 0..outs.len() {
+        push_other(outs, me, q, round);
+    }
+}
+
+/// Takes the known item that is first, a marker.
+pub(crate) fn take_marker(ins: &mut Vec<Consumer<Parcel>>, p: usize, round: u32)
+    requires within { p < length ins.old.items }
+    requires first { BeginsWithMarker round (known_at ins.old.items p) }
+    ensures { in_ends ins.new.items ≡ with_item (in_ends ins.old.items) p (Marker round) }
+{
+    let _ = take_at(ins, p);
+}

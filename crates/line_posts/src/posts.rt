@@ -1,0 +1,225 @@
+//! A worker's own side of its links: its tape, and the ends of the rings to each other worker.
+ghost use Rattle.std.specs.Prelude.{◌≡◌, ◌<◌, ◌≤◌, ◌↔◌, IfOk, IfErr, IsErrOf, OnOk, OnErr, length};
+ghost use Rattle.std.specs.Prelude.{map};
+ghost use Rattle.std.specs.VecDeque.{deque_items};
+ghost use Rattle.line_tape.specs.Event.{checks};
+ghost use Rattle.line_tape.specs.Fit.{IsFitFifo};
+ghost use Rattle.line_tape.specs.History.{IsTape};
+ghost use Rattle.line_rings.specs.Ends.{out_ends, in_ends, producer_end};
+ghost use Rattle.line_posts.specs.Posts.{checked_alone, next_name, post_of, sent_by, IsPost};
+ghost use Rattle.line_posts.specs.Refusals.{IsNotSent, MaySend};
+ghost use Rattle.line_posts.specs.Openings.{IsOpening};
+ghost use Rattle.line_posts.specs.declared.parcels.Parcel.TheVariants.{Message};
+
+use crate::parcels::{Letter, Parcel};
+use crate::refusals::{SendRefused, SendWhy};
+use line_journals::Journal;
+use line_names::{Body, MsgName, ProcId};
+use line_rings::push_on;
+use line_tape::{Event, History, MOST_EVENTS, MOST_STATE, State, Tape, TapeError};
+use rtrb::{Consumer, Producer};
+use std::alloc::Global;
+use std::collections::VecDeque;
+use std::marker::Model;
+use std::snapshot::Snapshot;
+
+/// A worker: its number, its tape with what it has recorded of rounds, the messages in transit that
+/// it still keeps from the opening of its generation, its ends of the rings by process, and its end
+/// of the report line.
+///
+/// It belongs to one thread at a time; no call waits. A call costs the same however much was done
+/// before.
+#[derive(Drop)]
+pub struct Post {
+    pub(crate) alloc: Global,
+    pub(crate) me: ProcId,
+    pub(crate) incarnation: u16,
+    pub(crate) opening: Snapshot<History>,
+    pub(crate) journal: Journal,
+    pub(crate) kept: Vec<VecDeque<Letter>>,
+    pub(crate) outs: Vec<Producer<Parcel>>,
+    pub(crate) ins: Vec<Consumer<Parcel>>,
+    pub(crate) line: Producer<Event>,
+    pub(crate) told: u32,
+}
+
+impl Model for Post {
+    ghost use Rattle.std.specs.Prelude.{◌≡◌, ◌+◌, length, map};
+    ghost use Rattle.std.specs.VecDeque.{deque_items};
+    ghost use Rattle.line_tape.specs.History.{tape_at, incarnation_at};
+    ghost use Rattle.line_rings.specs.Ends.{out_ends, in_ends, producer_end};
+    ghost use Rattle.line_posts.specs.Posts.{post_of, IsPost, PostView};
+
+    ghost Value = { PostView };
+
+    ghost view = { λ s. post_of s.me s.opening.value.processes s.journal.tape
+        (map deque_items s.kept.items) (out_ends s.outs.items) (in_ends s.ins.items)
+        (producer_end s.line) s.journal.floor s.journal.rounds };
+
+    ghost invariant = { λ s. IsPost (post_of s.me s.opening.value.processes s.journal.tape
+        (map deque_items s.kept.items) (out_ends s.outs.items) (in_ends s.ins.items)
+        (producer_end s.line) s.journal.floor s.journal.rounds)
+        × (s.incarnation ≡ incarnation_at s.opening.value.processes s.me)
+        × (s.told ≡ length (tape_at s.opening.value.processes s.me)
+        + length (producer_end s.line).items)
+        × (s.journal.n ≡ length s.opening.value.processes)
+        × (s.journal.me ≡ s.me) };
+}
+
+/// The name of a message.
+pub(crate) fn name_of(from: ProcId, inc: u16, number: u32) -> MsgName
+    ensures { result ≡ record { from = from; inc = inc; number = number } }
+{
+    MsgName { from, inc, number }
+}
+
+/// A message as rings carry it.
+fn message(inc: u16, number: u32, body: &Body) -> Parcel
+    ensures { result ≡ Message (record { inc = inc; number = number; body = body.now }) }
+{
+    Parcel::Message {
+        letter: Letter {
+            inc,
+            number,
+            body: body.copy(),
+        },
+    }
+}
+
+/// A worker at the opening of a generation.
+pub(crate) fn open_post(
+    alloc: Global,
+    me: ProcId,
+    history: &History,
+    journal: Journal,
+    kept: Vec<VecDeque<Letter>>,
+    outs: Vec<Producer<Parcel>>,
+    ins: Vec<Consumer<Parcel>>,
+    line: Producer<Event>,
+) -> Post
+    requires opening { IsOpening (post_of me history.now.processes journal.tape
+        (map deque_items kept.items) (out_ends outs.items) (in_ends ins.items) (producer_end line)
+        journal.floor journal.rounds) }
+    requires fit { IsFitFifo history.now.processes }
+    requires count { journal.n ≡ length history.now.processes }
+    requires me { journal.me ≡ me }
+    ensures { result ≡ post_of me history.now.processes journal.tape (map deque_items kept.items)
+        (out_ends outs.items) (in_ends ins.items) (producer_end line) journal.floor
+        journal.rounds }
+{
+    let incarnation = history.incarnation(me);
+    let _limits = history.tape(me);
+    let opening = Snapshot::of(history);
+    let told = journal.len();
+    Post {
+        alloc,
+        me,
+        incarnation,
+        opening,
+        journal,
+        kept,
+        outs,
+        ins,
+        line,
+        told,
+    }
+}
+
+impl Post {
+    /// Its number.
+    pub fn number(&self) -> u32
+        ensures value { result ≡ self.now.number }
+        ensures known { IsPost self.now × IsTape self.now.tape }
+    {
+        let _limits = self.journal.len();
+        self.me.get()
+    }
+
+    /// How many processes there are.
+    pub fn n(&self) -> usize
+        ensures { result ≡ length self.now.opening }
+    {
+        self.outs.len()
+    }
+
+    /// Its tape.
+    pub fn tape(&self) -> &Tape
+        ensures { result.now.events ≡ self.now.tape }
+    {
+        self.journal.tape()
+    }
+
+    /// Sends a message to another process, whose name is answered; a refusal hands the body back.
+    ///
+    /// It is one push on the ring to that process, after which the tape has the Send.
+    pub fn send(&mut self, to: ProcId, body: Body) -> Result<MsgName, SendRefused>
+        ensures ok { IfOk result (λ name. (name ≡ next_name self.old)
+            × (self.new ≡ sent_by self.old to body)) }
+        ensures err { IfErr result (λ e. (e.body ≡ body) × (self.new ≡ self.old)) }
+
+        // The refusals, in their order.
+        ensures may { OnOk result (MaySend self.old to) }
+        ensures why { IfErr result (λ e. IsNotSent self.old to e.why) }
+    {
+        let n = self.outs.len();
+        if to.get() as usize >= n {
+            return Err(SendRefused {
+                why: SendWhy::NoSuchProcess,
+                body,
+            });
+        }
+        if to.get() == self.me.get() {
+            return Err(SendRefused {
+                why: SendWhy::ToSelf,
+                body,
+            });
+        }
+        if self.journal.len() as usize >= MOST_EVENTS {
+            return Err(SendRefused {
+                why: SendWhy::TapeFull,
+                body,
+            });
+        }
+        if self.journal.reserve(1).is_err() {
+            return Err(SendRefused {
+                why: SendWhy::OutOfMemory,
+                body,
+            });
+        }
+        let inc = self.incarnation;
+        let number = self.journal.sends();
+        let parcel = message(inc, number, &body);
+        if push_on(&mut self.outs, to.get() as usize, parcel).is_err() {
+            return Err(SendRefused {
+                why: SendWhy::RingFull,
+                body,
+            });
+        }
+        self.journal.send(to, inc, body);
+        Ok(name_of(self.me, inc, number))
+    }
+
+    /// Takes a check of no round, and answers its index.
+    pub fn check(&mut self, state: State) -> Result<u32, TapeError>
+        ensures ok { IfOk result (λ index. (index ≡ checks self.new.tape)
+            × (self.new ≡ checked_alone self.old state)) }
+        ensures err { OnErr result (self.new ≡ self.old) }
+
+        // The refusals, in their order.
+        ensures long { IsErrOf result TapeError.StateTooLong ↔ (MOST_STATE < length state) }
+        ensures full { IsErrOf result TapeError.TapeFull
+            ↔ ((length state ≤ MOST_STATE) × (MOST_EVENTS ≤ length self.old.tape)) }
+    {
+        if state.bytes().len() > MOST_STATE {
+            return Err(TapeError::StateTooLong);
+        }
+        if self.journal.len() as usize >= MOST_EVENTS {
+            return Err(TapeError::TapeFull);
+        }
+        if self.journal.reserve(1).is_err() {
+            return Err(TapeError::OutOfMemory);
+        }
+        self.journal.check(state);
+        Ok(self.journal.tape().checks())
+    }
+}

@@ -1,0 +1,141 @@
+//! What a worker takes: messages and markers.
+ghost use Rattle.std.specs.Prelude.{◌≡◌, ◌≢◌, ◌<◌, ◌≤◌, ℕ, List, [], IfOk, IfErr, OnOk, OnErr};
+ghost use Rattle.std.specs.Prelude.{length};
+ghost use Rattle.line_rings.specs.Ends.{row_at};
+ghost use Rattle.line_posts.specs.Parcels.{letter_name};
+ghost use Rattle.line_posts.specs.Receipts.{HasReceived};
+ghost use Rattle.line_posts.specs.Refusals.{IsNotReceived, MayReceive};
+ghost use Rattle.line_posts.specs.declared.receive.Received.TheVariants.{Message as TookMessage};
+
+use crate::markers::{push_markers, take_marker};
+use crate::parcels::Letter;
+use crate::posts::{Post, name_of};
+use crate::receive::{Received, keeps, round_first, take_kept, take_letter};
+use crate::refusals::ReceiveWhy;
+use line_names::ProcId;
+use line_rings::{has_room, look_at};
+use line_tape::{MOST_EVENTS, MOST_STATE, State};
+
+/// The name and the body of a letter from a process.
+fn opened(from: ProcId, letter: Letter) -> Received
+    ensures { result ≡ TookMessage (letter_name from letter) letter.body }
+{
+    let name = name_of(from, letter.inc, letter.number);
+    Received::Message {
+        name,
+        body: letter.body,
+    }
+}
+
+impl Post {
+    /// Takes the first of the replays that it keeps of another process.
+    fn receive_replay(&mut self, from: ProcId) -> Result<Received, ReceiveWhy>
+        requires within { from < length self.old.opening }
+        requires other { from ≢ self.old.number }
+        requires kept { 0 < length (row_at self.old.kept from) }
+        ensures ok { IfOk result (λ r. (state : List ℕ)
+            → HasReceived self.old from state r self.new) }
+        ensures err { OnErr result (self.new ≡ self.old) }
+        ensures why { IfErr result (λ e. (state : List ℕ)
+            → MayReceive self.old from state → IsNotReceived self.old from state e) }
+    {
+        if self.journal.len() as usize >= MOST_EVENTS {
+            return Err(ReceiveWhy::TapeFull);
+        }
+        if self.journal.reserve(1).is_err() {
+            return Err(ReceiveWhy::OutOfMemory);
+        }
+        let letter = take_kept(&mut self.kept, from.get() as usize);
+        let name = name_of(from, letter.inc, letter.number);
+        self.journal.receive(name);
+        Ok(opened(from, letter))
+    }
+
+    /// Takes what comes next on the ring from another process.
+    fn receive_next(&mut self, from: ProcId, state: State) -> Result<Received, ReceiveWhy>
+        requires within { from < length self.old.opening }
+        requires other { from ≢ self.old.number }
+        requires short { length state ≤ MOST_STATE }
+        requires bare { row_at self.old.kept from ≡ [] }
+        ensures ok { IfOk result (λ r. HasReceived self.old from state r self.new) }
+        ensures err { OnErr result (self.new ≡ self.old) }
+        ensures why { IfErr result (λ e. IsNotReceived self.old from state e) }
+    {
+        let p = from.get() as usize;
+        if !look_at(&mut self.ins, p) {
+            return Err(ReceiveWhy::NothingThere);
+        }
+        let Some(round) = round_first(&self.ins, p) else {
+            if self.journal.len() as usize >= MOST_EVENTS {
+                return Err(ReceiveWhy::TapeFull);
+            }
+            if self.journal.reserve(1).is_err() {
+                return Err(ReceiveWhy::OutOfMemory);
+            }
+            let letter = take_letter(&mut self.ins, p);
+            let name = name_of(from, letter.inc, letter.number);
+            self.journal.receive(name);
+            return Ok(opened(from, letter));
+        };
+        if self.journal.is_checked(from, round) {
+            if self.journal.len() as usize >= MOST_EVENTS {
+                return Err(ReceiveWhy::TapeFull);
+            }
+            if self.journal.reserve(1).is_err() {
+                return Err(ReceiveWhy::OutOfMemory);
+            }
+            take_marker(&mut self.ins, p, round);
+            self.journal.mark(from, round);
+            return Ok(Received::Marked {
+                round,
+                forced: false,
+            });
+        }
+        if self.journal.len() as usize + 1 >= MOST_EVENTS {
+            return Err(ReceiveWhy::TapeFull);
+        }
+        if !has_room(&mut self.outs) {
+            return Err(ReceiveWhy::RingFull);
+        }
+        if self.journal.reserve(2).is_err() {
+            return Err(ReceiveWhy::OutOfMemory);
+        }
+        push_markers(&mut self.outs, self.me.get() as usize, round);
+        take_marker(&mut self.ins, p, round);
+        self.journal.force(from, state, round);
+        Ok(Received::Marked {
+            round,
+            forced: true,
+        })
+    }
+
+    /// Takes what comes next from another process: of the replays that it keeps of it first, and
+    /// then of the ring.
+    ///
+    /// A message is answered with its name and body, and the tape has its Recv. A marker of a round
+    /// (Chandy and Lamport, 1985) puts its Mark on the tape; where the tape has no check of that
+    /// round, a check with this state goes before it, and a marker on the ring to each other
+    /// process. That wants a free slot on each of these: without one the marker stays in front.
+    pub fn receive(&mut self, from: ProcId, state: State) -> Result<Received, ReceiveWhy>
+        ensures ok { IfOk result (λ r. HasReceived self.old from state r self.new) }
+        ensures err { OnErr result (self.new ≡ self.old) }
+
+        // The refusals, in their order.
+        ensures may { OnOk result (MayReceive self.old from state) }
+        ensures why { IfErr result (λ e. IsNotReceived self.old from state e) }
+    {
+        if from.get() as usize >= self.outs.len() {
+            return Err(ReceiveWhy::NoSuchProcess);
+        }
+        if from.get() == self.me.get() {
+            return Err(ReceiveWhy::ToSelf);
+        }
+        if state.bytes().len() > MOST_STATE {
+            return Err(ReceiveWhy::StateTooLong);
+        }
+        if keeps(&self.kept, from.get() as usize) {
+            return self.receive_replay(from);
+        }
+        self.receive_next(from, state)
+    }
+}

@@ -1,0 +1,94 @@
+//! What a worker reports.
+ghost use Rattle.std.specs.Prelude.{◌≡◌, ◌<◌, ◌≤◌, ◌+◌, ◌∷◌, ◌⊎◌, IfOk, OnErr, length, take, drop};
+ghost use Rattle.std.specs.VecDeque.{deque_items};
+ghost use Rattle.rtrb.specs.Ring.{known_free};
+ghost use Rattle.line_rings.specs.Ends.{producer_end};
+ghost use Rattle.line_posts.specs.Posts.{told_count};
+ghost use Rattle.line_posts.specs.Reports.{with_items, HasReported};
+
+use crate::posts::Post;
+use crate::refusals::ReportError;
+use line_tape::{Event, Tape};
+use rtrb::Producer;
+use std::alloc::{AllocError, Global};
+use std::collections::VecDeque;
+
+/// How many events were put on the report line, and how many are left.
+#[derive(Clone, Copy, Debug, PartialEq, Eq)]
+pub struct Reported {
+    pub sent: u32,
+    pub left: u32,
+}
+
+/// The fewer of the events that are left and the free slots.
+fn fewer(left: u32, room: usize) -> u32
+    ensures left { result ≤ left }
+    ensures room { result ≤ room }
+    ensures most { (result ≡ left) ⊎ (result ≡ room) }
+{
+    if (left as usize) < room {
+        return left;
+    }
+    room as u32
+}
+
+/// Copies of so many events of a tape, from a place on.
+pub(crate) fn copies(
+    alloc: Global,
+    tape: &Tape,
+    from: u32,
+    k: u32,
+) -> Result<VecDeque<Event>, AllocError>
+    requires { from + k ≤ length tape.now.events }
+    ensures { IfOk result (λ events. deque_items events ≡ take k (drop from tape.now.events)) }
+{
+    let _limits = tape.len();
+    let mut events = VecDeque::with_capacity(alloc, k as usize)?;
+    for i in 0..k {
+        let event = tape.event(from + i).copy(alloc)?;
+        events.push_back(event)?;
+    }
+    Ok(events)
+}
+
+/// Takes the first of them.
+fn next(events: &mut VecDeque<Event>) -> Event
+    requires { 0 < length (deque_items events.old) }
+    ensures { deque_items events.old ≡ result ∷ deque_items events.new }
+{
+    events.pop_front().unwrap()
+}
+
+/// Puts them on a report line that is known to have room for so many.
+fn put_each(line: &mut Producer<Event>, events: VecDeque<Event>)
+    requires { length (deque_items events) ≤ known_free line.old }
+    ensures { producer_end line.new ≡ with_items (producer_end line.old) (deque_items events) }
+{
+    let mut events = events;
+    for i in 0..events.len() {
+        let event = next(&mut events);
+        line.push_reserved(event);
+    }
+}
+
+impl Post {
+    /// Puts the events that it has not reported yet on the report line, as many as fit there.
+    ///
+    /// It costs a copy of each event that it puts there.
+    pub fn report(&mut self) -> Result<Reported, ReportError>
+        ensures ok { IfOk result (λ r. HasReported self.old r.sent self.new) }
+        ensures left { IfOk result (λ r. told_count self.new + r.left ≡ length self.new.tape) }
+        ensures err { OnErr result (self.new ≡ self.old) }
+    {
+        let left = self.journal.len() - self.told;
+        let room = self.line.slots();
+        let k = fewer(left, room);
+        let events = copies(self.alloc, self.journal.tape(), self.told, k)?;
+        put_each(&mut self.line, events);
+        self.told += k;
+        Ok(Reported {
+            sent: k,
+            left: left - k,
+        })
+    }
+}
