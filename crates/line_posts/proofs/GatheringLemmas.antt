@@ -203,7 +203,7 @@ pub gathered_known : (failed : Bool) (post : PostView) (popped known : List Even
 gathered_known true post popped known h e = (known, ap (λ t. opening_tape post ++ t) (sym e) ∙ sym (append_assoc (opening_tape post) popped known))
 gathered_known false post popped known h e =
     let O = opening_tape post in
-    let (r, is) = h.told in
+    let (r, is) = h.reports in
     (known ++ r, is ∙ (ap (λ t. (O ++ t) ++ r) (sym e) ∙ (ap (λ t. t ++ r) (sym (append_assoc O popped known)) ∙ append_assoc (O ++ popped) known r)))
 
 -- the further events of one more worker

@@ -4,7 +4,7 @@ use Rattle.std.specs.Prelude.{slice_get}
 use Rattle.std.proofs.lemmas.List.{append_assoc, append-nil, length-append, length-drop, length-take-le}
 use Rattle.line_tape.specs.declared.events.Event.{Event}
 use Rattle.line_rings.specs.Ends.{End}
-use Rattle.line_posts.specs.Posts.{opening_tape, told_count, IsPost, PostView}
+use Rattle.line_posts.specs.Posts.{opening_tape, reported_count, IsPost, PostView}
 use Rattle.line_posts.specs.Reports.{with_items}
 
 at_drop : {X : Type 0} (xs : List X) (from i j : ℕ) (e : X) → j ≡ from + i → slice_get xs j ≡ Some e → slice_get (drop from xs) i ≡ Some e
@@ -45,26 +45,26 @@ drop_front [] rest (suc n) e = absurd (omega (arith, e))
 drop_front (x ∷ xs) rest zero e = absurd (omega (arith, e))
 drop_front (x ∷ xs) rest (suc n) e = drop_front xs rest n (omega (arith, e))
 
--- no more is told than there is
-pub told_within : (post : PostView) → IsPost post → told_count post ≤ length post.tape
-told_within post h =
-    let (rest, is) = h.told in
+-- no more is reported than there is
+pub reported_within : (post : PostView) → IsPost post → reported_count post ≤ length post.tape
+reported_within post h =
+    let (rest, is) = h.reports in
     let a = ap length is in
     let b = length-append (opening_tape post ++ post.line.items) rest in
     let d = length-append (opening_tape post) post.line.items in
     omega (arith, a, b, d)
 
-pub told_more : (post : PostView) (k : ℕ) → IsPost post → told_count post + k ≤ length post.tape → length (take k (drop (told_count post) post.tape)) ≡ k
-told_more post k h le = (let l = length-drop (told_count post) post.tape in length-take-le k (drop (told_count post) post.tape) (omega (arith, l, le)))
+pub reported_more : (post : PostView) (k : ℕ) → IsPost post → reported_count post + k ≤ length post.tape → length (take k (drop (reported_count post) post.tape)) ≡ k
+reported_more post k h le = (let l = length-drop (reported_count post) post.tape in length-take-le k (drop (reported_count post) post.tape) (omega (arith, l, le)))
 
-pub tell_all : (post : PostView) (k : ℕ) (line : End Event) → IsPost post → line ≡ with_items post.line (take k (drop (told_count post) post.tape)) → IsPost (record post { line = line })
-tell_all post k line h el =
+pub report_all : (post : PostView) (k : ℕ) (line : End Event) → IsPost post → line ≡ with_items post.line (take k (drop (reported_count post) post.tape)) → IsPost (record post { line = line })
+report_all post k line h el =
     let O = opening_tape post in
     let L = post.line.items in
-    let (rest, is) = h.told in
-    let long : told_count post ≡ length (O ++ L) = sym (length-append O L) in
-    let new = take k (drop (told_count post) post.tape) in
-    let left : drop (told_count post) post.tape ≡ rest = ap (drop (told_count post)) is ∙ drop_front (O ++ L) rest (told_count post) long in
+    let (rest, is) = h.reports in
+    let long : reported_count post ≡ length (O ++ L) = sym (length-append O L) in
+    let new = take k (drop (reported_count post) post.tape) in
+    let left : drop (reported_count post) post.tape ≡ rest = ap (drop (reported_count post)) is ∙ drop_front (O ++ L) rest (reported_count post) long in
     let split : rest ≡ new ++ drop k rest = sym (take-drop k rest) ∙ ap (λ t. take k t ++ drop k rest) (sym left) in
     rw el (record {
       within = h.within;
@@ -72,7 +72,7 @@ tell_all post k line h el =
       in_count = h.in_count;
       kept_count = h.kept_count;
       named = h.named;
-      told = (drop k rest, is ∙ (ap (λ t. (O ++ L) ++ t) split ∙ (sym (append_assoc (O ++ L) new (drop k rest)) ∙ ap (λ t. t ++ drop k rest) (append_assoc O L new))));
+      reports = (drop k rest, is ∙ (ap (λ t. (O ++ L) ++ t) split ∙ (sym (append_assoc (O ++ L) new (drop k rest)) ∙ ap (λ t. t ++ drop k rest) (append_assoc O L new))));
       sends_are = h.sends_are;
       receipts_are = h.receipts_are;
       replays = h.replays;

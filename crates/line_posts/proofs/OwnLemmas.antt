@@ -18,7 +18,7 @@ use Rattle.line_posts.specs.Posts.{incarnation_of_post, opening_tape, IsPost, Po
 use Rattle.line_posts.specs.Extension.{Extends}
 use Rattle.line_posts.specs.Collected.{CollectorView, IsCollector}
 use Rattle.line_posts.specs.Generations.{own_history, own_process, AreInOrder, AreLined}
-use Rattle.line_posts.specs.Gathered.{gathered_tape, AreGathered, IsBegunOf}
+use Rattle.line_posts.specs.Gathered.{gathered_tape, AreGathered, ArePrefixes}
 use Rattle.line_posts.specs.Gathered.{HasNoneFailed, HasOwn}
 use Rattle.line_posts.specs.Gathering.{AreFurtherBelow, AreKnown, AreReady, IsOnWay}
 use Rattle.line_posts.proofs.GatherLemmas.{own_tape, own_past, in_list, tape_past}
@@ -38,7 +38,7 @@ fresh_fits n = record { tape = record { few = omega arith; short = All-nil IsSho
 
 -- what is gathered of a worker begins its tape
 pub rest_lost : (failed : Bool) (post : PostView) → IsPost post → (lost : List Event) × (post.tape ≡ gathered_tape failed post ++ lost)
-rest_lost true post h = h.told
+rest_lost true post h = h.reports
 rest_lost false post h = ([], sym (append-nil post.tape))
 
 sends_front : (xs ys : List Event) → sends xs ≤ sends (xs ++ ys)
@@ -47,26 +47,50 @@ sends_front xs ys =
     let b = length-append (incarnations_sent xs) (incarnations_sent ys) in
     omega (arith, a, b)
 
-module _ (v : CollectorView) (posts : List PostView) (collects : IsCollector v) (lined : AreLined v posts) (known : AreKnown posts) (order : AreInOrder posts) (whole : length posts ≡ length v.processes) where
+-- workers that are back together, one for each process of their collector
+pub record AreBack (v : CollectorView) (posts : List PostView) : Type 0 where
+  pub collects : IsCollector v
+  pub lined : AreLined v posts
+  pub known : AreKnown posts
+  pub order : AreInOrder posts
+  pub whole : length posts ≡ length v.processes
+  pub fit : IsFitFifo (own_history posts)
+
+pub back_of : (v w : CollectorView) (posts : List PostView) → v ≡ w → IsCollector v → AreLined w posts
+    → AreKnown posts → AreInOrder posts → length posts ≡ length v.processes
+    → IsFitFifo (own_history posts) → AreBack v posts
+back_of v w posts e collects lined known order whole fit = record {
+  collects = collects;
+  lined = subst (λ (u : CollectorView). AreLined u posts) (sym e) lined;
+  known = known;
+  order = order;
+  whole = whole;
+  fit = fit;
+}
+
+module _ (v : CollectorView) (posts : List PostView) (back : AreBack v posts) where
+  whole : length posts ≡ length v.processes
+  whole = back.whole
+
   tape_there : (p : ℕ) (post : PostView) → slice_get posts p ≡ Some post → tape_at v.opening p ≡ opening_tape post
-  tape_there p post at = ap (λ o. tape_at o p) (sym ((lined p post at).0)) ∙ ap (tape_at post.opening) (sym ((order p post at).0))
+  tape_there p post at = ap (λ o. tape_at o p) (sym ((back.lined p post at).0)) ∙ ap (tape_at post.opening) (sym ((back.order p post at).0))
 
   incarnation_there : (p : ℕ) (post : PostView) → slice_get posts p ≡ Some post → incarnation_at v.processes p ≡ incarnation_of_post post
-  incarnation_there p post at = collects.incarnations p ∙ (ap (λ o. incarnation_at o p) (sym ((lined p post at).0)) ∙ ap (incarnation_at post.opening) (sym ((order p post at).0)))
+  incarnation_there p post at = back.collects.incarnations p ∙ (ap (λ o. incarnation_at o p) (sym ((back.lined p post at).0)) ∙ ap (incarnation_at post.opening) (sym ((back.order p post at).0)))
 
   seen_there : (p : ℕ) (post : PostView) → slice_get posts p ≡ Some post → tape_at v.processes p ≡ opening_tape post ++ items_at v.lines p
-  seen_there p post at = collects.tapes p ∙ ap (λ t. t ++ items_at v.lines p) (tape_there p post at)
+  seen_there p post at = back.collects.tapes p ∙ ap (λ t. t ++ items_at v.lines p) (tape_there p post at)
 
   pub ready_of : AreReady v.processes v.lines posts
   ready_of p post at = record {
-    number = (order p post at).0;
-    is = (known p post at).0;
-    within = (let w = slice_get_within posts p post at in let a = collects.count in let b = collects.line_count in omega (arith, w, a, b, whole));
-    ring = (lined p post at).1 ∙ ap (ring_at v.lines) ((order p post at).0);
+    number = (back.order p post at).0;
+    is = (back.known p post at).0;
+    within = (let w = slice_get_within posts p post at in let a = back.collects.count in let b = back.collects.line_count in omega (arith, w, a, b, whole));
+    ring = (back.lined p post at).1 ∙ ap (ring_at v.lines) ((back.order p post at).0);
     seen = seen_there p post at;
   }
 
-  module _ (failed : List Bool) (rooms : List ℕ) (further : List (List Event)) (fit : IsFitFifo (own_history posts)) (more : AreFurtherBelow (length posts) failed v.processes rooms posts further) where
+  module _ (failed : List Bool) (rooms : List ℕ) (further : List (List Event)) (more : AreFurtherBelow (length posts) failed v.processes rooms posts further) where
     given : (p : ℕ) (post : PostView) → slice_get posts p ≡ Some post → tape_at v.processes p ++ row_at further p ≡ gathered_tape (is_member failed p) post
     given p post at = more.each p post (slice_get_within posts p post at) at
 
@@ -75,13 +99,13 @@ module _ (v : CollectorView) (posts : List PostView) (collects : IsCollector v) 
       own = own_history posts;
       may = record {
         count = more.count ∙ whole;
-        fit = fit;
+        fit = back.fit;
         limits = λ p. elim (cases_lt p (length posts)) [
           | inl lt ↦
               let (post, at) = in_list posts p lt in
               subst (IsProcess (length v.processes)) (sym (own_at posts p post at)) (record {
-                tape = (known p post at).1;
-                named = subst (λ n. All (NamesBelow n) post.tape) ((order p post at).1 ∙ whole) ((known p post at).0.named);
+                tape = (back.known p post at).1;
+                named = subst (λ n. All (NamesBelow n) post.tape) ((back.order p post at).1 ∙ whole) ((back.known p post at).0.named);
               })
           | inr past ↦ subst (IsProcess (length v.processes)) (sym (own_none posts p past)) (fresh_fits (length v.processes))
         ];
@@ -92,7 +116,7 @@ module _ (v : CollectorView) (posts : List PostView) (collects : IsCollector v) 
         begins = λ p. elim (cases_lt p (length posts)) [
           | inl lt ↦
               let (post, at) = in_list posts p lt in
-              let (lost, is) = rest_lost (is_member failed p) post ((known p post at).0) in
+              let (lost, is) = rest_lost (is_member failed p) post ((back.known p post at).0) in
               (lost, own_tape posts p post at ∙ (is ∙ ap (λ t. t ++ lost) (sym (given p post at))))
           | inr past ↦ (
             [],
@@ -106,7 +130,7 @@ module _ (v : CollectorView) (posts : List PostView) (collects : IsCollector v) 
               let (post, at) = in_list posts p lt in
               let s = ap sends (seen_there p post at) in
               let f = sends_front (opening_tape post) (items_at v.lines p) in
-              (known p post at).0.present k inc (omega (arith, le, s, f)) (subst (λ t. Holds t inc k) (own_tape posts p post at) held)
+              (back.known p post at).0.present k inc (omega (arith, le, s, f)) (subst (λ t. Holds t inc k) (own_tape posts p post at) held)
               ∙ sym (ap (λ (t : Process). t.incarnation) (own_at posts p post at))
           | inr past ↦ (let none : Holds [] inc k = subst (λ t. Holds t inc k) (own_past posts p past) held in let w = slice_get_within (incarnations_sent []) k inc none in absurd (omega (arith, w)))
         ];
@@ -137,8 +161,8 @@ module _ (v : CollectorView) (posts : List PostView) (collects : IsCollector v) 
       gathered_past : (p : ℕ) → length posts ≤ p → process_at gathered p ≡ process_at (own_history posts) p
       gathered_past p past = process_past gathered p (omega (arith, past, long, whole)) ∙ sym (own_none posts p past)
 
-      pub begun_of : IsBegunOf failed gathered (own_history posts)
-      begun_of = record {
+      pub prefixes_of : ArePrefixes failed gathered (own_history posts)
+      prefixes_of = record {
         count = long ∙ (sym whole ∙ sym (length-map posts own_process));
         incarnations = λ p. elim (cases_lt p (length posts)) [
           | inl lt ↦ (let (post, at) = in_list posts p lt in ap (λ (t : Process). t.incarnation) (gathered_of.each p post at) ∙ sym (ap (λ (t : Process). t.incarnation) (own_at posts p post at)))
@@ -147,7 +171,7 @@ module _ (v : CollectorView) (posts : List PostView) (collects : IsCollector v) 
         begins = λ p. elim (cases_lt p (length posts)) [
           | inl lt ↦
               let (post, at) = in_list posts p lt in
-              let (lost, is) = rest_lost (is_member failed p) post ((known p post at).0) in
+              let (lost, is) = rest_lost (is_member failed p) post ((back.known p post at).0) in
               (lost, own_tape posts p post at ∙ (is ∙ ap (λ t. t ++ lost) (sym (ap (λ (t : Process). t.tape) (gathered_of.each p post at)))))
           | inr past ↦ ([], ap (λ (t : Process). t.tape) (sym (gathered_past p past)) ∙ sym (append-nil (tape_at gathered p)))
         ];

@@ -9,8 +9,8 @@ use Rattle.line_rings.specs.Ends.{ring_at}
 use Rattle.line_rings.proofs.EndLemmas.{ring_item}
 use Rattle.line_posts.specs.Receipts.{HasReceived, HasTaken}
 use Rattle.line_posts.specs.Markers.{checked_by, marked_by}
-use Rattle.line_posts.specs.declared.receive.Received.{Received}
-use Rattle.line_posts.specs.declared.receive.Received.TheVariants.{Message, Marked}
+use Rattle.line_posts.specs.declared.receiving.Received.{Received}
+use Rattle.line_posts.specs.declared.receiving.Received.TheVariants.{Message, Marked}
 use Rattle.line_posts.proofs.MarkerLemmas.{ring_below}
 use Rattle.line_posts.specs.Posts.{checked_alone, sent_by, PostView}
 use Rattle.line_posts.specs.Reports.{HasReported}
@@ -23,6 +23,9 @@ same_self post = record { number = refl; opening = refl; outs = λ q. refl; ins 
 
 pub same_then : (a b c : PostView) → IsSamePost a b → IsSamePost b c → IsSamePost a c
 same_then a b c h k = record { number = k.number ∙ h.number; opening = k.opening ∙ h.opening; outs = λ q. k.outs q ∙ h.outs q; ins = λ p. k.ins p ∙ h.ins p; line = k.line ∙ h.line }
+
+pub same_via : (inside now new : PostView) → inside ≡ now → IsSamePost inside new → IsSamePost now new
+same_via inside now new e h = subst (λ (v : PostView). IsSamePost v new) e h
 
 pub same_from : (a b : PostView) → b ≡ a → IsSamePost a b
 same_from a b e = rw e (same_self a)
@@ -67,9 +70,12 @@ same_forced : (a : PostView) (from round : ℕ) (state : List ℕ) (forced : Boo
 same_forced a from round state true = same_then a (checked_by a state round) _ (same_checked a state round) (same_marked (checked_by a state round) from round)
 same_forced a from round state false = same_marked a from round
 
+pub same_received : (x : Received) (a b : PostView) (from : ℕ) (state : List ℕ) → HasReceived a from state x b → IsSamePost a b
+same_received (Message name body) a b from state h = same_taken a b name body h.1
+same_received (Marked round forced) a b from state h = subst (IsSamePost a) (sym h.new_is) (same_forced a from round state forced)
+
 pub same_if_taken : {E : Type 0} (r : Result Received E) (a b : PostView) (from : ℕ) (state : List ℕ) → IfOk r (λ x. HasReceived a from state x b) → OnErr r (b ≡ a) → IsSamePost a b
-same_if_taken (Ok (Message name body)) a b from state h k = same_taken a b name body h.1
-same_if_taken (Ok (Marked round forced)) a b from state h k = subst (IsSamePost a) (sym h.new_is) (same_forced a from round state forced)
+same_if_taken (Ok x) a b from state h k = same_received x a b from state h
 same_if_taken (Err e) a b from state h k = same_from a b k
 
 pub same_push : (xs ys : List PostView) (x y : PostView) → AreSamePosts xs ys → IsSamePost x y → AreSamePosts (xs ++ x ∷ []) (ys ++ y ∷ [])
@@ -123,3 +129,14 @@ same_posts_then a b c h k = record {
       let hy = slice_get-get_or b i x (omega (arith, w, n)) in
       same_then x y z (h.each i x y hx hy) (k.each i y z hy hz);
 }
+
+-- a replay that was taken, whatever state was handed in
+pub same_if_replayed : {E : Type 0} (r : Result Received E) (a b : PostView) (from : ℕ)
+    → IfOk r (λ x. (state : List ℕ) → HasReceived a from state x b) → OnErr r (b ≡ a) → IsSamePost a b
+same_if_replayed (Ok x) a b from h k = same_received x a b from [] (h [])
+same_if_replayed (Err e) a b from h k = same_from a b k
+
+pub if_err_given : {T E : Type 0} (r : Result T E) (A : List ℕ → Type 0) (P : E → List ℕ → Type 0)
+    (state : List ℕ) → A state → IfErr r (λ e. (s : List ℕ) → A s → P e s) → IfErr r (λ e. P e state)
+if_err_given (Ok x) A P state a h = tt
+if_err_given (Err e) A P state a h = h state a

@@ -44,7 +44,7 @@ pub record GatheredView : Type 0 where
 
 -- the gathered history is a prefix of another, tape by tape, and all of it where the process did
 -- not fail
-pub record IsBegunOf (failed : List Bool) (gathered own : List Process) : Type 0 where
+pub record ArePrefixes (failed : List Bool) (gathered own : List Process) : Type 0 where
   pub count : length gathered ≡ length own
   pub incarnations : (p : ℕ) → incarnation_at gathered p ≡ incarnation_at own p
   pub begins : (p : ℕ) → (lost : List Event) × (tape_at own p ≡ tape_at gathered p ++ lost)
@@ -52,4 +52,4 @@ pub record IsBegunOf (failed : List Bool) (gathered own : List Process) : Type 0
 
 -- the other is one that links in order can lead to: the workers' own tapes
 abbrev pub HasOwn : List Bool → List Process → Type 0
-HasOwn failed gathered = (own : List Process) × IsFitFifo own × IsBegunOf failed gathered own
+HasOwn failed gathered = (own : List Process) × IsFitFifo own × ArePrefixes failed gathered own

@@ -60,7 +60,7 @@ pub record IsPost (post : PostView) : Type 0 where
   pub kept_count : length post.kept ≡ length post.opening
   pub named : All (NamesBelow (length post.opening)) post.tape
   -- reports: its tape is the opening tape, then what it reported, then the rest
-  pub told : (rest : List Event) × (post.tape ≡ (opening_tape post ++ post.line.items) ++ rest)
+  pub reports : (rest : List Event) × (post.tape ≡ (opening_tape post ++ post.line.items) ++ rest)
   -- links: what its tape sends to another is what the opening tape does, and then what it pushed
   pub sends_are : (q : ℕ) → q < length post.opening → q ≢ post.number
       → parcels_sent q 0 post.tape ≡ parcels_sent q 0 (opening_tape post) ++ items_at post.outs q
@@ -99,5 +99,5 @@ abbrev pub checked_alone : PostView → List ℕ → PostView
 checked_alone post state = record post { tape = post.tape ++ Check state None ∷ [] }
 
 -- how many events of its tape are in the opening or were reported
-abbrev pub told_count : PostView → ℕ
-told_count post = length (opening_tape post) + length post.line.items
+abbrev pub reported_count : PostView → ℕ
+reported_count post = length (opening_tape post) + length post.line.items

@@ -8,8 +8,8 @@ use Rattle.line_rings.specs.Ends.{with_item, row_at}
 use Rattle.line_posts.specs.declared.parcels.Letter.{Letter}
 use Rattle.line_posts.specs.declared.parcels.Parcel.{Parcel}
 use Rattle.line_posts.specs.declared.parcels.Parcel.TheVariants.{Message, Marker}
-use Rattle.line_posts.specs.declared.receive.Received.{Received}
-use Rattle.line_posts.specs.declared.receive.Received.TheVariants.{Message as TookMessage, Marked}
+use Rattle.line_posts.specs.declared.receiving.Received.{Received}
+use Rattle.line_posts.specs.declared.receiving.Received.TheVariants.{Message as TookMessage, Marked}
 use Rattle.line_posts.specs.Markers.{recorded_by, checked_by, marked_by}
 use Rattle.line_posts.specs.Posts.{PostView}
 

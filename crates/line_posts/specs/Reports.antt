@@ -2,7 +2,7 @@
 use Rattle.std.specs.Prelude.{◌≡◌, ℕ, List, ◌++◌, take, drop}
 use Rattle.line_tape.specs.declared.events.Event.{Event}
 use Rattle.line_rings.specs.Ends.{End}
-use Rattle.line_posts.specs.Posts.{PostView, told_count}
+use Rattle.line_posts.specs.Posts.{PostView, reported_count}
 
 -- an end after some more items
 abbrev pub with_items : {T : Type 0} → End T → List T → End T
@@ -10,7 +10,7 @@ with_items e items = record e { items = e.items ++ items }
 
 -- the next k events that the worker has not reported yet
 abbrev pub next_events : PostView → ℕ → List Event
-next_events post k = take k (drop (told_count post) post.tape)
+next_events post k = take k (drop (reported_count post) post.tape)
 
 -- the worker has put the next k events on its report line
 abbrev pub HasReported : PostView → ℕ → PostView → Type 0

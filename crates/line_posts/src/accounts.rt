@@ -1,4 +1,4 @@
-//! Workers that are back together.
+//! Workers that are back together: the two ends of each ring are compared.
 ghost use Rattle.std.specs.Prelude.{◌≡◌, ◌↔◌, ℕ, IsTrue, slice_get, Some, vec_capacity};
 ghost use Rattle.line_tape.specs.Fit.{IsFitFifo};
 ghost use Rattle.line_rings.specs.Ends.{ring_at};
@@ -33,7 +33,7 @@ fn meet_self(post: &mut Post)
     let _ = meet(&mut post.outs, p, &mut post.ins, p);
 }
 
-/// On both rings of two workers.
+/// What lies on both rings between two workers.
 fn meet_both(one: &mut Post, other: &mut Post)
     requires { AreLinkedTwo one.old other.old }
     ensures one { one.new ≡ one.old }
@@ -44,7 +44,7 @@ fn meet_both(one: &mut Post, other: &mut Post)
     meet_two(other, one);
 }
 
-/// Of one worker and each of others.
+/// What lies on the rings between one worker and each of the others.
 fn meet_each(one: &mut Post, others: &mut Vec<Post>)
     requires linked { (j : ℕ) (other : PostView) → slice_get others.old.items j ≡ Some other
         → AreLinkedTwo one.old other }
@@ -60,8 +60,8 @@ fn meet_each(one: &mut Post, others: &mut Vec<Post>)
     }
 }
 
-/// Of each two workers.
-pub(crate) fn meet_all(posts: &mut Vec<Post>)
+/// What lies on each ring.
+fn meet_all(posts: &mut Vec<Post>)
     requires { IsGeneration posts.old.items }
     ensures same { posts.new.items ≡ posts.old.items }
     ensures capacity { vec_capacity posts.new ≡ vec_capacity posts.old }

@@ -141,8 +141,8 @@ impl Collector {
         Ok(limit)
     }
 
-    /// Takes reports, of each process in turn until its line shows none, and at most so many; how
-    /// many it took is answered.
+    /// Takes reports, of each process in turn until its line shows none, and at most `limit`. It
+    /// answers how many it took.
     ///
     /// A refused report stays in front of its line, and those taken before it stay taken. It costs
     /// a look at each line, and for each report what `Catalogue::add` costs.

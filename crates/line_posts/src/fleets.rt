@@ -99,7 +99,7 @@ pub(crate) fn open_all(
 /// A first generation of `n` workers with no event yet, its collector, and a ring of this capacity
 /// from each worker to each and from each to the collector.
 ///
-/// It makes n² rings.
+/// It makes n² rings for messages, one from each worker to itself among them, which stays empty.
 pub fn fleet(alloc: Global, n: u32, capacity: usize) -> Result<(Collector, Vec<Post>), FleetError>
     ensures collector { IfOk result (λ r. r.0
         ≡ collector_of (replicate n fresh) (replicate n fresh)

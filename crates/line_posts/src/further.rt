@@ -11,7 +11,7 @@ ghost use Rattle.line_posts.specs.Gathered.{gathered_tape};
 ghost use Rattle.line_posts.specs.Gathering.{rows_of, AreFurtherBelow, AreReady, IsOnWay, IsReady};
 
 use crate::posts::Post;
-use crate::receive::{keeps, take_kept};
+use crate::queues::{keeps, take_kept};
 use crate::reports::copies;
 use line_catalogue::Catalogue;
 use line_names::{ProcId, ProcSet};
@@ -24,7 +24,7 @@ use std::collections::VecDeque;
 impl Post {
     /// How many events of its tape are gathered of it: all, and where it failed those that it
     /// reported. What lies on its report line is known from here on.
-    fn told_to(&mut self, lines: &mut Vec<Consumer<Event>>, p: usize, failed: bool) -> u32
+    fn gathered_len(&mut self, lines: &mut Vec<Consumer<Event>>, p: usize, failed: bool) -> u32
         requires within { p < length lines.old.items }
         requires ring { Some self.old.line.ring ≡ ring_at (in_ends lines.old.items) p }
         ensures post { self.new ≡ self.old }
@@ -36,7 +36,7 @@ impl Post {
     {
         let _ = meet_end(&mut self.line, lines, p);
         if failed {
-            self.told
+            self.reported
         } else {
             self.journal.len()
         }
@@ -64,7 +64,7 @@ fn further_of(
     ensures room { IfOk result (λ events. length (deque_items events) ≤ room_at catalogue.new p) }
 {
     let from = catalogue.history().tape(p).len();
-    let upto = post.told_to(lines, p.get() as usize, failed);
+    let upto = post.gathered_len(lines, p.get() as usize, failed);
     let k = upto - from;
     let events = copies(alloc, post.tape(), from, k)?;
     catalogue.reserve(p, k)?;

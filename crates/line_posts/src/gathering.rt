@@ -19,7 +19,7 @@ ghost use Rattle.line_posts.specs.Extension.{Extends};
 ghost use Rattle.line_posts.specs.Generations.{own_history, AreAccounted, AreLined, AreWhole};
 ghost use Rattle.line_posts.specs.Generations.{IsGeneration};
 ghost use Rattle.line_posts.specs.Gathered.{AreBelow, AreGathered, HasNoneFailed, HasOwn};
-ghost use Rattle.line_posts.specs.Gathered.{IsBegunOf};
+ghost use Rattle.line_posts.specs.Gathered.{ArePrefixes};
 
 use crate::accounts::account;
 use crate::collectors::Collector;
@@ -133,8 +133,8 @@ fn last_round(posts: &Vec<Post>) -> u32
 /// Gathers what the workers of a generation did: of those that did not fail all, of the failed ones
 /// what they reported. A refusal hands collector and posts back as they were.
 ///
-/// It looks at both ends of the ring between each two workers, and copies each event that the
-/// collector has not taken. It does not ask what lies on the rings.
+/// It compares the two ends of each ring, n² of them, and copies and adds each event that the
+/// collector has not taken. What still lies on the rings is not taken from them.
 pub fn gather(
     mut collector: Collector,
     mut posts: Vec<Post>,
@@ -143,7 +143,7 @@ pub fn gather(
     requires generation { IsGeneration posts.items }
     requires lines { AreLined collector posts.items }
     ensures gathered { IfOk result (λ g. AreGathered failed posts.items g.processes) }
-    ensures begins { IfOk result (λ g. IsBegunOf failed g.processes (own_history posts.items)) }
+    ensures prefix { IfOk result (λ g. ArePrefixes failed g.processes (own_history posts.items)) }
     ensures fit { OnOk result (IsFitFifo (own_history posts.items)) }
     ensures accounted { OnOk result (AreAccounted posts.items) }
     ensures onward { IfOk result (λ g. Extends g.processes collector.processes) }

@@ -10,7 +10,7 @@ mod laws;
 mod markers;
 mod parcels;
 mod posts;
-mod receive;
+mod queues;
 mod receiving;
 mod refusals;
 mod replays;
@@ -23,7 +23,7 @@ pub use gathering::{GatherRefused, Gathered, gather};
 pub use laws::generations_last;
 pub use parcels::{Letter, Parcel};
 pub use posts::Post;
-pub use receive::Received;
+pub use receiving::Received;
 pub use refusals::{
     BeginWhy, FleetError, GatherWhy, ReceiveWhy, ReportError, SendRefused, SendWhy,
 };

@@ -8,6 +8,7 @@ ghost use Rattle.line_tape.specs.History.{IsTape};
 ghost use Rattle.line_rings.specs.Ends.{out_ends, in_ends, producer_end};
 ghost use Rattle.line_posts.specs.Posts.{checked_alone, next_name, post_of, sent_by, IsPost};
 ghost use Rattle.line_posts.specs.Refusals.{IsNotSent, MaySend};
+ghost use Rattle.line_posts.specs.Generations.{IsSamePost};
 ghost use Rattle.line_posts.specs.Openings.{IsOpening};
 ghost use Rattle.line_posts.specs.declared.parcels.Parcel.TheVariants.{Message};
 
@@ -28,7 +29,7 @@ use std::snapshot::Snapshot;
 /// of the report line.
 ///
 /// It belongs to one thread at a time; no call waits. A call costs the same however much was done
-/// before.
+/// before, and where markers go out, a push for each process.
 #[derive(Drop)]
 pub struct Post {
     pub(crate) alloc: Global,
@@ -40,7 +41,7 @@ pub struct Post {
     pub(crate) outs: Vec<Producer<Parcel>>,
     pub(crate) ins: Vec<Consumer<Parcel>>,
     pub(crate) line: Producer<Event>,
-    pub(crate) told: u32,
+    pub(crate) reported: u32,
 }
 
 impl Model for Post {
@@ -60,7 +61,7 @@ impl Model for Post {
         (map deque_items s.kept.items) (out_ends s.outs.items) (in_ends s.ins.items)
         (producer_end s.line) s.journal.floor s.journal.rounds)
         × (s.incarnation ≡ incarnation_at s.opening.value.processes s.me)
-        × (s.told ≡ length (tape_at s.opening.value.processes s.me)
+        × (s.reported ≡ length (tape_at s.opening.value.processes s.me)
         + length (producer_end s.line).items)
         × (s.journal.n ≡ length s.opening.value.processes)
         × (s.journal.me ≡ s.me) };
@@ -110,7 +111,7 @@ pub(crate) fn open_post(
     let incarnation = history.incarnation(me);
     let _limits = history.tape(me);
     let opening = Snapshot::of(history);
-    let told = journal.len();
+    let reported = journal.len();
     Post {
         alloc,
         me,
@@ -121,7 +122,7 @@ pub(crate) fn open_post(
         outs,
         ins,
         line,
-        told,
+        reported,
     }
 }
 
@@ -144,7 +145,8 @@ impl Post {
 
     /// Its tape.
     pub fn tape(&self) -> &Tape
-        ensures { result.now.events ≡ self.now.tape }
+        ensures value { result.now.events ≡ self.now.tape }
+        ensures known { IsPost self.now }
     {
         self.journal.tape()
     }
@@ -156,6 +158,7 @@ impl Post {
         ensures ok { IfOk result (λ name. (name ≡ next_name self.old)
             × (self.new ≡ sent_by self.old to body)) }
         ensures err { IfErr result (λ e. (e.body ≡ body) × (self.new ≡ self.old)) }
+        ensures same { IsSamePost self.old self.new }
 
         // The refusals, in their order.
         ensures may { OnOk result (MaySend self.old to) }
@@ -204,6 +207,7 @@ impl Post {
         ensures ok { IfOk result (λ index. (index ≡ checks self.new.tape)
             × (self.new ≡ checked_alone self.old state)) }
         ensures err { OnErr result (self.new ≡ self.old) }
+        ensures same { IsSamePost self.old self.new }
 
         // The refusals, in their order.
         ensures long { IsErrOf result TapeError.StateTooLong ↔ (MOST_STATE < length state) }

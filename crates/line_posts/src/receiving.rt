@@ -1,20 +1,67 @@
 //! What a worker takes: messages and markers.
 ghost use Rattle.std.specs.Prelude.{◌≡◌, ◌≢◌, ◌<◌, ◌≤◌, ℕ, List, [], IfOk, IfErr, OnOk, OnErr};
-ghost use Rattle.std.specs.Prelude.{length};
-ghost use Rattle.line_rings.specs.Ends.{row_at};
+ghost use Rattle.std.specs.Prelude.{MatchOption, length};
+ghost use Rattle.line_rings.specs.Ends.{in_ends, known_at, row_at, with_item};
 ghost use Rattle.line_posts.specs.Parcels.{letter_name};
-ghost use Rattle.line_posts.specs.Receipts.{HasReceived};
+ghost use Rattle.line_posts.specs.Receipts.{BeginsWithMarker, BeginsWithMessage, HasReceived};
+ghost use Rattle.line_posts.specs.Receipts.{IsMessage};
+ghost use Rattle.line_posts.specs.Generations.{IsSamePost};
 ghost use Rattle.line_posts.specs.Refusals.{IsNotReceived, MayReceive};
-ghost use Rattle.line_posts.specs.declared.receive.Received.TheVariants.{Message as TookMessage};
+ghost use Rattle.line_posts.specs.declared.parcels.Parcel.TheVariants.{Message};
+ghost use Rattle.line_posts.specs.declared.receiving.Received.TheVariants.{Message as TookMessage};
 
 use crate::markers::{push_markers, take_marker};
-use crate::parcels::Letter;
+use crate::parcels::{Letter, Parcel};
 use crate::posts::{Post, name_of};
-use crate::receive::{Received, keeps, round_first, take_kept, take_letter};
+use crate::queues::{keeps, take_kept};
 use crate::refusals::ReceiveWhy;
-use line_names::ProcId;
-use line_rings::{has_room, look_at};
+use line_names::{Body, MsgName, ProcId};
+use line_rings::{front_at, has_room, look_at, take_at};
 use line_tape::{MOST_EVENTS, MOST_STATE, State};
+use rtrb::Consumer;
+
+/// What a worker received.
+#[derive(Debug, Drop)]
+pub enum Received {
+    /// A message: its name and its body.
+    Message { name: MsgName, body: Body },
+    /// The marker of a round, and whether it forced the check of that round.
+    Marked { round: u32, forced: bool },
+}
+
+/// The round of the known item that is first, if it is a marker.
+fn round_first(ins: &Vec<Consumer<Parcel>>, p: usize) -> Option<u32>
+    requires within { p < length ins.now.items }
+    requires known { 0 < length (known_at ins.now.items p) }
+    ensures { MatchOption result (BeginsWithMessage (known_at ins.now.items p))
+        (λ r. BeginsWithMarker r (known_at ins.now.items p)) }
+{
+    match front_at(ins, p) {
+        Parcel::Message { .. } => None,
+        Parcel::Marker { round } => Some(*round),
+    }
+}
+
+/// The letter of a message.
+fn letter_of(parcel: Parcel) -> Letter
+    requires { IsMessage parcel }
+    ensures { parcel ≡ Message result }
+{
+    match parcel {
+        Parcel::Message { letter } => letter,
+        Parcel::Marker { .. } => unreachable!(),
+    }
+}
+
+/// Takes the known item that is first, a message.
+fn take_letter(ins: &mut Vec<Consumer<Parcel>>, p: usize) -> Letter
+    requires within { p < length ins.old.items }
+    requires first { BeginsWithMessage (known_at ins.old.items p) }
+    ensures { in_ends ins.new.items ≡ with_item (in_ends ins.old.items) p (Message result) }
+{
+    let parcel = take_at(ins, p);
+    letter_of(parcel)
+}
 
 /// The name and the body of a letter from a process.
 fn opened(from: ProcId, letter: Letter) -> Received
@@ -119,6 +166,7 @@ impl Post {
     pub fn receive(&mut self, from: ProcId, state: State) -> Result<Received, ReceiveWhy>
         ensures ok { IfOk result (λ r. HasReceived self.old from state r self.new) }
         ensures err { OnErr result (self.new ≡ self.old) }
+        ensures same { IsSamePost self.old self.new }
 
         // The refusals, in their order.
         ensures may { OnOk result (MayReceive self.old from state) }

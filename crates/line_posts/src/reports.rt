@@ -3,7 +3,8 @@ ghost use Rattle.std.specs.Prelude.{◌≡◌, ◌<◌, ◌≤◌, ◌+◌, ◌�
 ghost use Rattle.std.specs.VecDeque.{deque_items};
 ghost use Rattle.rtrb.specs.Ring.{known_free};
 ghost use Rattle.line_rings.specs.Ends.{producer_end};
-ghost use Rattle.line_posts.specs.Posts.{told_count};
+ghost use Rattle.line_posts.specs.Posts.{reported_count};
+ghost use Rattle.line_posts.specs.Generations.{IsSamePost};
 ghost use Rattle.line_posts.specs.Reports.{with_items, HasReported};
 
 use crate::posts::Post;
@@ -13,10 +14,12 @@ use rtrb::Producer;
 use std::alloc::{AllocError, Global};
 use std::collections::VecDeque;
 
-/// How many events were put on the report line, and how many are left.
+/// What a call of `report` did.
 #[derive(Clone, Copy, Debug, PartialEq, Eq)]
 pub struct Reported {
+    /// How many events this call put there.
     pub sent: u32,
+    /// How many events of the tape are not reported yet.
     pub left: u32,
 }
 
@@ -77,15 +80,16 @@ impl Post {
     /// It costs a copy of each event that it puts there.
     pub fn report(&mut self) -> Result<Reported, ReportError>
         ensures ok { IfOk result (λ r. HasReported self.old r.sent self.new) }
-        ensures left { IfOk result (λ r. told_count self.new + r.left ≡ length self.new.tape) }
+        ensures left { IfOk result (λ r. reported_count self.new + r.left ≡ length self.new.tape) }
         ensures err { OnErr result (self.new ≡ self.old) }
+        ensures same { IsSamePost self.old self.new }
     {
-        let left = self.journal.len() - self.told;
+        let left = self.journal.len() - self.reported;
         let room = self.line.slots();
         let k = fewer(left, room);
-        let events = copies(self.alloc, self.journal.tape(), self.told, k)?;
+        let events = copies(self.alloc, self.journal.tape(), self.reported, k)?;
         put_each(&mut self.line, events);
-        self.told += k;
+        self.reported += k;
         Ok(Reported {
             sent: k,
             left: left - k,

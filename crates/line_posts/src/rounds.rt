@@ -3,6 +3,7 @@ ghost use Rattle.std.specs.Prelude.{◌≡◌, ◌+◌, IfOk, IfErr, OnOk, OnErr
 ghost use Rattle.line_marker.specs.Recording.{latest};
 ghost use Rattle.line_journals.specs.Journals.{IsRecorded};
 ghost use Rattle.line_posts.specs.Markers.{checked_by};
+ghost use Rattle.line_posts.specs.Generations.{IsSamePost};
 ghost use Rattle.line_posts.specs.Refusals.{IsNotBegun, MayBegin};
 
 use crate::markers::push_markers;
@@ -19,6 +20,7 @@ impl Post {
         ensures ok { IfOk result (λ r. (r ≡ latest self.old.floor self.old.rounds + 1)
             × (self.new ≡ checked_by self.old state r)) }
         ensures err { OnErr result (self.new ≡ self.old) }
+        ensures same { IsSamePost self.old self.new }
 
         // The refusals, in their order.
         ensures may { OnOk result (MayBegin self.old state) }

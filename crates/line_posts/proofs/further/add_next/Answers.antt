@@ -11,7 +11,7 @@ use Rattle.line_posts.proofs.further.add_next.Goals as goal
 pub unwrap-requires : goal.unwrap-requires
 unwrap-requires c =
     let F : List (List Event) = rows_of c.args.further.now.items in
-    let G : List (List Event) = rows_of c.take_kept-event.new.kept.items in
+    let G : List (List Event) = rows_of c.take_kept-event.new.queues.items in
     let w = c.requires.way in
     let first : row_at F c.args.p ≡ c.take_kept-event.result ∷ row_at G c.args.p = subst (λ v. row_at F v ≡ c.take_kept-event.result ∷ row_at G v) c.get-at.ensures.value c.take_kept-event.ensures.first in
     let a = addable c.args.catalogue.now.processes F w.own c.args.p c.take_kept-event.result (row_at G c.args.p) c.requires.within w.may first in
@@ -28,7 +28,7 @@ unwrap-requires c =
 pub returns-clause-way : goal.returns-clause-way
 returns-clause-way c =
     let F : List (List Event) = rows_of c.args.further.now.items in
-    let G : List (List Event) = rows_of c.take_kept-event.new.kept.items in
+    let G : List (List Event) = rows_of c.take_kept-event.new.queues.items in
     let first : row_at F c.args.p ≡ c.take_kept-event.result ∷ row_at G c.args.p = subst (λ v. row_at F v ≡ c.take_kept-event.result ∷ row_at G v) c.get-at.ensures.value c.take_kept-event.ensures.first in
     way_next c.args.catalogue.now.processes c.add.new.self.processes F G c.args.catalogue.now.rooms c.add.new.self.rooms c.args.p c.take_kept-event.result c.requires.within c.requires.way first
     (c.take_kept-event.ensures.rows ∙ ap (without_first F) c.get-at.ensures.value)

@@ -4,10 +4,10 @@ use Rattle.line_tape.specs.History.{Process, process_at, tape_at, incarnation_at
 use Rattle.line_rings.specs.Ends.{in_ends, row_at}
 use Rattle.line_posts.specs.Posts.{PostView}
 use Rattle.line_posts.specs.Extension.{Extends}
-use Rattle.line_posts.specs.Collected.{collector_of, CollectorView}
-use Rattle.line_posts.specs.Generations.{own_history, AreLined}
+use Rattle.line_posts.specs.Collected.{CollectorView}
+use Rattle.line_posts.specs.Generations.{own_history}
 use Rattle.line_posts.specs.Gathering.{rows_of, AreFurtherBelow, AreReady}
-use Rattle.line_posts.proofs.OwnLemmas.{ready_of, way_of, gathered_of, begun_of, extends_of}
+use Rattle.line_posts.proofs.OwnLemmas.{back_of, ready_of, way_of, gathered_of, prefixes_of, extends_of}
 use Rattle.line_posts.proofs.gathering.gather.Goals as goal
 
 added_process : List Process → ℕ → List (List Event) → Process
@@ -15,127 +15,117 @@ added_process h p further = record { incarnation = incarnation_at h p; tape = ta
 
 pub further_of_all-requires-clause-ready : goal.further_of_all-requires-clause-ready
 further_of_all-requires-clause-ready c =
-    let V = collector_of c.collector.inside.opening.value.processes c.collector.inside.catalogue.processes c.collector.inside.catalogue.marks (in_ends c.collector.inside.lines.items) in
     let P = c.args.posts.items in
-    let lined = subst (λ (v : CollectorView). AreLined v P) (sym c.collector.view_is) c.requires.lines in
     let t = c.if-not-account.false in
-    let known = c.account.ensures.known t in
-    let order = c.account.ensures.order.0 t in
     let a = c.len.ensures in
     let b = c.if-len-n.false in
     let n = c.n-n.ensures.value in
-    let whole : length P ≡ length V.processes = (let k = c.args.posts.ok in omega (arith, a, b, n, k)) in
-    subst (λ (xs : List PostView). AreReady V.processes V.lines xs) (sym c.account.ensures.same) (ready_of V P c.collector.invariant lined known order whole)
+    let k = c.args.posts.ok in
+    let back = back_of _ _ P c.collector.view_is c.collector.invariant c.requires.lines
+    (c.account.ensures.known t) (c.account.ensures.order.0 t) (omega (arith, a, b, n, k)) (c.account.ensures.fit t) in
+    subst (λ (xs : List PostView). AreReady c.collector.inside.catalogue.processes (in_ends c.collector.inside.lines.items) xs)
+    (sym c.account.ensures.same) (ready_of _ P back)
 
 pub add_all-requires : goal.add_all-requires
 add_all-requires c =
-    let V = collector_of c.collector.inside.opening.value.processes c.collector.inside.catalogue.processes c.collector.inside.catalogue.marks (in_ends c.collector.inside.lines.items) in
     let P = c.args.posts.items in
-    let lined = subst (λ (v : CollectorView). AreLined v P) (sym c.collector.view_is) c.requires.lines in
     let t = c.if-not-account.false in
-    let known = c.account.ensures.known t in
-    let order = c.account.ensures.order.0 t in
     let a = c.len.ensures in
     let b = c.if-len-n.false in
     let n = c.n-n.ensures.value in
-    let whole : length P ≡ length V.processes = (let k = c.args.posts.ok in omega (arith, a, b, n, k)) in
-    let fit = c.account.ensures.fit t in
+    let k = c.args.posts.ok in
+    let back = back_of _ _ P c.collector.view_is c.collector.invariant c.requires.lines
+    (c.account.ensures.known t) (c.account.ensures.order.0 t) (omega (arith, a, b, n, k)) (c.account.ensures.fit t) in
+    let H = c.collector.inside.catalogue.processes in
     let F = rows_of c.in-Ok.further.items in
     let R = c.further_of_all.new.catalogue.rooms in
-    let more = subst (λ (xs : List PostView). AreFurtherBelow (length xs) c.args.failed V.processes R xs F) c.account.ensures.same c.in-Ok.ensures.further in
-    rw c.in-Ok.ensures.processes (record { way = way_of V P c.collector.invariant lined known order whole c.args.failed R F fit more })
+    let more = subst (λ (xs : List PostView). AreFurtherBelow (length xs) c.args.failed H R xs F) c.account.ensures.same c.in-Ok.ensures.further in
+    rw c.in-Ok.ensures.processes (record { way = way_of _ P back c.args.failed R F more })
 
 pub invariant_of-result : goal.invariant_of-result
 unfolding added_process
 invariant_of-result c =
-    let V = collector_of c.collector.inside.opening.value.processes c.collector.inside.catalogue.processes c.collector.inside.catalogue.marks (in_ends c.collector.inside.lines.items) in
     let P = c.args.posts.items in
-    let lined = subst (λ (v : CollectorView). AreLined v P) (sym c.collector.view_is) c.requires.lines in
     let t = c.if-not-account.false in
-    let known = c.account.ensures.known t in
-    let order = c.account.ensures.order.0 t in
     let a = c.len.ensures in
     let b = c.if-len-n.false in
     let n = c.n-n.ensures.value in
-    let whole : length P ≡ length V.processes = (let k = c.args.posts.ok in omega (arith, a, b, n, k)) in
-    let fit = c.account.ensures.fit t in
+    let k = c.args.posts.ok in
+    let back = back_of _ _ P c.collector.view_is c.collector.invariant c.requires.lines
+    (c.account.ensures.known t) (c.account.ensures.order.0 t) (omega (arith, a, b, n, k)) (c.account.ensures.fit t) in
+    let H = c.collector.inside.catalogue.processes in
     let F = rows_of c.in-Ok.further.items in
     let R = c.further_of_all.new.catalogue.rooms in
-    let more = subst (λ (xs : List PostView). AreFurtherBelow (length xs) c.args.failed V.processes R xs F) c.account.ensures.same c.in-Ok.ensures.further in
+    let more = subst (λ (xs : List PostView). AreFurtherBelow (length xs) c.args.failed H R xs F) c.account.ensures.same c.in-Ok.ensures.further in
     let G = c.add_all.new.catalogue.processes in
     let long = c.add_all.ensures.count ∙ ap length c.in-Ok.ensures.processes in
-    let each : (p : ℕ) → process_at G p ≡ record { incarnation = incarnation_at V.processes p; tape = tape_at V.processes p ++ row_at F p } =
+    let each : (p : ℕ) → process_at G p ≡ added_process H p F =
     λ p. c.add_all.ensures.each p ∙ ap (λ (h : List Process). added_process h p F) c.in-Ok.ensures.processes in
-    (own_history P, fit, begun_of V P c.collector.invariant lined known order whole c.args.failed R F fit more G long each)
+    (own_history P, c.account.ensures.fit t, prefixes_of _ P back c.args.failed R F more G long each)
 
 pub returns-in-Ok-clause-gathered : goal.returns-in-Ok-clause-gathered
 unfolding added_process
 returns-in-Ok-clause-gathered c =
-    let V = collector_of c.collector.inside.opening.value.processes c.collector.inside.catalogue.processes c.collector.inside.catalogue.marks (in_ends c.collector.inside.lines.items) in
     let P = c.args.posts.items in
-    let lined = subst (λ (v : CollectorView). AreLined v P) (sym c.collector.view_is) c.requires.lines in
     let t = c.if-not-account.false in
-    let known = c.account.ensures.known t in
-    let order = c.account.ensures.order.0 t in
     let a = c.len.ensures in
     let b = c.if-len-n.false in
     let n = c.n-n.ensures.value in
-    let whole : length P ≡ length V.processes = (let k = c.args.posts.ok in omega (arith, a, b, n, k)) in
-    let fit = c.account.ensures.fit t in
+    let k = c.args.posts.ok in
+    let back = back_of _ _ P c.collector.view_is c.collector.invariant c.requires.lines
+    (c.account.ensures.known t) (c.account.ensures.order.0 t) (omega (arith, a, b, n, k)) (c.account.ensures.fit t) in
+    let H = c.collector.inside.catalogue.processes in
     let F = rows_of c.in-Ok.further.items in
     let R = c.further_of_all.new.catalogue.rooms in
-    let more = subst (λ (xs : List PostView). AreFurtherBelow (length xs) c.args.failed V.processes R xs F) c.account.ensures.same c.in-Ok.ensures.further in
+    let more = subst (λ (xs : List PostView). AreFurtherBelow (length xs) c.args.failed H R xs F) c.account.ensures.same c.in-Ok.ensures.further in
     let G = c.add_all.new.catalogue.processes in
     let long = c.add_all.ensures.count ∙ ap length c.in-Ok.ensures.processes in
-    let each : (p : ℕ) → process_at G p ≡ record { incarnation = incarnation_at V.processes p; tape = tape_at V.processes p ++ row_at F p } =
+    let each : (p : ℕ) → process_at G p ≡ added_process H p F =
     λ p. c.add_all.ensures.each p ∙ ap (λ (h : List Process). added_process h p F) c.in-Ok.ensures.processes in
-    gathered_of V P c.collector.invariant lined known order whole c.args.failed R F fit more G long each
+    gathered_of _ P back c.args.failed R F more G long each
 
-pub returns-in-Ok-clause-begins : goal.returns-in-Ok-clause-begins
+pub returns-in-Ok-clause-prefix : goal.returns-in-Ok-clause-prefix
 unfolding added_process
-returns-in-Ok-clause-begins c =
-    let V = collector_of c.collector.inside.opening.value.processes c.collector.inside.catalogue.processes c.collector.inside.catalogue.marks (in_ends c.collector.inside.lines.items) in
+returns-in-Ok-clause-prefix c =
     let P = c.args.posts.items in
-    let lined = subst (λ (v : CollectorView). AreLined v P) (sym c.collector.view_is) c.requires.lines in
     let t = c.if-not-account.false in
-    let known = c.account.ensures.known t in
-    let order = c.account.ensures.order.0 t in
     let a = c.len.ensures in
     let b = c.if-len-n.false in
     let n = c.n-n.ensures.value in
-    let whole : length P ≡ length V.processes = (let k = c.args.posts.ok in omega (arith, a, b, n, k)) in
-    let fit = c.account.ensures.fit t in
+    let k = c.args.posts.ok in
+    let back = back_of _ _ P c.collector.view_is c.collector.invariant c.requires.lines
+    (c.account.ensures.known t) (c.account.ensures.order.0 t) (omega (arith, a, b, n, k)) (c.account.ensures.fit t) in
+    let H = c.collector.inside.catalogue.processes in
     let F = rows_of c.in-Ok.further.items in
     let R = c.further_of_all.new.catalogue.rooms in
-    let more = subst (λ (xs : List PostView). AreFurtherBelow (length xs) c.args.failed V.processes R xs F) c.account.ensures.same c.in-Ok.ensures.further in
+    let more = subst (λ (xs : List PostView). AreFurtherBelow (length xs) c.args.failed H R xs F) c.account.ensures.same c.in-Ok.ensures.further in
     let G = c.add_all.new.catalogue.processes in
     let long = c.add_all.ensures.count ∙ ap length c.in-Ok.ensures.processes in
-    let each : (p : ℕ) → process_at G p ≡ record { incarnation = incarnation_at V.processes p; tape = tape_at V.processes p ++ row_at F p } =
+    let each : (p : ℕ) → process_at G p ≡ added_process H p F =
     λ p. c.add_all.ensures.each p ∙ ap (λ (h : List Process). added_process h p F) c.in-Ok.ensures.processes in
-    begun_of V P c.collector.invariant lined known order whole c.args.failed R F fit more G long each
+    prefixes_of _ P back c.args.failed R F more G long each
 
 pub returns-in-Ok-clause-onward : goal.returns-in-Ok-clause-onward
 unfolding added_process
 returns-in-Ok-clause-onward c =
-    let V = collector_of c.collector.inside.opening.value.processes c.collector.inside.catalogue.processes c.collector.inside.catalogue.marks (in_ends c.collector.inside.lines.items) in
     let P = c.args.posts.items in
-    let lined = subst (λ (v : CollectorView). AreLined v P) (sym c.collector.view_is) c.requires.lines in
     let t = c.if-not-account.false in
-    let known = c.account.ensures.known t in
-    let order = c.account.ensures.order.0 t in
     let a = c.len.ensures in
     let b = c.if-len-n.false in
     let n = c.n-n.ensures.value in
-    let whole : length P ≡ length V.processes = (let k = c.args.posts.ok in omega (arith, a, b, n, k)) in
-    let fit = c.account.ensures.fit t in
+    let k = c.args.posts.ok in
+    let back = back_of _ _ P c.collector.view_is c.collector.invariant c.requires.lines
+    (c.account.ensures.known t) (c.account.ensures.order.0 t) (omega (arith, a, b, n, k)) (c.account.ensures.fit t) in
+    let H = c.collector.inside.catalogue.processes in
     let F = rows_of c.in-Ok.further.items in
     let R = c.further_of_all.new.catalogue.rooms in
-    let more = subst (λ (xs : List PostView). AreFurtherBelow (length xs) c.args.failed V.processes R xs F) c.account.ensures.same c.in-Ok.ensures.further in
+    let more = subst (λ (xs : List PostView). AreFurtherBelow (length xs) c.args.failed H R xs F) c.account.ensures.same c.in-Ok.ensures.further in
     let G = c.add_all.new.catalogue.processes in
     let long = c.add_all.ensures.count ∙ ap length c.in-Ok.ensures.processes in
-    let each : (p : ℕ) → process_at G p ≡ record { incarnation = incarnation_at V.processes p; tape = tape_at V.processes p ++ row_at F p } =
+    let each : (p : ℕ) → process_at G p ≡ added_process H p F =
     λ p. c.add_all.ensures.each p ∙ ap (λ (h : List Process). added_process h p F) c.in-Ok.ensures.processes in
-    subst (λ (v : CollectorView). Extends G v.processes) c.collector.view_is (extends_of V P c.collector.invariant lined known order whole c.args.failed R F fit more G long each)
+    subst (λ (v : CollectorView). Extends G v.processes) c.collector.view_is
+    (extends_of _ P back c.args.failed R F more G long each)
 
 pub returns-in-Ok-clause-may : goal.returns-in-Ok-clause-may
 returns-in-Ok-clause-may c =

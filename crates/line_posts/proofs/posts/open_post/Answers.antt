@@ -12,10 +12,10 @@ invariant_of-result c =
     let o = c.requires.opening in
     let t = ap length o.tape in
     let l = ap length o.line in
-    let n = c.len-told.ensures.value in
+    let n = c.len-reported.ensures.value in
     subst (λ (v : HistoryView). IsPost (post_of c.args.me v.processes c.args.journal.tape (map deque_items c.args.kept.items) (out_ends c.args.outs.items) (in_ends c.args.ins.items) (producer_end c.args.line) c.args.journal.floor c.args.journal.rounds)
     × (c.incarnation-incarnation.result ≡ incarnation_at v.processes c.args.me)
-    × (c.len-told.result ≡ length (tape_at v.processes c.args.me) + length (producer_end c.args.line).items)
+    × (c.len-reported.result ≡ length (tape_at v.processes c.args.me) + length (producer_end c.args.line).items)
     × (c.args.journal.n ≡ length v.processes) × (c.args.journal.me ≡ c.args.me))
     (sym c.of-opening.ensures)
     (opens _ o c.requires.fit c.tape-limits.ensures.limits.named, c.incarnation-incarnation.ensures, omega (arith, t, l, n), c.requires.count, c.requires.me)

@@ -1,5 +1,7 @@
-use Rattle.std.proofs.Common.{◌∙◌, ◌+◌, arith}
-use Rattle.line_posts.proofs.MarkerLemmas.{check_keeps}
+use Rattle.std.proofs.Common.{◌∙◌, ◌+◌, length, refl, ap, arith}
+use Rattle.line_rings.specs.Ends.{out_ends, ring_at}
+use Rattle.line_posts.proofs.MarkerLemmas.{check_keeps, ring_below}
+use Rattle.line_posts.proofs.SameLemmas.{same_via}
 use Rattle.line_posts.proofs.posts.Post.begin.Goals as goal
 
 pub invariant_of-self-2 : goal.invariant_of-self-2
@@ -14,3 +16,16 @@ invariant_of-self-2 c =
     let me = c.get-2.ensures.value in
     let none = c.latest-last.ensures.later (c.latest-last.result + 1) (omega arith) in
     (check_keeps _ c.args.state (c.latest-last.result + 1) _ _ _ _ h none (cc (pushed, same)) (cc (put, ends, me)), inc, told, begun.n_is ∙ (kept.n_is ∙ n), begun.me_is ∙ (kept.me_is ∙ me_is))
+
+pub returns-clause-same : goal.returns-clause-same
+returns-clause-same c =
+    let put = c.push_markers.ensures in
+    let ends = c.has_room.ensures.ends in
+    let old = out_ends c.has_room.new.outs.items in
+    same_via _ _ _ c.self.view_is (record {
+      number = refl;
+      opening = refl;
+      outs = λ q. ap (λ t. ring_at t q) put ∙ (ring_below old c.get-2.result (length old) q _ ∙ ap (λ t. ring_at t q) ends);
+      ins = λ p. refl;
+      line = refl;
+    })

@@ -6,7 +6,7 @@ use Rattle.line_tape.specs.History.{tape_at}
 use Rattle.line_rings.specs.Ends.{End, producer_end}
 use Rattle.line_rings.proofs.EndLemmas.{producer_kept}
 use Rattle.line_posts.specs.Reports.{with_items}
-use Rattle.line_posts.proofs.ManyLemmas.{told_within, told_more, tell_all}
+use Rattle.line_posts.proofs.ManyLemmas.{reported_within, reported_more, report_all}
 use Rattle.line_posts.proofs.posts.Post.report.Goals as goal
 
 pub invariant_of-self-2 : goal.invariant_of-self-2
@@ -17,12 +17,12 @@ invariant_of-self-2 c =
     let old = producer_end c.self.inside.line in
     let T = length (tape_at c.self.inside.opening.value.processes c.self.inside.me) + length old.items in
     let kept = producer_kept c.self.inside.line c.slots-room.new.self c.slots-room.ensures.looked.0 c.slots-room.ensures.looked.1 in
-    let events = c.in_ok-events.ensures ∙ (ap (λ (t : List Event). take k (drop c.self.inside.told t)) c.tape.ensures ∙ ap (λ v. take k (drop v J)) told) in
+    let events = c.in_ok-events.ensures ∙ (ap (λ (t : List Event). take k (drop c.self.inside.reported t)) c.tape.ensures ∙ ap (λ v. take k (drop v J)) told) in
     let line = c.put_each.ensures ∙ (ap (λ e. with_items e (deque_items c.in_ok-events.events)) kept ∙ ap (with_items old) events) in
-    let within = told_within _ h in
+    let within = reported_within _ h in
     let left = c.fewer-k.ensures.left in
     let len = c.len.ensures.value in
-    let more = told_more _ k h (omega (arith, within, left, len, told)) in
+    let more = reported_more _ k h (omega (arith, within, left, len, told)) in
     let long = ap (λ (e : End Event). length e.items) line in
     let both = length-append old.items (take k (drop T J)) in
-    (tell_all _ k _ h line, inc, omega (arith, told, long, both, more), n, me_is)
+    (report_all _ k _ h line, inc, omega (arith, told, long, both, more), n, me_is)

@@ -1,7 +1,7 @@
 use Rattle.std.proofs.Common.{◌∙◌, ap, subst}
 use Rattle.line_posts.specs.Posts.{IsPost, PostView}
 use Rattle.line_posts.proofs.GatheringLemmas.{gathered_known}
-use Rattle.line_posts.proofs.posts.Post.told_to.Goals as goal
+use Rattle.line_posts.proofs.posts.Post.gathered_len.Goals as goal
 
 pub returns-clause-known : goal.returns-clause-known
 returns-clause-known c =
