@@ -1,0 +1,5 @@
+use Rattle.line_posts.specs.Generations.{IsSamePost}
+use Rattle.line_workers.proofs.loads.receive_soon.Given as goal
+
+abbrev pub invariant-loop-turn : goal.invariant-loop-turn
+invariant-loop-turn l = IsSamePost l.fn.post l.post

@@ -1,0 +1,5 @@
+use Rattle.line_posts.specs.Collected.{HasCollectedMore}
+use Rattle.line_workers.proofs.routines.RoutineWork.collect.Given as goal
+
+abbrev pub invariant-loop-turn : goal.invariant-loop-turn
+invariant-loop-turn l = HasCollectedMore l.fn.collector l.collector

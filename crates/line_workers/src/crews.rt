@@ -1,0 +1,166 @@
+//! Each worker and the collector in a thread of its own.
+ghost use Rattle.std.specs.Prelude.{◌≡◌, IfOk, vec_capacity};
+ghost use Rattle.line_posts.specs.Collected.{HasCollectedMore};
+ghost use Rattle.line_posts.specs.Generations.{AreLined, AreSamePosts, IsGeneration, IsSamePost};
+
+use line_posts::{Collector, Post};
+use std::error::Error;
+use std::snapshot::Snapshot;
+use std::sync::Wait;
+use std::thread::{Promise, PromisedHandle, Scope, Threads};
+use std::{fmt, thread};
+
+/// What workers and their collector do in their threads.
+///
+/// Each call hands back what it was given. It may call it as often as it likes, and no call of a
+/// post or a collector gives it other rings, another number or another opening; that is all that is
+/// asked of it.
+pub trait Work: Sync {
+    /// What a worker does.
+    fn work(&self, post: Post) -> Post
+        ensures { IsSamePost post result };
+
+    /// What the collector does meanwhile.
+    fn collect(&self, collector: Collector) -> Collector
+        ensures { HasCollectedMore collector result };
+}
+
+/// A thread could not be started.
+#[derive(Clone, Copy, Debug, PartialEq, Eq)]
+pub struct NoThread;
+
+impl fmt::Display for NoThread {
+    fn fmt<W: fmt::Write>(&self, f: &mut fmt::Formatter<W>) -> fmt::Result {
+        f.write_str("a thread could not be started")
+    }
+}
+
+impl Error for NoThread {}
+
+/// The worker that comes back has the rings of the one that went.
+#[derive(Drop)]
+struct SamePost(Snapshot<Post>);
+
+impl Promise<Post> for SamePost {
+    ghost use Rattle.line_posts.specs.Generations.{IsSamePost};
+
+    ghost kept_by = { λ p r. IsSamePost p.0.value r };
+}
+
+/// The collector that comes back has the lines of the one that went.
+#[derive(Drop)]
+struct SameCollector(Snapshot<Collector>);
+
+impl Promise<Collector> for SameCollector {
+    ghost use Rattle.line_posts.specs.Collected.{HasCollectedMore};
+
+    ghost kept_by = { λ p r. HasCollectedMore p.0.value r };
+}
+
+/// Starts a worker.
+fn start<'s, E, W: Work>(
+    scope: &'s Scope<'s, E>,
+    work: &'s W,
+    post: Post,
+) -> Result<PromisedHandle<Post, SamePost>, NoThread>
+    ensures { IfOk result (λ handle. handle.promise.0.value ≡ post) }
+{
+    let promise = SamePost(Snapshot::of(&post));
+    let Ok(handle) = scope.spawn_with(promise, move || work.work(post)) else {
+        return Err(NoThread);
+    };
+    Ok(handle)
+}
+
+/// Starts the collector.
+fn start_collector<'s, E, W: Work>(
+    scope: &'s Scope<'s, E>,
+    work: &'s W,
+    collector: Collector,
+) -> Result<PromisedHandle<Collector, SameCollector>, NoThread>
+    ensures { IfOk result (λ handle. handle.promise.0.value ≡ collector) }
+{
+    let promise = SameCollector(Snapshot::of(&collector));
+    let Ok(handle) = scope.spawn_with(promise, move || work.collect(collector)) else {
+        return Err(NoThread);
+    };
+    Ok(handle)
+}
+
+/// Starts the last worker, then the others, and then joins it. Its place in the list is kept for it.
+fn level<'s, E, W: Work, R: Threads>(
+    rt: &R,
+    scope: &'s Scope<'s, E>,
+    work: &'s W,
+    posts: Vec<Post>,
+) -> Result<Vec<Post>, NoThread>
+    ensures same { IfOk result (λ back. AreSamePosts posts.items back.items) }
+    ensures room { IfOk result (λ back. vec_capacity back ≡ vec_capacity posts) }
+{
+    let mut posts = posts;
+    let Some(post) = posts.pop() else {
+        return Ok(posts);
+    };
+    let handle = start(scope, work, post)?;
+    let others = level(rt, scope, work, posts);
+    let back = handle.join(rt);
+    let mut all = others?;
+    all.push_reserved(back);
+    Ok(all)
+}
+
+/// Starts the collector, then the workers, and joins all of them.
+fn all_at_once<'s, E, W: Work, R: Threads>(
+    rt: &R,
+    scope: &'s Scope<'s, E>,
+    work: &'s W,
+    collector: Collector,
+    posts: Vec<Post>,
+) -> Result<(Collector, Vec<Post>), NoThread>
+    ensures workers { IfOk result (λ r. AreSamePosts posts.items r.1.items) }
+    ensures collector { IfOk result (λ r. HasCollectedMore collector r.0) }
+{
+    let handle = start_collector(scope, work, collector)?;
+    let back = level(rt, scope, work, posts);
+    let collector = handle.join(rt);
+    Ok((collector, back?))
+}
+
+/// All of them in a scope, which ends when all its threads have ended.
+fn in_scope<W: Work, R: Threads + Wait + Sync>(
+    rt: &R,
+    work: &W,
+    collector: Collector,
+    posts: Vec<Post>,
+) -> Result<(Collector, Vec<Post>), NoThread>
+    ensures workers { IfOk result (λ r. AreSamePosts posts.items r.1.items) }
+    ensures collector { IfOk result (λ r. HasCollectedMore collector r.0) }
+{
+    thread::scope(
+        thread::scope_env(),
+        rt,
+        |scope| -> Result<(Collector, Vec<Post>), NoThread>
+            ensures workers { IfOk result (λ r. AreSamePosts posts.items r.1.items) }
+            ensures collector { IfOk result (λ r. HasCollectedMore collector r.0) }
+        { all_at_once(rt, scope, work, collector, posts) },
+    )
+}
+
+/// All workers and the collector do their work at once, each in a thread of its own. They come back
+/// in the order in which they went, and are still of one generation.
+///
+/// Where a thread cannot be started, all are dropped once those that were started have ended.
+pub fn run_crew<W: Work, R: Threads + Wait + Sync>(
+    rt: &R,
+    work: &W,
+    collector: Collector,
+    posts: Vec<Post>,
+) -> Result<(Collector, Vec<Post>), NoThread>
+    ensures workers { IfOk result (λ r. AreSamePosts posts.items r.1.items) }
+    ensures collector { IfOk result (λ r. HasCollectedMore collector r.0) }
+    ensures generation { IfOk result (λ r. IsGeneration posts.items → IsGeneration r.1.items) }
+    ensures lines { IfOk result (λ r. AreLined collector posts.items → AreLined r.0 r.1.items) }
+{
+    let back = in_scope(rt, work, collector, posts)?;
+    Ok(back)
+}

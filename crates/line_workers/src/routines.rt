@@ -1,0 +1,79 @@
+//! Workers that do the same few calls over and over.
+ghost use Rattle.line_posts.specs.Collected.{HasCollectedMore};
+ghost use Rattle.line_posts.specs.Generations.{IsSamePost};
+
+use crate::crews::Work;
+use line_names::{Body, MOST_PROCESSES, ProcId};
+use line_posts::{Collector, Post};
+use line_tape::State;
+use std::alloc::Global;
+use std::thread::yield_now;
+
+/// Each worker sends to the next one, receives from the one before it, takes a check and reports,
+/// so many times each; the collector takes reports meanwhile and plans.
+#[derive(Drop)]
+pub struct Routine {
+    alloc: Global,
+    turns: u32,
+}
+
+impl Routine {
+    /// So many turns.
+    pub fn new(alloc: Global, turns: u32) -> Routine {
+        Routine { alloc, turns }
+    }
+}
+
+/// The worker after this one and the one before it, round in a circle.
+fn neighbours(post: &Post) -> Option<(ProcId, ProcId)> {
+    let n = post.n();
+    if n == 0 || n > MOST_PROCESSES {
+        return None;
+    }
+    let n = n as u32;
+    let me = post.number() % n;
+    let next = ProcId::try_new((me + 1) % n, n).ok()?;
+    let last = ProcId::try_new((me + n - 1) % n, n).ok()?;
+    Some((next, last))
+}
+
+/// One turn of a worker.
+fn turn(alloc: Global, post: &mut Post, next: ProcId, last: ProcId, body: Body)
+    ensures { IsSamePost post.old post.new }
+{
+    let _ = post.send(next, body);
+    let _ = post.receive(last, State::of(Vec::new(alloc)));
+    let _ = post.check(State::of(Vec::new(alloc)));
+    let _ = post.report();
+}
+
+impl Work for Routine {
+    fn work(&self, post: Post) -> Post
+        ensures { IsSamePost post result }
+    {
+        let mut post = post;
+        let Some((next, last)) = neighbours(&post) else {
+            return post;
+        };
+        for _turn in 0..self.turns {
+            let Ok(body) = Body::try_new(b"7") else {
+                return post;
+            };
+            turn(self.alloc, &mut post, next, last, body);
+            yield_now();
+        }
+        post
+    }
+
+    fn collect(&self, collector: Collector) -> Collector
+        ensures { HasCollectedMore collector result }
+    {
+        let mut collector = collector;
+        for _turn in 0..self.turns {
+            let _ = collector.take(64);
+            let _ = collector.plan_live();
+            yield_now();
+        }
+        collector
+    }
+}

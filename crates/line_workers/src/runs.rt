@@ -1,0 +1,72 @@
+//! A generation from its fleet to its gathering.
+ghost use Rattle.std.specs.Prelude.{◌≡◌, IfOk, length};
+ghost use Rattle.line_names.specs.Sets.{nobody};
+ghost use Rattle.line_tape.specs.Fit.{IsFitFifo};
+
+use crate::crews::{NoThread, Work, run_crew};
+use line_names::ProcSet;
+use line_posts::{FleetError, GatherWhy, Gathered, fleet, gather};
+use std::alloc::Global;
+use std::error::Error;
+use std::fmt;
+use std::sync::Wait;
+use std::thread::Threads;
+
+/// Why a run came to no gathered history.
+#[derive(Clone, Copy, Debug, PartialEq, Eq)]
+pub enum RunError {
+    /// There is no fleet.
+    Fleet(FleetError),
+    /// A thread could not be started.
+    NoThread,
+    /// Nothing was gathered.
+    Gather(GatherWhy),
+}
+
+impl fmt::Display for RunError {
+    fn fmt<W: fmt::Write>(&self, f: &mut fmt::Formatter<W>) -> fmt::Result {
+        match self {
+            RunError::Fleet(why) => write!(f, "{why}"),
+            RunError::NoThread => f.write_str("a thread could not be started"),
+            RunError::Gather(why) => write!(f, "{why}"),
+        }
+    }
+}
+
+impl Error for RunError {}
+
+impl From<FleetError> for RunError {
+    fn from(why: FleetError) -> RunError {
+        RunError::Fleet(why)
+    }
+}
+
+impl From<NoThread> for RunError {
+    fn from(_no_thread: NoThread) -> RunError {
+        RunError::NoThread
+    }
+}
+
+/// A generation of `n` workers with rings of this capacity: it is opened, all do their work, each
+/// in a thread of its own, and what they did is gathered, nobody having failed.
+pub fn run<W: Work, R: Threads + Wait + Sync>(
+    rt: &R,
+    alloc: Global,
+    n: u32,
+    capacity: usize,
+    work: &W,
+) -> Result<Gathered, RunError>
+    ensures fit { IfOk result (λ gathered. IsFitFifo gathered.processes) }
+    ensures failed { IfOk result (λ gathered. gathered.failed ≡ nobody) }
+    ensures count { IfOk result (λ gathered. length gathered.processes ≡ n) }
+{
+    let (collector, posts) = fleet(alloc, n, capacity)?;
+    let (collector, posts) = run_crew(rt, work, collector, posts)?;
+    match gather(collector, posts, ProcSet::empty()) {
+        Ok(gathered) => {
+            let _fit = gathered.history();
+            Ok(gathered)
+        }
+        Err(refused) => Err(RunError::Gather(refused.why)),
+    }
+}
