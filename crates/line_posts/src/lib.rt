@@ -21,7 +21,6 @@ pub use collectors::Collector;
 pub use fleets::{MOST_CAPACITY, fleet};
 pub use gathering::{GatherRefused, Gathered, gather};
 pub use laws::generations_last;
-pub use parcels::{Letter, Parcel};
 pub use posts::Post;
 pub use receiving::Received;
 pub use refusals::{
