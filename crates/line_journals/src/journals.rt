@@ -1,5 +1,5 @@
 //! A tape, and what its process has recorded of rounds beside it.
-ghost use Rattle.std.specs.Prelude.{◌≡◌, ◌≢◌, ◌<◌, ◌≤◌, ◌+◌, ◌↔◌, ◌++◌, ◌∷◌, [], ℕ, IfOk, IsOk, OnOk, IsTrue, Some, None, true, false, length};
+ghost use Rattle.std.specs.Prelude.{◌≡◌, ◌≢◌, ◌<◌, ◌≤◌, ◌+◌, ◌↔◌, ◌++◌, ◌∷◌, [], ℕ, IfOk, IsOk, OnOk, OnErr, IsTrue, Some, None, true, false, length};
 ghost use Rattle.line_marker.specs.Recording.{latest, noted, with_marker, with_round};
 ghost use Rattle.line_tape.specs.declared.events.Event.TheVariants.{Send, Recv, Check, Mark};
 ghost use Rattle.line_tape.specs.History.{IsTape};
@@ -136,8 +136,21 @@ impl Journal {
         has_check(&self.tape, round)
     }
 
+    /// Makes room for so many further events on the tape, whatever is recorded of rounds. All else is
+    /// as it was, also where memory is out. It costs a constant, but for a tape that grows.
+    pub fn reserve_events(&mut self, k: u32) -> Result<(), AllocError>
+        ensures tape { self.new.tape ≡ self.old.tape }
+        ensures rounds { self.new.rounds ≡ self.old.rounds }
+        ensures same { IsSameJournal self.old self.new }
+        ensures room { OnOk result (k ≤ self.new.room) }
+        ensures kept { (self.old.room ≤ self.new.room) × (self.new.ready ≡ self.old.ready) }
+        ensures succeeds { k ≤ self.old.room → IsOk result }
+    {
+        self.tape.reserve(k)
+    }
+
     /// Makes room for so many further events on the tape, and for one call more in what is
-    /// recorded. All else is as it was, also where memory is out.
+    /// recorded, which looks at each process. All else is as it was, also where memory is out.
     pub fn reserve(&mut self, k: u32) -> Result<(), AllocError>
         ensures tape { self.new.tape ≡ self.old.tape }
         ensures rounds { self.new.rounds ≡ self.old.rounds }
@@ -147,7 +160,7 @@ impl Journal {
         ensures kept { (self.old.room ≤ self.new.room) × (self.old.ready ≤ self.new.ready) }
         ensures succeeds { k ≤ self.old.room → 0 < self.old.ready → IsOk result }
     {
-        self.tape.reserve(k)?;
+        self.reserve_events(k)?;
         self.marker.reserve()
     }
 
@@ -179,26 +192,29 @@ impl Journal {
     }
 
     /// A message was received. Each recorded round whose channel from its sender is not closed has
-    /// it from now on.
-    pub fn receive(&mut self, message: MsgName)
+    /// it from now on. Where memory is out nothing has changed.
+    pub fn receive(&mut self, message: MsgName) -> Result<(), AllocError>
         requires few { length self.old.tape < MOST_EVENTS }
         requires room { 0 < self.old.room }
-        requires ready { 0 < self.old.ready }
         requires process { message.from < self.old.n }
         requires other { message.from ≢ self.old.me }
-        ensures tape { self.new.tape ≡ self.old.tape ++ Recv message ∷ [] }
-        ensures rounds { self.new.rounds ≡ noted self.old.rounds message }
+        ensures tape { OnOk result (self.new.tape ≡ self.old.tape ++ Recv message ∷ []) }
+        ensures rounds { OnOk result (self.new.rounds ≡ noted self.old.rounds message) }
+        ensures err { OnErr result ((self.new.tape ≡ self.old.tape)
+            × (self.new.rounds ≡ self.old.rounds)) }
         ensures same { IsSameJournal self.old self.new }
         ensures spent { self.old.room ≤ self.new.room + 1 }
+        ensures succeeds { 0 < self.old.ready → IsOk result }
     {
         let name = MsgName {
             from: message.from,
             inc: message.inc,
             number: message.number,
         };
+        self.marker.note(message)?;
         let event = recv_event(name);
         self.tape.push(event).unwrap();
-        self.marker.note(message).unwrap();
+        Ok(())
     }
 
     /// The check of a round that it begins was taken: the round is recorded, its channels open and

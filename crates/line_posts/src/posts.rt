@@ -153,7 +153,8 @@ impl Post {
 
     /// Sends a message to another process, whose name is answered; a refusal hands the body back.
     ///
-    /// It is one push on the ring to that process, after which the tape has the Send.
+    /// It is one push on the ring to that process, after which the tape has the Send. It costs a
+    /// constant, but for a tape that grows.
     pub fn send(&mut self, to: ProcId, body: Body) -> Result<MsgName, SendRefused>
         ensures ok { IfOk result (λ name. (name ≡ next_name self.old)
             × (self.new ≡ sent_by self.old to body)) }
@@ -183,7 +184,7 @@ impl Post {
                 body,
             });
         }
-        if self.journal.reserve(1).is_err() {
+        if self.journal.reserve_events(1).is_err() {
             return Err(SendRefused {
                 why: SendWhy::OutOfMemory,
                 body,
@@ -220,7 +221,7 @@ impl Post {
         if self.journal.len() as usize >= MOST_EVENTS {
             return Err(TapeError::TapeFull);
         }
-        if self.journal.reserve(1).is_err() {
+        if self.journal.reserve_events(1).is_err() {
             return Err(TapeError::OutOfMemory);
         }
         self.journal.check(state);

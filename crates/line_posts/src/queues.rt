@@ -1,5 +1,5 @@
 //! Queues by process: the first item of a queue.
-ghost use Rattle.std.specs.Prelude.{◌≡◌, ◌<◌, ◌∷◌, [], IsTrue, false, length, map};
+ghost use Rattle.std.specs.Prelude.{◌≡◌, ◌<◌, ◌∷◌, [], IsTrue, List, false, length, map};
 ghost use Rattle.std.specs.VecDeque.{deque_items};
 ghost use Rattle.line_rings.specs.Ends.{row_at};
 ghost use Rattle.line_posts.specs.Receipts.{without_first};
@@ -14,6 +14,17 @@ pub(crate) fn keeps<T>(queues: &Vec<VecDeque<T>>, p: usize) -> bool
 {
     let queue = &queues[p];
     !queue.is_empty()
+}
+
+/// The first item of the queue of a process.
+pub(crate) fn first_kept<T>(queues: &Vec<VecDeque<T>>, p: usize) -> &T
+    requires within { p < length queues.now.items }
+    requires some { 0 < length (row_at (map deque_items queues.now.items) p) }
+    ensures { (rest : List T)
+        × (row_at (map deque_items queues.now.items) p ≡ result.now ∷ rest) }
+{
+    let queue = &queues[p];
+    queue.front().unwrap()
 }
 
 /// Takes the first item of the queue of a process.

@@ -1,24 +1,28 @@
 //! What a worker takes: messages and markers.
-ghost use Rattle.std.specs.Prelude.{◌≡◌, ◌≢◌, ◌<◌, ◌≤◌, ℕ, List, [], IfOk, IfErr, OnOk, OnErr};
-ghost use Rattle.std.specs.Prelude.{MatchOption, length};
+ghost use Rattle.std.specs.Prelude.{◌≡◌, ◌≢◌, ◌<◌, ◌≤◌, ◌∷◌, ℕ, List, [], IfOk, IfErr, OnOk, OnErr};
+ghost use Rattle.std.specs.Prelude.{MatchOption, length, map};
+ghost use Rattle.std.specs.VecDeque.{deque_items};
 ghost use Rattle.line_rings.specs.Ends.{in_ends, known_at, row_at, with_item};
 ghost use Rattle.line_posts.specs.Parcels.{letter_name};
 ghost use Rattle.line_posts.specs.Receipts.{BeginsWithMarker, BeginsWithMessage, HasReceived};
 ghost use Rattle.line_posts.specs.Receipts.{IsMessage};
 ghost use Rattle.line_posts.specs.Generations.{IsSamePost};
 ghost use Rattle.line_posts.specs.Refusals.{IsNotReceived, MayReceive};
+ghost use Rattle.line_posts.specs.declared.parcels.Letter.{Letter};
+ghost use Rattle.line_posts.specs.declared.parcels.Parcel.{Parcel};
 ghost use Rattle.line_posts.specs.declared.parcels.Parcel.TheVariants.{Message};
 ghost use Rattle.line_posts.specs.declared.receiving.Received.TheVariants.{Message as TookMessage};
 
 use crate::markers::{push_markers, take_marker};
 use crate::parcels::{Letter, Parcel};
 use crate::posts::{Post, name_of};
-use crate::queues::{keeps, take_kept};
+use crate::queues::{first_kept, keeps, take_kept};
 use crate::refusals::ReceiveWhy;
 use line_names::{Body, MsgName, ProcId};
 use line_rings::{front_at, has_room, look_at, take_at};
 use line_tape::{MOST_EVENTS, MOST_STATE, State};
 use rtrb::Consumer;
+use std::collections::VecDeque;
 
 /// What a worker received.
 #[derive(Debug, Drop)]
@@ -53,14 +57,40 @@ fn letter_of(parcel: Parcel) -> Letter
     }
 }
 
+/// The name of the known item that is first, a message from a process.
+fn name_first(ins: &Vec<Consumer<Parcel>>, p: usize, from: ProcId) -> MsgName
+    requires within { p < length ins.now.items }
+    requires first { BeginsWithMessage (known_at ins.now.items p) }
+    ensures { (letter : Letter) × (rest : List Parcel)
+        × (known_at ins.now.items p ≡ Message letter ∷ rest) × (result ≡ letter_name from letter) }
+{
+    match front_at(ins, p) {
+        Parcel::Message { letter } => name_of(from, letter.inc, letter.number),
+        Parcel::Marker { .. } => unreachable!(),
+    }
+}
+
 /// Takes the known item that is first, a message.
 fn take_letter(ins: &mut Vec<Consumer<Parcel>>, p: usize) -> Letter
     requires within { p < length ins.old.items }
     requires first { BeginsWithMessage (known_at ins.old.items p) }
-    ensures { in_ends ins.new.items ≡ with_item (in_ends ins.old.items) p (Message result) }
+    ensures ends { in_ends ins.new.items ≡ with_item (in_ends ins.old.items) p (Message result) }
+    ensures first { known_at ins.old.items p ≡ Message result ∷ known_at ins.new.items p }
 {
     let parcel = take_at(ins, p);
     letter_of(parcel)
+}
+
+/// The name of the first of the replays kept of a process.
+fn name_kept(kept: &Vec<VecDeque<Letter>>, p: usize, from: ProcId) -> MsgName
+    requires within { p < length kept.now.items }
+    requires some { 0 < length (row_at (map deque_items kept.now.items) p) }
+    ensures { (letter : Letter) × (rest : List Letter)
+        × (row_at (map deque_items kept.now.items) p ≡ letter ∷ rest)
+        × (result ≡ letter_name from letter) }
+{
+    let letter = first_kept(kept, p);
+    name_of(from, letter.inc, letter.number)
 }
 
 /// The name and the body of a letter from a process.
@@ -89,12 +119,12 @@ impl Post {
         if self.journal.len() as usize >= MOST_EVENTS {
             return Err(ReceiveWhy::TapeFull);
         }
-        if self.journal.reserve(1).is_err() {
+        let p = from.get() as usize;
+        let name = name_kept(&self.kept, p, from);
+        if self.journal.reserve_events(1).is_err() || self.journal.receive(name).is_err() {
             return Err(ReceiveWhy::OutOfMemory);
         }
-        let letter = take_kept(&mut self.kept, from.get() as usize);
-        let name = name_of(from, letter.inc, letter.number);
-        self.journal.receive(name);
+        let letter = take_kept(&mut self.kept, p);
         Ok(opened(from, letter))
     }
 
@@ -116,12 +146,11 @@ impl Post {
             if self.journal.len() as usize >= MOST_EVENTS {
                 return Err(ReceiveWhy::TapeFull);
             }
-            if self.journal.reserve(1).is_err() {
+            let name = name_first(&self.ins, p, from);
+            if self.journal.reserve_events(1).is_err() || self.journal.receive(name).is_err() {
                 return Err(ReceiveWhy::OutOfMemory);
             }
             let letter = take_letter(&mut self.ins, p);
-            let name = name_of(from, letter.inc, letter.number);
-            self.journal.receive(name);
             return Ok(opened(from, letter));
         };
         if self.journal.is_checked(from, round) {

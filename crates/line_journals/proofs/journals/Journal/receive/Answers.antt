@@ -4,13 +4,12 @@ use Rattle.line_journals.specs.Journals.{JournalView}
 use Rattle.line_journals.proofs.MarkerLemmas.{journal_next, on_ok_at}
 use Rattle.line_journals.proofs.journals.Journal.receive.Goals as goal
 
-pub invariant_of-self : goal.invariant_of-self
-invariant_of-self c =
+pub invariant_of-self-2 : goal.invariant_of-self-2
+invariant_of-self-2 c =
     let t = c.self.inside.tape.events in
     let v = c.self.view_is in
     let within = subst (λ (j : JournalView). c.args.message.from < j.n) (sym v) c.requires.process in
     let other = subst (λ (j : JournalView). c.args.message.from ≢ j.me) (sym v) c.requires.other in
     let pushed = on_ok_at c.push.result c.unwrap.result _ c.unwrap.ensures c.push.ensures.ok in
-    let heard = on_ok_at c.note.result c.unwrap-2.result _ c.unwrap-2.ensures c.note.ensures.ok in
     journal_next c.self.inside.marker c.note.new.self _ t _ _ c.self.invariant (within, other)
-    c.note.ensures.same (pushed ∙ ap (λ (e : Event). t ++ e ∷ []) c.recv_event-event.ensures) heard
+    c.note.ensures.same (pushed ∙ ap (λ (e : Event). t ++ e ∷ []) c.recv_event-event.ensures) c.in_ok-note.ensures.ok
