@@ -192,10 +192,9 @@ impl Journal {
     }
 
     /// A message was received. Each recorded round whose channel from its sender is not closed has
-    /// it from now on. Where memory is out nothing has changed.
+    /// it from now on. It makes the room that it takes; where memory is out, nothing was received.
     pub fn receive(&mut self, message: MsgName) -> Result<(), AllocError>
         requires few { length self.old.tape < MOST_EVENTS }
-        requires room { 0 < self.old.room }
         requires process { message.from < self.old.n }
         requires other { message.from ≢ self.old.me }
         ensures tape { OnOk result (self.new.tape ≡ self.old.tape ++ Recv message ∷ []) }
@@ -204,13 +203,14 @@ impl Journal {
             × (self.new.rounds ≡ self.old.rounds)) }
         ensures same { IsSameJournal self.old self.new }
         ensures spent { self.old.room ≤ self.new.room + 1 }
-        ensures succeeds { 0 < self.old.ready → IsOk result }
+        ensures succeeds { 0 < self.old.room → 0 < self.old.ready → IsOk result }
     {
         let name = MsgName {
             from: message.from,
             inc: message.inc,
             number: message.number,
         };
+        self.tape.reserve(1)?;
         self.marker.note(message)?;
         let event = recv_event(name);
         self.tape.push(event).unwrap();

@@ -121,7 +121,7 @@ impl Post {
         }
         let p = from.get() as usize;
         let name = name_kept(&self.kept, p, from);
-        if self.journal.reserve_events(1).is_err() || self.journal.receive(name).is_err() {
+        if self.journal.receive(name).is_err() {
             return Err(ReceiveWhy::OutOfMemory);
         }
         let letter = take_kept(&mut self.kept, p);
@@ -147,7 +147,7 @@ impl Post {
                 return Err(ReceiveWhy::TapeFull);
             }
             let name = name_first(&self.ins, p, from);
-            if self.journal.reserve_events(1).is_err() || self.journal.receive(name).is_err() {
+            if self.journal.receive(name).is_err() {
                 return Err(ReceiveWhy::OutOfMemory);
             }
             let letter = take_letter(&mut self.ins, p);

@@ -16,8 +16,8 @@ invariant_of-self-2 c =
     ok_part c.push_on.result _ (sym c.is_err-2.ensures.value ∙ c.if-is_err-2.false) c.push_on.ensures.ok in
     let numbered = c.sends-number.ensures in
     let parcel = c.message-parcel.ensures in
-    let same = c.reserve.ensures.tape in
-    let kept = c.reserve.ensures.same in
+    let same = c.reserve_events.ensures.tape in
+    let kept = c.reserve_events.ensures.same in
     let sent = c.send.ensures.same in
     let to = c.get.ensures.value in
     let to2 = c.get-2.ensures.value in
