@@ -106,7 +106,7 @@ opened_of opening floor outs ins lines in_lines posts n row rest long l m made e
 pub no_rounds_fresh : (n : ℕ) → ArePlain (replicate n fresh)
 no_rounds_fresh n p = ap rounds_checked (tape_start n p)
 
--- the collector of a fleet has the other ends of its report lines
-pub fleet_lined : (v : CollectorView) (opening processes : List Process) (marks : MarksView) (lines : List (End Event)) (posts : List PostView)
-    → v ≡ collector_of opening processes marks lines → AreOpened opening 0 posts lines → IsGeneration posts × AreLined v posts
-fleet_lined v opening processes marks lines posts e o = (o.generation, rw e (λ i post at. ((o.each i post at).1, o.lined i post at)))
+-- the collector of a generation has the other ends of its report lines
+pub opened_lined : (v : CollectorView) (opening processes : List Process) (marks : MarksView) (lines : List (End Event)) (capacity floor : ℕ) (posts : List PostView)
+    → v ≡ collector_of opening processes marks lines capacity → AreOpened opening floor posts lines → IsGeneration posts × AreLined v posts
+opened_lined v opening processes marks lines capacity floor posts e o = (o.generation, rw e (λ i post at. ((o.each i post at).1, o.lined i post at)))

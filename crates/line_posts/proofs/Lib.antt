@@ -16,3 +16,4 @@ pub mod ReplayLemmas
 pub mod GatheringLemmas
 pub mod OwnLemmas
 pub mod ExtensionLemmas
+pub mod RestartLemmas

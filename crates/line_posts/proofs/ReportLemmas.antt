@@ -46,7 +46,7 @@ length_passed (e ∷ es) zero event lt = (let l = length_push e.items event in o
 length_passed (e ∷ es) (suc p) event lt = (let ih = length_passed es p event (omega (arith, lt)) in omega (arith, ih))
 
 pub more_self : (c : CollectorView) → HasCollectedMore c c
-more_self c = record { opening = refl; marks = refl; extends = extends_self c.processes; rings = λ p. refl; tapes = λ p. ([], sym (append-nil (tape_at c.processes p)), sym (append-nil (items_at c.lines p))) }
+more_self c = record { opening = refl; marks = refl; capacity = refl; extends = extends_self c.processes; rings = λ p. refl; tapes = λ p. ([], sym (append-nil (tape_at c.processes p)), sym (append-nil (items_at c.lines p))) }
 
 pub more_same : (a b : CollectorView) → b ≡ a → HasCollectedMore a b
 more_same a b e = rw e (more_self a)
@@ -55,6 +55,7 @@ pub more_then : (a b c : CollectorView) → HasCollectedMore a b → HasCollecte
 more_then a b c h k = record {
   opening = k.opening ∙ h.opening;
   marks = k.marks ∙ h.marks;
+  capacity = k.capacity ∙ h.capacity;
   extends = extends_then a.processes b.processes c.processes h.extends k.extends;
   rings = λ p. k.rings p ∙ h.rings p;
   tapes = λ p.
@@ -73,6 +74,7 @@ more_one c new p h lt (event, e) =
       record {
         opening = refl;
         marks = refl;
+        capacity = refl;
         extends = record {
           count = length-set c.processes p _;
           incarnations = λ q. incarnation_kept c.processes p q event within;
@@ -91,8 +93,9 @@ more_one c new p h lt (event, e) =
     )
 
 -- a collector at the opening of a generation
-pub collects : (opening processes : List Process) (marks : MarksView) (lines : List (End Event)) → opening ≡ processes → length lines ≡ length processes → AreFresh lines → IsCollector (collector_of opening processes marks lines)
-collects opening processes marks lines e count fresh = rw e (record {
+pub collects : (opening processes : List Process) (marks : MarksView) (lines : List (End Event)) (capacity : ℕ) → opening ≡ processes → length lines ≡ length processes → AreFresh lines
+    → IsCollector (collector_of opening processes marks lines capacity)
+collects opening processes marks lines capacity e count fresh = rw e (record {
   count = refl;
   line_count = count;
   tapes = λ p. sym (append-nil (tape_at processes p)) ∙ ap (λ t. tape_at processes p ++ t) (sym (fresh p));

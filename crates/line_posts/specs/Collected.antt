@@ -8,16 +8,23 @@ use Rattle.line_rings.specs.Ends.{End, items_at, ring_at, with_item}
 use Rattle.line_posts.specs.Extension.{Extends}
 
 -- a collector: the history that its generation opened with, what it has collected, the marks of
--- damage that it was given, and its ends of the report lines
+-- damage that it was given, its ends of the report lines, and the capacity of a ring
 pub record CollectorView : Type 0 where
   pub opening : List Process
   pub processes : List Process
   pub marks : MarksView
   pub lines : List (End Event)
+  pub capacity : ℕ
 
-abbrev pub collector_of : List Process → List Process → MarksView → List (End Event) → CollectorView
-collector_of opening processes marks lines =
-    record { opening = opening; processes = processes; marks = marks; lines = lines }
+abbrev pub collector_of : List Process → List Process → MarksView → List (End Event) → ℕ
+    → CollectorView
+collector_of opening processes marks lines capacity = record {
+  opening = opening;
+  processes = processes;
+  marks = marks;
+  lines = lines;
+  capacity = capacity;
+}
 
 -- of each worker it has the opening tape, and then what it popped from the worker's report line
 pub record IsCollector (collector : CollectorView) : Type 0 where
@@ -45,6 +52,7 @@ passed (e ∷ es) = length e.items + passed es
 pub record HasCollectedMore (old new : CollectorView) : Type 0 where
   pub opening : new.opening ≡ old.opening
   pub marks : new.marks ≡ old.marks
+  pub capacity : new.capacity ≡ old.capacity
   pub extends : Extends new.processes old.processes
   pub rings : (p : ℕ) → ring_at new.lines p ≡ ring_at old.lines p
   pub tapes : (p : ℕ) → (more : List Event)

@@ -34,13 +34,14 @@ pub record AreGathered (failed : List Bool) (posts : List PostView) (gathered : 
         tape = gathered_tape (is_member failed p) post;
       }
 
--- what contracts see of what was gathered: the history, the marks of damage, who failed, and the
--- last round that the lead recorded
+-- what contracts see of what was gathered: the history, the marks of damage, who failed, the last
+-- round that the lead recorded, and the capacity of a ring
 pub record GatheredView : Type 0 where
   pub processes : List Process
   pub marks : MarksView
   pub failed : List Bool
   pub floor : ℕ
+  pub capacity : ℕ
 
 -- the gathered history is a prefix of another, tape by tape, and all of it where the process did
 -- not fail

@@ -30,6 +30,7 @@ pub struct Collector {
     pub(crate) opening: Snapshot<History>,
     pub(crate) catalogue: Catalogue,
     pub(crate) lines: Vec<Consumer<Event>>,
+    pub(crate) capacity: usize,
 }
 
 impl Model for Collector {
@@ -39,10 +40,10 @@ impl Model for Collector {
     ghost Value = { CollectorView };
 
     ghost view = { λ c. collector_of c.opening.value.processes c.catalogue.processes
-        c.catalogue.marks (in_ends c.lines.items) };
+        c.catalogue.marks (in_ends c.lines.items) c.capacity };
 
     ghost invariant = { λ c. IsCollector (collector_of c.opening.value.processes
-        c.catalogue.processes c.catalogue.marks (in_ends c.lines.items)) };
+        c.catalogue.processes c.catalogue.marks (in_ends c.lines.items) c.capacity) };
 }
 
 /// A collector at the opening of a generation.
@@ -50,11 +51,12 @@ pub(crate) fn open_collector(
     alloc: Global,
     catalogue: Catalogue,
     lines: Vec<Consumer<Event>>,
+    capacity: usize,
 ) -> Collector
     requires count { length lines.items ≡ length catalogue.processes }
     requires fresh { AreFresh (in_ends lines.items) }
     ensures { result ≡ collector_of catalogue.processes catalogue.processes catalogue.marks
-        (in_ends lines.items) }
+        (in_ends lines.items) capacity }
 {
     let opening = Snapshot::of(catalogue.history());
     Collector {
@@ -62,6 +64,7 @@ pub(crate) fn open_collector(
         opening,
         catalogue,
         lines,
+        capacity,
     }
 }
 

@@ -103,7 +103,7 @@ pub(crate) fn open_all(
 pub fn fleet(alloc: Global, n: u32, capacity: usize) -> Result<(Collector, Vec<Post>), FleetError>
     ensures collector { IfOk result (λ r. r.0
         ≡ collector_of (replicate n fresh) (replicate n fresh)
-        (record { damaged = replicate n [] }) r.0.lines) }
+        (record { damaged = replicate n [] }) r.0.lines capacity) }
     ensures opened { IfOk result (λ r. AreOpened (replicate n fresh) 0 r.1.items r.0.lines) }
     ensures generation { IfOk result (λ r. IsGeneration r.1.items × AreLined r.0 r.1.items) }
 
@@ -122,6 +122,6 @@ pub fn fleet(alloc: Global, n: u32, capacity: usize) -> Result<(Collector, Vec<P
         return Err(FleetError::OutOfMemory);
     };
     let opened = open_all(alloc, catalogue.history(), capacity, 0)?;
-    let collector = open_collector(alloc, catalogue, opened.lines);
+    let collector = open_collector(alloc, catalogue, opened.lines, capacity);
     Ok((collector, opened.posts))
 }

@@ -34,13 +34,14 @@ use std::alloc::Global;
 use std::marker::Model;
 
 /// What was gathered of a generation: a history, marks of damage, who failed, and the last round
-/// that the lead recorded.
+/// that the lead recorded; and how many items each of its rings held.
 #[derive(Drop)]
 pub struct Gathered {
-    alloc: Global,
-    catalogue: Catalogue,
-    failed: ProcSet,
-    floor: u32,
+    pub(crate) alloc: Global,
+    pub(crate) catalogue: Catalogue,
+    pub(crate) failed: ProcSet,
+    pub(crate) floor: u32,
+    pub(crate) capacity: usize,
 }
 
 impl Model for Gathered {
@@ -53,6 +54,7 @@ impl Model for Gathered {
       marks = g.catalogue.marks;
       failed = g.failed;
       floor = g.floor;
+      capacity = g.capacity;
     } };
 
     ghost invariant = { λ g. HasOwn g.failed g.catalogue.processes };
@@ -148,6 +150,7 @@ pub fn gather(
     ensures accounted { OnOk result (AreAccounted posts.items) }
     ensures onward { IfOk result (λ g. Extends g.processes collector.processes) }
     ensures rest { IfOk result (λ g. (g.failed ≡ failed) × (g.marks ≡ collector.marks)) }
+    ensures capacity { IfOk result (λ g. g.capacity ≡ collector.capacity) }
     ensures floor { IfOk result (λ g. (lead : PostView) → slice_get posts.items 0 ≡ Some lead
         → g.floor ≡ latest lead.floor lead.rounds) }
     ensures back { IfErr result (λ e. (e.collector ≡ collector) × (e.posts.items ≡ posts.items)) }
@@ -185,6 +188,7 @@ pub fn gather(
     ) {
         Ok(mut further) => {
             let floor = last_round(&posts);
+            let capacity = collector.capacity;
             let mut catalogue = collector.catalogue;
             add_all(&mut catalogue, &mut further);
             Ok(Gathered {
@@ -192,6 +196,7 @@ pub fn gather(
                 catalogue,
                 failed,
                 floor,
+                capacity,
             })
         }
         Err(_) => Err(GatherRefused {

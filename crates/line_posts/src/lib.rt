@@ -15,6 +15,7 @@ mod receiving;
 mod refusals;
 mod replays;
 mod reports;
+mod restarts;
 mod rounds;
 
 pub use collectors::Collector;
@@ -24,6 +25,7 @@ pub use laws::generations_last;
 pub use posts::Post;
 pub use receiving::Received;
 pub use refusals::{
-    BeginWhy, FleetError, GatherWhy, ReceiveWhy, ReportError, SendRefused, SendWhy,
+    BeginWhy, FleetError, GatherWhy, ReceiveWhy, ReportError, RestartWhy, SendRefused, SendWhy,
 };
 pub use reports::Reported;
+pub use restarts::RestartRefused;

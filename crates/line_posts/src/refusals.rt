@@ -1,4 +1,4 @@
-//! Why a call of a worker, of a fleet or of a gathering is refused.
+//! Why a call of a worker, of a fleet, of a gathering or of a restart is refused.
 ghost use Rattle.std.specs.Prelude.{◌≡◌};
 
 use line_names::Body;
@@ -271,3 +271,34 @@ impl fmt::Display for GatherWhy {
 }
 
 impl Error for GatherWhy {}
+
+/// Why what was gathered did not go on.
+#[derive(Clone, Copy, Debug, PartialEq, Eq, Hash)]
+pub enum RestartWhy {
+    OutOfMemory,
+    NoMoreIncarnations,
+}
+
+impl RestartWhy {
+    /// The number of the refusal, as replies show it.
+    pub fn code(self) -> u32
+        ensures memory { self ≡ RestartWhy.OutOfMemory → result ≡ 0 }
+        ensures incarnations { self ≡ RestartWhy.NoMoreIncarnations → result ≡ 24 }
+    {
+        match self {
+            RestartWhy::OutOfMemory => 0,
+            RestartWhy::NoMoreIncarnations => 24,
+        }
+    }
+}
+
+impl fmt::Display for RestartWhy {
+    fn fmt<W: fmt::Write>(&self, f: &mut fmt::Formatter<W>) -> fmt::Result {
+        f.write_str(match self {
+            RestartWhy::OutOfMemory => "out of memory",
+            RestartWhy::NoMoreIncarnations => "a process that goes back has incarnation 65,535",
+        })
+    }
+}
+
+impl Error for RestartWhy {}

@@ -33,8 +33,8 @@ returns-clause-more c =
     let marks = c.add.ensures.marks in
     let taken = c.take_at.ensures.ends in
     let lines : in_ends c.take_at.new.ins.items ≡ with_item (in_ends c.self.inside.lines.items) c.args.p c.in-Ok.event = cc (taken, looked, same, copied, p) in
-    let old = collector_of c.self.inside.opening.value.processes c.self.inside.catalogue.processes c.self.inside.catalogue.marks (in_ends c.self.inside.lines.items) in
-    let new = collector_of c.self.inside.opening.value.processes c.add.new.self.processes c.add.new.self.marks (in_ends c.take_at.new.ins.items) in
+    let old = collector_of c.self.inside.opening.value.processes c.self.inside.catalogue.processes c.self.inside.catalogue.marks (in_ends c.self.inside.lines.items) c.self.inside.capacity in
+    let new = collector_of c.self.inside.opening.value.processes c.add.new.self.processes c.add.new.self.marks (in_ends c.take_at.new.ins.items) c.self.inside.capacity in
     subst (λ (o : CollectorView). HasCollectedMore o new) v (more_one old new c.args.p c.self.invariant w (c.in-Ok.event, cc (pushed, lines, marks))).0
 
 pub returns-clause-count : goal.returns-clause-count
@@ -49,6 +49,6 @@ returns-clause-count c =
     let marks = c.add.ensures.marks in
     let taken = c.take_at.ensures.ends in
     let lines : in_ends c.take_at.new.ins.items ≡ with_item (in_ends c.self.inside.lines.items) c.args.p c.in-Ok.event = cc (taken, looked, same, copied, p) in
-    let old = collector_of c.self.inside.opening.value.processes c.self.inside.catalogue.processes c.self.inside.catalogue.marks (in_ends c.self.inside.lines.items) in
-    let new = collector_of c.self.inside.opening.value.processes c.add.new.self.processes c.add.new.self.marks (in_ends c.take_at.new.ins.items) in
+    let old = collector_of c.self.inside.opening.value.processes c.self.inside.catalogue.processes c.self.inside.catalogue.marks (in_ends c.self.inside.lines.items) c.self.inside.capacity in
+    let new = collector_of c.self.inside.opening.value.processes c.add.new.self.processes c.add.new.self.marks (in_ends c.take_at.new.ins.items) c.self.inside.capacity in
     subst (λ (o : CollectorView). passed new.lines ≡ passed o.lines + 1) v (more_one old new c.args.p c.self.invariant w (c.in-Ok.event, cc (pushed, lines, marks))).1

@@ -1,0 +1,137 @@
+//! Where what was gathered goes on: a new generation, from the planned line.
+ghost use Rattle.std.specs.Prelude.{◌≡◌, ◌<◌, ◌≤◌, ◌+◌, ℕ, List, IfOk, IfErr, IsTrue, length, map};
+ghost use Rattle.std.specs.Prelude.{slice_index_or, vec_len};
+ghost use Rattle.line_names.specs.Lines.{IsNowhereLater};
+ghost use Rattle.line_names.specs.declared.choices.Choice.{Choice};
+ghost use Rattle.line_names.specs.declared.choices.Choice.TheVariants.{Check as AtCheck};
+ghost use Rattle.line_tape.specs.Chain.{IsChain};
+ghost use Rattle.line_tape.specs.Fit.{IsFitFifo};
+ghost use Rattle.line_tape.specs.Restart.{restarted, restarted_marks, HaveFurther};
+ghost use Rattle.line_tape.specs.Rounds.{check_line, checks_of, is_completed_fifo};
+ghost use Rattle.line_tape.specs.Survival.{survives, IsLatest};
+ghost use Rattle.line_tape.specs.Transit.{in_transit, in_transit_between};
+ghost use Rattle.line_tape.specs.declared.items.Item.TheVariants.{Message};
+ghost use Rattle.line_rings.specs.Ends.{in_ends, AreFresh};
+ghost use Rattle.line_posts.specs.Collected.{collector_of};
+ghost use Rattle.line_posts.specs.Generations.{AreLined, IsGeneration};
+ghost use Rattle.line_posts.specs.Openings.{parcels_left, AreOpened};
+ghost use Rattle.line_posts.specs.Parcels.{items_of_parcels};
+
+use crate::collectors::{Collector, open_collector};
+use crate::fleets::{Opened, open_all};
+use crate::gathering::Gathered;
+use crate::posts::Post;
+use crate::refusals::RestartWhy;
+use line_names::Line;
+use line_plan::Plan;
+use line_tape::Event;
+use rtrb::Consumer;
+use std::alloc::AllocError;
+
+/// What was gathered and did not go on, and why.
+#[derive(Drop)]
+pub struct RestartRefused {
+    pub why: RestartWhy,
+    pub gathered: Gathered,
+}
+
+impl Gathered {
+    /// The workers that go on from a line, and the other ends of their report lines.
+    fn open_next(&self, line: &Line) -> Result<Opened, AllocError>
+        requires latest { IsLatest self.now.processes self.now.marks self.now.failed line.now }
+        requires further { HaveFurther self.now.processes line.now }
+        ensures fit { IsFitFifo (restarted self.now.processes line.now) }
+        ensures opened { IfOk result (λ opened. AreOpened (restarted self.now.processes line.now)
+            self.now.floor opened.posts.items (in_ends opened.lines.items)) }
+        ensures links { (p q : ℕ)
+            → items_of_parcels p (parcels_left (restarted self.now.processes line.now) p q)
+            ≡ map (λ m. Message m) (in_transit_between self.now.processes line.now p q) }
+    {
+        let mut cut = self.catalogue.history().copy(self.alloc)?;
+        cut.restart(line);
+        open_all(self.alloc, &cut, self.capacity, self.floor)
+    }
+
+    /// The collector that goes on from a line.
+    fn into_collector(self, line: &Line, lines: Vec<Consumer<Event>>) -> Collector
+        requires latest { IsLatest self.processes self.marks self.failed line.now }
+        requires further { HaveFurther self.processes line.now }
+        requires count { length lines.items ≡ length self.processes }
+        requires fresh { AreFresh (in_ends lines.items) }
+        ensures { result ≡ collector_of (restarted self.processes line.now)
+            (restarted self.processes line.now) (restarted_marks self.marks line.now)
+            (in_ends lines.items) self.capacity }
+    {
+        let alloc = self.alloc;
+        let capacity = self.capacity;
+        let mut catalogue = self.catalogue;
+        catalogue.restart(line);
+        open_collector(alloc, catalogue, lines, capacity)
+    }
+
+    /// Has all go on from the planned line: a new generation, and the plan.
+    ///
+    /// Each tape is cut at the line, and each worker keeps the messages that were in transit to it
+    /// there, with their bodies; it receives them before anything that is sent to it from now on.
+    /// Rings and report lines are new ones of the same capacity, and rounds are numbered on. A
+    /// refusal hands the value back as it was.
+    ///
+    /// It costs what `plan` does, two copies of the history up to the line, one for the workers and
+    /// one to cut beside the collector's own, which is cut in place; and for each two workers a walk
+    /// of their tapes.
+    pub fn restart(self) -> Result<(Collector, Vec<Post>, Plan), RestartRefused>
+        ensures latest { IfOk result (λ r.
+            IsLatest self.processes self.marks self.failed r.2.line) }
+        ensures chain { IfOk result (λ r.
+            IsChain self.processes self.marks self.failed r.2.certificate.items r.2.line) }
+        ensures some_sweep { IfOk result (λ r. 1 ≤ r.2.sweeps) }
+        ensures few_sweeps { IfOk result (λ r. r.2.sweeps ≤ vec_len r.2.certificate + 1) }
+        ensures replays { IfOk result (λ r.
+            r.2.replays.items ≡ in_transit self.processes r.2.line) }
+        ensures rounds { IfOk result (λ r. (k : ℕ) → IsTrue (is_completed_fifo self.processes k)
+            → ((p : ℕ) → p < length self.processes
+            → IsTrue (survives self.processes self.marks self.failed p
+            (AtCheck (slice_index_or (checks_of self.processes k) p 0))))
+            → IsNowhereLater (check_line (checks_of self.processes k)) r.2.line) }
+
+        // What goes on from the line.
+        ensures collector { IfOk result (λ r. r.0
+            ≡ collector_of (restarted self.processes r.2.line) (restarted self.processes r.2.line)
+            (restarted_marks self.marks r.2.line) r.0.lines self.capacity) }
+        ensures posts { IfOk result (λ r.
+            AreOpened (restarted self.processes r.2.line) self.floor r.1.items r.0.lines) }
+        ensures links { IfOk result (λ r. (p q : ℕ)
+            → items_of_parcels p (parcels_left (restarted self.processes r.2.line) p q)
+            ≡ map (λ m. Message m) (in_transit_between self.processes r.2.line p q)) }
+        ensures generation { IfOk result (λ r. IsGeneration r.1.items × AreLined r.0 r.1.items) }
+        ensures fit { IfOk result (λ r. IsFitFifo (restarted self.processes r.2.line)) }
+
+        // The refusals.
+        ensures further { IfOk result (λ r. HaveFurther self.processes r.2.line) }
+        ensures incarnations { IfErr result (λ e. e.why ≡ RestartWhy.NoMoreIncarnations
+            → (line : List Choice) × IsLatest self.processes self.marks self.failed line
+            × (HaveFurther self.processes line → ⊥)) }
+        ensures back { IfErr result (λ e. e.gathered ≡ self) }
+    {
+        let Ok(plan) = self.plan() else {
+            return Err(RestartRefused {
+                why: RestartWhy::OutOfMemory,
+                gathered: self,
+            });
+        };
+        if !self.catalogue.history().has_further(&plan.line) {
+            return Err(RestartRefused {
+                why: RestartWhy::NoMoreIncarnations,
+                gathered: self,
+            });
+        }
+        let Ok(opened) = self.open_next(&plan.line) else {
+            return Err(RestartRefused {
+                why: RestartWhy::OutOfMemory,
+                gathered: self,
+            });
+        };
+        let collector = self.into_collector(&plan.line, opened.lines);
+        Ok((collector, opened.posts, plan))
+    }
+}
