@@ -1,14 +1,25 @@
 //! Standard input and output, of which nothing is told.
-ghost use Rattle.std.specs.Prelude.{None};
+ghost use Rattle.std.specs.Prelude.{◌≡◌, None};
+ghost use Rattle.line_devices.specs.Devices.{ends_after};
 
 use line_devices::{DeviceFault, Sink, Source};
 use std::io::{Read, Write};
+
+// Counts an end, where a call gave nothing.
+fn count_end(ends: &mut u64, count: usize)
+    ensures { ends.new ≡ ends_after count ends.old }
+{
+    if count == 0 {
+        *ends = ends.saturating_add(1);
+    }
+}
 
 /// The bytes of a reader, which are counted. A reader that gave 2^64 bytes has failed.
 pub struct ReadSource<R: Read> {
     reader: R,
     given: u64,
     faults: u64,
+    ends: u64,
 }
 
 impl<R: Read> ReadSource<R> {
@@ -18,6 +29,7 @@ impl<R: Read> ReadSource<R> {
             reader,
             given: 0,
             faults: 0,
+            ends: 0,
         }
     }
 }
@@ -28,6 +40,7 @@ impl<R: Read + Drop> Drop for ReadSource<R> {
             reader: _,
             given: _,
             faults: _,
+            ends: _,
         } = self;
     }
 }
@@ -39,10 +52,13 @@ impl<R: Read> Source for ReadSource<R> {
 
     ghost faults = { λ s. s.faults };
 
+    ghost ends = { λ s. s.ends };
+
     fn fill(&mut self, into: &mut [u8]) -> Result<usize, DeviceFault> {
         if let Ok(count) = self.reader.read(into) {
             if let Some(given) = self.given.checked_add(count as u64) {
                 self.given = given;
+                count_end(&mut self.ends, count);
                 return Ok(count);
             }
         }

@@ -1,5 +1,5 @@
 -- What a source and a sink tell of the bytes that a call moves.
-use Rattle.std.specs.Prelude.{◌≡◌, ◌+◌, ◌-◌, ◌^◌, ◌++◌, ℕ, List, [], Option, Some, None, min, ⊤}
+use Rattle.std.specs.Prelude.{◌≡◌, ◌==◌, ◌+◌, ◌-◌, ◌^◌, ◌++◌, ℕ, List, [], Option, Some, None, if◌then◌else◌, min, ⊤}
 
 -- these bytes came, and were the first of those that were left
 abbrev pub Fills : Option (List ℕ) → Option (List ℕ) → List ℕ → Type 0
@@ -30,6 +30,10 @@ PutsFront None new bytes = ⊤
 PutsFront (Some old) None bytes = ⊥
 PutsFront (Some old) (Some new) bytes = (front : List ℕ) × (rest : List ℕ) × (bytes ≡ front ++ rest) × (new ≡ old ++ front)
 
--- a count of faults after one more, which stays at its greatest value
+-- a count of faults or of ends after one more, which stays at its greatest value
 abbrev pub one_more : ℕ → ℕ
-one_more faults = min (faults + 1) (2 ^ 64 - 1)
+one_more count = min (count + 1) (2 ^ 64 - 1)
+
+-- how often a source gave nothing, after a call that gave so many bytes
+abbrev pub ends_after : ℕ → ℕ → ℕ
+ends_after bytes ends = if bytes == 0 then one_more ends else ends

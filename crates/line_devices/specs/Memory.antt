@@ -1,13 +1,14 @@
--- What the devices over memory are: their bytes, their step, the call that fails and their faults.
+-- What the devices over memory are: their bytes, their step, the call that fails and their counts.
 use Rattle.std.specs.Prelude.{ℕ, ◌-◌, List, Option, option_map}
 
--- a source: the bytes still to come, how many it gave, the most that come at a time, how many calls ahead the failing one is, and the faults so far
+-- a source: the bytes still to come, how many it gave, the most that come at a time, how many calls ahead the failing one is, the faults so far, and how often it gave nothing
 pub record GivesOf : Type 0 where
   pub left : List ℕ
   pub given : ℕ
   pub step : ℕ
   pub fail_at : Option ℕ
   pub faults : ℕ
+  pub ends : ℕ
 
 -- a sink: the bytes put so far, the most that are taken at a time, how many calls ahead the failing one is, and the faults so far
 pub record Holds : Type 0 where

@@ -1,7 +1,7 @@
 //! A source and a sink over memory, which stand for the devices of a system.
 
 ghost use Rattle.std.specs.Prelude.{◌≡◌, ◌++◌, ◌+◌, ◌<◌, ◌≤◌, ◌↔◌, [], Some, IfOk, IsErr, IsTrue, OnErr, OnOk, length, take, min};
-ghost use Rattle.line_devices.specs.Devices.{one_more};
+ghost use Rattle.line_devices.specs.Devices.{ends_after, one_more};
 ghost use Rattle.line_devices.specs.Memory.{next_call};
 
 use crate::{DeviceFault, Sink, Source};
@@ -30,6 +30,15 @@ fn count_fault(faults: &mut u64) -> DeviceFault
     DeviceFault
 }
 
+// Counts an end, where a call gave nothing.
+fn count_end(ends: &mut u64, count: usize)
+    ensures { ends.new ≡ ends_after count ends.old }
+{
+    if count == 0 {
+        *ends = ends.saturating_add(1);
+    }
+}
+
 /// Bytes in memory that come at most `step` at a time. One call may be set to fail.
 #[derive(Drop)]
 pub struct MemSource {
@@ -38,6 +47,7 @@ pub struct MemSource {
     step: usize,
     fail_at: Option<u64>,
     faults: u64,
+    ends: u64,
 }
 
 impl Model for MemSource {
@@ -46,7 +56,7 @@ impl Model for MemSource {
 
     ghost Value = { GivesOf };
 
-    ghost view = { λ s. record { left = drop s.at s.bytes.items; given = s.at; step = s.step; fail_at = s.fail_at; faults = s.faults } };
+    ghost view = { λ s. record { left = drop s.at s.bytes.items; given = s.at; step = s.step; fail_at = s.fail_at; faults = s.faults; ends = s.ends } };
 
     ghost invariant = { λ s. (s.at ≤ vec_len s.bytes) × (0 < s.step) };
 }
@@ -57,7 +67,7 @@ impl MemSource {
     /// The call `fail_at`, counted from 1, fails, and no other; `None` and `Some(0)` name no call.
     pub fn new(bytes: Vec<u8>, step: usize, fail_at: Option<u64>) -> Self
         requires { 0 < step }
-        ensures { result ≡ record { left = bytes.items; given = 0; step = step; fail_at = fail_at; faults = 0 } }
+        ensures { result ≡ record { left = bytes.items; given = 0; step = step; fail_at = fail_at; faults = 0; ends = 0 } }
     {
         MemSource {
             bytes,
@@ -65,6 +75,7 @@ impl MemSource {
             step,
             fail_at,
             faults: 0,
+            ends: 0,
         }
     }
 }
@@ -78,6 +89,8 @@ impl Source for MemSource {
 
     ghost faults = { λ s. s.faults };
 
+    ghost ends = { λ s. s.ends };
+
     fn fill(&mut self, into: &mut [u8]) -> Result<usize, DeviceFault>
         ensures within { IfOk result (λ n. n ≤ length into.old) }
         ensures moves { IfOk result (λ n. self.old.left ≡ take n into.new ++ self.new.left) }
@@ -86,7 +99,7 @@ impl Source for MemSource {
         // It fails at its one call, and loses nothing then.
         ensures fails { IsErr result ↔ (self.old.fail_at ≡ Some 1) }
         ensures count { IfOk result (λ n. n ≡ min (min (length self.old.left) self.old.step) (length into.old)) }
-        ensures ok { IfOk result (λ n. self.new ≡ record self.old { left = self.new.left; given = self.old.given + n; fail_at = next_call self.old.fail_at }) }
+        ensures ok { IfOk result (λ n. self.new ≡ record self.old { left = self.new.left; given = self.old.given + n; fail_at = next_call self.old.fail_at; ends = ends_after n self.old.ends }) }
         ensures err { OnErr result (self.new ≡ record self.old { fail_at = next_call self.old.fail_at; faults = one_more self.old.faults }) }
     {
         if is_struck(&mut self.fail_at) {
@@ -95,6 +108,7 @@ impl Source for MemSource {
         let count = (self.bytes.len() - self.at).min(self.step).min(into.len());
         into[..count].copy_from_slice(&self.bytes[self.at..self.at + count]);
         self.at += count;
+        count_end(&mut self.ends, count);
         Ok(count)
     }
 

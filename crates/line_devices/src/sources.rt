@@ -1,7 +1,7 @@
 //! Where bytes come from.
 
 ghost use Rattle.std.specs.Prelude.{◌≡◌, ◌<◌, ◌≤◌, ◌+◌, ℕ, List, Option, IfErr, IfOk, OnErr, OnOk, length, take};
-ghost use Rattle.line_devices.specs.Devices.{Fills, FillsFront, IsDone, one_more};
+ghost use Rattle.line_devices.specs.Devices.{Fills, FillsFront, IsDone, ends_after, one_more};
 ghost use Rattle.line_devices.specs.Reads.{CountsFault, GivesAll, IsTooLong};
 
 use crate::DeviceFault;
@@ -19,6 +19,9 @@ pub trait Source {
     /// How often it failed.
     ghost faults: { Self → ℕ };
 
+    /// How often it gave nothing, since nothing was left or nothing was asked for.
+    ghost ends: { Self → ℕ };
+
     /// Moves bytes into the front of the slice, and says how many: none only where nothing is left
     /// or the slice is empty. What the rest of the slice holds then is left open.
     ///
@@ -32,7 +35,9 @@ pub trait Source {
         ensures lost { OnErr result (FillsFront (left self.old) (left self.new)) }
         ensures none { OnErr result (given self.new ≡ given self.old) }
         ensures sound { OnOk result (faults self.new ≡ faults self.old) }
-        ensures failed { OnErr result (faults self.new ≡ one_more (faults self.old)) };
+        ensures failed { OnErr result (faults self.new ≡ one_more (faults self.old)) }
+        ensures ended { IfOk result (λ n. ends self.new ≡ ends_after n (ends self.old)) }
+        ensures unended { OnErr result (ends self.new ≡ ends self.old) };
 
     /// How often it failed. The count stays at its greatest value.
     fn failures(&self) -> u64
@@ -72,6 +77,10 @@ pub fn read_all<S: Source>(alloc: Global, source: &mut S) -> Result<Vec<u8>, Rea
     // Only a failure of the source is counted.
     ensures sound { OnOk result (S.faults source.new ≡ S.faults source.old) }
     ensures failed { IfErr result (λ e. CountsFault e (S.faults source.old) (S.faults source.new)) }
+
+    // The source says once that nothing is left, and is asked no more then.
+    ensures ended { OnOk result (S.ends source.new ≡ one_more (S.ends source.old)) }
+    ensures unended { OnErr result (S.ends source.new ≡ S.ends source.old) }
 {
     let mut text = Vec::new(alloc);
     let mut chunk = [0u8; CHUNK];

@@ -53,6 +53,7 @@ fn reads_the_bytes_in_order(rt: HostRuntime) -> Result<(), Fail> {
 #[derive(Drop)]
 struct Zeros {
     left: u64,
+    ends: u64,
 }
 
 impl Source for Zeros {
@@ -64,9 +65,14 @@ impl Source for Zeros {
 
     ghost faults = { λ _. 0 };
 
+    ghost ends = { λ s. s.ends };
+
     fn fill(&mut self, into: &mut [u8]) -> Result<usize, DeviceFault> {
         let count = self.left.min(into.len() as u64);
         self.left -= count;
+        if count == 0 {
+            self.ends = self.ends.saturating_add(1);
+        }
         Ok(count as usize)
     }
 
@@ -89,6 +95,8 @@ impl Source for Broken {
     ghost given = { λ _. 0 };
 
     ghost faults = { λ s. s.faults };
+
+    ghost ends = { λ _. 0 };
 
     fn fill(&mut self, _into: &mut [u8]) -> Result<usize, DeviceFault> {
         self.faults = self.faults.saturating_add(1);
@@ -148,7 +156,7 @@ fn reads_no_more_than_the_limit(rt: HostRuntime) {
         (67_108_865, Err(ReadRefused::TooLong)),
         (u64::MAX, Err(ReadRefused::TooLong)),
     ] {
-        let got = read_all(rt.alloc(), &mut Zeros { left });
+        let got = read_all(rt.alloc(), &mut Zeros { left, ends: 0 });
         assert_eq!(rt; got.map(|text| text.len()), want, "of {left}");
     }
 }

@@ -33,6 +33,8 @@ pub(crate) fn read_input<S: Source>(alloc: Global, source: &mut S) -> Result<Vec
         → (S.faults source.new ≡ one_more (S.faults source.old)) ⊎ IsTooLong (S.left source.old) (S.given source.old) (S.given source.new)) }
     ensures heard { OnOk result (S.faults source.new ≡ S.faults source.old) }
     ensures told { IfErr result (λ fault. fault.code ≢ READ_FAULT → S.faults source.new ≡ S.faults source.old) }
+    ensures ended { OnOk result (S.ends source.new ≡ one_more (S.ends source.old)) }
+    ensures unended { OnErr result (S.ends source.new ≡ S.ends source.old) }
 {
     match read_all(alloc, source) {
         Ok(text) => Ok(text),

@@ -10,6 +10,7 @@ ghost use Rattle.line_claims.specs.Reads.{IsOfText, no_memory};
 ghost use Rattle.line_text.specs.declared.ends.TheConstants.{READ_FAULT, WRITE_FAULT};
 ghost use Rattle.line_scripts.specs.Reads.{seen};
 ghost use Rattle.line_replies.specs.Replies.{refused as refused_record};
+ghost use Rattle.line_text.specs.Inputs.{HearsEnd};
 ghost use Rattle.line_text.specs.Runs as spec;
 ghost use Rattle.line_scripts.specs.Scripts.{script_of_text};
 
@@ -272,6 +273,9 @@ pub fn run_text<S: Source, K: Sink>(
     ensures sound { OnOk result (K.faults sink.new ≡ K.faults sink.old) }
     ensures heard { OnOk result (S.faults source.new ≡ S.faults source.old) }
     ensures told { IfErr result (λ fault. fault.code ≢ READ_FAULT → S.faults source.new ≡ S.faults source.old) }
+
+    // Once the source said that nothing is left, it is asked no more.
+    ensures ended { HearsEnd result (S.ends source.old) (S.ends source.new) }
 {
     let text = read_input(alloc, source)?;
     let script = read_script(alloc, &text)?;

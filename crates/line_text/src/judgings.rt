@@ -8,6 +8,7 @@ ghost use Rattle.line_devices.specs.Devices.{one_more};
 ghost use Rattle.line_devices.specs.Reads.{GivesAll, IsTooLong};
 ghost use Rattle.line_fields.specs.Texts.{record_text};
 ghost use Rattle.line_text.specs.declared.ends.TheConstants.{READ_FAULT, WRITE_FAULT};
+ghost use Rattle.line_text.specs.Inputs.{HearsEnd};
 ghost use Rattle.line_text.specs.Judgings as spec;
 
 use crate::ends::{WRITE_FAULT, fault_of, put, read_input};
@@ -131,6 +132,9 @@ pub fn check_text<S: Source, K: Sink>(
     ensures sound { OnOk result (K.faults sink.new ≡ K.faults sink.old) }
     ensures heard { OnOk result (S.faults source.new ≡ S.faults source.old) }
     ensures told { IfErr result (λ fault. fault.code ≢ READ_FAULT → S.faults source.new ≡ S.faults source.old) }
+
+    // Once the source said that nothing is left, it is asked no more.
+    ensures ended { HearsEnd result (S.ends source.old) (S.ends source.new) }
 {
     let text = read_input(alloc, source)?;
     let check = read_check_text(alloc, &text)?;

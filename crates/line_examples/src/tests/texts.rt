@@ -186,6 +186,7 @@ fn judges_nothing_where_a_device_fails(rt: HostRuntime) -> Result<(), Fail> {
 #[derive(Drop)]
 struct Endless {
     left: u64,
+    ends: u64,
 }
 
 impl Source for Endless {
@@ -195,9 +196,14 @@ impl Source for Endless {
 
     ghost faults = { λ _. 0 };
 
+    ghost ends = { λ s. s.ends };
+
     fn fill(&mut self, into: &mut [u8]) -> Result<usize, DeviceFault> {
         let count = self.left.min(into.len() as u64);
         self.left -= count;
+        if count == 0 {
+            self.ends = self.ends.saturating_add(1);
+        }
         Ok(count as usize)
     }
 
@@ -208,7 +214,10 @@ impl Source for Endless {
 
 #[test]
 fn refuses_an_input_above_the_limit(rt: HostRuntime) {
-    let mut source = Endless { left: u64::MAX };
+    let mut source = Endless {
+        left: u64::MAX,
+        ends: 0,
+    };
     let mut sink = MemSink::new(rt.alloc(), 1, None);
     let fault = TextFault {
         record_number: 0,
