@@ -107,10 +107,6 @@ known_other (x ∷ xs) zero (suc k) new ne = refl
 known_other (x ∷ xs) (suc p) zero new ne = refl
 known_other (x ∷ xs) (suc p) (suc k) new ne = known_other xs p k new (λ e. ne (omega (arith, e)))
 
-pub empty_of : {X : Type 0} (xs : List X) → length xs ≤ 0 → xs ≡ []
-empty_of [] le = refl
-empty_of (x ∷ xs) le = absurd (omega (arith, le))
-
 -- what is known to be free, read and written
 pub free_there : {T P : Type 0} (outs : List (Producer T Global P)) (q : ℕ) (p : Producer T Global P) → q < length outs → p ≡ get_or outs q p → free_at outs q ≡ known_free p
 free_there [] q p lt e = absurd (omega (arith, lt))
