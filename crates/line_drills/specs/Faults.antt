@@ -80,7 +80,7 @@ HasFailed script post e = (k : ℕ) × (order : Order) × (why : DrillWhy)
     × IsCause (length post.opening) post.number (length post.tape + k) order why
     × (e ≡ of_order post.number k why)
 
--- a thread could not be started, or one of the workers could not do an order
+-- one of the workers was not started, or could not do an order of its script
 abbrev pub AreStopped : List (List Order) → List PostView → DrillError → Type 0
 AreStopped scripts posts e = (e ≡ of_no_order NoThread)
     ⊎ ((p : ℕ) × (post : PostView) × (slice_get posts p ≡ Some post)

@@ -1,4 +1,6 @@
 //! Scripts of the tests.
+ghost use Rattle.std.specs.Prelude.{◌≤◌};
+
 use crate::Order;
 use line_names::{Body, ProcId};
 use line_tape::State;
