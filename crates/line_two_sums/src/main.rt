@@ -1,128 +1,111 @@
-//! Two workers add up the numbers that the other sends, each in a thread of its own, while a
-//! collector takes their reports and plans.
+//! Two workers add up the numbers that the other sends, each in a thread of its own. One of them
+//! fails in the middle; both go on from the recovery line, and end with the right sums.
 //!
 //! Worker 0 sends 1, 2, 3 and so on up to 100, worker 1 their squares. After each number that it
-//! receives a worker takes a check, whose state is its sum so far. Where a worker stands it reads
-//! off its tape, so it would go on the same way from a recovery line.
+//! receives a worker takes a check, whose state is its sum so far. What it does next it reads off
+//! its tape alone. So it goes on from a recovery line as it would have gone on there before: what it
+//! sent after the line it sends again, and what it received after the line it receives again, from
+//! the sender or as a replay. And so its tape is the same whatever the order in which the threads
+//! take their turns.
 #![tactic(auto)]
 
-ghost use Rattle.line_posts.specs.Collected.{HasCollectedMore};
-ghost use Rattle.line_posts.specs.Generations.{IsSamePost};
+mod sums;
+
+ghost use Rattle.std.specs.Prelude.{◌≡◌, IfOk};
+ghost use Rattle.line_tape.specs.Fit.{IsFitFifo};
+ghost use Rattle.line_posts.specs.Generations.{AreLined, IsGeneration};
 
 use anyhow::Result;
-use line_names::{Body, ProcId};
-use line_posts::{Collector, Post, Received};
-use line_tape::{State, Tape};
-use line_workers::{Work, run};
+use line_names::{Choice, ProcId, ProcSet};
+use line_plan::Plan;
+use line_posts::{Collector, Gathered, Post, fleet, gather};
+use line_tape::History;
+use line_workers::run_crew;
 use std::alloc::Global;
-use std::thread::yield_now;
+use std::sync::Wait;
+use std::thread::Threads;
+use sums::{COUNT, Sums, sum_of};
 
-/// How many numbers each worker sends.
-const COUNT: u64 = 100;
+/// How many numbers each worker has added when worker 1 fails.
+const FAILURE: u64 = 57;
 
-/// How often each worker and the collector look again, at most.
-const TURNS: u32 = 10_000_000;
+/// How many items a ring holds: more than a worker does in a run, so that nobody waits for a slot.
+const CAPACITY: usize = 512;
 
-/// What the two workers and the collector do.
-#[derive(Drop)]
-struct Sums {
+/// All do their work, and what they did is gathered.
+fn run<R: Threads + Wait + Sync>(
+    rt: &R,
+    sums: &Sums,
+    collector: Collector,
+    posts: Vec<Post>,
+    failed: ProcSet,
+) -> Result<Gathered>
+    requires generation { IsGeneration posts.items }
+    requires lines { AreLined collector posts.items }
+    ensures { IfOk result (λ gathered. gathered.failed ≡ failed) }
+{
+    let (collector, posts) = run_crew(rt, sums, collector, posts)?;
+    match gather(collector, posts, failed) {
+        Ok(gathered) => Ok(gathered),
+        Err(refused) => Err(refused.why.into()),
+    }
+}
+
+/// The first run, in which worker 1 fails: what it did after its last report is lost.
+fn first_run<R: Threads + Wait + Sync>(rt: &R, alloc: Global) -> Result<Gathered> {
+    let (collector, posts) = fleet(alloc, 2, CAPACITY)?;
+    let failed = ProcSet::empty().with(ProcId::try_new(1, 2)?);
+    run(rt, &Sums::new(alloc, FAILURE), collector, posts, failed)
+}
+
+/// Tells where each worker goes on from, and which messages are replayed.
+fn tell<R: Print>(rt: &R, plan: &Plan) -> Result<()> {
+    for (p, choice) in plan.line.choices().iter().enumerate() {
+        match choice {
+            Choice::Check(check) => println!(rt; "worker {p} goes on from its check {check}")?,
+            Choice::Now => println!(rt; "worker {p} goes on from where it stands")?,
+        }
+    }
+    for message in &plan.replays {
+        let (number, from) = (message.number, message.from.get());
+        println!(rt; "message {number} of worker {from} is replayed")?;
+    }
+    Ok(())
+}
+
+/// Both go on from the recovery line to the end. What they did in all is a history that links in
+/// order can lead to: each received what the other sent, none of it twice and none left out.
+fn go_on<R: Threads + Wait + Sync + Print>(
+    rt: &R,
     alloc: Global,
-}
-
-/// The number that these bytes are.
-fn number_of(bytes: &[u8]) -> u64 {
-    let mut number = 0u64;
-    for byte in bytes {
-        number = number.wrapping_mul(256).wrapping_add(u64::from(*byte));
-    }
-    number
-}
-
-/// The sum that a worker's last check keeps.
-fn sum_of(tape: &Tape) -> u64 {
-    number_of(tape.state(tape.checks()))
-}
-
-/// Sends the number of that place, counted from 1, if there is one and the ring takes it.
-fn send_next(post: &mut Post, to: ProcId, place: u64) -> bool
-    ensures { IsSamePost post.old post.new }
+    gathered: Gathered,
+) -> Result<Gathered>
+    ensures { IfOk result (λ gathered. IsFitFifo gathered.processes) }
 {
-    if place > COUNT {
-        return false;
-    }
-    let power = if post.number() == 0 { 1 } else { place };
-    let Ok(body) = Body::try_new(place.wrapping_mul(power).to_be_bytes().as_slice()) else {
-        return false;
-    };
-    post.send(to, body).is_ok()
-}
-
-/// Takes a check with a sum, and reports.
-fn keep(alloc: Global, post: &mut Post, sum: u64)
-    ensures { IsSamePost post.old post.new }
-{
-    let Ok(bytes) = Vec::from_slice(alloc, sum.to_be_bytes().as_slice()) else {
-        return;
-    };
-    let _ = post.check(State::of(bytes));
-    let _ = post.report();
-}
-
-/// Receives a number, if there is one, and keeps the sum with it.
-fn add_next(alloc: Global, post: &mut Post, from: ProcId)
-    ensures { IsSamePost post.old post.new }
-{
-    let sum = sum_of(post.tape());
-    let Ok(Received::Message { body, .. }) = post.receive(from, State::of(Vec::new(alloc))) else {
-        return;
-    };
-    keep(alloc, post, sum.wrapping_add(number_of(body.bytes())));
-}
-
-impl Work for Sums {
-    fn work(&self, post: Post) -> Post
-        ensures { IsSamePost post result }
-    {
-        let mut post = post;
-        let Ok(other) = ProcId::try_new(u32::from(post.number() == 0), 2) else {
-            return post;
-        };
-        for _turn in 0..TURNS {
-            let sent = u64::from(post.tape().sends());
-            let added = u64::from(post.tape().checks());
-            if sent == COUNT && added == COUNT {
-                return post;
-            }
-            let _ = send_next(&mut post, other, sent.wrapping_add(1));
-            add_next(self.alloc, &mut post, other);
-            yield_now();
+    match gathered.restart() {
+        Ok((collector, posts, plan)) => {
+            tell(rt, &plan)?;
+            let sums = Sums::new(alloc, COUNT);
+            let gathered = run(rt, &sums, collector, posts, ProcSet::empty())?;
+            let _fit = gathered.history();
+            Ok(gathered)
         }
-        post
+        Err(refused) => Err(refused.why.into()),
     }
+}
 
-    fn collect(&self, collector: Collector) -> Collector
-        ensures { HasCollectedMore collector result }
-    {
-        let mut collector = collector;
-        for _turn in 0..1_000 {
-            let _ = collector.take(64);
-            let _ = collector.plan_live();
-            yield_now();
-        }
-        collector
+/// Tells what each worker added up.
+fn tell_sums<R: Print>(rt: &R, history: &History) -> Result<()> {
+    let n = history.n();
+    for p in 0..n {
+        let sum = sum_of(history.tape(ProcId::try_new(p, n)?));
+        println!(rt; "worker {p} added up {sum}")?;
     }
+    Ok(())
 }
 
 fn main(rt: HostRuntime) -> Result<()> {
-    let gathered = run(&rt, rt.alloc(), 2, 8, &Sums { alloc: rt.alloc() })?;
-    for p in 0..2 {
-        let sum = sum_of(gathered.history().tape(ProcId::try_new(p, 2)?));
-        println!(rt; "worker {p} added up {sum}")?;
-    }
-    let plan = gathered.plan()?;
-    let (passed, replays) = (plan.certificate.len(), plan.replays.len());
-    println!(rt;
-        "the recovery line passes over {passed} choices, with {replays} messages in transit"
-    )?;
-    Ok(())
+    let gathered = first_run(&rt, rt.alloc())?;
+    let gathered = go_on(&rt, rt.alloc(), gathered)?;
+    tell_sums(&rt, gathered.history())
 }

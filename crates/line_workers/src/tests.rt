@@ -10,6 +10,10 @@ use line_posts::{
 };
 use std::test::Fail;
 
+mod restart_steps;
+mod restarts;
+mod round_steps;
+mod rounds;
 mod steps;
 
 /// Whether it is the first message of process 0.

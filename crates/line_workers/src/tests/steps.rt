@@ -31,7 +31,7 @@ pub struct Filled {
 }
 
 /// A state of these bytes.
-fn state_of(alloc: Global, bytes: &[u8]) -> Result<State, AllocError> {
+pub fn state_of(alloc: Global, bytes: &[u8]) -> Result<State, AllocError> {
     Ok(State::of(Vec::from_slice(alloc, bytes)?))
 }
 
