@@ -46,6 +46,10 @@ fn done(rt: &(impl Input + Print + Eprint), alloc: Global, words: &[&str]) -> io
     match command_of(alloc, words) {
         Ok(Job::Run) => run(rt, alloc),
         Ok(Job::Check) => check(rt, alloc),
+        Ok(Job::Drill { .. }) => {
+            eprintln!(rt; "recline: drills are still to come")?;
+            Ok(3)
+        }
         Err(LineFault::Help(text)) => {
             print!(rt; "{text}")?;
             Ok(0)

@@ -18,5 +18,5 @@ told_for_cause words kind faults.Bad (inl memory) told = absurd (told.1 memory)
 told_for_cause words kind faults.Bad (inr among) told = inr (record { kind = kind; among = among; other = told.0 })
 told_for_cause words kind faults.OutOfMemory either told = tt
 
-pub returns-clause-causes : goal.returns-clause-causes
-returns-clause-causes c = told_for_cause _ _ _ c.in-Err.ensures.kinds c.fault_of.ensures.told
+pub returns-in-Err-clause-causes : goal.returns-in-Err-clause-causes
+returns-in-Err-clause-causes c = told_for_cause _ _ _ c.in-Err.ensures.kinds c.fault_of.ensures.told
