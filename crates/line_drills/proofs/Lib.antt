@@ -1,0 +1,4 @@
+mod ScriptLemmas
+mod DrillLemmas
+mod FaultLemmas
+mod CrossingLemmas

@@ -1,0 +1,36 @@
+use Rattle.std.proofs.Common.{length, take, refl, ap, arith}
+use Rattle.std.proofs.lemmas.List.{length-take-le}
+use Rattle.line_posts.proofs.MeetLemmas.{there}
+use Rattle.line_drills.proofs.DrillLemmas.{done_long, done_order}
+use Rattle.line_drills.proofs.FaultLemmas.{failed_at}
+use Rattle.line_drills.proofs.workers.follow.Goals as goal
+
+pub overflow_cast-number : goal.overflow_cast-number
+overflow_cast-number g c =
+    let t = c.loop-k-test.true in
+    let l = c.len-k-end.ensures in
+    let S = c.args.script.now.items in
+    let n = c.loop-k.k in
+    let taken = length-take-le n S (omega (arith, t, l)) in
+    let long = done_long (take n S) c.args.post c.loop-k.post c.loop-k.invariant in
+    let same = ap length c.tape.ensures.value in
+    let value = c.len-limit.ensures.value in
+    omega (arith, taken, long, same, value)
+
+pub returns-in-Err-clause-failed : goal.returns-in-Err-clause-failed
+returns-in-Err-clause-failed g c =
+    let t = c.loop-k-test.true in
+    let l = c.len-k-end.ensures in
+    let S = c.args.script.now.items in
+    failed_at S c.loop-k.k c.index.result.now c.args.post c.loop-k.post c.in-Err.why c.number-p.result c.of_order.result
+    (there S S c.loop-k.k c.index.result.now refl (omega (arith, t, l)) c.index.ensures)
+    c.loop-k.invariant c.number-p.ensures.value c.in-Err.ensures.cause c.of_order.ensures
+
+pub loop-k-preserved : goal.loop-k-preserved
+loop-k-preserved g c =
+    let t = c.loop-k-test.true in
+    let l = c.len-k-end.ensures in
+    let S = c.args.script.now.items in
+    done_order S c.loop-k.k c.index.result.now c.args.post c.loop-k.post c.step.new.post
+    (there S S c.loop-k.k c.index.result.now refl (omega (arith, t, l)) c.index.ensures)
+    c.loop-k.invariant c.in_default.ensures.done

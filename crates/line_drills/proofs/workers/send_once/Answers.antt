@@ -1,0 +1,7 @@
+use Rattle.std.proofs.Common.{refl, subst}
+use Rattle.line_posts.specs.declared.refusals.SendWhy.{SendWhy}
+use Rattle.line_posts.specs.Refusals.{IsNotSent}
+use Rattle.line_drills.proofs.workers.send_once.Goals as goal
+
+pub returns-in-NoSuchProcess-clause-cause : goal.returns-in-NoSuchProcess-clause-cause
+returns-in-NoSuchProcess-clause-cause c = (c.args.to, refl, subst (λ (why : SendWhy). IsNotSent c.args.post.now c.args.to why) c.in-NoSuchProcess.is c.in-Err.ensures.why)

@@ -1,0 +1,3 @@
+pub mod Scripts
+pub mod Followed
+pub mod Faults

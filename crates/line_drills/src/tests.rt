@@ -1,0 +1,237 @@
+//! Drills, and what stops them.
+use crate::tests::gates::{Fixed, Meeting};
+use crate::tests::scripts::{check, idle, one, pair, receive, ring, second, send, two};
+use crate::{DrillError, DrillWhy, Order, drill};
+use line_names::{MsgName, ProcId};
+use line_posts::Gathered;
+use line_tape::{Event, Tape};
+use std::alloc::Global;
+use std::sync::Wait;
+use std::test::Fail;
+use std::thread::Threads;
+
+mod gates;
+mod scripts;
+
+/// What a drill answers.
+type Drilled = Result<Gathered, DrillError>;
+
+const OPEN: Fixed = Fixed { is_open: true };
+
+/// A drill at capacity 1 with 1,000 turns, where nobody is held back.
+fn drill_freely<R: Threads + Wait + Sync>(
+    rt: &R,
+    alloc: Global,
+    scripts: &[Vec<Order>],
+) -> Drilled {
+    drill(rt, alloc, 1, 1_000, scripts, &Fixed { is_open: true })
+}
+
+/// Whether it was stopped there, for that reason.
+fn is_stopped(drilled: &Drilled, worker: u32, order: u32, why: DrillWhy) -> bool {
+    match drilled {
+        Ok(_) => false,
+        Err(e) => e.worker == Some(worker) && e.order == Some(order) && e.why == why,
+    }
+}
+
+/// Whether it was stopped for that reason, and no order is named.
+fn is_refused(drilled: &Drilled, why: DrillWhy) -> bool {
+    match drilled {
+        Ok(_) => false,
+        Err(e) => e.worker.is_none() && e.order.is_none() && e.why == why,
+    }
+}
+
+/// Whether that event is the first message to this process, with this body.
+fn is_send(event: &Event, to: u32, body: &[u8]) -> bool {
+    match event {
+        Event::Send {
+            to: addressee,
+            inc,
+            body: sent,
+        } => addressee.get() == to && *inc == 0 && sent.bytes() == body,
+        _ => false,
+    }
+}
+
+/// Whether that event takes the first message of this process.
+fn is_recv(event: &Event, from: u32) -> bool {
+    match event {
+        Event::Recv { message } => {
+            message.from.get() == from && message.inc == 0 && message.number == 0
+        }
+        _ => false,
+    }
+}
+
+/// Whether that event is a check of no round with these bytes.
+fn is_check(event: &Event, bytes: &[u8]) -> bool {
+    match event {
+        Event::Check { state, round } => state.bytes() == bytes && round.is_none(),
+        _ => false,
+    }
+}
+
+/// Whether a tape is a Send to one process, the Recv of what another sent, and a Check.
+fn is_exchange(tape: &Tape, to: u32, from: u32, byte: u8) -> bool {
+    tape.len() == 3
+        && is_send(tape.event(0), to, &[byte])
+        && is_recv(tape.event(1), from)
+        && is_check(tape.event(2), &[0])
+}
+
+/// Whether each process exchanged with its neighbours, round in a circle of `n`.
+fn is_ring(drilled: &Drilled, n: u32) -> bool {
+    let Ok(gathered) = drilled else {
+        return false;
+    };
+    let history = gathered.history();
+    history.n() == n
+        && (0..n).all(|p| match ProcId::try_new(p, n) {
+            Ok(at) => is_exchange(
+                history.tape(at),
+                (p + 1) % n,
+                (p + n - 1) % n,
+                b'a' + p as u8,
+            ),
+            Err(_) => false,
+        })
+}
+
+#[test]
+fn meeting_gate(rt: HostRuntime) -> Result<(), Fail> {
+    let scripts = ring(rt.alloc(), 2)?;
+    let gate = Meeting::new();
+    let drilled = drill(&rt, rt.alloc(), 1, 1_000, &scripts, &gate);
+    assert!(rt; is_ring(&drilled, 2));
+    assert!(rt; gate.have_met());
+    Ok(())
+}
+
+#[test]
+fn drill_needs_two_threads(rt: HostRuntime) -> Result<(), Fail> {
+    let scripts = ring(rt.alloc(), 3)?;
+    let gate = Meeting::new();
+    let drilled = drill(&rt, rt.alloc(), 1, 1_000_000, &scripts, &gate);
+    assert!(rt; is_ring(&drilled, 3));
+    assert!(rt; gate.have_met());
+    Ok(())
+}
+
+#[test]
+fn drill_asks_the_gate(rt: HostRuntime) -> Result<(), Fail> {
+    let scripts = ring(rt.alloc(), 2)?;
+    let drilled = drill(
+        &rt,
+        rt.alloc(),
+        1,
+        1_000,
+        &scripts,
+        &Fixed { is_open: false },
+    );
+    assert!(rt; is_stopped(&drilled, 0, 0, DrillWhy::HeldOut));
+    Ok(())
+}
+
+#[test]
+fn three_round_a_circle(rt: HostRuntime) -> Result<(), Fail> {
+    let scripts = ring(rt.alloc(), 3)?;
+    let drilled = drill(&rt, rt.alloc(), 1, 10_000_000, &scripts, &OPEN);
+    assert!(rt; is_ring(&drilled, 3));
+    Ok(())
+}
+
+#[test]
+fn nothing_to_receive(rt: HostRuntime) -> Result<(), Fail> {
+    let alloc = rt.alloc();
+    let scripts = pair(alloc, one(alloc, receive(1)?)?, Vec::new(alloc))?;
+    assert!(rt;
+        is_stopped(
+            &drill_freely(&rt, alloc, &scripts),
+            0,
+            0,
+            DrillWhy::WaitedOut
+        )
+    );
+    Ok(())
+}
+
+#[test]
+fn no_slot_to_send(rt: HostRuntime) -> Result<(), Fail> {
+    let alloc = rt.alloc();
+    let scripts = pair(
+        alloc,
+        two(alloc, send(1, 7)?, send(1, 8)?)?,
+        Vec::new(alloc),
+    )?;
+    assert!(rt;
+        is_stopped(
+            &drill_freely(&rt, alloc, &scripts),
+            0,
+            1,
+            DrillWhy::WaitedOut
+        )
+    );
+    Ok(())
+}
+
+#[test]
+fn no_such_process(rt: HostRuntime) -> Result<(), Fail> {
+    let scripts = second(rt.alloc(), send(2, 7)?)?;
+    let drilled = drill_freely(&rt, rt.alloc(), &scripts);
+    assert!(rt; is_stopped(&drilled, 1, 1, DrillWhy::NoSuchProcess));
+    Ok(())
+}
+
+#[test]
+fn to_itself(rt: HostRuntime) -> Result<(), Fail> {
+    let scripts = second(rt.alloc(), receive(1)?)?;
+    let drilled = drill_freely(&rt, rt.alloc(), &scripts);
+    assert!(rt; is_stopped(&drilled, 1, 1, DrillWhy::ToSelf));
+    Ok(())
+}
+
+#[test]
+fn a_long_state(rt: HostRuntime) -> Result<(), Fail> {
+    let scripts = second(rt.alloc(), check(rt.alloc(), &[7; 4_097])?)?;
+    let drilled = drill_freely(&rt, rt.alloc(), &scripts);
+    assert!(rt; is_stopped(&drilled, 1, 1, DrillWhy::StateTooLong));
+    Ok(())
+}
+
+#[test]
+fn counts_of_scripts(rt: HostRuntime) -> Result<(), Fail> {
+    let none = drill_freely(&rt, rt.alloc(), &idle(rt.alloc(), 0)?);
+    assert!(rt; is_refused(&none, DrillWhy::BadCount));
+    let many = drill_freely(&rt, rt.alloc(), &idle(rt.alloc(), 65)?);
+    assert!(rt; is_refused(&many, DrillWhy::BadCount));
+    Ok(())
+}
+
+#[test]
+fn capacities(rt: HostRuntime) -> Result<(), Fail> {
+    let scripts = idle(rt.alloc(), 1)?;
+    let none = drill(&rt, rt.alloc(), 0, 1, &scripts, &OPEN);
+    assert!(rt; is_refused(&none, DrillWhy::BadCapacity));
+    let large = drill(&rt, rt.alloc(), 1_025, 1, &scripts, &OPEN);
+    assert!(rt; is_refused(&large, DrillWhy::BadCapacity));
+    Ok(())
+}
+
+#[test]
+fn faults_in_words(rt: HostRuntime) -> Result<(), Fail> {
+    let waited = DrillError {
+        worker: Some(1),
+        order: Some(2),
+        why: DrillWhy::WaitedOut,
+    };
+    let none = DrillError {
+        worker: None,
+        order: None,
+        why: DrillWhy::NoThread,
+    };
+    let words = format!(in rt.alloc(); "{waited}, {none}")?;
+    assert!(rt; words.as_str() == "worker 1 order 2: 30 WaitedOut, 39 NoThread");
+    Ok(())
+}

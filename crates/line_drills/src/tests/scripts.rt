@@ -1,0 +1,82 @@
+//! Scripts of the tests.
+use crate::Order;
+use line_names::{Body, ProcId};
+use line_tape::State;
+use std::alloc::{AllocError, Global};
+use std::test::Fail;
+
+/// A message of one byte.
+pub fn send(to: u32, byte: u8) -> Result<Order, Fail> {
+    let to = ProcId::try_new(to, 64)?;
+    let body = Body::try_new(&[byte])?;
+    Ok(Order::Send { to, body })
+}
+
+/// What that process sent.
+pub fn receive(from: u32) -> Result<Order, Fail> {
+    let from = ProcId::try_new(from, 64)?;
+    Ok(Order::Receive { from })
+}
+
+/// A check with these bytes.
+pub fn check(alloc: Global, bytes: &[u8]) -> Result<Order, AllocError> {
+    let state = State::of(Vec::from_slice(alloc, bytes)?);
+    Ok(Order::Check { state })
+}
+
+/// A script of one order.
+pub fn one(alloc: Global, order: Order) -> Result<Vec<Order>, Fail> {
+    let mut script = Vec::new(alloc);
+    script.push(order)?;
+    Ok(script)
+}
+
+/// A script of two orders.
+pub fn two(alloc: Global, first: Order, second: Order) -> Result<Vec<Order>, Fail> {
+    let mut script = one(alloc, first)?;
+    script.push(second)?;
+    Ok(script)
+}
+
+/// A script that sends a message of one byte, receives one, and takes a check.
+fn exchange(alloc: Global, to: u32, from: u32, byte: u8) -> Result<Vec<Order>, Fail> {
+    let mut script = two(alloc, send(to, byte)?, receive(from)?)?;
+    script.push(check(alloc, &[0])?)?;
+    Ok(script)
+}
+
+/// The scripts of two workers.
+pub fn pair(alloc: Global, first: Vec<Order>, second: Vec<Order>) -> Result<Vec<Vec<Order>>, Fail> {
+    let mut scripts = Vec::new(alloc);
+    scripts.push(first)?;
+    scripts.push(second)?;
+    Ok(scripts)
+}
+
+/// So many workers that each send to the next, receive from the one before, and take a check,
+/// round in a circle.
+pub fn ring(alloc: Global, n: u32) -> Result<Vec<Vec<Order>>, Fail>
+    requires { n ≤ 64 }
+{
+    let mut scripts = Vec::new(alloc);
+    for p in 0..n {
+        scripts.push(exchange(alloc, (p + 1) % n, (p + n - 1) % n, b'a' + p as u8)?)?;
+    }
+    Ok(scripts)
+}
+
+/// So many workers without orders.
+pub fn idle(alloc: Global, n: u32) -> Result<Vec<Vec<Order>>, Fail> {
+    let mut scripts = Vec::new(alloc);
+    for _p in 0..n {
+        scripts.push(Vec::new(alloc))?;
+    }
+    Ok(scripts)
+}
+
+/// Two workers, where the second has one order, after a check.
+pub fn second(alloc: Global, order: Order) -> Result<Vec<Vec<Order>>, Fail> {
+    let first = check(alloc, &[])?;
+    let script = two(alloc, first, order)?;
+    pair(alloc, Vec::new(alloc), script)
+}

@@ -1,0 +1,171 @@
+//! A worker that does its script.
+ghost use Rattle.std.specs.Prelude.{◌≡◌, ◌∷◌, [], IfOk, IfErr, MatchBool, OnErr, OnOk, length};
+ghost use Rattle.line_posts.specs.Posts.{checked_alone, sent_by};
+ghost use Rattle.line_drills.specs.Faults.{IsCause, HasFailed};
+ghost use Rattle.line_drills.specs.Followed.{HasDone, HasReceivedFrom};
+ghost use Rattle.line_drills.specs.declared.orders.Order.TheVariants.{Send, Receive, Check};
+
+use crate::gates::{Gate, passes};
+use crate::orders::Order;
+use crate::refusals::{DrillError, DrillWhy, of_order};
+use line_names::{Body, ProcId};
+use line_posts::{Post, ReceiveWhy, Received, SendWhy};
+use line_tape::{MOST_EVENTS, State, TapeError};
+use std::alloc::Global;
+use std::thread::yield_now;
+
+/// Sends, if the ring has a free slot.
+fn send_once(post: &mut Post, to: ProcId, body: &Body) -> Result<bool, DrillWhy>
+    ensures ok { IfOk result (λ did.
+        MatchBool did (post.new ≡ sent_by post.old to body.now) (post.new ≡ post.old)) }
+    ensures cause { IfErr result (λ why. IsCause (length post.old.opening) post.old.number
+        (length post.old.tape) (Send to body.now) why) }
+{
+    match post.send(to, body.copy()) {
+        Ok(_) => Ok(true),
+        Err(refused) => match refused.why {
+            SendWhy::RingFull => Ok(false),
+            SendWhy::OutOfMemory => Err(DrillWhy::OutOfMemory),
+            SendWhy::NoSuchProcess => Err(DrillWhy::NoSuchProcess),
+            SendWhy::ToSelf => Err(DrillWhy::ToSelf),
+            SendWhy::TapeFull => Err(DrillWhy::TapeFull),
+        },
+    }
+}
+
+/// Sends, where a slot is free within so many turns.
+fn send_within(post: &mut Post, to: ProcId, body: &Body, turns: u64) -> Result<(), DrillWhy>
+    ensures ok { OnOk result (post.new ≡ sent_by post.old to body.now) }
+    ensures cause { IfErr result (λ why. IsCause (length post.old.opening) post.old.number
+        (length post.old.tape) (Send to body.now) why) }
+{
+    for _turn in 0..turns {
+        if send_once(post, to, body)? {
+            return Ok(());
+        }
+        yield_now();
+    }
+    Err(DrillWhy::WaitedOut)
+}
+
+/// Receives, if there is a message. A marker is refused, and so is one that the tape has no room
+/// for.
+fn receive_once(alloc: Global, post: &mut Post, from: ProcId) -> Result<bool, DrillWhy>
+    ensures ok { IfOk result (λ did.
+        MatchBool did (HasReceivedFrom post.old from post.new) (post.new ≡ post.old)) }
+    ensures cause { IfErr result (λ why. IsCause (length post.old.opening) post.old.number
+        (length post.old.tape) (Receive from) why) }
+{
+    let is_full = post.tape().len() as usize >= MOST_EVENTS;
+    match post.receive(from, State::of(Vec::new(alloc))) {
+        Ok(Received::Message { .. }) => Ok(true),
+        Ok(Received::Marked { .. }) => Err(DrillWhy::WrongMode),
+        Err(why) => match why {
+            ReceiveWhy::NothingThere => Ok(false),
+            ReceiveWhy::RingFull => Ok(false),
+            ReceiveWhy::OutOfMemory => Err(DrillWhy::OutOfMemory),
+            ReceiveWhy::NoSuchProcess => Err(DrillWhy::NoSuchProcess),
+            ReceiveWhy::ToSelf => Err(DrillWhy::ToSelf),
+            ReceiveWhy::StateTooLong => unreachable!(),
+            ReceiveWhy::TapeFull => Err(if is_full {
+                DrillWhy::TapeFull
+            } else {
+                DrillWhy::WrongMode
+            }),
+        },
+    }
+}
+
+/// Receives, where a message is there within so many turns.
+fn receive_within(alloc: Global, post: &mut Post, from: ProcId, turns: u64) -> Result<(), DrillWhy>
+    ensures ok { OnOk result (HasReceivedFrom post.old from post.new) }
+    ensures cause { IfErr result (λ why. IsCause (length post.old.opening) post.old.number
+        (length post.old.tape) (Receive from) why) }
+{
+    for _turn in 0..turns {
+        if receive_once(alloc, post, from)? {
+            return Ok(());
+        }
+        yield_now();
+    }
+    Err(DrillWhy::WaitedOut)
+}
+
+/// Takes a check with these bytes.
+fn check_once(alloc: Global, post: &mut Post, state: &State) -> Result<(), DrillWhy>
+    ensures ok { OnOk result (post.new ≡ checked_alone post.old state.now) }
+    ensures cause { IfErr result (λ why. IsCause (length post.old.opening) post.old.number
+        (length post.old.tape) (Check state.now) why) }
+{
+    let Ok(state) = state.copy(alloc) else {
+        return Err(DrillWhy::OutOfMemory);
+    };
+    match post.check(state) {
+        Ok(_) => Ok(()),
+        Err(why) => match why {
+            TapeError::OutOfMemory => Err(DrillWhy::OutOfMemory),
+            TapeError::StateTooLong => Err(DrillWhy::StateTooLong),
+            TapeError::TapeFull => Err(DrillWhy::TapeFull),
+        },
+    }
+}
+
+/// Does an order, within so many turns.
+fn obey(alloc: Global, post: &mut Post, order: &Order, turns: u64) -> Result<(), DrillWhy>
+    ensures done { OnOk result (HasDone (order.now ∷ []) post.old post.new) }
+    ensures cause { IfErr result (λ why. IsCause (length post.old.opening) post.old.number
+        (length post.old.tape) order.now why) }
+{
+    match order {
+        Order::Send { to, body } => send_within(post, *to, body, turns),
+        Order::Receive { from } => receive_within(alloc, post, *from, turns),
+        Order::Check { state } => check_once(alloc, post, state),
+    }
+}
+
+/// Does an order once the gate lets it, and reports.
+fn step<G: Gate>(
+    alloc: Global,
+    gate: &G,
+    turns: u64,
+    post: &mut Post,
+    k: u32,
+    order: &Order,
+) -> Result<(), DrillWhy>
+    ensures done { OnOk result (HasDone (order.now ∷ []) post.old post.new) }
+    ensures cause { IfErr result (λ why. IsCause (length post.old.opening) post.old.number
+        (length post.old.tape) order.now why) }
+{
+    if !passes(gate, k, post, turns) {
+        return Err(DrillWhy::HeldOut);
+    }
+    obey(alloc, post, order, turns)?;
+    if post.report().is_err() {
+        return Err(DrillWhy::OutOfMemory);
+    }
+    Ok(())
+}
+
+/// A worker does its script. It asks the gate before each order, and reports after it.
+pub(crate) fn follow<G: Gate>(
+    script: &Vec<Order>,
+    gate: &G,
+    turns: u64,
+    post: Post,
+) -> Result<Post, DrillError>
+    ensures done { IfOk result (λ back. HasDone script.now.items post back) }
+    ensures failed { IfErr result (λ e. HasFailed script.now.items post e) }
+{
+    let mut post = post;
+    let alloc = *script.allocator();
+    let p = post.number();
+    for k in 0..script.len() {
+        // The tape has an event for each order before this one.
+        let _limit = post.tape().len();
+        let number = k as u32;
+        if let Err(why) = step(alloc, gate, turns, &mut post, number, &script[k]) {
+            return Err(of_order(p, number, why));
+        }
+    }
+    Ok(post)
+}
