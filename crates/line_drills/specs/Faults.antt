@@ -1,6 +1,6 @@
 -- Why a drill does not end well, and where.
 use Rattle.std.specs.Prelude.{◌≡◌, ◌<◌, ◌≤◌, ◌+◌, ◌⊎◌, ℕ, List, [], length, Option, Some, None}
-use Rattle.std.specs.Prelude.{slice_get}
+use Rattle.std.specs.Prelude.{codes, slice_get}
 use Rattle.line_tape.specs.declared.limits.TheConstants.{MOST_EVENTS, MOST_STATE}
 use Rattle.line_posts.specs.declared.refusals.FleetError.{FleetError}
 use Rattle.line_posts.specs.declared.refusals.FleetError.TheVariants.{OutOfMemory as fleet_memory}
@@ -17,6 +17,20 @@ use Rattle.line_drills.specs.declared.refusals.DrillWhy.TheVariants.{BadCount, T
 use Rattle.line_drills.specs.declared.refusals.DrillWhy.TheVariants.{HeldOut, WaitedOut}
 use Rattle.line_drills.specs.declared.refusals.DrillWhy.TheVariants.{BadCapacity, NoThread}
 use Rattle.line_drills.specs.Scripts.{script_at}
+
+-- the name that stands beside the number of a refusal
+abbrev pub name_of : DrillWhy → List ℕ
+name_of OutOfMemory = codes "OutOfMemory"
+name_of NoSuchProcess = codes "NoSuchProcess"
+name_of TapeFull = codes "TapeFull"
+name_of StateTooLong = codes "StateTooLong"
+name_of BadCount = codes "BadCount"
+name_of ToSelf = codes "ToSelf"
+name_of WrongMode = codes "WrongMode"
+name_of HeldOut = codes "HeldOut"
+name_of WaitedOut = codes "WaitedOut"
+name_of BadCapacity = codes "BadCapacity"
+name_of NoThread = codes "NoThread"
 
 -- it names no order
 abbrev pub of_no_order : DrillWhy → DrillError

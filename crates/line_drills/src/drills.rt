@@ -52,7 +52,8 @@ fn start<'s, E, G: Gate>(
     Ok(handle)
 }
 
-/// Starts the last worker, then the others, and then joins it. Its place in the list is kept for it.
+/// Starts the last worker, then the others, and then joins it. Its place in the list is kept for
+/// it.
 ///
 /// Of several that failed the lowest is named, and before all that a thread could not be started.
 fn level<'s, E, G: Gate, R: Threads>(
@@ -108,15 +109,15 @@ fn all_at_once<G: Gate, R: Threads + Wait + Sync>(
     )
 }
 
-/// Drills a worker for each script, each in a thread of its own, over rings of this capacity, and
-/// gathers what they did, nobody having failed.
+/// Drills a worker for each script, 1 to 64 of them, each in a thread of its own and over rings of
+/// this capacity, and gathers what they did, nobody having failed.
 ///
-/// Before each order a worker asks the gate, at most `turns` times. A message that finds no free
-/// slot, and a Receive that finds nothing there, are tried at most `turns` times too. After each
-/// order the worker reports. It waits until all threads have ended, whatever came of them.
+/// Before each order a worker asks the gate, at most `turns` times. A Send that finds no free slot,
+/// and a Receive that finds nothing there, are tried at most `turns` times too. After each order the
+/// worker reports. The call returns once all threads have ended, whatever came of them.
 ///
-/// Where several workers could not do an order, the lowest is named; where a thread could not be
-/// started, that is the answer.
+/// Where several workers could not do an order, the lowest is named. Where a thread could not be
+/// started, that is the answer, whatever came of the others.
 pub fn drill<G: Gate, R: Threads + Wait + Sync>(
     rt: &R,
     alloc: Global,

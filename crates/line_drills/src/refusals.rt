@@ -1,6 +1,6 @@
 //! Why a drill did not end well, and where.
 ghost use Rattle.std.specs.Prelude.{◌≡◌};
-ghost use Rattle.line_drills.specs.Faults.{of_no_order, of_order};
+ghost use Rattle.line_drills.specs.Faults.{name_of, of_no_order, of_order};
 
 use line_posts::FleetError;
 use std::error::Error;
@@ -53,7 +53,9 @@ impl DrillWhy {
     }
 
     /// The name that stands beside the number.
-    pub fn name(self) -> &'static str {
+    pub fn name(self) -> &'static str
+        ensures { result.now ≡ name_of self }
+    {
         match self {
             DrillWhy::OutOfMemory => "OutOfMemory",
             DrillWhy::NoSuchProcess => "NoSuchProcess",

@@ -177,6 +177,21 @@ fn no_slot_to_send(rt: HostRuntime) -> Result<(), Fail> {
 }
 
 #[test]
+fn lowest_worker_is_named(rt: HostRuntime) -> Result<(), Fail> {
+    let alloc = rt.alloc();
+    let scripts = pair(alloc, one(alloc, receive(1)?)?, one(alloc, receive(1)?)?)?;
+    assert!(rt;
+        is_stopped(
+            &drill_freely(&rt, alloc, &scripts),
+            0,
+            0,
+            DrillWhy::WaitedOut
+        )
+    );
+    Ok(())
+}
+
+#[test]
 fn no_such_process(rt: HostRuntime) -> Result<(), Fail> {
     let scripts = second(rt.alloc(), send(2, 7)?)?;
     let drilled = drill_freely(&rt, rt.alloc(), &scripts);
