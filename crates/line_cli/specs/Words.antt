@@ -39,6 +39,11 @@ IsAskedBy Check asked = asked.0 ≡ codes "check"
 IsAskedBy (Drill workers rounds) asked =
     (asked.0 ≡ codes "drill") × IsNumberOf (codes "workers") 2 64 asked.1 workers × IsNumberOf (codes "rounds") 1 1000 asked.1 rounds
 
+-- the numbers of a drill lie in their ranges
+abbrev pub IsInRange : Job → Type 0
+IsInRange (Drill workers rounds) = (2 ≤ workers) × (workers ≤ 64) × (1 ≤ rounds) × (rounds ≤ 1000)
+IsInRange _ = ⊤
+
 -- the words name a subcommand and options that ask for the job
 abbrev pub AsksFor : List Text → Job → Type 0
 AsksFor words job = IsSomeAnd (subcommand_of recline words) (IsAskedBy job)

@@ -2,7 +2,7 @@
 ghost use Rattle.std.specs.Prelude.{◌≡◌, ◌↔◌, ◌∷◌, [], ℕ, IfOk, IfErr, IsSomeAnd, Some, codes, false, true, map};
 ghost use Rattle.clap.specs.Words.{FailsBy, app_of, found_of, kind_of, rule_of, rows_of, subcommand_of, subcommand_rows_of, takes};
 ghost use Rattle.clap.specs.declared.builder.command.Command.TheViews.{out-Command};
-ghost use Rattle.line_cli.specs.Words.{AsksFor, HasCause, IsAskedBy, IsNumberOf, IsTakenAs, IsToldAs, drill, option, recline, refusals_of};
+ghost use Rattle.line_cli.specs.Words.{AsksFor, HasCause, IsAskedBy, IsInRange, IsNumberOf, IsTakenAs, IsToldAs, drill, option, recline, refusals_of};
 
 use clap::error::ErrorKind;
 use clap::{Arg, ArgMatches, Command, Error};
@@ -130,6 +130,7 @@ fn fault_of(alloc: Global, error: &Error) -> LineFault
 /// The job that the words ask for, the program's name first.
 pub fn command_of<'a>(alloc: Global, words: &'a [&'a str]) -> Result<Job, LineFault>
     ensures ok { IfOk result (λ job. AsksFor (map (λ w. w.now) words.entry.now) job) }
+    ensures range { IfOk result IsInRange }
 
     // A command line that asks for a job is refused for want of memory alone.
     ensures err { IfErr result (λ fault. (job : Job) → takes recline (map (λ w. w.now) words.entry.now) ≡ true
