@@ -1,35 +1,65 @@
 -- The command line of the program, and the job that the words of one ask for.
-use Rattle.std.specs.Prelude.{◌≡◌, ◌≢◌, ◌⊎◌, List, [], Option, Some, codes, ℕ, ⊤}
-use Rattle.std.specs.Option.{option_map}
-use Rattle.clap.specs.Words.{App, IsAmong, Kinds, Row, Text, fault_of, new_app, subcommand_of, with_subcommand}
+use Rattle.std.specs.Prelude.{◌≡◌, ◌≢◌, ◌⊎◌, ◌≤◌, ℕ, List, [], ◌∷◌, IsSomeAnd, Some, codes, true, ⊤}
+use Rattle.std.specs.Str.Parse.{IsNumeral, digits_value, without_leading_plus}
+use Rattle.clap.specs.Words.{App, IsAmong, Kinds, Row, Rule, Text, fault_of, new_app, new_rule, one_of, subcommand_of, takes, with_rule, with_subcommand}
 use Rattle.clap.specs.declared.error.kind.ErrorKind.{ErrorKind}
 use Rattle.clap.specs.declared.error.kind.ErrorKind.TheVariants as errors
 use Rattle.line_cli.specs.declared.words.Job.{Job}
-use Rattle.line_cli.specs.declared.words.Job.TheVariants.{Check, Run}
+use Rattle.line_cli.specs.declared.words.Job.TheVariants.{Check, Drill, Run}
 use Rattle.line_cli.specs.declared.words.LineFault.{LineFault}
 use Rattle.line_cli.specs.declared.words.LineFault.TheVariants as faults
 
+-- an option with one value, and the value that it has where it isn't given
+abbrev pub option : Text → Text → Rule
+option name default = record (new_rule name) { long = Some name; value_names = 1; defaults = default ∷ [] }
+
+-- the subcommand for drills: two workers and one round where the words say nothing else
+abbrev pub drill : App
+drill = with_rule (with_rule (new_app (codes "drill")) (option (codes "workers") (codes "2"))) (option (codes "rounds") (codes "1"))
+
 -- the program and its subcommands
 abbrev pub recline : App
-recline = with_subcommand (with_subcommand (new_app (codes "recline")) (new_app (codes "run")).top) (new_app (codes "check")).top
+recline =
+    with_subcommand (with_subcommand (with_subcommand (new_app (codes "recline")) (new_app (codes "run")).top) (new_app (codes "check")).top) drill.top
 
--- the subcommand that the words name
-abbrev pub named : List Text → Option Text
-named words = option_map (λ (found : Text × List Row). found.0) (subcommand_of recline words)
+-- the text spells the number, in decimal digits that a plus may stand before
+abbrev pub Spells : Text → ℕ → Type 0
+Spells text number = IsNumeral 10 (without_leading_plus text) × (digits_value 10 (without_leading_plus text) ≡ number)
 
--- the subcommand of a job
-abbrev pub word_of : Job → List ℕ
-word_of Run = codes "run"
-word_of Check = codes "check"
+-- the number of an option: its text, given or by default, spells it, and it lies in the range
+pub record IsNumberOf (name : Text) (least most : ℕ) (options : List Row) (number : ℕ) : Type 0 where
+  pub spelled : IsSomeAnd (one_of name options) (λ (text : Text). Spells text number)
+  pub no_less : least ≤ number
+  pub no_more : number ≤ most
+
+-- the job for which a subcommand with its options asks
+abbrev pub IsAskedBy : Job → Text × List Row → Type 0
+IsAskedBy Run asked = asked.0 ≡ codes "run"
+IsAskedBy Check asked = asked.0 ≡ codes "check"
+IsAskedBy (Drill workers rounds) asked =
+    (asked.0 ≡ codes "drill") × IsNumberOf (codes "workers") 2 64 asked.1 workers × IsNumberOf (codes "rounds") 1 1000 asked.1 rounds
+
+-- the numbers of a drill lie in their ranges
+abbrev pub IsInRange : Job → Type 0
+IsInRange (Drill workers rounds) = (2 ≤ workers) × (workers ≤ 64) × (1 ≤ rounds) × (rounds ≤ 1000)
+IsInRange _ = ⊤
+
+-- the words name a subcommand and options that ask for the job
+abbrev pub AsksFor : List Text → Job → Type 0
+AsksFor words job = IsSomeAnd (subcommand_of recline words) (IsAskedBy job)
+
+-- the words are taken, and ask for the job
+abbrev pub IsTakenAs : List Text → Job → Type 0
+IsTakenAs words job = (takes recline words ≡ true) × AsksFor words job
 
 -- the kinds of error with which the words are refused, none where they are taken; a word that may be meant in two ways has two
 unfoldable pub refusals_of : List Text → Kinds
 refusals_of words = fault_of recline words
 
--- the words are taken, and name no job
-pub record NamesNoJob (words : List Text) : Type 0 where
+-- the words are taken, and ask for no job
+pub record AsksForNoJob (words : List Text) : Type 0 where
   pub taken : refusals_of words ≡ []
-  pub other : (job : Job) → named words ≢ Some (word_of job)
+  pub other : (job : Job) → AsksFor words job → ⊥
 
 -- the words are refused, and not for help
 pub record IsRefused (words : List Text) : Type 0 where
@@ -40,7 +70,7 @@ pub record IsRefused (words : List Text) : Type 0 where
 -- why no job is done: help is asked for, or there is none, or memory was wanting, which no words tell
 abbrev pub HasCause : List Text → LineFault → Type 0
 HasCause words (faults.Help text) = IsAmong errors.DisplayHelp (refusals_of words)
-HasCause words faults.Bad = NamesNoJob words ⊎ IsRefused words
+HasCause words faults.Bad = AsksForNoJob words ⊎ IsRefused words
 HasCause words faults.OutOfMemory = ⊤
 
 -- what an error of this kind is told as

@@ -1,11 +1,12 @@
 //! The command line.
-ghost use Rattle.std.specs.Prelude.{◌≡◌, ◌∷◌, [], IfOk, IfErr, Some, codes, true, map};
-ghost use Rattle.clap.specs.Words.{FailsBy, kind_of, subcommand_of, subcommand_rows_of, takes};
-ghost use Rattle.line_cli.specs.Words.{HasCause, IsToldAs, named, recline, refusals_of, word_of};
+ghost use Rattle.std.specs.Prelude.{◌≡◌, ◌↔◌, ◌∷◌, [], ℕ, IfOk, IfErr, IsSomeAnd, Some, codes, false, true, map};
+ghost use Rattle.clap.specs.Words.{FailsBy, app_of, found_of, kind_of, rule_of, rows_of, subcommand_of, subcommand_rows_of, takes};
+ghost use Rattle.clap.specs.declared.builder.command.Command.TheViews.{out-Command};
+ghost use Rattle.line_cli.specs.Words.{AsksFor, HasCause, IsAskedBy, IsInRange, IsNumberOf, IsTakenAs, IsToldAs, drill, option, recline, refusals_of};
 
 use clap::error::ErrorKind;
-use clap::{ArgMatches, Command, Error};
-use std::alloc::Global;
+use clap::{Arg, ArgMatches, Command, Error};
+use std::alloc::{AllocError, Global};
 
 /// What the program is asked to do.
 #[derive(Clone, Copy, Debug, PartialEq, Eq)]
@@ -14,6 +15,13 @@ pub enum Job {
     Run,
     /// Judges a claim.
     Check,
+    /// Has workers in threads send each other messages.
+    Drill {
+        /// How many workers, from 2 to 64.
+        workers: u32,
+        /// How often each of them does its orders, from 1 to 1,000.
+        rounds: u32,
+    },
 }
 
 /// Why there is no job.
@@ -24,6 +32,34 @@ pub enum LineFault {
     /// The words are no command of the program.
     Bad,
     OutOfMemory,
+}
+
+/// An option with one value, which it has also where it isn't given.
+fn option_of<'a>(alloc: Global, name: &'a str, value: &'a str, default: &'a str) -> Arg<'a>
+    ensures rule { rule_of result ≡ option name.entry.now default.entry.now }
+    ensures local { result.global ≡ false }
+{
+    Arg::new(alloc, name)
+        .long(name)
+        .value_name(value)
+        .default_value(default)
+}
+
+/// The subcommand for drills, with its options.
+fn drill_command<'a>(alloc: Global) -> Result<Command<'a>, AllocError>
+    ensures shape { IfOk result (λ command. app_of command ≡ drill) }
+    ensures local { IfOk result (λ command. (out-Command command).has_globals ≡ false) }
+{
+    let workers = option_of(alloc, "workers", "N", "2").help("How many workers, from 2 to 64");
+    let rounds = option_of(alloc, "rounds", "K", "1").help(
+        "How often each of them sends, receives and takes a check, from 1 to 1000",
+    );
+    let with_workers = Command::new(alloc, "drill")
+        .about(
+            "Has workers in threads send each other messages, and writes the history that is gathered of them on standard output",
+        )
+        .arg(workers)?;
+    with_workers.arg(rounds)
 }
 
 /// What `clap` finds in the words, the program's name first.
@@ -42,8 +78,38 @@ fn matches_of_words<'a>(alloc: Global, words: &'a [&'a str]) -> Result<ArgMatche
     let with_run = Command::new(alloc, "recline")
         .about("Plans where the processes of a failed computation go back to, and proves it")
         .subcommand(run)?;
-    let recline = with_run.subcommand(check)?;
+    let with_check = with_run.subcommand(check)?;
+    let recline = with_check.subcommand(drill_command(alloc)?)?;
     recline.try_get_matches_from(words)
+}
+
+/// The number that an option spells, where it lies in the range.
+fn number_of(options: &ArgMatches, option: &str, least: u32, most: u32) -> Option<u32>
+    ensures { (number : ℕ) → (result ≡ Some number) ↔ IsNumberOf option.now least most (rows_of (found_of options.now)) number }
+{
+    let number = options.get_one::<u32>(option)?;
+    (least..=most).contains(&number).then_some(number)
+}
+
+/// The drill that these options ask for.
+fn drill_of(options: &ArgMatches) -> Option<Job>
+    ensures { (job : Job) → (result ≡ Some job) ↔ IsAskedBy job (codes "drill", rows_of (found_of options.now)) }
+{
+    let workers = number_of(options, "workers", 2, 64)?;
+    let rounds = number_of(options, "rounds", 1, 1_000)?;
+    Some(Job::Drill { workers, rounds })
+}
+
+/// The job that was found in the words.
+fn job_of(matches: &ArgMatches) -> Option<Job>
+    ensures { (job : Job) → (result ≡ Some job) ↔ IsSomeAnd (subcommand_rows_of matches.now) (IsAskedBy job) }
+{
+    match matches.subcommand()? {
+        ("run", _) => Some(Job::Run),
+        ("check", _) => Some(Job::Check),
+        ("drill", options) => drill_of(options),
+        _ => None,
+    }
 }
 
 /// What a failed look at the words tells.
@@ -63,26 +129,28 @@ fn fault_of(alloc: Global, error: &Error) -> LineFault
 
 /// The job that the words ask for, the program's name first.
 pub fn command_of<'a>(alloc: Global, words: &'a [&'a str]) -> Result<Job, LineFault>
-    ensures ok { IfOk result (λ job. named (map (λ w. w.now) words.entry.now) ≡ Some (word_of job)) }
+    ensures ok { IfOk result (λ job. AsksFor (map (λ w. w.now) words.entry.now) job) }
+    ensures range { IfOk result IsInRange }
 
-    // A command line that names a job is refused for want of memory alone.
+    // A command line that asks for a job is refused for want of memory alone.
     ensures err { IfErr result (λ fault. (job : Job) → takes recline (map (λ w. w.now) words.entry.now) ≡ true
-        → named (map (λ w. w.now) words.entry.now) ≡ Some (word_of job) → fault ≡ LineFault.OutOfMemory) }
+        → AsksFor (map (λ w. w.now) words.entry.now) job → fault ≡ LineFault.OutOfMemory) }
 
-    // Help is told where it was asked for, and words are bad where they are refused or name no job.
+    // Help is told where it was asked for, and words are bad where they are refused or ask for no job.
     ensures causes { IfErr result (λ fault. HasCause (map (λ w. w.now) words.entry.now) fault) }
 {
     match matches_of_words(alloc, words) {
-        Ok(matches) => match matches.subcommand_name() {
-            Some("run") => Ok(Job::Run),
-            Some("check") => Ok(Job::Check),
-            _ => Err(LineFault::Bad),
-        },
+        Ok(matches) => job_of(&matches).ok_or(LineFault::Bad),
         Err(error) => Err(fault_of(alloc, &error)),
     }
 }
 
-/// A command line of the program's name and a job is taken, and names that job.
+/// Command lines that are taken, and the jobs that they ask for.
 pub fn jobs_are_taken()
-    ensures { (job : Job) → (takes recline (codes "recline" ∷ word_of job ∷ []) ≡ true) × (named (codes "recline" ∷ word_of job ∷ []) ≡ Some (word_of job)) }
+    ensures run { IsTakenAs (codes "recline" ∷ codes "run" ∷ []) Job.Run }
+    ensures check { IsTakenAs (codes "recline" ∷ codes "check" ∷ []) Job.Check }
+    ensures drill { IsTakenAs (codes "recline" ∷ codes "drill" ∷ []) (Job.Drill 2 1) }
+    ensures both { IsTakenAs (codes "recline" ∷ codes "drill" ∷ codes "--workers" ∷ codes "3" ∷ codes "--rounds" ∷ codes "2" ∷ []) (Job.Drill 3 2) }
+    ensures workers { IsTakenAs (codes "recline" ∷ codes "drill" ∷ codes "--workers=64" ∷ []) (Job.Drill 64 1) }
+    ensures rounds { IsTakenAs (codes "recline" ∷ codes "drill" ∷ codes "--rounds" ∷ codes "1000" ∷ []) (Job.Drill 2 1000) }
 {}

@@ -1,11 +1,14 @@
--- What an error of the words is told as has its cause there.
-use Rattle.std.proofs.Common.{◌≡◌, ◌∙◌, ◌⊎◌, List, inl, inr, subst, sym}
-use Rattle.clap.specs.Words.{IsAmong, Text}
+-- A drill's numbers lie in their ranges, and what an error of the words is told as has its cause there.
+use Rattle.std.proofs.Common.{IfOk, IsSomeAnd, Err, None, Ok, Option, Result, Some, ◌≡◌, ◌∙◌, ◌⊎◌, List, inl, inr, subst, sym}
+use Rattle.std.specs.Result.{result_ok}
+use Rattle.clap.specs.Words.{IsAmong, Row, Text}
 use Rattle.clap.specs.declared.error.kind.ErrorKind.{ErrorKind}
 use Rattle.clap.specs.declared.error.kind.ErrorKind.TheVariants as errors
+use Rattle.line_cli.specs.declared.words.Job.{Job}
+use Rattle.line_cli.specs.declared.words.Job.TheVariants.{Check, Drill, Run}
 use Rattle.line_cli.specs.declared.words.LineFault.{LineFault}
 use Rattle.line_cli.specs.declared.words.LineFault.TheVariants as faults
-use Rattle.line_cli.specs.Words.{HasCause, IsToldAs, refusals_of}
+use Rattle.line_cli.specs.Words.{HasCause, IsAskedBy, IsInRange, IsToldAs, refusals_of}
 use Rattle.line_cli.proofs.words.command_of.Goals as goal
 
 other_kinds : errors.OutOfMemory ≡ errors.DisplayHelp → ⊥
@@ -18,5 +21,18 @@ told_for_cause words kind faults.Bad (inl memory) told = absurd (told.1 memory)
 told_for_cause words kind faults.Bad (inr among) told = inr (record { kind = kind; among = among; other = told.0 })
 told_for_cause words kind faults.OutOfMemory either told = tt
 
-pub returns-clause-causes : goal.returns-clause-causes
-returns-clause-causes c = told_for_cause _ _ _ c.in-Err.ensures.kinds c.fault_of.ensures.told
+asked_in_range : (asked : Option (Text × List Row)) (job : Job) → IsSomeAnd asked (IsAskedBy job) → IsInRange job
+asked_in_range None job is = absurd is
+asked_in_range (Some asked) Run is = tt
+asked_in_range (Some asked) Check is = tt
+asked_in_range (Some asked) (Drill workers rounds) is = (is.1.no_less, is.1.no_more, is.2.no_less, is.2.no_more)
+
+found_in_range : (r : Result Job LineFault) (o : Option Job) → o ≡ result_ok r → ((job : Job) → o ≡ Some job → IsInRange job) → IfOk r IsInRange
+found_in_range (Ok job) o same each = each job same
+found_in_range (Err fault) o same each = tt
+
+pub returns-in-Ok-clause-range : goal.returns-in-Ok-clause-range
+returns-in-Ok-clause-range c = found_in_range _ _ c.ok_or.ensures.ok_part (λ job is. asked_in_range _ job ((c.job_of.ensures job).0 is))
+
+pub returns-in-Err-clause-causes : goal.returns-in-Err-clause-causes
+returns-in-Err-clause-causes c = told_for_cause _ _ _ c.in-Err.ensures.kinds c.fault_of.ensures.told

@@ -27,7 +27,10 @@ returns c =
     let top_is : app_of c.about.result ≡ new_app (codes "recline") = ap app_of_fields c.about.ensures ∙ c.new-3.ensures.app in
     let with_run_is : app_of c.in_ok-with_run.with_run ≡ with_subcommand (new_app (codes "recline")) (new_app (codes "run")).top =
     c.in_ok-with_run.ensures.shape (search rules) ∙ ap₂ with_subcommand top_is (ap (λ (a : App). a.top) run_is) in
-    let recline_is : app_of c.in_ok-recline.recline ≡ recline = c.in_ok-recline.ensures.shape (search rules) ∙ ap₂ with_subcommand with_run_is (ap (λ (a : App). a.top) check_is) in
+    let with_check_is : app_of c.in_ok-with_check.with_check ≡ with_subcommand (with_subcommand (new_app (codes "recline")) (new_app (codes "run")).top) (new_app (codes "check")).top =
+    c.in_ok-with_check.ensures.shape (search rules) ∙ ap₂ with_subcommand with_run_is (ap (λ (a : App). a.top) check_is) in
+    let recline_is : app_of c.in_ok-recline.recline ≡ recline = c.in_ok-recline.ensures.shape c.in_ok-drill_command.ensures.local
+    ∙ ap₂ with_subcommand with_check_is (ap (λ (a : App). a.top) c.in_ok-drill_command.ensures.shape) in
     let words : List Text = map (λ (w : Bor Text). w.now) c.args.words.now in
     let parse = c.try_get_matches_from in
     record {
