@@ -1,5 +1,5 @@
 -- A restart of what was gathered is one of the workers' own tapes.
-use Rattle.std.proofs.Common.{◌≡◌, ◌∙◌, ◌++◌, ◌∷◌, [], ℕ, zero, suc, Bool, true, false, List, length, take, map, not, refl, sym, ap, arith, subst}
+use Rattle.std.proofs.Common.{◌≡◌, ◌∙◌, ◌++◌, ◌∷◌, [], ℕ, suc, Bool, true, false, List, length, map, not, refl, sym, ap, arith, subst}
 use Rattle.std.proofs.lemmas.List.{append-nil, length-append, nil_from_length}
 use Rattle.std.specs.List.{filter_map}
 use Rattle.line_names.specs.declared.choices.Choice.{Choice}
@@ -20,7 +20,7 @@ use Rattle.line_tape.specs.Views.{MarksView}
 use Rattle.line_tape.proofs.ChoiceLemmas.{survives_within}
 use Rattle.line_tape.proofs.LinkLemmas.{no_rounds, restart_fit, restart_link, tape_restarted}
 use Rattle.line_tape.proofs.SnapshotLemmas.{consistent_same, front_more, transit_same}
-use Rattle.line_posts.specs.Gathered.{ArePrefixes, HasOwn}
+use Rattle.line_posts.specs.Gathered.{HasOwn}
 use Rattle.line_posts.specs.Openings.{parcels_left, ArePlain}
 use Rattle.line_posts.specs.Parcels.{items_of_parcels}
 use Rattle.line_posts.proofs.OpeningLemmas.{left_items}

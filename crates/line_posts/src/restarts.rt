@@ -76,9 +76,9 @@ impl Gathered {
     /// Rings and report lines are new ones of the same capacity, and rounds are numbered on. A
     /// refusal hands the value back as it was.
     ///
-    /// It costs what `plan` does, two copies of the history up to the line, one for the workers and
-    /// one to cut beside the collector's own, which is cut in place; and for each two workers a walk
-    /// of their tapes.
+    /// It costs what `plan` does, a copy of the history, so that a refusal can hand the value back,
+    /// one more of what lies before the line, for the workers, and for each two workers a walk of
+    /// their tapes.
     pub fn restart(self) -> Result<(Collector, Vec<Post>, Plan), RestartRefused>
         ensures latest { IfOk result (λ r.
             IsLatest self.processes self.marks self.failed r.2.line) }

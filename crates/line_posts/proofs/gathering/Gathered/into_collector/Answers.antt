@@ -1,4 +1,4 @@
-use Rattle.std.proofs.Common.{◌≡◌, ◌∙◌, length, sym, ap, subst}
+use Rattle.std.proofs.Common.{◌∙◌, length, sym, ap, subst}
 use Rattle.line_tape.specs.Line.{IsConsistent}
 use Rattle.line_tape.specs.Restart.{restarted}
 use Rattle.line_tape.proofs.SpentLemmas.{length_restarted}

@@ -1,7 +1,6 @@
-use Rattle.std.proofs.Common.{◌≡◌, ◌∙◌, ℕ, List, sym, ap, subst}
+use Rattle.std.proofs.Common.{◌∙◌, List, sym, ap, subst}
 use Rattle.line_tape.specs.Fit.{IsFitFifo}
 use Rattle.line_tape.specs.History.{Process}
-use Rattle.line_tape.specs.Line.{IsLine}
 use Rattle.line_tape.specs.Restart.{restarted}
 use Rattle.line_posts.specs.Gathered.{GatheredView, HasOwn}
 use Rattle.line_posts.specs.Openings.{ArePlain}

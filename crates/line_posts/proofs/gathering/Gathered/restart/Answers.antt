@@ -1,4 +1,4 @@
-use Rattle.std.proofs.Common.{◌≡◌, ◌∙◌, length, sym, ap}
+use Rattle.std.proofs.Common.{◌∙◌, sym}
 use Rattle.std.proofs.lemmas.List.{length-map}
 use Rattle.line_tape.proofs.SpentLemmas.{length_restarted}
 use Rattle.line_rings.specs.Ends.{consumer_end}
