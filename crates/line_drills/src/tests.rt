@@ -246,7 +246,10 @@ fn faults_in_words(rt: HostRuntime) -> Result<(), Fail> {
         order: None,
         why: DrillWhy::NoThread,
     };
-    let words = format!(in rt.alloc(); "{waited}, {none}")?;
-    assert!(rt; words.as_str() == "worker 1 order 2: 30 WaitedOut, 39 NoThread");
+    let words = format!(in rt.alloc(); "{waited}, {none}, {}", DrillWhy::BadCount)?;
+    assert_eq!(rt;
+        words.as_str(),
+        "worker 1 order 2: 30 WaitedOut, 39 NoThread, the number of scripts is not from 1 to 64"
+    );
     Ok(())
 }
