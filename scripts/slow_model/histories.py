@@ -126,7 +126,7 @@ class History:
         return not any(self.orphans(line, p) for p in self.processes())
 
     def in_transit(self, line: Sequence[int]) -> list[tuple[Name, int]]:
-        """What is sent before a line and not received before its addressee's choice, with the latter."""
+        """What is in transit at a line, each message with its addressee."""
         return [
             (name, to)
             for p in self.processes()
@@ -256,7 +256,7 @@ class History:
         return self.tapes[p][len(self.front(p, check)):]
 
     def is_completed(self, number: int, is_fifo: bool) -> bool:
-        """Each tape has its check of the round, and with markers a mark from each other process after it."""
+        """Each tape has its check of the round, and with markers a mark from each other process."""
         if len(self.round_line(number)) < len(self.tapes):
             return False
         pairs = [(p, q) for q in self.processes() for p in self.processes() if p != q]

@@ -103,7 +103,7 @@ class World:
         return [("marked", number, "forced" if forced else "closed")]
 
     def take_message(self, to: int, message: Name, state: bytes) -> Records:
-        """A message of a later colour than its receiver's forces a check; with markers none has one."""
+        """A message of a later colour than its receiver's forces a check."""
         number = 0 if self.is_fifo else self.history.message_colour(message)
         forced = number > self.history.colour_of(to)
         refuse(3, self.has_no_room(to, 1 + forced))
@@ -160,7 +160,8 @@ class World:
         self.history.restart(line)
         self.marks = {(p, check) for p, check in self.marks if check <= line[p]}
         self.listed = [
-            listed for listed in self.listed if all(c <= line[p] for p, c in enumerate(listed.checks))
+            listed for listed in self.listed
+            if all(check <= line[p] for p, check in enumerate(listed.checks))
         ]
         if not self.is_fifo:
             for name, to in replays:

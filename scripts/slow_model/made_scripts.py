@@ -108,7 +108,7 @@ class Player:
         return kind, *(self.processes(0, 1, 1, 2, 3) if kind in ("recover", "bundle") else [])
 
     def relay(self) -> Record:
-        """The holder sends a message, which is delivered; the command is the next holder's check."""
+        """The holder sends a message, which is delivered; the command is the next one's check."""
         source, to = self.holder, self.chance.randrange(self.n)
         if source != to:
             self.add("send", source, to, self.state())

@@ -45,7 +45,7 @@ def odd_first(chance: Random, kind: str, n: int, *mode: str) -> Record:
 
 
 def text_of(chance: Random, values: Iterable[Record], is_changed: bool) -> bytes:
-    """The text of some records, perhaps spelled loosely, perhaps changed to spell something else."""
+    """The text of some records, perhaps spelled loosely, perhaps changed to something else."""
     if one_in(chance, 200):
         return chance.choice(ODD_TEXTS)
     is_loose = one_in(chance, 3)
