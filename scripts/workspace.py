@@ -84,7 +84,7 @@ def link_folder(source: Path, target: Path) -> None:
 
 
 def new_folder(prefix: str) -> tempfile.TemporaryDirectory[str]:
-    """A new folder that goes with its `with`, in .git if there is one, where files can be linked."""
+    """A new folder that goes with its `with`: in .git if there is one, where files are linked."""
     inside = ROOT / ".git"
     return tempfile.TemporaryDirectory(prefix=prefix, dir=inside if inside.is_dir() else None)
 
