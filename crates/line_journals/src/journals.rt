@@ -174,7 +174,7 @@ impl Journal {
         ensures spent { (self.old.room ≤ self.new.room + 1) × (self.new.ready ≡ self.old.ready) }
     {
         let event = send_event(to, inc, body);
-        self.tape.push(event).unwrap();
+        self.tape.append(event);
     }
 
     /// A check of no round was taken.
@@ -188,7 +188,7 @@ impl Journal {
         ensures spent { (self.old.room ≤ self.new.room + 1) × (self.new.ready ≡ self.old.ready) }
     {
         let event = check_event(state);
-        self.tape.push(event).unwrap();
+        self.tape.append(event);
     }
 
     /// A message was received. Each recorded round whose channel from its sender is not closed has
@@ -213,7 +213,7 @@ impl Journal {
         self.tape.reserve(1)?;
         self.marker.note(message)?;
         let event = recv_event(name);
-        self.tape.push(event).unwrap();
+        self.tape.append(event);
         Ok(())
     }
 
@@ -231,7 +231,7 @@ impl Journal {
         ensures spent { self.old.room ≤ self.new.room + 1 }
     {
         let event = round_event(state, round);
-        self.tape.push(event).unwrap();
+        self.tape.append(event);
         self.marker.begin(round).unwrap();
     }
 
@@ -250,7 +250,7 @@ impl Journal {
         ensures spent { self.old.room ≤ self.new.room + 1 }
     {
         let event = mark_event(from, round);
-        self.tape.push(event).unwrap();
+        self.tape.append(event);
         let _ = self.marker.on_marker(from, round);
     }
 
@@ -275,9 +275,9 @@ impl Journal {
         ensures spent { self.old.room ≤ self.new.room + 2 }
     {
         let check = round_event(state, round);
-        self.tape.push(check).unwrap();
+        self.tape.append(check);
         let mark = mark_event(from, round);
-        self.tape.push(mark).unwrap();
+        self.tape.append(mark);
         let _ = self.marker.on_marker(from, round);
     }
 }

@@ -1,12 +1,13 @@
 //! A worker's own side of its links: its tape, and the ends of the rings to each other worker.
-ghost use Rattle.std.specs.Prelude.{◌≡◌, ◌<◌, ◌≤◌, ◌↔◌, IfOk, IfErr, IsErrOf, OnOk, OnErr, length};
+ghost use Rattle.std.specs.Prelude.{◌≡◌, ◌≢◌, ◌<◌, ◌≤◌, ◌↔◌, IfOk, IfErr, IsErrOf, OnOk, OnErr, length};
 ghost use Rattle.std.specs.Prelude.{map};
 ghost use Rattle.std.specs.VecDeque.{deque_items};
 ghost use Rattle.line_tape.specs.Event.{checks};
 ghost use Rattle.line_tape.specs.Fit.{IsFitFifo};
 ghost use Rattle.line_tape.specs.History.{IsTape};
-ghost use Rattle.line_rings.specs.Ends.{out_ends, in_ends, producer_end};
-ghost use Rattle.line_posts.specs.Posts.{checked_alone, next_name, post_of, sent_by, IsPost};
+ghost use Rattle.line_rings.specs.Ends.{free_at, out_ends, in_ends, producer_end};
+ghost use Rattle.line_journals.specs.Journals.{IsSameJournal};
+ghost use Rattle.line_posts.specs.Posts.{checked_alone, next_name, post_of, sent_by, IsPost, PostView};
 ghost use Rattle.line_posts.specs.Refusals.{IsNotSent, MaySend};
 ghost use Rattle.line_posts.specs.Generations.{IsSamePost};
 ghost use Rattle.line_posts.specs.Openings.{IsOpening};
@@ -16,7 +17,7 @@ use crate::parcels::{Letter, Parcel};
 use crate::refusals::{SendRefused, SendWhy};
 use line_journals::Journal;
 use line_names::{Body, MsgName, ProcId};
-use line_rings::push_on;
+use line_rings::{has_slot, push_known};
 use line_tape::{Event, History, MOST_EVENTS, MOST_STATE, State, Tape, TapeError};
 use rtrb::{Consumer, Producer};
 use std::alloc::Global;
@@ -85,6 +86,49 @@ fn message(inc: u16, number: u32, body: &Body) -> Parcel
             body: body.copy(),
         },
     }
+}
+
+/// Tests whether a worker can send a message to another process now, and makes room for it on the
+/// worker's tape; then the ring to that process has a free slot.
+fn make_way(
+    me: ProcId,
+    journal: &mut Journal,
+    outs: &mut Vec<Producer<Parcel>>,
+    to: ProcId,
+) -> Result<(), SendWhy>
+    ensures tape { journal.new.tape ≡ journal.old.tape }
+    ensures rounds { journal.new.rounds ≡ journal.old.rounds }
+    ensures same { IsSameJournal journal.old journal.new }
+    ensures ends { out_ends outs.new.items ≡ out_ends outs.old.items }
+    ensures long { length outs.new.items ≡ length outs.old.items }
+
+    // What a send wants.
+    ensures process { OnOk result (to < length outs.old.items) }
+    ensures other { OnOk result (to ≢ me) }
+    ensures few { OnOk result (length journal.old.tape < MOST_EVENTS) }
+    ensures room { OnOk result (0 < journal.new.room) }
+    ensures slot { OnOk result (0 < free_at outs.new.items to) }
+
+    // The refusals, in their order.
+    ensures why { IfErr result (λ e. (post : PostView) → length post.opening ≡ length outs.old.items
+        → post.number ≡ me → post.tape ≡ journal.old.tape → IsNotSent post to e) }
+{
+    if to.get() as usize >= outs.len() {
+        return Err(SendWhy::NoSuchProcess);
+    }
+    if to.get() == me.get() {
+        return Err(SendWhy::ToSelf);
+    }
+    if journal.len() as usize >= MOST_EVENTS {
+        return Err(SendWhy::TapeFull);
+    }
+    if journal.reserve_events(1).is_err() {
+        return Err(SendWhy::OutOfMemory);
+    }
+    if !has_slot(outs, to.get() as usize) {
+        return Err(SendWhy::RingFull);
+    }
+    Ok(())
 }
 
 /// A worker at the opening of a generation.
@@ -165,40 +209,13 @@ impl Post {
         ensures may { OnOk result (MaySend self.old to) }
         ensures why { IfErr result (λ e. IsNotSent self.old to e.why) }
     {
-        let n = self.outs.len();
-        if to.get() as usize >= n {
-            return Err(SendRefused {
-                why: SendWhy::NoSuchProcess,
-                body,
-            });
-        }
-        if to.get() == self.me.get() {
-            return Err(SendRefused {
-                why: SendWhy::ToSelf,
-                body,
-            });
-        }
-        if self.journal.len() as usize >= MOST_EVENTS {
-            return Err(SendRefused {
-                why: SendWhy::TapeFull,
-                body,
-            });
-        }
-        if self.journal.reserve_events(1).is_err() {
-            return Err(SendRefused {
-                why: SendWhy::OutOfMemory,
-                body,
-            });
+        if let Err(why) = make_way(self.me, &mut self.journal, &mut self.outs, to) {
+            return Err(SendRefused { why, body });
         }
         let inc = self.incarnation;
         let number = self.journal.sends();
         let parcel = message(inc, number, &body);
-        if push_on(&mut self.outs, to.get() as usize, parcel).is_err() {
-            return Err(SendRefused {
-                why: SendWhy::RingFull,
-                body,
-            });
-        }
+        push_known(&mut self.outs, to.get() as usize, parcel);
         self.journal.send(to, inc, body);
         Ok(name_of(self.me, inc, number))
     }

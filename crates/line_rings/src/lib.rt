@@ -9,7 +9,7 @@
 //! again where they meet in one thread: `meet` and `meet_end`.
 //!
 //! `make_rings` makes the rings, `push_on`, `look_at`, `front_at` and `take_at` are a step on one
-//! end, `has_room` and `push_known` push where nothing may fail.
+//! end, `has_slot`, `has_room` and `push_known` push where nothing may fail.
 #![tactic(auto)]
 
 mod ends;
@@ -18,4 +18,4 @@ mod rooms;
 
 pub use ends::{front_at, look_at, meet, meet_end, push_on, take_at};
 pub use links::{Rings, make_rings};
-pub use rooms::{has_room, push_known};
+pub use rooms::{has_room, has_slot, push_known};

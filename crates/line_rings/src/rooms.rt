@@ -4,8 +4,8 @@ ghost use Rattle.line_rings.specs.Ends.{out_ends, free_at, with_item, HasFullEnd
 
 use rtrb::Producer;
 
-/// Whether the ring to process `q` has a free slot; then it is known.
-fn has_slot<T>(outs: &mut Vec<Producer<T>>, q: usize) -> bool
+/// Whether the ring to process `q` has a free slot; then it is known. It costs a constant.
+pub fn has_slot<T>(outs: &mut Vec<Producer<T>>, q: usize) -> bool
     requires { q < length outs.old.items }
     ensures ends { out_ends outs.new.items ≡ out_ends outs.old.items }
     ensures long { length outs.new.items ≡ length outs.old.items }

@@ -292,8 +292,9 @@ impl Tape {
         self.receipts.reserve(k as usize)
     }
 
-    /// Adds an event at the end, in room that was made for it.
-    fn append(&mut self, event: Event)
+    /// Adds an event at the end, in room that was made for it: what `push` does where it is not
+    /// refused, for a caller that has made those tests. It takes no memory and costs a constant.
+    pub fn append(&mut self, event: Event)
         requires room { 0 < self.old.room }
         requires few { length self.old.events < MOST_EVENTS }
         requires short { IsShort event }

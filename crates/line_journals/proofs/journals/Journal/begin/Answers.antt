@@ -10,7 +10,7 @@ invariant_of-self c =
     let t = c.self.inside.tape.events in
     let v = c.self.view_is in
     let new = subst (λ (j : JournalView). latest j.floor j.rounds < c.args.round) (sym v) c.requires.new in
-    let pushed = on_ok_at c.push.result c.unwrap.result _ c.unwrap.ensures c.push.ensures.ok in
-    let begun = on_ok_at c.begin.result c.unwrap-2.result _ c.unwrap-2.ensures c.begin.ensures.ok in
+    let pushed = c.append.ensures.events in
+    let begun = on_ok_at c.begin.result c.unwrap.result _ c.unwrap.ensures c.begin.ensures.ok in
     journal_next c.self.inside.marker c.begin.new.self _ t _ _ c.self.invariant (unchecked _ _ t _ _ c.self.invariant.1 new)
     c.begin.ensures.same (pushed ∙ ap (λ (e : Event). t ++ e ∷ []) c.round_event-event.ensures) (begun_by _ _ _ _ c.args.state c.args.round new begun)

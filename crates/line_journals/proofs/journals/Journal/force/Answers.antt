@@ -3,7 +3,7 @@ use Rattle.line_marker.specs.Recording.{with_marker}
 use Rattle.line_tape.specs.Rounds.{has_check_of}
 use Rattle.line_tape.specs.declared.events.Event.TheVariants.{Check, Mark}
 use Rattle.line_journals.specs.Journals.{JournalView, rounds_by}
-use Rattle.line_journals.proofs.MarkerLemmas.{journal_forced, on_ok_at, forced_by_marker}
+use Rattle.line_journals.proofs.MarkerLemmas.{journal_forced, forced_by_marker}
 use Rattle.line_journals.proofs.journals.Journal.force.Goals as goal
 
 forced : (c : goal.After-on_marker) → c.on_marker.new.self.rounds ≡ with_marker (rounds_by c.self.inside.marker.n c.self.inside.floor c.self.inside.marker.rounds (Check c.args.state (Some c.args.round))) c.args.from c.args.round
@@ -23,11 +23,11 @@ invariant_of-self c =
     let within = subst (λ (j : JournalView). c.args.from < j.n) (sym v) c.requires.process in
     let other = subst (λ (j : JournalView). c.args.from ≢ j.me) (sym v) c.requires.other in
     let unchecked = subst (λ (j : JournalView). has_check_of c.args.round j.tape ≡ false) (sym v) c.requires.unchecked in
-    let first = on_ok_at c.push.result c.unwrap.result _ c.unwrap.ensures c.push.ensures.ok in
-    let second = on_ok_at c.push-2.result c.unwrap-2.result _ c.unwrap-2.ensures c.push-2.ensures.ok in
+    let first = c.append.ensures.events in
+    let second = c.append-2.ensures.events in
     let check = c.round_event-check.ensures in
     let mark = c.mark_event-mark.ensures in
-    let both : c.push-2.new.self.events ≡ (t ++ Check c.args.state (Some c.args.round) ∷ []) ++ Mark c.args.from c.args.round ∷ [] = cc (first, second, check, mark) in
+    let both : c.append-2.new.self.events ≡ (t ++ Check c.args.state (Some c.args.round) ∷ []) ++ Mark c.args.from c.args.round ∷ [] = cc (first, second, check, mark) in
     journal_forced c.self.inside.marker c.on_marker.new.self _ t _ c.args.from c.args.round c.args.state c.self.invariant within other unchecked c.on_marker.ensures.same both (forced c)
 
 pub returns-clause-rounds : goal.returns-clause-rounds

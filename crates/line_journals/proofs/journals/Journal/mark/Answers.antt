@@ -3,7 +3,7 @@ use Rattle.line_marker.specs.Recording.{with_marker}
 use Rattle.line_tape.specs.Rounds.{has_check_of}
 use Rattle.line_tape.specs.declared.events.Event.{Event}
 use Rattle.line_journals.specs.Journals.{JournalView}
-use Rattle.line_journals.proofs.MarkerLemmas.{journal_next, on_ok_at, heard_by_marker}
+use Rattle.line_journals.proofs.MarkerLemmas.{journal_next, heard_by_marker}
 use Rattle.line_journals.proofs.journals.Journal.mark.Goals as goal
 
 heard : (c : goal.After-on_marker) → c.on_marker.new.self.rounds ≡ with_marker c.self.inside.marker.rounds c.args.from c.args.round
@@ -23,7 +23,7 @@ invariant_of-self c =
     let within = subst (λ (j : JournalView). c.args.from < j.n) (sym v) c.requires.process in
     let other = subst (λ (j : JournalView). c.args.from ≢ j.me) (sym v) c.requires.other in
     let checked = subst (λ (j : JournalView). has_check_of c.args.round j.tape ≡ true) (sym v) c.requires.checked in
-    let pushed = on_ok_at c.push.result c.unwrap.result _ c.unwrap.ensures c.push.ensures.ok in
+    let pushed = c.append.ensures.events in
     journal_next c.self.inside.marker c.on_marker.new.self _ t _ _ c.self.invariant (within, other, checked) c.on_marker.ensures.same (pushed ∙ ap (λ (e : Event). t ++ e ∷ []) c.mark_event-event.ensures) (heard c)
 
 pub returns-clause-rounds : goal.returns-clause-rounds

@@ -1,7 +1,7 @@
 use Rattle.std.proofs.Common.{◌≢◌, ◌<◌, sym, subst}
 use Rattle.line_tape.specs.declared.events.Event.TheVariants.{Recv}
 use Rattle.line_journals.specs.Journals.{JournalView}
-use Rattle.line_journals.proofs.MarkerLemmas.{journal_next, on_ok_at}
+use Rattle.line_journals.proofs.MarkerLemmas.{journal_next}
 use Rattle.line_journals.proofs.journals.Journal.receive.Goals as goal
 
 pub invariant_of-self-2 : goal.invariant_of-self-2
@@ -10,7 +10,7 @@ invariant_of-self-2 c =
     let v = c.self.view_is in
     let within = subst (λ (j : JournalView). c.args.message.from < j.n) (sym v) c.requires.process in
     let other = subst (λ (j : JournalView). c.args.message.from ≢ j.me) (sym v) c.requires.other in
-    let pushed = on_ok_at c.push.result c.unwrap.result _ c.unwrap.ensures c.push.ensures.ok in
+    let pushed = c.append.ensures.events in
     let event = c.recv_event-event.ensures in
     let same = c.reserve.ensures.same in
     journal_next c.self.inside.marker c.note.new.self _ t _ (Recv c.args.message) c.self.invariant (within, other)
