@@ -1,10 +1,10 @@
 -- The rows and the vectors of a tape as it grows, as its checks are marked and as a process goes back.
-use Rattle.std.proofs.Common.{◌≡◌, ◌≢◌, ℕ, suc, ◌+◌, ◌≤◌, Bool, true, false, ◌||◌, eqb, cond, List, [], ◌∷◌, ◌++◌, length, take, get_or, filter, inl, inr, Option, Some, None, refl, sym, ap, ◌∙◌, subst, arith}
+use Rattle.std.proofs.Common.{◌≡◌, ◌≢◌, ℕ, zero, suc, ◌+◌, ◌≤◌, Bool, true, false, ◌||◌, eqb, cond, List, [], ◌∷◌, ◌++◌, length, take, drop, get_or, filter, inl, inr, None, refl, sym, ap, ◌∙◌, subst, arith}
 use Rattle.std.specs.List.{All, list_any, cons_option, filter_map}
 use Rattle.std.specs.Prelude.{nat_le, replicate}
 use Rattle.std.proofs.lemmas.Bool.Decides.{nat_tests}
 use Rattle.std.proofs.lemmas.Bool.{cases_eq, cases_lt, eq-eqb, ne_eqb, or_right, false≢true}
-use Rattle.std.proofs.lemmas.List.{length_push, length-set, get_or_push, get_or_append_left, get_or-set_same, get_or-set_other, take-append-le, take_all, append-nil, length-take, get_or-take}
+use Rattle.std.proofs.lemmas.List.{length_push, length-set, get_or_push, get_or_append_left, get_or-set_same, get_or-set_other, take-append-drop, take-append-le, take_all, append-nil, length-take, get_or-take}
 use Rattle.std.proofs.lemmas.List.Elements.{filter_map-append}
 use Rattle.std.proofs.lemmas.List.Folds.{list_any-append, list_any_none}
 use Rattle.line_names.specs.declared.choices.Choice.{Choice}
@@ -12,9 +12,9 @@ use Rattle.line_names.specs.declared.choices.Choice.TheVariants.{Check as AtChec
 use Rattle.line_tape.specs.declared.events.Event.{Event}
 use Rattle.line_tape.specs.declared.events.Event.TheVariants.{Send, Recv, Check, Mark}
 use Rattle.line_tape.specs.Event.{is_check, checks, incarnation_of, incarnations_sent, sends}
-use Rattle.line_tape.specs.Front.{check_place}
+use Rattle.line_tape.specs.Front.{check_place, place}
 use Rattle.line_tape.proofs.FrontLemmas.{check_place-le}
-use Rattle.line_tape.proofs.RowLemmas.{checks-push, check_place-push, check_place-last}
+use Rattle.line_tape.proofs.RowLemmas.{checks-push, check_place-append, check_place-push, check_place-last}
 use Rattle.line_tape.specs.Event.{NamesBelow}
 use Rattle.line_tape.specs.Front.{front, HasChoice}
 use Rattle.line_tape.specs.Restart.{restarted_event, is_kept}
@@ -25,7 +25,7 @@ use Rattle.line_tape.proofs.StayLemmas.{front_restarted, front_take}
 use Rattle.line_vectors.specs.Reach.{heard, reach_of}
 use Rattle.line_vectors.proofs.ReachLemmas.{reach-deaf, reach-none, reach-recv, reach_of-left}
 use Rattle.line_catalogue.specs.declared.rows.Row.{Row}
-use Rattle.line_catalogue.specs.Rows.{IsRow, AreRows, WithPlaces, heard_more, new_row, no_row, row_added, rows_kept, vector_at, with_damage, with_row}
+use Rattle.line_catalogue.specs.Rows.{IsRow, AreInStep, AreRows, WithPlaces, heard_more, new_row, no_row, row_added, rows_kept, vector_at, with_damage, with_row}
 
 -- whether a check is among the marked ones, with one more
 any-push : (damaged : List ℕ) (c k : ℕ) → list_any (λ check. eqb check k) (damaged ++ c ∷ []) ≡ (list_any (λ check. eqb check k) damaged || (eqb c k || false))
@@ -232,6 +232,50 @@ AreRows-left n tape damaged Now old new has are placed =
     (λ c d h. refl)
     are
     placed
+
+-- no check stands later once marks are gone
+place-left : (tape : List Event) (c : ℕ) → check_place (filter_map restarted_event tape) c ≤ check_place tape c
+place-left tape zero = omega arith
+place-left [] (suc c) = omega arith
+place-left (Send to inc body ∷ rest) (suc c) = omega (arith, place-left rest (suc c))
+place-left (Recv message ∷ rest) (suc c) = omega (arith, place-left rest (suc c))
+place-left (Check state round ∷ rest) (suc c) = omega (arith, place-left rest c)
+place-left (Mark from round ∷ rest) (suc c) = omega (arith, place-left rest (suc c))
+
+-- and where one stands as it did no mark was before it, so each one before it does
+place-same : (tape : List Event) (k c : ℕ) → k ≤ c → check_place (filter_map restarted_event tape) c ≡ check_place tape c → check_place (filter_map restarted_event tape) k ≡ check_place tape k
+place-same tape zero c le same = refl
+place-same tape (suc k) zero le same = absurd (omega (arith, le))
+place-same [] (suc k) (suc c) le same = refl
+place-same (Send to inc body ∷ rest) (suc k) (suc c) le same = ap suc (place-same rest (suc k) (suc c) le (omega (arith, same)))
+place-same (Recv message ∷ rest) (suc k) (suc c) le same = ap suc (place-same rest (suc k) (suc c) le (omega (arith, same)))
+place-same (Check state round ∷ rest) (suc k) (suc c) le same = ap suc (place-same rest k c (omega (arith, le)) (omega (arith, same)))
+place-same (Mark from round ∷ rest) (suc k) (suc c) le same = absurd (omega (arith, same, place-left rest (suc c)))
+
+-- where a check that is kept stands
+place-kept : (tape : List Event) (choice : Choice) (c : ℕ) → c ≤ checks (front tape choice) → check_place (front tape choice) c ≡ check_place tape c
+place-kept tape choice c within =
+    let n : ℕ = place tape choice in
+    sym (check_place-append (take n tape) (drop n tape) c within) ∙ ap (λ (es : List Event). check_place es c) (take-append-drop n tape)
+
+in-step : (n : ℕ) (tape : List Event) (damaged : List ℕ) (choice : Choice) (m : ℕ) (old some : List Row)
+    → checks (front tape choice) ≡ m → m ≤ checks tape → length some ≡ m + 1 → ((c : ℕ) (d : Row) → c ≤ m → get_or some c d ≡ get_or old c d) → AreRows n tape damaged old
+    → AreInStep (filter_map restarted_event (front tape choice)) some
+in-step n tape damaged choice m old some many within count reads are = record {
+  each = λ k c d le there same.
+      let before : List Event = front tape choice in
+      let was : (j : ℕ) → j ≤ m → (get_or some j d).place ≡ check_place before j = λ j h.
+          ap (λ (row : Row). row.place) (reads j d h) ∙ (are.each j d (omega (arith, h, within))).place_is ∙ sym (place-kept tape choice j (omega (arith, h, many)))
+      in
+      was k (omega (arith, le, there, count)) ∙ sym (place-same before k c le (sym same ∙ was c (omega (arith, there, count))));
+}
+
+-- where a check that is kept stands as it did, so does each one before it
+pub AreInStep-left : (n : ℕ) (tape : List Event) (damaged : List ℕ) (choice : Choice) (rows : List Row) → HasChoice tape choice → AreRows n tape damaged rows → AreInStep (filter_map restarted_event (front tape choice)) (rows_kept choice rows)
+AreInStep-left n tape damaged (AtCheck k) rows has are =
+    in-step n tape damaged (AtCheck k) k rows (take (k + 1) rows) (checks_front tape k has) has (omega (arith, length-take (k + 1) rows, are.count, has)) (λ c d h. get_or-take (k + 1) rows c d (omega (arith, h))) are
+AreInStep-left n tape damaged Now rows has are =
+    in-step n tape damaged Now (checks tape) rows rows (ap checks (take_all (length tape) tape (omega arith))) (omega arith) are.count (λ c d h. refl) are
 
 -- the vector of the choice is that of what is left
 pub vector-left : (n : ℕ) (tape : List Event) (damaged : List ℕ) (choice : Choice) (rows : List Row) (present : List ℕ) → HasChoice tape choice → AreRows n tape damaged rows → present ≡ reach_of n tape

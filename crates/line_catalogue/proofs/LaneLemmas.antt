@@ -1,6 +1,6 @@
 -- In a history that agrees the numbers of messages decide what is sent before a line.
 use Rattle.std.proofs.Common.{◌≡◌, ◌↔◌, ℕ, zero, suc, ◌+◌, ◌<◌, ◌≤◌, List, length, take, drop, get_or, inl, inr, refl, sym, ap, ◌∙◌, subst, arith}
-use Rattle.std.specs.List.{All, Contains}
+use Rattle.std.specs.List.{Contains}
 use Rattle.std.proofs.lemmas.Bool.{cases_lt}
 use Rattle.std.proofs.lemmas.List.{take-append-drop, get_or_past}
 use Rattle.std.proofs.lemmas.List.Elements.{All-contains, Contains-append_left}
@@ -18,7 +18,7 @@ use Rattle.line_tape.proofs.CutLemmas.{contains_nothing, sends_take}
 use Rattle.line_tape.proofs.LineLemmas.{tape_at-past}
 use Rattle.line_tape.proofs.RowLemmas.{sent_at, sends_le}
 use Rattle.line_vectors.specs.declared.limits.TheConstants.{LAST_NUMBER}
-use Rattle.line_vectors.specs.Reach.{reach_from, reach_of, reach_before, sent_count, sents_of, IsReceivedFrom}
+use Rattle.line_vectors.specs.Reach.{reach_from, reach_before, sent_count, sents_of, IsReceivedFrom}
 use Rattle.line_vectors.specs.Vectors.{Fits}
 use Rattle.line_vectors.proofs.ReachLemmas.{reach-above, reach-received, reach-at, length-reach, sents-at}
 use Rattle.line_catalogue.specs.Agreement.{NameAgrees, EventAgrees, Agrees, named}

@@ -4,3 +4,6 @@ pub mod CheckLemmas
 pub mod CatalogueLemmas
 pub mod RestartLemmas
 pub mod TableLemmas
+pub mod NumberLemmas
+pub mod OpenLemmas
+pub mod LeftLemmas

@@ -22,8 +22,8 @@ use Rattle.line_catalogue.specs.declared.rows.Row.{Row}
 use Rattle.line_catalogue.specs.Agreement.{EventAgrees, Agrees}
 use Rattle.line_catalogue.specs.Damage.{AreOnChecks}
 use Rattle.line_catalogue.specs.Kept.{rows_at, present_at, IsCatalogue}
-use Rattle.line_catalogue.specs.Rows.{AreRows, WithPlaces, rows_kept, vector_at}
-use Rattle.line_catalogue.proofs.CheckLemmas.{AreRows-left, length-kept, vector-left}
+use Rattle.line_catalogue.specs.Rows.{AreInStep, AreRows, WithPlaces, rows_kept, vector_at}
+use Rattle.line_catalogue.proofs.CheckLemmas.{AreInStep-left, AreRows-left, length-kept, vector-left}
 use Rattle.line_vectors.specs.Reach.{reach_of}
 use Rattle.line_catalogue.proofs.AgreementLemmas.{Agrees-below}
 use Rattle.line_catalogue.proofs.CatalogueLemmas.{AreOnChecks-below}
@@ -123,6 +123,12 @@ module _ (history : List Process) (marks : MarksView) (rows : List (List Row)) (
   pub left-restarted : (p : ℕ) → p < length history → length (rows_kept (choice_at line p) (rows_at rows p)) ≡ checks (tape_at (restarted history line) p) + 1
   left-restarted p within =
       length-kept (length history) (tape_at history p) (damaged_at marks p) (choice_at line p) (rows_at rows p) (is_line.exist p) (is.shown p within) ∙ ap (λ (tape : List Event). checks tape + 1) (sym (tape-restarted history line is_line p within))
+
+  -- where one of them stands as it did, so does each one before it
+  pub step-restarted : (p : ℕ) → p < length history → AreInStep (tape_at (restarted history line) p) (rows_kept (choice_at line p) (rows_at rows p))
+  step-restarted p within =
+      subst (λ (tape : List Event). AreInStep tape (rows_kept (choice_at line p) (rows_at rows p))) (sym (tape-restarted history line is_line p within))
+      (AreInStep-left (length history) (tape_at history p) (damaged_at marks p) (choice_at line p) (rows_at rows p) (is_line.exist p) (is.shown p within))
 
   -- with the rows of what is left the catalogue is one again
   pub IsCatalogue-restarted : (new : List (List Row)) (presents' : List (List ℕ)) → IsConsistent history line → length new ≡ length history → length presents' ≡ length history

@@ -5,3 +5,4 @@ pub mod Views
 pub mod Kept
 pub mod Plain
 pub mod Refusals
+pub mod Left

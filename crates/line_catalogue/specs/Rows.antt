@@ -71,3 +71,7 @@ pub record WithPlaces (tape : List Event) (old new : List Row) : Type 0 where
   pub sends_same : (c : ℕ) (d : Row) → (slice_index_or new c d).sends ≡ (slice_index_or old c d).sends
   pub damaged_same : (c : ℕ) (d : Row) → (slice_index_or new c d).damaged ≡ (slice_index_or old c d).damaged
   pub reach_same : (c : ℕ) (d : Row) → (slice_index_or new c d).reach ≡ (slice_index_or old c d).reach
+
+-- where a check stands on this tape as its row says, so does each one before it
+pub record AreInStep (tape : List Event) (rows : List Row) : Type 0 where
+  pub each : (k c : ℕ) (d : Row) → k ≤ c → c < length rows → (slice_index_or rows c d).place ≡ place tape (AtCheck c) → (slice_index_or rows k d).place ≡ place tape (AtCheck k)

@@ -10,6 +10,7 @@ ghost use Rattle.line_tape.specs.Front.{front, HasChoice};
 ghost use Rattle.line_tape.specs.Line.{IsLine, IsConsistent, AreSentBefore};
 ghost use Rattle.line_tape.specs.Restart.{restarted, restarted_marks, HaveFurther};
 ghost use Rattle.line_tape.specs.Survival.{survives, is_damaged};
+ghost use Rattle.line_tape.specs.Transit.{in_transit};
 ghost use Rattle.line_tape.specs.Views.{with_mark, damaged_at};
 ghost use Rattle.line_catalogue.specs.Agreement.{Agrees, AgreesNext};
 ghost use Rattle.line_catalogue.specs.Damage.{AreOnChecks};
@@ -20,10 +21,11 @@ ghost use Rattle.line_vectors.specs.Vectors.{Fits};
 
 use crate::additions::test_event;
 use crate::agreement::{agrees, are_on_checks};
+use crate::ledgers::Ledger;
 use crate::refusals::{AddError, CatalogueError, DamageError};
 use crate::rows::Row;
 use crate::tables::RowTable;
-use line_names::{Choice, Line, MOST_PROCESSES, ProcId, ProcSet};
+use line_names::{Choice, Line, MOST_PROCESSES, MsgName, ProcId, ProcSet};
 use line_tape::{CountError, Event, History, MOST_EVENTS, Marks};
 use line_vectors::Reach;
 use std::alloc::{AllocError, Global};
@@ -34,7 +36,7 @@ use std::marker::Model;
 /// It answers what a planner asks of choices from rows that it keeps beside them, one for each check, and grows with its history event by event. A row has the vector of its check, and each process one of where it stands: how much was received from each other process before. So a history of n processes takes 4n bytes more for each check, and no question looks at its events.
 #[derive(Drop)]
 pub struct Catalogue {
-    history: History,
+    ledger: Ledger,
     marks: Marks,
     rows: RowTable,
 }
@@ -47,12 +49,12 @@ impl Model for Catalogue {
     ghost use Rattle.line_catalogue.specs.Kept.{IsCatalogue};
 
     ghost view = { λ c. record {
-      processes = c.history.processes;
+      processes = c.ledger.processes;
       marks = c.marks;
-      rooms = lesser_rooms c.history.rooms c.rows.rooms;
+      rooms = lesser_rooms c.ledger.rooms c.rows.rooms;
     } };
 
-    ghost invariant = { λ c. IsCatalogue c.history.processes c.marks c.rows.rows c.rows.presents };
+    ghost invariant = { λ c. IsCatalogue c.ledger.processes c.marks c.rows.rows c.rows.presents };
 }
 
 impl Catalogue {
@@ -65,8 +67,9 @@ impl Catalogue {
         let history = History::new(alloc, n)?;
         let marks = Marks::new(alloc, n)?;
         let rows = RowTable::of(alloc, &history, &marks)?;
+        let ledger = Ledger::of(alloc, history)?;
         Ok(Catalogue {
-            history,
+            ledger,
             marks,
             rows,
         })
@@ -92,10 +95,10 @@ impl Catalogue {
             return Err(CatalogueError::NamesDisagree);
         }
         let rows = RowTable::of(alloc, history, marks)?;
-        let history = history.copy(alloc)?;
+        let ledger = Ledger::of(alloc, history.copy(alloc)?)?;
         let marks = marks.copy(alloc)?;
         Ok(Catalogue {
-            history,
+            ledger,
             marks,
             rows,
         })
@@ -106,7 +109,7 @@ impl Catalogue {
         ensures value { result ≡ length self.now.processes }
         ensures limits { IsHistory self.now.processes }
     {
-        self.history.n()
+        self.ledger.history().n()
     }
 
     /// Its history.
@@ -114,7 +117,7 @@ impl Catalogue {
         ensures processes { result.now.processes ≡ self.now.processes }
         ensures agrees { Agrees self.now.processes }
     {
-        &self.history
+        self.ledger.history()
     }
 
     /// Its marks of damage.
@@ -177,7 +180,7 @@ impl Catalogue {
         match choice {
             Choice::Check(0) => None,
             Choice::Check(c) => Some(self.latest_check(p, c - 1, failed)),
-            Choice::Now => Some(self.latest_check(p, self.history.tape(p).checks(), failed)),
+            Choice::Now => Some(self.latest_check(p, self.ledger.history().tape(p).checks(), failed)),
         }
     }
 
@@ -191,7 +194,7 @@ impl Catalogue {
         ensures decides { (line : List Choice) → Fits result.now (sents_of self.now.processes line)
             ↔ AreSentBefore self.now.processes line (front (tape_at self.now.processes p) choice) }
     {
-        let _n = self.history.n();
+        let _n = self.ledger.history().n();
         self.rows.reach(p, choice)
     }
 
@@ -206,7 +209,7 @@ impl Catalogue {
         ensures room { room_at self.old p ≤ room_at self.new p }
         ensures others { (q : ℕ) → q ≢ p → room_at self.new q ≡ room_at self.old q }
     {
-        self.history.reserve(p, k)?;
+        self.ledger.reserve(p, k)?;
         self.rows.reserve(p, k)
     }
 
@@ -224,11 +227,11 @@ impl Catalogue {
         ensures spent { room_at self.old p ≤ room_at self.new p + 1 }
         ensures others { (q : ℕ) → q ≢ p → room_at self.new q ≡ room_at self.old q }
     {
-        let tape = self.history.tape(p);
+        let tape = self.ledger.history().tape(p);
         let place = tape.len() + 1;
         let sends = tape.sends();
         self.rows.append(p, &event, place, sends);
-        self.history.push(p, event).unwrap();
+        self.ledger.push(p, event).unwrap();
     }
 
     /// Adds an event at the end of the tape of a process. A check costs a vector; any other event costs the same however much was added before.
@@ -284,10 +287,44 @@ impl Catalogue {
         Ok(())
     }
 
+    /// The messages in transit at a line, by sender, then number: those whose send stands before the line, and which the process that the send names has not received before its own choice.
+    ///
+    /// It looks at what `keep_transit` or `restart_with` was last told, at each send behind that line, and at each event behind this one; at each send where neither was called, or `restart` was after it. It takes memory for these and for the result, and fails without.
+    pub fn transit(&self, alloc: Global, line: &Line) -> Result<Vec<MsgName>, AllocError>
+        requires { IsLine self.now.processes line.now }
+        ensures { IfOk result (λ messages. messages.items ≡ in_transit self.now.processes line.now) }
+    {
+        self.ledger.transit(alloc, line)
+    }
+
+    /// Keeps what is in transit at a line, as `transit` answers it there, so that no other send before the line is looked at again. No answer changes by it. It looks once at each process.
+    pub fn keep_transit(&mut self, line: &Line, messages: Vec<MsgName>)
+        requires line { IsLine self.old.processes line.now }
+        requires transit { messages.items ≡ in_transit self.old.processes line.now }
+        ensures { self.new ≡ self.old }
+    {
+        self.ledger.keep(line, messages);
+    }
+
+    /// Goes on from a consistent line, with what is in transit there if that is told.
+    #[tactic(auto, using(crate::proofs::CatalogueLemmas::lesser_at))]
+    fn go_on(&mut self, line: &Line, left: Option<Vec<MsgName>>)
+        requires line { IsLine self.old.processes line.now }
+        requires consistent { IsConsistent self.old.processes line.now }
+        requires further { HaveFurther self.old.processes line.now }
+        requires left { IfSome left (λ left. left.items ≡ in_transit self.old.processes line.now) }
+        ensures processes { self.new.processes ≡ restarted self.old.processes line.now }
+        ensures marks { self.new.marks ≡ restarted_marks self.old.marks line.now }
+        ensures room { (p : ℕ) → room_at self.old p ≤ room_at self.new p }
+    {
+        self.ledger.restart(line, left);
+        self.marks.restart(line);
+        self.rows.restart(self.ledger.history(), line);
+    }
+
     /// Has each process go on from its choice of a consistent line, as `History::restart` does, and takes the marks off the checks that it cuts off. It takes no memory and cannot fail.
     ///
-    /// Each message that is received before a consistent line is sent before it, so the history goes on to agree. It looks at each check and at one vector of each process, and otherwise costs what `History::restart` does.
-    #[tactic(auto, using(crate::proofs::CatalogueLemmas::lesser_at))]
+    /// Each message that is received before a consistent line is sent before it, so the history goes on to agree. It looks at the marks of each process that goes back and at one vector of it, at each check that came since the last restart, and otherwise costs what `History::restart` does.
     pub fn restart(&mut self, line: &Line)
         requires line { IsLine self.old.processes line.now }
         requires consistent { IsConsistent self.old.processes line.now }
@@ -296,8 +333,19 @@ impl Catalogue {
         ensures marks { self.new.marks ≡ restarted_marks self.old.marks line.now }
         ensures room { (p : ℕ) → room_at self.old p ≤ room_at self.new p }
     {
-        self.history.restart(line);
-        self.marks.restart(line);
-        self.rows.restart(&self.history, line);
+        self.go_on(line, None);
+    }
+
+    /// Does what `restart` does, and keeps what is in transit at the line, as `transit` answers it there, so that no other send is looked at again.
+    pub fn restart_with(&mut self, line: &Line, left: Vec<MsgName>)
+        requires line { IsLine self.old.processes line.now }
+        requires consistent { IsConsistent self.old.processes line.now }
+        requires further { HaveFurther self.old.processes line.now }
+        requires left { left.items ≡ in_transit self.old.processes line.now }
+        ensures processes { self.new.processes ≡ restarted self.old.processes line.now }
+        ensures marks { self.new.marks ≡ restarted_marks self.old.marks line.now }
+        ensures room { (p : ℕ) → room_at self.old p ≤ room_at self.new p }
+    {
+        self.go_on(line, Some(left));
     }
 }

@@ -5,11 +5,15 @@
 
 mod additions;
 mod agreement;
+mod candidates;
 mod catalogues;
 mod laws;
+mod ledgers;
+mod numbers;
 mod refusals;
 mod rows;
 mod tables;
+mod transits;
 
 pub use catalogues::Catalogue;
 pub use laws::{lanes_name_orphans, numbers_decide, vectors_decide};

@@ -4,7 +4,7 @@ ghost use Rattle.line_names.specs.declared.choices.Choice.TheVariants.{Check as 
 ghost use Rattle.line_tape.specs.Event.{checks, NamesBelow};
 ghost use Rattle.line_vectors.specs.Reach.{nearest};
 ghost use Rattle.line_catalogue.specs.Kept.{AreEven, AreRowsEven};
-ghost use Rattle.line_catalogue.specs.Rows.{WithPlaces, heard_more, new_row, row_added, rows_kept, vector_at, with_damage, with_row};
+ghost use Rattle.line_catalogue.specs.Rows.{AreInStep, WithPlaces, heard_more, new_row, row_added, rows_kept, vector_at, with_damage, with_row};
 
 use line_names::{Choice, MOST_PROCESSES, MsgName};
 use line_tape::{Event, Tape};
@@ -128,17 +128,19 @@ fn go_back(rows: &mut Vec<Row>, present: &mut Reach, choice: Choice)
     }
 }
 
-/// Notes anew where the checks stand on a tape.
+/// Notes anew where the checks stand on a tape, from the last one back to one that stands where it did.
 fn place_rows(rows: &mut Vec<Row>, tape: &Tape)
-    requires { vec_len rows.old ≡ checks tape.now.events + 1 }
+    requires count { vec_len rows.old ≡ checks tape.now.events + 1 }
+    requires in_step { AreInStep tape.now.events rows.old.items }
     ensures rows { WithPlaces tape.now.events rows.old.items rows.new.items }
     ensures room { (vec_capacity rows.new ≡ vec_capacity rows.old) × (vec_len rows.new ≡ vec_len rows.old) }
 {
-    for c in 0..tape.checks() + 1 {
-        match tape.place(Choice::Check(c)) {
-            Some(place) => rows[c as usize].place = place,
-            None => unreachable!(),
+    for c in (0..tape.checks() + 1).rev() {
+        let place = tape.place(Choice::Check(c)).unwrap();
+        if rows[c as usize].place == place {
+            return;
         }
+        rows[c as usize].place = place;
     }
 }
 
@@ -256,10 +258,11 @@ impl ProcessRows {
         set_damaged(&mut self.rows, check);
     }
 
-    /// Goes on from a choice, on what is left of the tape. It takes no memory.
+    /// Goes on from a choice, on what is left of the tape. It takes no memory, and looks at the checks that stand elsewhere than they did and at one more.
     pub fn restart(&mut self, tape: &Tape, choice: Choice)
         requires there { (c : ℕ) → choice ≡ AtCheck c → c < length self.old.rows }
         requires left { length (rows_kept choice self.old.rows) ≡ checks tape.now.events + 1 }
+        requires in_step { AreInStep tape.now.events (rows_kept choice self.old.rows) }
         ensures rows { WithPlaces tape.now.events (rows_kept choice self.old.rows) self.new.rows }
         ensures present { self.new.present ≡ vector_at self.old.rows self.old.present choice }
         ensures room { self.old.room ≤ self.new.room }

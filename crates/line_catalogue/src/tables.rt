@@ -9,7 +9,7 @@ ghost use Rattle.line_tape.specs.Views.{damaged_at};
 ghost use Rattle.line_vectors.specs.Reach.{reach_of};
 ghost use Rattle.line_catalogue.specs.Damage.{AreOnChecks};
 ghost use Rattle.line_catalogue.specs.Kept.{present_at, rows_at};
-ghost use Rattle.line_catalogue.specs.Rows.{AreRows, WithPlaces, heard_more, row_added, rows_kept, vector_at, with_damage, with_row};
+ghost use Rattle.line_catalogue.specs.Rows.{AreInStep, AreRows, WithPlaces, heard_more, row_added, rows_kept, vector_at, with_damage, with_row};
 
 use crate::rows::{ProcessRows, Row};
 use line_names::{Choice, Line, MOST_PROCESSES, ProcId};
@@ -166,13 +166,15 @@ impl RowTable {
 
     /// Has each process go on from its choice of the line, where this is the history that is left. It takes no memory.
     ///
-    /// It lets go of what it cuts off, sets one vector for each process, and notes the place of each check anew.
+    /// It lets go of what it cuts off, sets one vector for each process that goes back, and looks at the last check of each process, and at each other one until it finds one that stands where it did.
     pub fn restart(&mut self, history: &History, line: &Line)
         requires count { length self.old.rows ≡ length history.now.processes }
         requires there { (p c : ℕ) → p < length history.now.processes → choice_at line.now p ≡ AtCheck c
             → c < length (rows_at self.old.rows p) }
         requires left { (p : ℕ) → p < length history.now.processes
             → length (rows_kept (choice_at line.now p) (rows_at self.old.rows p)) ≡ checks (tape_at history.now.processes p) + 1 }
+        requires in_step { (p : ℕ) → p < length history.now.processes
+            → AreInStep (tape_at history.now.processes p) (rows_kept (choice_at line.now p) (rows_at self.old.rows p)) }
         ensures count { length self.new.rows ≡ length self.old.rows }
         ensures presents_count { length self.new.presents ≡ length self.old.rows }
         ensures rows { (p : ℕ) → p < length history.now.processes

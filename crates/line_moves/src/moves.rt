@@ -21,6 +21,7 @@ ghost use Rattle.line_moves.specs.Queues.{taken_off};
 ghost use Rattle.line_turns.specs.Tables.{between, with_list, IsTable};
 ghost use Rattle.line_moves.specs.Worlds.{IsWorld};
 
+use crate::counts::count_channels;
 use crate::links::Links;
 use crate::modes::Mode;
 use crate::rounds::{OpenRound, Round, hear, note, still_turning};
@@ -339,12 +340,7 @@ fn take_turn(
 {
     let state = state.copy(alloc)?;
     catalogue.reserve(at, 1 + further)?;
-    let channels = if turning.is_last(at) {
-        let line = turning.line(at);
-        Some(Channels::at(alloc, catalogue.history(), &line)?)
-    } else {
-        None
-    };
+    let channels = count_channels(alloc, catalogue, turning, at)?;
     let tape = catalogue.history().tape(at);
     let check = tape.checks() + 1;
     let sends = tape.sends();

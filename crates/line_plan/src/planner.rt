@@ -213,7 +213,7 @@ fn sents_before(alloc: Global, catalogue: &Catalogue, line: &Line) -> Result<Sen
 ///
 /// The first sweep visits all processes. A later one visits those alone that received, from a process lowered since their last visit, a message that is no longer sent: no other one can have an orphan. So the line, the entries and the sweeps are those of visiting all.
 ///
-/// Each choice passed over costs one look at a vector, and at one lane of each process; a visit that lowers nothing costs a look at a vector. At the end each event before the line is looked at once, for what is in transit there.
+/// Each choice passed over costs one look at a vector, and at one lane of each process; a visit that lowers nothing costs a look at a vector. At the end `Catalogue::transit` tells what is in transit at the line. Where nobody failed that is all: one look at a vector for each process, and at what `transit` looks at.
 pub fn plan(alloc: Global, catalogue: &Catalogue, failed: &ProcSet) -> Result<Plan, PlanError>
     ensures latest { IfOk result (λ plan. IsLatest catalogue.now.processes catalogue.now.marks failed.now plan.line) }
     ensures chain { IfOk result (λ plan.
@@ -239,7 +239,7 @@ pub fn plan(alloc: Global, catalogue: &Catalogue, failed: &ProcSet) -> Result<Pl
         )?;
         sweeps += 1;
         if !lowered {
-            let replays = catalogue.history().transit(alloc, &line)?;
+            let replays = catalogue.transit(alloc, &line)?;
             return Ok(Plan {
                 line,
                 certificate,

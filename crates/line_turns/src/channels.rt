@@ -1,10 +1,11 @@
 //! What is in transit at a line, from each process to each.
-ghost use Rattle.std.specs.Prelude.{◌≡◌, ◌<◌, ◌++◌, [], ◌∷◌, length, replicate, slice_index_or, slice_set, IfOk, OnOk, OnErr};
-ghost use Rattle.line_tape.specs.Line.{IsLine};
+ghost use Rattle.std.specs.Prelude.{◌≡◌, ◌<◌, ◌++◌, [], ◌∷◌, List, length, replicate, slice_index_or, slice_set, IfOk, OnOk, OnErr};
+ghost use Rattle.line_names.specs.declared.choices.Choice.{Choice};
+ghost use Rattle.line_tape.specs.Transit.{in_transit};
 ghost use Rattle.line_turns.specs.Channels.{channels_at};
 ghost use Rattle.line_turns.specs.Tables.{between, with_list, IsTable};
 
-use line_names::{Line, MsgName, ProcId};
+use line_names::{MsgName, ProcId};
 use line_tape::History;
 use std::alloc::{AllocError, Global};
 use std::marker::Model;
@@ -100,18 +101,17 @@ impl Channels {
         self.rows[from.get() as usize].push(to, message)
     }
 
-    /// What is in transit at a line of a history, from each process to each.
+    /// The channels that messages are on which are in transit at a line of a history: each on the one to the process that its send names.
     ///
-    /// It counts what is in transit, and puts each message on the channel to the process that its send names. So it costs what `History::transit` does, and memory for each two processes and for each message in transit; it fails without.
-    pub fn at(alloc: Global, history: &History, line: &Line) -> Result<Channels, AllocError>
-        requires { IsLine history.now.processes line.now }
-        ensures transit { IfOk result (λ channels. channels ≡ channels_at history.now.processes line.now) }
+    /// It looks once at each of them, and takes memory for each two processes and for each message; it fails without.
+    pub fn of(alloc: Global, history: &History, messages: &[MsgName]) -> Result<Channels, AllocError>
+        ensures transit { (line : List Choice) → messages.now ≡ in_transit history.now.processes line
+            → IfOk result (λ channels. channels ≡ channels_at history.now.processes line) }
         ensures table { IfOk result (λ channels. IsTable (length history.now.processes) channels) }
     {
         let n = history.n();
-        let messages = history.transit(alloc, line)?;
         let mut channels = Channels::new(alloc, n)?;
-        for message in &messages {
+        for message in messages {
             if let Some(to) = history.addressee(message) {
                 channels.push(message.from, to, *message)?;
             }

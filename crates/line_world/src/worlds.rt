@@ -544,6 +544,7 @@ impl World {
         }
         let states = restored_states(alloc, history, &plan.line)?;
         let incarnations = restarted_incarnations(alloc, history, &plan.line)?;
+        let left = Vec::from_slice(alloc, plan.replays.as_slice())?;
         let links = restarted_links(
             alloc,
             self.mode,
@@ -552,7 +553,7 @@ impl World {
             &plan.line,
             &plan.replays,
         )?;
-        self.catalogue.restart(&plan.line);
+        self.catalogue.restart_with(&plan.line, left);
         self.links = links;
         self.running = None;
         self.turning = None;
@@ -567,7 +568,7 @@ impl World {
 
     /// Takes one step.
     ///
-    /// Sending, delivering a message and taking a check cost the same however much was done before; a message that forces a check searches its sender's checks of rounds by halves. A marker looks at its receiver's channels, and the last one of a process at all channels of the round. A check of a round, begun or forced by a marker, puts a marker on the link to each other process; the last one of a round of colours looks at each event before the round's checks. Recovering costs what a plan does; it looks at each event that it cuts or that came since the last recovery, at each check and at each copy.
+    /// Sending, delivering a message and taking a check cost the same however much was done before; a message that forces a check searches its sender's checks of rounds by halves. A marker looks at its receiver's channels, and the last one of a process at all channels of the round. A check of a round, begun or forced by a marker, puts a marker on the link to each other process; the last one of a round of colours looks at what was in transit at the checks of the round or the line before, and at each send and receipt since. Recovering costs what a plan does; it looks at each event that it cuts or that came since the last recovery, and at each copy.
     pub fn step(&mut self, alloc: Global, step: &Step) -> Result<Reply, StepError>
         ensures done { IfOk result (λ reply. Takes self.old step.now (Done reply) self.new) }
         ensures refused { IfErr result (λ e. e ≢ StepError.OutOfMemory → Takes self.old step.now (Refused e) self.new) }

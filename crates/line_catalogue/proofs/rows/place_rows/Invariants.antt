@@ -1,4 +1,4 @@
-use Rattle.std.proofs.Common.{◌≡◌, ◌<◌, ℕ, length, get_or, vec_capacity}
+use Rattle.std.proofs.Common.{◌≡◌, ◌<◌, ◌≤◌, ℕ, length, get_or, vec_capacity}
 use Rattle.line_names.specs.declared.choices.Choice.TheVariants.{Check as AtCheck}
 use Rattle.line_tape.specs.Front.{place}
 use Rattle.line_catalogue.specs.declared.rows.Row.{Row}
@@ -8,7 +8,9 @@ abbrev pub invariant-loop-c : goal.invariant-loop-c
 invariant-loop-c l = record {
   count : length l.rows.items ≡ length l.fn.rows.items;
   capacity : vec_capacity l.rows ≡ vec_capacity l.fn.rows;
-  places : (k : ℕ) (d : Row) → k < l.c → (get_or l.rows.items k d).place ≡ place l.tape.events (AtCheck k);
+  within : l.c ≤ length l.fn.rows.items;
+  placed : (k : ℕ) (d : Row) → l.c ≤ k → k < length l.fn.rows.items → (get_or l.rows.items k d).place ≡ place l.tape.events (AtCheck k);
+  left : (k : ℕ) (d : Row) → k < l.c → (get_or l.rows.items k d).place ≡ (get_or l.fn.rows.items k d).place;
   sends_same : (k : ℕ) (d : Row) → (get_or l.rows.items k d).sends ≡ (get_or l.fn.rows.items k d).sends;
   damaged_same : (k : ℕ) (d : Row) → (get_or l.rows.items k d).damaged ≡ (get_or l.fn.rows.items k d).damaged;
   reach_same : (k : ℕ) (d : Row) → (get_or l.rows.items k d).reach ≡ (get_or l.fn.rows.items k d).reach;

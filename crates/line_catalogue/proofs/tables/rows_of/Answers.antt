@@ -1,9 +1,8 @@
 -- One mark more, and its row.
-use Rattle.std.proofs.Common.{◌≡◌, ◌+◌, ◌++◌, ◌∷◌, [], ◌≤◌, List, ℕ, take, get_or, sym, ◌∙◌, subst, arith}
+use Rattle.std.proofs.Common.{◌≡◌, ◌+◌, ◌++◌, ◌∷◌, [], ◌≤◌, List, ℕ, take, get_or, sym, ◌∙◌, subst}
 use Rattle.std.proofs.lemmas.List.{take_more}
 use Rattle.line_tape.specs.declared.events.Event.{Event}
 use Rattle.line_tape.specs.Event.{checks}
-use Rattle.line_catalogue.specs.declared.rows.Row.{Row}
 use Rattle.line_catalogue.specs.Rows.{AreRows}
 use Rattle.line_catalogue.proofs.CheckLemmas.{AreRows-damage}
 use Rattle.line_catalogue.proofs.tables.rows_of.Goals as goal

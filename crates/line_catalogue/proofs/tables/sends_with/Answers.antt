@@ -1,7 +1,7 @@
 -- A send is one more, and no other event is.
 use Rattle.std.proofs.Common.{◌≡◌, ◌+◌, ◌++◌, ◌∷◌, [], refl, sym, ap, ◌∙◌, subst}
 use Rattle.line_tape.specs.declared.events.Event.{Event}
-use Rattle.line_tape.specs.declared.events.Event.TheVariants.{Send, Recv, Check, Mark}
+use Rattle.line_tape.specs.declared.events.Event.TheVariants.{Recv, Check, Mark}
 use Rattle.line_tape.specs.Event.{sends}
 use Rattle.line_catalogue.proofs.CheckLemmas.{sends-more, sends-same}
 use Rattle.line_catalogue.proofs.tables.sends_with.Goals as goal

@@ -11,7 +11,6 @@ use Rattle.line_tape.specs.Views.{MarksView}
 use Rattle.line_tape.proofs.ChainLemmas.{latest_from_chain}
 use Rattle.line_tape.proofs.LineLemmas.{IsConsistent-below}
 use Rattle.line_tape.specs.History.{Process}
-use Rattle.line_tape.specs.Line.{IsLine}
 use Rattle.line_tape.proofs.LedLemmas.{height-first, IsLine-led}
 use Rattle.line_plan.proofs.planner.plan.Goals as goal
 
@@ -34,8 +33,7 @@ returns-then-not-lowered-clause-chain c = record {
 
 pub transit-requires : goal.transit-requires
 transit-requires c =
-    subst (λ (h : List Process). IsLine h c.sweep.new.line) (sym c.history.ensures.processes)
-    (IsLine-led c.args.catalogue.now.processes c.args.catalogue.now.marks c.args.failed.now c.sweep.new.certificate.items c.sweep.new.line c.in_ok-lowered.ensures.led)
+    IsLine-led c.args.catalogue.now.processes c.args.catalogue.now.marks c.args.failed.now c.sweep.new.certificate.items c.sweep.new.line c.in_ok-lowered.ensures.led
 
 pub sents_before-requires : goal.sents_before-requires
 sents_before-requires c =

@@ -7,7 +7,7 @@ use Rattle.line_tape.specs.declared.histories.HistoryError.{HistoryError}
 use Rattle.line_tape.specs.declared.histories.HistoryError.TheVariants.{OutOfMemory, NoSuchProcess, StateTooLong, TapeFull}
 use Rattle.line_tape.specs.declared.limits.TheConstants.{MOST_EVENTS}
 use Rattle.line_tape.specs.Event.{sends, NamesBelow}
-use Rattle.line_tape.specs.Views.{MarksView}
+use Rattle.line_tape.specs.Views.{HistoryView, MarksView}
 use Rattle.line_tape.specs.History.{Process, tape_at, with_event}
 use Rattle.line_catalogue.specs.declared.rows.Row.{Row}
 use Rattle.line_catalogue.specs.Agreement.{AgreesNext}
@@ -27,12 +27,12 @@ taken (Err TapeFull) memory process long full = absurd (full refl)
 
 pub unwrap-requires : goal.unwrap-requires
 unwrap-requires c =
-    let history : List Process = c.self.inside.history.processes in
+    let history : List Process = c.self.inside.ledger.processes in
     let seen : history ≡ c.args.self.now.processes = ap (λ (v : CatalogueView). v.processes) c.self.view_is in
     let within : c.args.p < length history = omega (arith, c.requires.process, ap (λ (xs : List Process). length xs) seen) in
     let named : NamesBelow (length history) c.args.event = subst (λ (xs : List Process). NamesBelow (length xs) c.args.event) (sym seen) c.requires.named in
     let few : length (tape_at history c.args.p) ≢ MOST_EVENTS = subst (λ (xs : List Process). length (tape_at xs c.args.p) ≢ MOST_EVENTS) (sym seen) c.requires.few in
-    let room = lesser_at c.self.inside.history.rooms c.self.inside.rows.rooms c.args.p in
+    let room = lesser_at c.self.inside.ledger.rooms c.self.inside.rows.rooms c.args.p in
     taken c.push.result
     (c.push.ensures.room (omega (arith, c.requires.room, ap (λ (v : CatalogueView). room_at v c.args.p) c.self.view_is, room)))
     (λ e. elim (c.push.ensures.process.0 e) [ inl past ↦ absurd (omega arith) | inr unnamed ↦ unnamed named ])
@@ -41,7 +41,7 @@ unwrap-requires c =
 
 pub append-requires-clause-named : goal.append-requires-clause-named
 append-requires-clause-named c =
-    let history : List Process = c.self.inside.history.processes in
+    let history : List Process = c.self.inside.ledger.processes in
     let seen : history ≡ c.args.self.now.processes = ap (λ (v : CatalogueView). v.processes) c.self.view_is in
     let within : c.args.p < length history = omega (arith, c.requires.process, ap (λ (xs : List Process). length xs) seen) in
     let long : length (present_at c.self.inside.rows.presents c.args.p) ≡ length c.args.self.now.processes = length-present history c.self.inside.marks c.self.inside.rows.rows c.self.inside.rows.presents c.args.p within c.self.invariant ∙ ap (λ (xs : List Process). length xs) seen in
@@ -49,7 +49,7 @@ append-requires-clause-named c =
 
 pub invariant_of-self : goal.invariant_of-self
 invariant_of-self c =
-    let history : List Process = c.self.inside.history.processes in
+    let history : List Process = c.self.inside.ledger.processes in
     let marks : MarksView = c.self.inside.marks in
     let rows : List (List Row) = c.self.inside.rows.rows in
     let presents : List (List ℕ) = c.self.inside.rows.presents in
@@ -60,8 +60,9 @@ invariant_of-self c =
     let within : p < length history = omega (arith, c.requires.process, ap (λ (xs : List Process). length xs) seen) in
     let named : NamesBelow (length history) event = subst (λ (xs : List Process). NamesBelow (length xs) event) (sym seen) c.requires.named in
     let next : AgreesNext history p event = subst (λ (xs : List Process). AgreesNext xs p event) (sym seen) c.requires.agrees in
-    let place_is : place ≡ length (tape_at history p) + 1 = ap (λ k. k + 1) (c.len-place.ensures.value ∙ ap (λ (es : List Event). length es) c.tape-tape.ensures.events) in
-    let sent_is : c.sends-sends.result ≡ sends (tape_at history p) = c.sends-sends.ensures.value ∙ ap sends c.tape-tape.ensures.events in
+    let tape_is : c.tape-tape.result.now.events ≡ tape_at history p = c.tape-tape.ensures.events ∙ ap (λ (v : HistoryView). tape_at v.processes p) c.history.ensures in
+    let place_is : place ≡ length (tape_at history p) + 1 = ap (λ k. k + 1) (c.len-place.ensures.value ∙ ap (λ (es : List Event). length es) tape_is) in
+    let sent_is : c.sends-sends.result ≡ sends (tape_at history p) = c.sends-sends.ensures.value ∙ ap sends tape_is in
     let grown : c.push.new.self.processes ≡ with_event history p event = IfOk-at_ok (λ x. c.push.new.self.processes ≡ with_event history p event) c.unwrap.ensures c.push.ensures.ok in
     subst (λ (xs : List Process). IsCatalogue xs marks c.append.new.self.rows c.append.new.self.presents) (sym grown)
     (subst (λ (ys : List (List ℕ)). IsCatalogue (with_event history p event) marks c.append.new.self.rows ys) (sym c.append.ensures.presents)

@@ -11,7 +11,7 @@ use Rattle.line_catalogue.proofs.catalogues.Catalogue.damage.Goals as goal
 
 pub invariant_of-self-2 : goal.invariant_of-self-2
 invariant_of-self-2 c =
-    let history : List Process = c.self.inside.history.processes in
+    let history : List Process = c.self.inside.ledger.processes in
     let marks : MarksView = c.self.inside.marks in
     let rows : List (List Row) = c.self.inside.rows.rows in
     let presents : List (List ℕ) = c.self.inside.rows.presents in

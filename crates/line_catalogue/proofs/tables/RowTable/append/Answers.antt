@@ -1,5 +1,5 @@
 -- The rows and the vector of one process follow the event.
-use Rattle.std.proofs.Common.{◌≡◌, ◌<◌, ◌≤◌, length, map, get_or, set, [], List, ℕ, sym, ap, ◌∙◌, subst, arith}
+use Rattle.std.proofs.Common.{◌≡◌, ◌<◌, length, map, get_or, set, [], List, ℕ, sym, ap, ◌∙◌, arith}
 use Rattle.std.proofs.lemmas.List.{length-map}
 use Rattle.line_tape.specs.declared.events.Event.{Event}
 use Rattle.line_catalogue.specs.declared.rows.Row.{Row}

@@ -1,8 +1,8 @@
 -- One row of one process changes.
-use Rattle.std.proofs.Common.{◌≡◌, ◌<◌, ◌≤◌, length, map, get_or, set, [], List, ℕ, sym, ap, ◌∙◌, subst, arith}
+use Rattle.std.proofs.Common.{◌≡◌, ◌<◌, length, map, get_or, set, [], List, ℕ, sym, ap, ◌∙◌, arith}
 use Rattle.std.proofs.lemmas.List.{length-map}
 use Rattle.line_catalogue.specs.declared.rows.Row.{Row}
-use Rattle.line_catalogue.specs.Kept.{RowsView, TableView, rows_at, present_at}
+use Rattle.line_catalogue.specs.Kept.{RowsView, TableView, rows_at}
 use Rattle.line_catalogue.specs.Plain.{plain, present_of, room_of}
 use Rattle.line_catalogue.specs.Rows.{with_damage}
 use Rattle.line_catalogue.proofs.TableLemmas.{seen-old, seen-written, seen-same}

@@ -67,18 +67,22 @@ pub restarted_links-requires-clause-queued : goal.restarted_links-requires-claus
 restarted_links-requires-clause-queued c =
     subst (λ (h : List Process). AreQueues h c.self.inside.links) (sym c.history-history.ensures.processes) c.self.invariant.0.queued
 
-pub restart-requires-clause-line : goal.restart-requires-clause-line
-restart-requires-clause-line c =
+pub restart_with-requires-clause-line : goal.restart_with-requires-clause-line
+restart_with-requires-clause-line c =
     subst (λ (m : Machine). IsLine m.history c.in_ok-plan.plan.line) (sym c.self.view_is)
     (IsLine-latest c.args.self.now.history c.args.self.now.marks c.args.failed.now c.in_ok-plan.plan.line c.in_ok-plan.ensures.plan.latest)
 
-pub restart-requires-clause-consistent : goal.restart-requires-clause-consistent
-restart-requires-clause-consistent c =
+pub restart_with-requires-clause-consistent : goal.restart_with-requires-clause-consistent
+restart_with-requires-clause-consistent c =
     subst (λ (m : Machine). IsConsistent m.history c.in_ok-plan.plan.line) (sym c.self.view_is) c.in_ok-plan.ensures.plan.latest.recoverable.consistent
 
-pub restart-requires-clause-further : goal.restart-requires-clause-further
-restart-requires-clause-further c =
+pub restart_with-requires-clause-further : goal.restart_with-requires-clause-further
+restart_with-requires-clause-further c =
     subst (λ (h : List Process). HaveFurther h c.in_ok-plan.plan.line) c.history-history.ensures.processes (c.has_further.ensures.0 c.if-not-has_further.false)
+
+pub restart_with-requires-clause-left : goal.restart_with-requires-clause-left
+restart_with-requires-clause-left c =
+    c.in_ok-left.ensures.items ∙ c.as_slice.ensures.value ∙ c.in_ok-plan.ensures.plan.replays ∙ ap (λ (m : Machine). in_transit m.history c.in_ok-plan.plan.line) (sym c.self.view_is)
 
 pub invariant_of-self : goal.invariant_of-self
 invariant_of-self c =
@@ -90,14 +94,14 @@ invariant_of-self c =
     let size : length line ≡ length old = c.in_ok-plan.ensures.plan.latest.recoverable.length_is ∙ ap (λ (m : Machine). length m.history) (sym c.self.view_is) in
     let consistent : IsConsistent old line = subst (λ (m : Machine). IsConsistent m.history line) (sym c.self.view_is) c.in_ok-plan.ensures.plan.latest.recoverable.consistent in
     let queued : AreQueues old new = subst (λ (h : List Process). AreQueues h new) c.history-history.ensures.processes c.in_ok-links.ensures.queued in (
-      subst (λ (h : List Process). IsWorld mode h new) (sym c.restart.ensures.processes)
+      subst (λ (h : List Process). IsWorld mode h new) (sym c.restart_with.ensures.processes)
           (IsWorld-restart old links new line size consistent queued mode c.self.invariant.0
           (subst (λ (h : List Process). (p q : ℕ) → p < length h → q < length h → between new p q ≡ between (copies_in mode links) p q ++ map (λ m. Message m) (in_transit_between h line p q)) c.history-history.ensures.processes c.in_ok-links.ensures.put)),
-      subst (λ (h : List Process). AreRounds mode h c.self.inside.last_round (opened mode None None) c.keep_rounds.new.rounds.items) (sym c.restart.ensures.processes)
+      subst (λ (h : List Process). AreRounds mode h c.self.inside.last_round (opened mode None None) c.keep_rounds.new.rounds.items) (sym c.restart_with.ensures.processes)
           (subst (λ (rounds : List Listed). AreRounds mode (restarted old line) c.self.inside.last_round (opened mode None None) rounds) (sym c.keep_rounds.ensures)
           (subst (λ (o : Option OpenView). AreRounds mode (restarted old line) c.self.inside.last_round o (filter (stays line) c.self.inside.rounds.items)) (sym (none_opened mode))
           (AreRounds-restarted mode old line c.self.inside.last_round (opened mode c.self.inside.running c.self.inside.turning) c.self.inside.rounds.items size c.self.invariant.1))),
-      subst (λ (h : List Process). ArePainted mode h c.clear.new.self) (sym c.restart.ensures.processes)
+      subst (λ (h : List Process). ArePainted mode h c.clear.new.self) (sym c.restart_with.ensures.processes)
           (ArePainted-restart mode old line c.self.inside.colours c.clear.new.self size (c.clear.ensures.restart old line size) c.self.invariant.2),
     )
 
@@ -122,9 +126,9 @@ returns-clause-done c =
         further = subst (λ (h : List Process). HaveFurther h line) same (c.has_further.ensures.0 c.if-not-has_further.false);
         states_are = c.in_ok-states.ensures ∙ ap (λ (h : List Process). restored_states h line) same;
         incarnations_are = c.in_ok-incarnations.ensures ∙ ap (λ (h : List Process). map (λ (process : Process). process.incarnation) (restarted h line)) c.history-history.ensures.processes
-            ∙ ap (λ (h : List Process). map (λ (process : Process). process.incarnation) h) (sym c.restart.ensures.processes);
-        new_is = ap (λ (h : List Process). seen mode h c.restart.new.self.marks last c.keep_rounds.new.rounds.items new) c.restart.ensures.processes
-            ∙ ap (λ (v : MarksView). seen mode (restarted old line) v last c.keep_rounds.new.rounds.items new) c.restart.ensures.marks
+            ∙ ap (λ (h : List Process). map (λ (process : Process). process.incarnation) h) (sym c.restart_with.ensures.processes);
+        new_is = ap (λ (h : List Process). seen mode h c.restart_with.new.self.marks last c.keep_rounds.new.rounds.items new) c.restart_with.ensures.processes
+            ∙ ap (λ (v : MarksView). seen mode (restarted old line) v last c.keep_rounds.new.rounds.items new) c.restart_with.ensures.marks
             ∙ ap (λ (rounds : List Listed). seen mode (restarted old line) (restarted_marks marks line) last rounds new) c.keep_rounds.ensures
             ∙ ap (λ (copies : List (List (List MsgName))). let m : Machine = record { mode = mode; history = restarted old line; marks = restarted_marks marks line; last_round = last; rounds = filter (stays line) c.self.inside.rounds.items; copies = copies } in m)
             (seen-restart old links new line size consistent queued mode

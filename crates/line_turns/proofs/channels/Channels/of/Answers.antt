@@ -8,8 +8,8 @@ use Rattle.line_tape.specs.Transit.{in_transit, in_transit_between}
 use Rattle.line_turns.specs.Tables.{between, IsTable}
 use Rattle.line_turns.proofs.ChannelLemmas.{ArePut, addressee_within, sender_within, ArePut-end, ArePut-more, ArePut-none, ArePut-start}
 use Rattle.line_turns.proofs.TableLemmas.{between-none, table_of-all, IsTable-none}
-use Rattle.line_turns.proofs.channels.Channels.at.Goals.{in-Some+in_ok-push, in_default}
-use Rattle.line_turns.proofs.channels.Channels.at.Goals as goal
+use Rattle.line_turns.proofs.channels.Channels.of.Goals.{in-Some+in_ok-push, in_default}
+use Rattle.line_turns.proofs.channels.Channels.of.Goals as goal
 
 -- the channels that are made first, with nothing on them
 module _ (n : ℕ) (made : List (List (List MsgName))) (size : ℕ) (same : size ≡ n) (is : made ≡ replicate size (replicate size [])) where
@@ -22,7 +22,7 @@ module _ (n : ℕ) (made : List (List (List MsgName))) (size : ℕ) (same : size
 pub loop-message-init : goal.loop-message-init
 loop-message-init c =
     let history : List Process = c.args.history.now.processes in
-    ArePut-start (λ m. m) history c.in_ok-channels.channels c.deref-message-items.result.now (table-made (length history) c.in_ok-channels.channels c.n-n.result c.n-n.ensures.value c.in_ok-channels.ensures)
+    ArePut-start (λ m. m) history c.in_ok-channels.channels c.args.messages.now (table-made (length history) c.in_ok-channels.channels c.n-n.result c.n-n.ensures.value c.in_ok-channels.ensures)
 
 pub push-requires-clause-from : goal.push-requires-clause-from
 push-requires-clause-from c =
@@ -42,7 +42,7 @@ pub loop-message-preserved : goal.loop-message-preserved
 loop-message-preserved c =
     let history : List Process = c.args.history.now.processes in
     let old : List (List (List MsgName)) = c.in_ok-channels.channels in
-    let names : List MsgName = c.deref-message-items.result.now in
+    let names : List MsgName = c.args.messages.now in
     let i : ℕ = c.loop-message.message-index in
     let message : MsgName = c.message-item.result in
     let table : List (List (List MsgName)) = c.loop-message.channels in
@@ -57,11 +57,9 @@ loop-message-preserved c =
     ]
 
 pub returns-clause-transit : goal.returns-clause-transit
-returns-clause-transit c =
+returns-clause-transit c = λ line found.
     let history : List Process = c.args.history.now.processes in
-    let line : List Choice = c.args.line.now in
-    let names : List MsgName = c.deref-message-items.result.now in
-    let found : names ≡ in_transit history line = c.deref-message-items.ensures.value ∙ c.in_ok-messages.ensures in
+    let names : List MsgName = c.args.messages.now in
     table_of-all (length history) (in_transit_between history line) c.loop-message.channels c.loop-message.invariant.shape (λ p q p_within q_within.
     ArePut-end (λ m. m) history c.in_ok-channels.channels names line c.loop-message.message-index c.loop-message.channels found (omega arith) c.loop-message.invariant p q p_within q_within
     ∙ ap (λ (ms : List MsgName). ms ++ map (λ m. m) (in_transit_between history line p q)) (none-made (length history) c.in_ok-channels.channels c.n-n.result c.n-n.ensures.value c.in_ok-channels.ensures p q)

@@ -1,0 +1,200 @@
+-- What is left to look at: it stays right by every event and by a restart, and with what is received behind a line it is enough.
+use Rattle.std.proofs.Common.{◌≡◌, ℕ, zero, suc, ◌+◌, ◌<◌, ◌≤◌, Bool, true, false, not, cond, List, [], ◌∷◌, ◌++◌, length, take, drop, get_or, map, filter, Some, refl, sym, ap, ◌∙◌, subst, arith, inl, inr, Result, Ok, Err, OnOk, OnErr, IsErrOf}
+use Rattle.std.specs.List.{Contains, slice_get, flat_map, list_any, range_with_len}
+use Rattle.std.proofs.lemmas.Bool.{cases_lt, false≢true, false_from_ne_true}
+use Rattle.std.proofs.lemmas.List.{take-append-drop, length-append, length-set}
+use Rattle.std.proofs.lemmas.List.Elements.{filter_map-append, Contains-append_cases, Contains-append_left, Contains-append_right, Contains-push}
+use Rattle.std.proofs.lemmas.Option.{slice_get_within}
+use Rattle.line_names.specs.declared.choices.Choice.{Choice}
+use Rattle.line_names.specs.declared.messages.MsgName.{MsgName}
+use Rattle.line_names.specs.Lines.{choice_at}
+use Rattle.line_names.specs.Names.{is_name}
+use Rattle.line_tape.specs.declared.events.Event.{Event}
+use Rattle.line_tape.specs.declared.events.Event.TheVariants.{Recv}
+use Rattle.line_tape.specs.declared.histories.HistoryError.{HistoryError}
+use Rattle.line_tape.specs.declared.histories.HistoryError.TheVariants.{NoSuchProcess}
+use Rattle.line_tape.specs.Event.{incarnation_of, incarnations_sent, sends}
+use Rattle.line_tape.specs.Fit.{IsSentTo}
+use Rattle.line_tape.specs.Front.{place, front}
+use Rattle.line_tape.specs.History.{Process, tape_at, with_event}
+use Rattle.line_tape.specs.Line.{events_before}
+use Rattle.line_tape.specs.Restart.{restarted}
+use Rattle.line_tape.specs.Transit.{Letter, letters, is_open, open_letters, in_transit, has_received, names_received, addressee_of, addressees}
+use Rattle.line_tape.proofs.CopyLemmas.{length_addressees, slice_get_front}
+use Rattle.line_tape.proofs.CutLemmas.{contains_nothing, cons_cases, sends_take}
+use Rattle.line_tape.proofs.LetterLemmas.{addressees_restarted}
+use Rattle.line_tape.proofs.LineLemmas.{tape_at-past, front-empty}
+use Rattle.line_tape.proofs.LinkLemmas.{tape_restarted}
+use Rattle.line_tape.proofs.ReceivedLemmas.{length-letters}
+use Rattle.line_tape.proofs.SpentLemmas.{tape_grows, incs_restarted, length_restarted}
+use Rattle.line_tape.proofs.StayLemmas.{names_restarted}
+use Rattle.line_tape.proofs.TransitLemmas.{letter_of, has_received-iff, names_contain}
+use Rattle.line_catalogue.specs.Left.{start_at, numbers_at, AreLeft, AreCandidates, HasOpen}
+use Rattle.line_catalogue.proofs.OpenLemmas.{letter_at}
+
+-- what is left and what is received behind the line is enough to look at
+pub has-open : (history : List Process) (line : List Choice) (starts : List ℕ) (left : List MsgName) (rows : List (List ℕ)) (p : ℕ) → AreLeft history starts left → AreCandidates history line left rows → p < length history
+    → HasOpen history line p (start_at starts p) (numbers_at rows p)
+has-open history line starts left rows p are cand inside = λ q m from low sent unseen.
+    let tape : List Event = tape_at history q in
+    let n : ℕ = place tape (choice_at line q) in
+    let there : m.from < length rows = omega (arith, from, inside, cand.count) in
+    let early : m.number < start_at starts m.from = omega (arith, low, ap (start_at starts) from) in
+    subst (λ (j : ℕ). Contains (numbers_at rows j) m.number) from (elim (has_received tape m) as (λ (b : Bool). has_received tape m ≡ b → Contains (numbers_at rows m.from) m.number) [
+      | true ↦ λ e.
+          let received : Contains tape (Recv m) = (has_received-iff tape m).0 e in
+          let within : q < length history = elim (cases_lt q (length history)) [
+            | inl h ↦ h
+            | inr past ↦ absurd (contains_nothing (Recv m) (subst (λ (es : List Event). Contains es (Recv m)) (tape_at-past history q (omega arith)) received))
+          ] in
+          elim (Contains-append_cases (take n tape) (drop n tape) (Recv m) (subst (λ (es : List Event). Contains es (Recv m)) (sym (take-append-drop n tape)) received)) [
+            | inl front ↦ absurd (false≢true (sym unseen ∙ (has_received-iff (take n tape) m).1 front))
+            | inr behind ↦ cand.behind q within m ((names_contain (drop n tape) m).1 behind) there
+          ]
+      | false ↦ λ e. cand.before m (are.held q m sent early e) there
+    ] refl)
+
+-- an event keeps it right: a send, a receipt, a check and a mark alike
+pub AreLeft-event : (history : List Process) (starts : List ℕ) (left : List MsgName) (at : ℕ) (e : Event) → at < length history → AreLeft history starts left → AreLeft (with_event history at e) starts left
+AreLeft-event history starts left at e h are =
+    let new : List Process = with_event history at e in
+    record {
+      count = are.count ∙ sym (length-set history at _);
+      within = λ p.
+          let grows = tape_grows history at e p h in
+          let tape : List Event = tape_at history p in
+          let parts : incarnations_sent (tape_at new p) ≡ incarnations_sent tape ++ incarnations_sent grows.0 = ap incarnations_sent grows.1 ∙ filter_map-append incarnation_of tape grows.0 in
+          omega (arith, are.within p, ap length parts, length-append (incarnations_sent tape) (incarnations_sent grows.0));
+      held = λ q m sent low unseen.
+          let grows = tape_grows history at e m.from h in
+          let tape : List Event = tape_at history m.from in
+          let short : m.number < length (incarnations_sent tape) = omega (arith, low, are.within m.from) in
+          let incs : incarnations_sent (tape_at new m.from) ≡ incarnations_sent tape ++ incarnations_sent grows.0 = ap incarnations_sent grows.1 ∙ filter_map-append incarnation_of tape grows.0 in
+          let tos : addressees (tape_at new m.from) ≡ addressees tape ++ addressees grows.0 = ap addressees grows.1 ∙ filter_map-append addressee_of tape grows.0 in
+          let old : IsSentTo history q m = record {
+            held = slice_get_front (incarnations_sent tape) (incarnations_sent grows.0) m.number m.inc short (ap (λ (xs : List ℕ). slice_get xs m.number) (sym incs) ∙ sent.held);
+            to_is = slice_get_front (addressees tape) (addressees grows.0) m.number q (omega (arith, short, length_addressees tape)) (ap (λ (xs : List ℕ). slice_get xs m.number) (sym tos) ∙ sent.to_is);
+          } in
+          let more = tape_grows history at e q h in
+          let mine : List Event = tape_at history q in
+          are.held q m old low (false_from_ne_true (has_received mine m) (λ t. false≢true (sym unseen ∙ ap (λ (es : List Event). has_received es m) more.1 ∙ (has_received-iff (mine ++ more.0) m).1 (Contains-append_left mine more.0 (Recv m) ((has_received-iff mine m).0 t)))));
+    }
+
+contains_cons : {X : Type 0} (x y : X) (xs : List X) → Contains xs y → Contains (x ∷ xs) y
+contains_cons x y xs c = Contains-append_right (x ∷ []) xs y c
+
+contains_first : {X : Type 0} (x : X) (xs : List X) → Contains (x ∷ xs) x
+contains_first x xs = Contains-append_left (x ∷ []) xs x (Contains-push [] x)
+
+-- what passes a test stays among what passes it
+in_filter : {X : Type 0} (f : X → Bool) (xs : List X) (y : X) → f y ≡ true → Contains xs y → Contains (filter f xs) y
+in_filter f [] y t c = absurd (contains_nothing y c)
+in_filter f (x ∷ xs) y t c = elim (cons_cases x xs y c) [
+  | inl same ↦
+      let here : f x ≡ true = ap f same ∙ t in
+      let whole : filter f (x ∷ xs) ≡ x ∷ filter f xs = ap (λ b. cond b (x ∷ filter f xs) (filter f xs)) here in
+      subst (λ ys. Contains ys y) (sym whole) (subst (Contains (x ∷ filter f xs)) same (contains_first x (filter f xs)))
+  | inr later ↦ elim (f x) as (λ (b : Bool). Contains (cond b (x ∷ filter f xs) (filter f xs)) y) [
+    | true ↦ contains_cons x y (filter f xs) (in_filter f xs y t later)
+    | false ↦ in_filter f xs y t later
+  ]
+]
+
+in_map : {X Y : Type 0} (f : X → Y) (xs : List X) (x : X) → Contains xs x → Contains (map f xs) (f x)
+in_map f [] x c = absurd (contains_nothing x c)
+in_map f (z ∷ xs) x c = elim (cons_cases z xs x c) [
+  | inl same ↦ subst (Contains (f z ∷ map f xs)) (ap f same) (contains_first (f z) (map f xs))
+  | inr later ↦ contains_cons (f z) (f x) (map f xs) (in_map f xs x later)
+]
+
+in_flat_map : {Y : Type 0} (f : ℕ → List Y) (n a p : ℕ) (y : Y) → a ≤ p → p < a + n → Contains (f p) y → Contains (flat_map f (range_with_len a n)) y
+in_flat_map f zero a p y l h c = absurd (omega (arith, l, h))
+in_flat_map f (suc n) a p y l h c = elim (cases_lt a p) [
+  | inl below ↦ Contains-append_right (f a) (flat_map f (range_with_len (a + 1) n)) y (in_flat_map f n (a + 1) p y (omega arith) (omega (arith, h)) c)
+  | inr not ↦
+      let same : p ≡ a = omega (arith, l) in
+      Contains-append_left (f a) (flat_map f (range_with_len (a + 1) n)) y (subst (λ (q : ℕ). Contains (f q) y) same c)
+]
+
+-- a message that is sent before the line and not received before it is in transit
+pub in-transit : (history : List Process) (line : List Choice) (q : ℕ) (m : MsgName) → m.from < length history → slice_get (incarnations_sent (events_before history line m.from)) m.number ≡ Some m.inc
+    → slice_get (addressees (events_before history line m.from)) m.number ≡ Some q → has_received (events_before history line q) m ≡ false → Contains (in_transit history line) m
+in-transit history line q m inside i a unseen =
+    let before : List Event = events_before history line m.from in
+    let all : List Letter = letters m.from 0 before in
+    let letter : Letter = record { message = m; to = q } in
+    let number : 0 + m.number ≡ m.number = omega arith in
+    let at : get_or all m.number letter ≡ letter = letter_at m.from 0 before m.number m.inc q letter i a ∙ ap (λ j. letter_of m.from m.inc j q) number in
+    let within : m.number < length all = omega (arith, length-letters m.from 0 before, slice_get_within (incarnations_sent before) m.number m.inc i) in
+    let passes : is_open history line letter ≡ true = ap not unseen in
+    let among : Contains all letter = contains_at all m.number letter within at in
+    in_flat_map (λ p. map (λ (letter : Letter). letter.message) (open_letters history line p)) (length history) 0 m.from m (omega arith) (omega (arith, inside)) (in_map (λ (letter : Letter). letter.message) (open_letters history line m.from) letter (in_filter (is_open history line) all letter passes among))
+  where
+    contains_at : {X : Type 0} (xs : List X) (k : ℕ) (x : X) → k < length xs → get_or xs k x ≡ x → Contains xs x
+    contains_at xs k x within at = (k, within, at)
+
+-- nothing stands before a line past the processes
+pub past-empty : (history : List Process) (line : List Choice) (p : ℕ) → length history ≤ p → events_before history line p ≡ []
+past-empty history line p past = ap (λ (tape : List Event). front tape (choice_at line p)) (tape_at-past history p past) ∙ front-empty (choice_at line p)
+
+-- what was sent before the starts, by a process that there is
+sender-within : (history : List Process) (line : List Choice) (starts : List ℕ) (p k : ℕ) → start_at starts p ≡ sends (events_before history line p) → k < start_at starts p → p < length history
+sender-within history line starts p k are low = elim (cases_lt p (length history)) [
+  | inl h ↦ h
+  | inr past ↦ absurd (omega (arith, low, are, ap (λ (es : List Event). sends es) (past-empty history line p (omega arith))))
+]
+
+-- what is in transit at any line is enough to be left, with the sends behind it
+pub AreLeft-line : (history : List Process) (line : List Choice) (starts : List ℕ) → length starts ≡ length history → ((p : ℕ) → start_at starts p ≡ sends (events_before history line p)) → AreLeft history starts (in_transit history line)
+AreLeft-line history line starts count are =
+    record {
+      count = count;
+      within = λ p. omega (arith, are p, sends_take (tape_at history p) (place (tape_at history p) (choice_at line p)));
+      held = λ q m sent low unseen.
+          let tape : List Event = tape_at history m.from in
+          let n : ℕ = place tape (choice_at line m.from) in
+          let mine : List Event = tape_at history q in
+          let k : ℕ = place mine (choice_at line q) in
+          let short : m.number < length (incarnations_sent (take n tape)) = omega (arith, low, are m.from) in
+          let incs : incarnations_sent tape ≡ incarnations_sent (take n tape) ++ incarnations_sent (drop n tape) = ap incarnations_sent (sym (take-append-drop n tape)) ∙ filter_map-append incarnation_of (take n tape) (drop n tape) in
+          let tos : addressees tape ≡ addressees (take n tape) ++ addressees (drop n tape) = ap addressees (sym (take-append-drop n tape)) ∙ filter_map-append addressee_of (take n tape) (drop n tape) in
+          let i : slice_get (incarnations_sent (take n tape)) m.number ≡ Some m.inc = slice_get_front (incarnations_sent (take n tape)) (incarnations_sent (drop n tape)) m.number m.inc short (ap (λ (xs : List ℕ). slice_get xs m.number) (sym incs) ∙ sent.held) in
+          let a : slice_get (addressees (take n tape)) m.number ≡ Some q = slice_get_front (addressees (take n tape)) (addressees (drop n tape)) m.number q (omega (arith, short, length_addressees (take n tape))) (ap (λ (xs : List ℕ). slice_get xs m.number) (sym tos) ∙ sent.to_is) in
+          let unread : has_received (take k mine) m ≡ false =
+          false_from_ne_true (has_received (take k mine) m) (λ t. false≢true (sym unseen ∙ (has_received-iff mine m).1 (subst (λ (es : List Event). Contains es (Recv m)) (take-append-drop k mine) (Contains-append_left (take k mine) (drop k mine) (Recv m) ((has_received-iff (take k mine) m).0 t)))))
+          in
+          in-transit history line q m (sender-within history line starts m.from m.number (are m.from) low) i a unread;
+    }
+
+-- after a restart what was in transit at the line is left to look at, from where the tapes go on
+pub AreLeft-restarted : (history : List Process) (line : List Choice) (starts : List ℕ) → length line ≡ length history → length starts ≡ length history → ((p : ℕ) → start_at starts p ≡ sends (events_before history line p))
+    → AreLeft (restarted history line) starts (in_transit history line)
+AreLeft-restarted history line starts e count are =
+    record {
+      count = count ∙ sym (length_restarted history line e);
+      within = λ p. omega (arith, are p, ap (λ (xs : List ℕ). length xs) (incs_restarted history line p e));
+      held = λ q m sent low unseen.
+          let i : slice_get (incarnations_sent (events_before history line m.from)) m.number ≡ Some m.inc = ap (λ (xs : List ℕ). slice_get xs m.number) (sym (incs_restarted history line m.from e)) ∙ sent.held in
+          let tos : addressees (tape_at (restarted history line) m.from) ≡ addressees (events_before history line m.from) = ap addressees (tape_restarted history line m.from e) ∙ addressees_restarted (events_before history line m.from) in
+          let names : names_received (tape_at (restarted history line) q) ≡ names_received (events_before history line q) = ap names_received (tape_restarted history line q e) ∙ names_restarted (events_before history line q) in
+          in-transit history line q m (sender-within history line starts m.from m.number (are m.from) low) i (ap (λ (xs : List ℕ). slice_get xs m.number) (sym tos) ∙ sent.to_is) (ap (list_any (is_name m)) (sym names) ∙ unseen);
+    }
+
+-- so it stays right whether an event is added or refused
+pub AreLeft-push : (r : Result (Unit {0}) HistoryError) (old new : List Process) (starts : List ℕ) (left : List MsgName) (at : ℕ) (e : Event) → OnOk r (new ≡ with_event old at e) → OnErr r (new ≡ old) → (length old ≤ at → IsErrOf r NoSuchProcess)
+    → AreLeft old starts left → AreLeft new starts left
+AreLeft-push (Ok u) old new starts left at e ok err out are =
+    let within : at < length old = elim (cases_lt at (length old)) [
+      | inl h ↦ h
+      | inr past ↦ absurd (cc (out (omega arith)))
+    ] in
+    subst (λ (h : List Process). AreLeft h starts left) (sym ok) (AreLeft-event old starts left at e within are)
+AreLeft-push (Err f) old new starts left at e ok err out are = subst (λ (h : List Process). AreLeft h starts left) (sym err) are
+
+-- where each send is to be looked at, nothing has to be left
+pub AreLeft-anew : (history : List Process) (starts : List ℕ) (left : List MsgName) → length starts ≡ length history → ((p : ℕ) → start_at starts p ≡ 0) → AreLeft history starts left
+AreLeft-anew history starts left count none = record {
+  count = count;
+  within = λ p. omega (arith, none p);
+  held = λ q m sent low unseen. absurd (omega (arith, low, none m.from));
+}

@@ -1,0 +1,23 @@
+-- What was in transit at the line is left to look at.
+use Rattle.std.proofs.Common.{◌≡◌, ℕ, List, length, sym, ap, ◌∙◌, subst}
+use Rattle.line_names.specs.declared.choices.Choice.{Choice}
+use Rattle.line_names.specs.declared.messages.MsgName.{MsgName}
+use Rattle.line_tape.specs.History.{Process}
+use Rattle.line_tape.specs.Restart.{restarted}
+use Rattle.line_tape.specs.Transit.{in_transit}
+use Rattle.line_tape.specs.Views.{HistoryView}
+use Rattle.line_catalogue.specs.Left.{AreLeft}
+use Rattle.line_catalogue.proofs.LeftLemmas.{AreLeft-restarted}
+use Rattle.line_catalogue.proofs.ledgers.Ledger.restart_with.Goals as goal
+
+pub invariant_of-self : goal.invariant_of-self
+invariant_of-self c =
+    let old : List Process = c.self.inside.history.processes in
+    let line : List Choice = c.args.line.now in
+    let starts : List ℕ = c.move_starts.new.starts.items in
+    let seen : old ≡ c.args.self.now.processes = ap (λ (v : HistoryView). v.processes) c.self.view_is in
+    let enough : length line ≡ length old = c.requires.line.length_is ∙ sym (ap (λ (h : List Process). length h) seen) in
+    let new : c.restart.new.self.processes ≡ restarted old line = c.restart.ensures.processes in
+    let told : c.args.left.items ≡ in_transit old line = c.requires.left ∙ ap (λ (h : List Process). in_transit h line) (sym seen) in
+    let are : AreLeft (restarted old line) starts (in_transit old line) = AreLeft-restarted old line starts enough c.move_starts.ensures.count c.move_starts.ensures.starts in
+    subst (λ (h : List Process). AreLeft h starts c.args.left.items) (sym new) (subst (λ (left : List MsgName). AreLeft (restarted old line) starts left) (sym told) are)

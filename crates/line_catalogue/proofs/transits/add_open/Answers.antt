@@ -1,0 +1,34 @@
+-- First what the row tells, then each send since.
+use Rattle.std.proofs.Common.{◌≡◌, ◌≤◌, ◌++◌, ℕ, List, length, map, filter, sym, ap, ◌∙◌, subst, arith}
+use Rattle.std.specs.List.{Contains}
+use Rattle.std.proofs.lemmas.List.{take_all}
+use Rattle.line_names.specs.declared.choices.Choice.{Choice}
+use Rattle.line_tape.specs.declared.events.Event.{Event}
+use Rattle.line_tape.specs.Event.{sends}
+use Rattle.line_tape.specs.Front.{front}
+use Rattle.line_tape.specs.History.{Process, tape_at}
+use Rattle.line_tape.specs.Line.{events_before}
+use Rattle.line_tape.specs.Transit.{Letter, letters, is_open}
+use Rattle.line_tape.proofs.ReceivedLemmas.{length-letters}
+use Rattle.line_catalogue.proofs.transits.add_open.Goals as goal
+
+pub add_old-requires-clause-held : goal.add_old-requires-clause-held
+add_old-requires-clause-held c = λ q m from low sent unseen.
+    subst (λ (row : List ℕ). Contains row m.number) (sym c.as_slice.ensures) (c.sort.ensures.kept m.number (c.requires.held q m from (omega (arith, low, c.min-end.ensures)) sent unseen))
+
+pub loop-number-init : goal.loop-number-init
+loop-number-init c = c.in_ok-add_old.ensures
+
+pub loop-number-preserved : goal.loop-number-preserved
+loop-number-preserved c = c.in_ok-add_if_open.ensures c.args.messages.now.items c.loop-number.invariant
+
+pub returns : goal.returns
+returns c =
+    let history : List Process = c.args.history.now.processes in
+    let line : List Choice = c.args.line.now in
+    let p : ℕ = c.args.p in
+    let before : List Event = events_before history line p in
+    let all : List Letter = letters p 0 before in
+    let fronts : front c.tape.result.now.events c.at.result ≡ before = ap (λ (t : List Event). front t c.at.result) c.tape.ensures.events ∙ ap (front (tape_at history p)) c.at.ensures in
+    let past : length all ≤ c.loop-number.number = omega (arith, length-letters p 0 before, c.sends_before-sends.ensures, ap (λ (es : List Event). sends es) fronts) in
+    c.loop-number.invariant ∙ ap (λ (xs : List Letter). c.args.messages.now.items ++ map (λ (letter : Letter). letter.message) (filter (is_open history line) xs)) (take_all c.loop-number.number all past)

@@ -1,0 +1,52 @@
+-- What is kept so that what is in transit is found from little: what was in transit at some line, and the sends before it.
+use Rattle.std.specs.Prelude.{◌≡◌, ℕ, ◌<◌, ◌≤◌, false, List, [], length, map, filter, take, drop, Contains, slice_index_or}
+use Rattle.line_names.specs.declared.choices.Choice.{Choice}
+use Rattle.line_names.specs.declared.messages.MsgName.{MsgName}
+use Rattle.line_names.specs.Lines.{choice_at}
+use Rattle.line_tape.specs.declared.events.Event.{Event}
+use Rattle.line_tape.specs.Event.{sends}
+use Rattle.line_tape.specs.Fit.{IsSentTo}
+use Rattle.line_tape.specs.Front.{place}
+use Rattle.line_tape.specs.History.{Process, tape_at}
+use Rattle.line_tape.specs.Line.{events_before}
+use Rattle.line_tape.specs.Transit.{Letter, letters, is_open, has_received, names_received}
+
+-- how many first sends of process p are not to be looked at again, but for those that are left
+abbrev pub start_at : List ℕ → ℕ → ℕ
+start_at starts p = slice_index_or starts p 0
+
+-- of what was sent before the starts, all that isn't received is left to look at
+pub record AreLeft (history : List Process) (starts : List ℕ) (left : List MsgName) : Type 0 where
+  pub count : length starts ≡ length history
+  pub within : (p : ℕ) → start_at starts p ≤ sends (tape_at history p)
+  pub held : (q : ℕ) (message : MsgName) → IsSentTo history q message → message.number < start_at starts message.from
+      → has_received (tape_at history q) message ≡ false → Contains left message
+
+-- what process p did behind its choice
+abbrev pub events_behind : List Process → List Choice → ℕ → List Event
+events_behind history line p = drop (place (tape_at history p) (choice_at line p)) (tape_at history p)
+
+-- the row of process p
+abbrev pub numbers_at : List (List ℕ) → ℕ → List ℕ
+numbers_at rows p = slice_index_or rows p []
+
+-- the numbers of these messages stand in the rows of their senders
+abbrev pub AreIn : List MsgName → List (List ℕ) → Type 0
+AreIn names rows = (message : MsgName) → Contains names message → message.from < length rows → Contains (numbers_at rows message.from) message.number
+
+-- for each process a row, with what is left to look at and what is received behind the line
+pub record AreCandidates (history : List Process) (line : List Choice) (left : List MsgName) (rows : List (List ℕ)) : Type 0 where
+  pub count : length rows ≡ length history
+  pub before : AreIn left rows
+  pub behind : (q : ℕ) → q < length history → AreIn (names_received (events_behind history line q)) rows
+
+-- the row has the numbers of process p's first `end` messages that aren't received before the line
+abbrev pub HasOpen : List Process → List Choice → ℕ → ℕ → List ℕ → Type 0
+HasOpen history line p end row =
+    (q : ℕ) (message : MsgName) → message.from ≡ p → message.number < end → IsSentTo history q message
+    → has_received (events_before history line q) message ≡ false → Contains row message.number
+
+-- what is in transit of the first k messages of process p
+abbrev pub open_first : List Process → List Choice → ℕ → ℕ → List MsgName
+open_first history line p k =
+    map (λ (letter : Letter). letter.message) (filter (is_open history line) (take k (letters p 0 (events_before history line p))))

@@ -1,0 +1,45 @@
+//! Which sends to look at.
+ghost use Rattle.std.specs.Prelude.{◌≡◌, ◌<◌, ℕ, length, IfOk};
+ghost use Rattle.line_tape.specs.Line.{IsLine};
+ghost use Rattle.line_catalogue.specs.Left.{events_behind, AreCandidates};
+
+use crate::numbers::{Numbers, add_names, add_receipts, empty_rows};
+use line_names::{Choice, Line, MsgName, ProcId};
+use line_tape::{Event, History};
+use std::alloc::{AllocError, Global};
+
+/// What a process did behind its choice.
+fn events_behind<'a>(history: &'a History, line: &Line, q: ProcId) -> &'a [Event]
+    requires line { IsLine history.now.processes line.now }
+    requires process { q < length history.now.processes }
+    ensures { result.now ≡ events_behind history.now.processes line.now q }
+{
+    let tape = history.tape(q);
+    let events = tape.front(Choice::Now);
+    match tape.place(line.at(q)) {
+        Some(place) => &events[place as usize..],
+        None => &[],
+    }
+}
+
+/// For each process the numbers of sends to look at: of what was kept, and of what is received
+/// behind the line.
+pub fn candidates(
+    history: &History,
+    left: &[MsgName],
+    alloc: Global,
+    line: &Line,
+) -> Result<Vec<Numbers>, AllocError>
+    requires { IsLine history.now.processes line.now }
+    ensures { IfOk result (λ rows.
+        AreCandidates history.now.processes line.now left.now rows.items) }
+{
+    let n = history.n();
+    let mut rows = empty_rows(alloc, n)?;
+    add_names(left, &mut rows)?;
+    for receiver in 0..n {
+        let q = ProcId::try_new(receiver, n).unwrap();
+        add_receipts(events_behind(history, line, q), &mut rows)?;
+    }
+    Ok(rows)
+}

@@ -1,0 +1,228 @@
+//! A history, and beside it what is left to look at, so that little tells what is in transit.
+ghost use Rattle.std.specs.Prelude.{◌≡◌, ◌≢◌, ◌<◌, ◌≤◌, ◌+◌, ◌↔◌, ◌⊎◌, ℕ, length, replicate};
+ghost use Rattle.std.specs.Prelude.{IfOk, IfSome, IsErrOf, IsOk, OnErr, OnOk};
+ghost use Rattle.line_tape.specs.Event.{sends, HasLongState, NamesBelow};
+ghost use Rattle.line_tape.specs.History.{tape_at, with_event};
+ghost use Rattle.line_tape.specs.Line.{events_before, IsLine};
+ghost use Rattle.line_tape.specs.Restart.{restarted, HaveFurther};
+ghost use Rattle.line_tape.specs.Transit.{in_transit};
+ghost use Rattle.line_tape.specs.Views.{room_at};
+ghost use Rattle.line_catalogue.specs.Left.{start_at, AreLeft};
+
+use crate::candidates::candidates;
+use crate::transits::add_open;
+use line_names::{Line, MsgName, ProcId};
+use line_tape::{Event, History, HistoryError, MOST_EVENTS};
+use std::alloc::{AllocError, Global};
+use std::marker::Model;
+
+/// The messages in transit at a line, by sender, then number.
+fn find_transit(
+    history: &History,
+    starts: &[u32],
+    left: &[MsgName],
+    alloc: Global,
+    line: &Line,
+) -> Result<Vec<MsgName>, AllocError>
+    requires line { IsLine history.now.processes line.now }
+    requires left { AreLeft history.now.processes starts.now left.now }
+    ensures { IfOk result (λ messages. messages.items ≡ in_transit history.now.processes line.now) }
+{
+    let n = history.n();
+    let mut rows = candidates(history, left, alloc, line)?;
+    let mut messages = Vec::new(alloc);
+    for sender in 0..n {
+        let p = ProcId::try_new(sender, n).unwrap();
+        let start = starts[sender as usize];
+        add_open(
+            history,
+            line,
+            p,
+            start,
+            &mut rows[sender as usize],
+            &mut messages,
+        )?;
+    }
+    Ok(messages)
+}
+
+/// The starts of `n` processes of whose sends each is to be looked at.
+fn no_starts(alloc: Global, n: u32) -> Result<Vec<u32>, AllocError>
+    ensures { IfOk result (λ starts. starts.items ≡ replicate n 0) }
+{
+    vec![in alloc; 0; n as usize]
+}
+
+/// Has each send be looked at.
+fn clear_starts(starts: &mut Vec<u32>)
+    ensures count { length starts.new.items ≡ length starts.old.items }
+    ensures starts { (p : ℕ) → start_at starts.new.items p ≡ 0 }
+{
+    for p in 0..starts.len() {
+        starts[p] = 0;
+    }
+}
+
+/// Has each start be the number of sends before the process's choice of the line.
+fn move_starts(history: &History, line: &Line, starts: &mut Vec<u32>)
+    requires line { IsLine history.now.processes line.now }
+    requires count { length starts.old.items ≡ length history.now.processes }
+    ensures count { length starts.new.items ≡ length history.now.processes }
+    ensures starts { (p : ℕ)
+        → start_at starts.new.items p ≡ sends (events_before history.now.processes line.now p) }
+{
+    let n = history.n();
+    for q in 0..n {
+        let p = ProcId::try_new(q, n).unwrap();
+        starts[q as usize] = history.tape(p).sends_before(line.at(p));
+    }
+}
+
+/// A history, how many sends each process had before a line, and what was in transit there.
+///
+/// What was sent before that line and is not received is among these messages; so no other send
+/// before it has to be looked at again. Neither changes by an event.
+#[derive(Drop)]
+pub struct Ledger {
+    history: History,
+    starts: Vec<u32>,
+    left: Vec<MsgName>,
+}
+
+impl Model for Ledger {
+    ghost use Rattle.line_tape.specs.Views.{HistoryView};
+
+    ghost Value = { HistoryView };
+
+    ghost use Rattle.line_catalogue.specs.Left.{AreLeft};
+
+    ghost view = { λ l. l.history };
+
+    ghost invariant = { λ l. AreLeft l.history.processes l.starts.items l.left.items };
+}
+
+impl Ledger {
+    /// A history, with each of its sends still to be looked at.
+    pub fn of(alloc: Global, history: History) -> Result<Ledger, AllocError>
+        ensures { IfOk result (λ ledger. ledger ≡ history) }
+    {
+        let starts = no_starts(alloc, history.n())?;
+        Ok(Ledger {
+            history,
+            starts,
+            left: Vec::new(alloc),
+        })
+    }
+
+    /// The history.
+    pub fn history(&self) -> &History
+        ensures { result.now ≡ self.now }
+    {
+        &self.history
+    }
+
+    /// Makes room for so many further events of a process.
+    pub fn reserve(&mut self, p: ProcId, k: u32) -> Result<(), AllocError>
+        requires { p < length self.old.processes }
+        ensures same { self.new.processes ≡ self.old.processes }
+        ensures ok { OnOk result (k ≤ room_at self.new p) }
+        ensures succeeds { k ≤ room_at self.old p → IsOk result }
+        ensures room { room_at self.old p ≤ room_at self.new p }
+        ensures others { (q : ℕ) → q ≢ p → room_at self.new q ≡ room_at self.old q }
+    {
+        self.history.reserve(p, k)
+    }
+
+    /// Adds an event at the end of the tape of a process.
+    pub fn push(&mut self, p: ProcId, event: Event) -> Result<(), HistoryError>
+        ensures ok { OnOk result (self.new.processes ≡ with_event self.old.processes p event) }
+        ensures err { OnErr result (self.new.processes ≡ self.old.processes) }
+        ensures process { IsErrOf result HistoryError.NoSuchProcess
+            ↔ ((length self.old.processes ≤ p)
+            ⊎ (NamesBelow (length self.old.processes) event → ⊥)) }
+        ensures long { IsErrOf result HistoryError.StateTooLong
+            ↔ ((p < length self.old.processes) × NamesBelow (length self.old.processes) event
+            × HasLongState event) }
+        ensures full { IsErrOf result HistoryError.TapeFull
+            ↔ ((p < length self.old.processes) × NamesBelow (length self.old.processes) event
+            × (HasLongState event → ⊥) × (length (tape_at self.old.processes p) ≡ MOST_EVENTS)) }
+        ensures room { 0 < room_at self.old p → result ≢ Err HistoryError.OutOfMemory }
+        ensures spent { room_at self.old p ≤ room_at self.new p + 1 }
+        ensures others { (q : ℕ) → q ≢ p → room_at self.new q ≡ room_at self.old q }
+    {
+        let _count = self.starts.len();
+        self.history.push(p, event)
+    }
+
+    /// The messages in transit at a line, by sender, then number.
+    ///
+    /// It looks at what was kept last, at each send since, and at each event behind the line; it
+    /// takes a number for each of the first and for each receipt behind the line, and room for the
+    /// result.
+    pub fn transit(&self, alloc: Global, line: &Line) -> Result<Vec<MsgName>, AllocError>
+        requires { IsLine self.now.processes line.now }
+        ensures { IfOk result (λ messages.
+            messages.items ≡ in_transit self.now.processes line.now) }
+    {
+        find_transit(
+            &self.history,
+            self.starts.as_slice(),
+            self.left.as_slice(),
+            alloc,
+            line,
+        )
+    }
+
+    /// Keeps what is in transit at a line: what is so later is found from that and from what is
+    /// sent behind the line.
+    pub fn keep(&mut self, line: &Line, messages: Vec<MsgName>)
+        requires line { IsLine self.old.processes line.now }
+        requires transit { messages.items ≡ in_transit self.old.processes line.now }
+        ensures { self.new ≡ self.old }
+    {
+        move_starts(&self.history, line, &mut self.starts);
+        self.left = messages;
+    }
+
+    /// Goes on from a line, with each send still to be looked at.
+    fn restart_anew(&mut self, line: &Line)
+        requires line { IsLine self.old.processes line.now }
+        requires further { HaveFurther self.old.processes line.now }
+        ensures processes { self.new.processes ≡ restarted self.old.processes line.now }
+        ensures rooms { (p : ℕ) → room_at self.old p ≤ room_at self.new p }
+    {
+        self.history.restart(line);
+        clear_starts(&mut self.starts);
+    }
+
+    /// Goes on from a line, with what is in transit there and what is sent from now on to be looked
+    /// at.
+    fn restart_with(&mut self, line: &Line, left: Vec<MsgName>)
+        requires line { IsLine self.old.processes line.now }
+        requires further { HaveFurther self.old.processes line.now }
+        requires left { left.items ≡ in_transit self.old.processes line.now }
+        ensures processes { self.new.processes ≡ restarted self.old.processes line.now }
+        ensures rooms { (p : ℕ) → room_at self.old p ≤ room_at self.new p }
+    {
+        move_starts(&self.history, line, &mut self.starts);
+        self.history.restart(line);
+        self.left = left;
+    }
+
+    /// Has each process go on from its choice of the line. It takes no memory and cannot fail.
+    ///
+    /// Where it is told what is in transit at the line, what is so later is found from that and from
+    /// what is sent from now on; else each send has to be looked at.
+    pub fn restart(&mut self, line: &Line, left: Option<Vec<MsgName>>)
+        requires line { IsLine self.old.processes line.now }
+        requires further { HaveFurther self.old.processes line.now }
+        requires left { IfSome left (λ left. left.items ≡ in_transit self.old.processes line.now) }
+        ensures processes { self.new.processes ≡ restarted self.old.processes line.now }
+        ensures rooms { (p : ℕ) → room_at self.old p ≤ room_at self.new p }
+    {
+        match left {
+            Some(left) => self.restart_with(line, left),
+            None => self.restart_anew(line),
+        }
+    }
+}

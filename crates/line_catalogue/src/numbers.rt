@@ -1,0 +1,122 @@
+//! Numbers of sends, for each process a row.
+ghost use Rattle.std.specs.Prelude.{◌≡◌, ◌++◌, ◌∷◌, [], ℕ, List, Contains, length, replicate};
+ghost use Rattle.std.specs.Prelude.{IfOk, OnOk};
+ghost use Rattle.std.specs.List.Sorted.{IsNonDecreasing};
+ghost use Rattle.line_names.specs.declared.messages.MsgName.{MsgName};
+ghost use Rattle.line_tape.specs.Transit.{names_received};
+ghost use Rattle.line_catalogue.specs.Left.{AreIn};
+
+use line_names::MsgName;
+use line_tape::Event;
+use std::alloc::{AllocError, Global};
+use std::marker::Model;
+
+/// Numbers of sends of one process.
+#[derive(Drop)]
+pub struct Numbers {
+    numbers: Vec<u32>,
+}
+
+impl Model for Numbers {
+    ghost use Rattle.std.specs.Prelude.{List, ℕ};
+
+    ghost Value = { List ℕ };
+
+    ghost view = { λ n. n.numbers.items };
+}
+
+impl Numbers {
+    /// No number.
+    pub fn new(alloc: Global) -> Numbers
+        ensures { result ≡ [] }
+    {
+        Numbers {
+            numbers: Vec::new(alloc),
+        }
+    }
+
+    /// The numbers.
+    pub fn as_slice(&self) -> &[u32]
+        ensures { result.now ≡ self.now }
+    {
+        self.numbers.as_slice()
+    }
+
+    /// One more.
+    pub fn add(&mut self, number: u32) -> Result<(), AllocError>
+        ensures { OnOk result (self.new ≡ self.old ++ number ∷ []) }
+    {
+        self.numbers.push(number)?;
+        Ok(())
+    }
+
+    /// Puts them in order.
+    pub fn sort(&mut self)
+        ensures sorted { IsNonDecreasing self.new }
+        ensures kept { (number : ℕ) → Contains self.old number → Contains self.new number }
+    {
+        self.numbers.sort_unstable();
+    }
+}
+
+/// For each of `n` processes a row without a number.
+pub fn empty_rows(alloc: Global, n: u32) -> Result<Vec<Numbers>, AllocError>
+    ensures { IfOk result (λ rows. rows.items ≡ replicate n []) }
+{
+    let mut rows = Vec::with_capacity(alloc, n as usize)?;
+    for _p in 0..n {
+        rows.push(Numbers::new(alloc))?;
+    }
+    Ok(rows)
+}
+
+/// Adds the number of a message to the row of its sender.
+pub fn add_name(message: &MsgName, rows: &mut Vec<Numbers>) -> Result<(), AllocError>
+    ensures count { length rows.new.items ≡ length rows.old.items }
+    ensures added { OnOk result ((names : List MsgName) → AreIn names rows.old.items
+        → AreIn (names ++ message.now ∷ []) rows.new.items) }
+{
+    let p = message.from.get() as usize;
+    if p < rows.len() {
+        rows[p].add(message.number)?;
+    }
+    Ok(())
+}
+
+/// Adds the numbers of messages to the rows of their senders.
+pub fn add_names(messages: &[MsgName], rows: &mut Vec<Numbers>) -> Result<(), AllocError>
+    ensures count { length rows.new.items ≡ length rows.old.items }
+    ensures added { OnOk result ((names : List MsgName) → AreIn names rows.old.items
+        → AreIn (names ++ messages.now) rows.new.items) }
+{
+    for message in messages {
+        add_name(message, rows)?;
+    }
+    Ok(())
+}
+
+/// Adds the number of the message that an event receives.
+fn add_receipt(event: &Event, rows: &mut Vec<Numbers>) -> Result<(), AllocError>
+    ensures count { length rows.new.items ≡ length rows.old.items }
+    ensures added { OnOk result ((names : List MsgName) → AreIn names rows.old.items
+        → AreIn (names ++ names_received (event.now ∷ [])) rows.new.items) }
+{
+    match event {
+        Event::Recv { message } => add_name(message, rows),
+        Event::Send { .. } => Ok(()),
+        Event::Check { .. } => Ok(()),
+        Event::Mark { .. } => Ok(()),
+    }
+}
+
+/// Adds the numbers of the messages that these events receive.
+pub fn add_receipts(events: &[Event], rows: &mut Vec<Numbers>) -> Result<(), AllocError>
+    ensures count { length rows.new.items ≡ length rows.old.items }
+    ensures added { OnOk result ((names : List MsgName) → AreIn names rows.old.items
+        → AreIn (names ++ names_received events.now) rows.new.items) }
+{
+    for event in events {
+        add_receipt(event, rows)?;
+    }
+    Ok(())
+}

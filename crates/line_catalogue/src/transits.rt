@@ -1,0 +1,107 @@
+//! What is in transit of one process.
+ghost use Rattle.std.specs.Prelude.{◌≡◌, ◌<◌, ◌≤◌, ◌+◌, ◌++◌, ℕ, List, map, length, OnOk};
+ghost use Rattle.std.specs.List.Sorted.{IsNonDecreasing};
+ghost use Rattle.line_names.specs.declared.messages.MsgName.{MsgName};
+ghost use Rattle.line_tape.specs.Event.{sends};
+ghost use Rattle.line_tape.specs.Line.{events_before, IsLine};
+ghost use Rattle.line_tape.specs.Transit.{Letter, has_received, open_letters};
+ghost use Rattle.line_catalogue.specs.Left.{open_first, start_at, HasOpen};
+
+use crate::numbers::Numbers;
+use line_names::{Line, MsgName, ProcId};
+use line_tape::History;
+use std::alloc::AllocError;
+
+/// Whether a process receives the message before the line.
+fn is_received(history: &History, line: &Line, q: ProcId, message: &MsgName) -> bool
+    requires { IsLine history.now.processes line.now }
+    ensures { result ≡ has_received (events_before history.now.processes line.now q) message.now }
+{
+    q.get() < history.n() && history.tape(q).received_before(line.at(q), message)
+}
+
+/// Adds a process's message of a number, if it is in transit.
+fn add_if_open(
+    history: &History,
+    line: &Line,
+    p: ProcId,
+    number: u32,
+    messages: &mut Vec<MsgName>,
+) -> Result<(), AllocError>
+    requires line { IsLine history.now.processes line.now }
+    requires process { p < length history.now.processes }
+    requires number { number < sends (events_before history.now.processes line.now p) }
+    ensures { OnOk result ((before : List MsgName)
+        → messages.old.items ≡ before ++ open_first history.now.processes line.now p number
+        → messages.new.items ≡ before ++ open_first history.now.processes line.now p (number + 1)) }
+{
+    let tape = history.tape(p);
+    let message = MsgName {
+        from: p,
+        inc: tape.sent_under(number).unwrap(),
+        number,
+    };
+    match tape.addressee(number) {
+        Some(q) => {
+            if !is_received(history, line, q, &message) {
+                messages.push(message)?;
+            }
+            Ok(())
+        }
+        None => Ok(()),
+    }
+}
+
+/// Adds those of a process's first `end` messages that are in transit, where the row has their
+/// numbers.
+fn add_old(
+    history: &History,
+    line: &Line,
+    p: ProcId,
+    end: u32,
+    row: &[u32],
+    messages: &mut Vec<MsgName>,
+) -> Result<(), AllocError>
+    requires line { IsLine history.now.processes line.now }
+    requires process { p < length history.now.processes }
+    requires end { end ≤ sends (events_before history.now.processes line.now p) }
+    requires sorted { IsNonDecreasing row.now }
+    requires held { HasOpen history.now.processes line.now p end row.now }
+    ensures { OnOk result (messages.new.items
+        ≡ messages.old.items ++ open_first history.now.processes line.now p end) }
+{
+    let mut next = 0;
+    for number in row {
+        if next <= *number && *number < end {
+            add_if_open(history, line, p, *number, messages)?;
+            next = *number + 1;
+        }
+    }
+    Ok(())
+}
+
+/// Adds the messages of a process that are in transit.
+pub fn add_open(
+    history: &History,
+    line: &Line,
+    p: ProcId,
+    start: u32,
+    row: &mut Numbers,
+    messages: &mut Vec<MsgName>,
+) -> Result<(), AllocError>
+    requires line { IsLine history.now.processes line.now }
+    requires process { p < length history.now.processes }
+    requires held { HasOpen history.now.processes line.now p start row.old }
+    ensures { OnOk result (messages.new.items
+        ≡ messages.old.items
+        ++ map (λ (letter : Letter). letter.message) (open_letters history.now.processes line.now p)) }
+{
+    row.sort();
+    let sends = history.tape(p).sends_before(line.at(p));
+    let end = start.min(sends);
+    add_old(history, line, p, end, row.as_slice(), messages)?;
+    for number in end..sends {
+        add_if_open(history, line, p, number, messages)?;
+    }
+    Ok(())
+}
