@@ -1,6 +1,5 @@
 pub mod FrontLemmas
 pub mod RowLemmas
-pub mod ReceiptLemmas
 pub mod HistoryLemmas
 pub mod ChoiceLemmas
 pub mod ChainLemmas
@@ -32,3 +31,7 @@ pub mod CompletionLemmas
 pub mod RoundTransit
 pub mod TurnLemmas
 pub mod ForcedLemmas
+pub mod AheadLemmas
+pub mod SeatLemmas
+pub mod NotedLemmas
+pub mod FirstLemmas

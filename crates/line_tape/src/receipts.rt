@@ -1,79 +1,167 @@
 //! An index of the receipts of one tape.
-ghost use Rattle.std.specs.Prelude.{◌≡◌, ◌<◌, ◌≤◌, ◌+◌, [], ◌∷◌, ◌++◌, List, is_some, length, OnOk, IsOk};
-ghost use Rattle.line_names.specs.declared.messages.MsgName.{MsgName};
+ghost use Rattle.std.specs.Prelude.{◌≡◌, ◌≢◌, ◌<◌, ◌≤◌, ◌+◌, ◌-◌, ◌↔◌, ℕ, suc, [], ◌∷◌, ◌++◌, Contains, IsOk, IsTrue, List, OnOk, length, map, replicate, take, vec_capacity, vec_len};
+ghost use Rattle.line_names.specs.declared.limits.TheConstants.{MOST_PROCESSES};
 ghost use Rattle.line_tape.specs.declared.events.Event.{Event};
-ghost use Rattle.line_tape.specs.Kept.{AreFirst, AreNoted, below, first_place, left_first, receipts_room};
+ghost use Rattle.line_tape.specs.Noted.{AreChained, AreInTree, AreNoted, IsLast, IsSeatOf, message_of, name_at, seated};
 ghost use Rattle.line_tape.specs.Transit.{names_received};
+
+mod chains;
+mod trees;
 
 use crate::events::Event;
 use crate::limits::MOST_EVENTS;
-use line_names::MsgName;
+use chains::{Receipt, find_ahead, is_ahead, linked_back};
+use line_names::{MOST_PROCESSES, MsgName};
 use std::alloc::{AllocError, Global};
-use std::collections::HashMap;
+use std::marker::Model;
+use trees::{Seat, link_at, put, seat_of};
 
-/// How many receipts there are, and which of them is the first of each message.
+/// The receipts of a tape in their order, so that the first of a message is found.
 ///
-/// Whatever answers these questions can take its place.
+/// Those of one sender that come by ascending number are a chain with jump pointers, and a further one costs a constant. Those that come out of order are a digital search tree (Coffman and Eve, File structures using hashing functions, 1970), whose depth is at most the number of bits of a name. So each question takes logarithmic time, whatever the names are.
 #[derive(Drop)]
 pub struct Receipts {
-    first: HashMap<MsgName, u32>,
-    count: u32,
+    receipts: Vec<Receipt>,
+    last: [u32; MOST_PROCESSES],
+    root: u32,
+}
+
+impl Model for Receipts {
+    ghost use Rattle.std.specs.Prelude.{◌-◌, map, vec_capacity, vec_len};
+    ghost use Rattle.line_tape.specs.Noted.{AreNoted, ReceiptsView, message_of};
+
+    ghost Value = { ReceiptsView };
+
+    ghost view = { λ r. record {
+      names = map message_of r.receipts.items;
+      room = vec_capacity r.receipts - vec_len r.receipts;
+    } };
+
+    ghost invariant = { λ r. AreNoted r.receipts.items r.last r.root };
+}
+
+/// No last receipt of any sender.
+fn no_last() -> [u32; MOST_PROCESSES]
+    ensures { result ≡ replicate MOST_PROCESSES 0 }
+{
+    [0; MOST_PROCESSES]
+}
+
+/// The link to the first receipt of the message, which has that seat in the tree or none; 0 where it is not received.
+fn first_of(receipts: &[Receipt], last: u32, root: u32, seat: Seat, wanted: &Receipt) -> u32
+    requires chained { AreChained receipts.now }
+    requires last { IsLast receipts.now (length receipts.now) wanted.now.from last }
+    requires tree { AreInTree receipts.now root }
+    requires seat { IsSeatOf receipts.now root (message_of wanted.now) seat.above seat.far }
+    ensures found { (i : ℕ) → result ≡ suc i → (i < length receipts.now) × (name_at receipts.now i ≡ message_of wanted.now)
+        × ((j : ℕ) → j < i → name_at receipts.now j ≢ message_of wanted.now) }
+    ensures none { result ≡ 0 → (i : ℕ) → i < length receipts.now → name_at receipts.now i ≢ message_of wanted.now }
+    ensures empty { result ≡ 0 → seated receipts.now root seat.above seat.far ≡ 0 }
+{
+    let link = link_at(receipts, root, seat);
+    if link != 0 {
+        return link;
+    }
+    find_ahead(receipts, last, wanted)
+}
+
+/// Takes in a further receipt, in room that was made for it.
+fn add(receipts: &mut Vec<Receipt>, last: &mut [u32; MOST_PROCESSES], root: &mut u32, receipt: Receipt)
+    requires noted { AreNoted receipts.old.items last.old root.old }
+    requires sender { receipt.from < MOST_PROCESSES }
+    requires links { (receipt.near ≡ 0) × (receipt.far ≡ 0) }
+    requires few { vec_len receipts.old < MOST_EVENTS }
+    requires room { vec_len receipts.old < vec_capacity receipts.old }
+    ensures noted { AreNoted receipts.new.items last.new root.new }
+    ensures names { map message_of receipts.new.items ≡ map message_of receipts.old.items ++ message_of receipt ∷ [] }
+    ensures len { vec_len receipts.new ≡ vec_len receipts.old + 1 }
+    ensures capacity { vec_capacity receipts.old ≤ vec_capacity receipts.new }
+{
+    let link = receipts.len() as u32 + 1;
+    let before = receipts.as_slice();
+    let end = last[receipt.from as usize];
+    if is_ahead(before, end, &receipt) {
+        let linked = linked_back(before, end, receipt);
+        receipts.push(linked).unwrap();
+        last[receipt.from as usize] = link;
+        return;
+    }
+    let seat = seat_of(before, *root, &receipt);
+    let first = first_of(before, end, *root, seat, &receipt);
+    receipts.push(receipt).unwrap();
+    if first != 0 {
+        return;
+    }
+    put(receipts, root, seat, link);
+}
+
+/// Takes the last receipt out of the links, so that it can go.
+fn unlink_last(receipts: &mut Vec<Receipt>, last: &mut [u32; MOST_PROCESSES], root: &mut u32)
+    requires noted { AreNoted receipts.old.items last.old root.old }
+    requires some { 0 < vec_len receipts.old }
+    ensures noted { AreNoted (take (vec_len receipts.old - 1) receipts.new.items) last.new root.new }
+    ensures names { map message_of receipts.new.items ≡ map message_of receipts.old.items }
+    ensures len { vec_len receipts.new ≡ vec_len receipts.old }
+    ensures capacity { vec_capacity receipts.old ≤ vec_capacity receipts.new }
+{
+    let link = receipts.len() as u32;
+    let before = receipts.as_slice();
+    let receipt = before[link as usize - 1];
+    if last[receipt.from as usize] == link {
+        last[receipt.from as usize] = receipt.near;
+        return;
+    }
+    let seat = seat_of(before, *root, &receipt);
+    if link_at(before, *root, seat) != link {
+        return;
+    }
+    put(receipts, root, seat, 0);
 }
 
 impl Receipts {
-    /// The index of no events.
+    /// The index of no receipts.
     pub fn new(alloc: Global) -> Receipts
-        ensures { AreNoted [] result }
+        ensures { result.names ≡ [] }
     {
         Receipts {
-            first: HashMap::new(alloc),
-            count: 0,
+            receipts: Vec::new(alloc),
+            last: no_last(),
+            root: 0,
         }
     }
 
     /// How many receipts there are.
     pub fn count(&self) -> u32
-        ensures { result ≡ self.now.count }
+        ensures { result ≡ length self.now.names }
     {
-        self.count
+        self.receipts.len() as u32
     }
 
     /// Makes room for so many further receipts.
     pub fn reserve(&mut self, k: usize) -> Result<(), AllocError>
-        ensures same { (message : MsgName) → first_place self.new message ≡ first_place self.old message }
-        ensures count { self.new.count ≡ self.old.count }
-        ensures ok { OnOk result (k ≤ receipts_room self.new) }
-        ensures succeeds { k ≤ receipts_room self.old → IsOk result }
-        ensures room { receipts_room self.old ≤ receipts_room self.new }
+        ensures same { self.new.names ≡ self.old.names }
+        ensures ok { OnOk result (k ≤ self.new.room) }
+        ensures succeeds { k ≤ self.old.room → IsOk result }
+        ensures room { self.old.room ≤ self.new.room }
     {
-        self.first.reserve(k)
-    }
-
-    /// Takes in a further receipt, if it is the first of its message.
-    fn add(&mut self, message: &MsgName)
-        requires { 0 < receipts_room self.old }
-        ensures first { (names : List MsgName) → length names ≡ self.old.count → AreFirst names (first_place self.old)
-            → AreFirst (names ++ message.now ∷ []) (first_place self.new) }
-        ensures count { self.new.count ≡ self.old.count }
-        ensures room { receipts_room self.old ≤ receipts_room self.new + 1 }
-    {
-        if !self.first.contains_key(message) {
-            let added: Result<_, _> = self.first.insert(*message, self.count);
-            added.unwrap();
-        }
+        self.receipts.reserve(k)
     }
 
     /// Takes in an event that comes next, in room that was made for it.
     pub fn note(&mut self, event: &Event)
-        requires few { self.old.count < MOST_EVENTS }
-        requires room { 0 < receipts_room self.old }
-        ensures noted { (events : List Event) → AreNoted (names_received events) self.old → AreNoted (names_received (events ++ event.now ∷ [])) self.new }
-        ensures room { receipts_room self.old ≤ receipts_room self.new + 1 }
+        requires few { length self.old.names < MOST_EVENTS }
+        requires room { 0 < self.old.room }
+        ensures names { self.new.names ≡ self.old.names ++ names_received (event.now ∷ []) }
+        ensures room { self.old.room ≤ self.new.room + 1 }
     {
         match event {
             Event::Recv { message } => {
-                self.add(message);
-                self.count += 1;
+                add(
+                    &mut self.receipts,
+                    &mut self.last,
+                    &mut self.root,
+                    Receipt::of(message),
+                );
             }
             Event::Send { .. } => {}
             Event::Check { .. } => {}
@@ -81,45 +169,26 @@ impl Receipts {
         }
     }
 
-    /// Lets go of the message that an event receives, unless one of the first `end` receipts is of it too.
-    fn forget(&mut self, event: &Event, end: u32)
-        ensures first { (message : MsgName) → first_place self.new message
-            ≡ left_first end (names_received (event.now ∷ [])) message (first_place self.old message) }
-        ensures room { receipts_room self.old ≤ receipts_room self.new }
+    /// Goes back to the first `end` receipts. It looks once at each of the others, and takes no memory.
+    pub fn cut(&mut self, end: u32)
+        ensures names { self.new.names ≡ take end self.old.names }
+        ensures room { self.old.room ≤ self.new.room }
     {
-        match event {
-            Event::Recv { message } => {
-                if !self.is_before(message, end) {
-                    let _ = self.first.remove(message);
-                }
-            }
-            Event::Send { .. } => {}
-            Event::Check { .. } => {}
-            Event::Mark { .. } => {}
+        while self.receipts.len() > end as usize {
+            unlink_last(&mut self.receipts, &mut self.last, &mut self.root);
+            let _ = self.receipts.pop();
         }
-    }
-
-    /// Goes back to the first `end` receipts, where the events behind them are these. It takes no memory.
-    ///
-    /// It looks once at each of these events, and not at those before.
-    pub fn cut(&mut self, events: &[Event], end: u32)
-        ensures noted { (kept : List Event) → length (names_received kept) ≡ end → AreNoted (names_received (kept ++ events.now)) self.old
-            → AreNoted (names_received kept) self.new }
-        ensures room { receipts_room self.old ≤ receipts_room self.new }
-    {
-        for event in events {
-            self.forget(event, end);
-        }
-        self.count = end;
     }
 
     /// Whether one of the first `end` receipts is of the message.
     pub fn is_before(&self, message: &MsgName, end: u32) -> bool
-        ensures { result ≡ is_some (below end (first_place self.now message.now)) }
+        ensures { IsTrue result ↔ Contains (take end self.now.names) message.now }
     {
-        match self.first.get(message) {
-            Some(first) => *first < end,
-            None => false,
-        }
+        let wanted = Receipt::of(message);
+        let last = self.last[wanted.from as usize];
+        let receipts = self.receipts.as_slice();
+        let seat = seat_of(receipts, self.root, &wanted);
+        let first = first_of(receipts, last, self.root, seat, &wanted);
+        first != 0 && first <= end
     }
 }

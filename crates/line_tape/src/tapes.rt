@@ -47,11 +47,11 @@ impl Model for Tape {
 
     ghost Value = { TapeView };
 
-    ghost use Rattle.line_tape.specs.Kept.{IsIndexed, receipts_room};
+    ghost use Rattle.line_tape.specs.Kept.{IsIndexed};
 
     ghost view = { λ t. record {
       events = t.events.items;
-      room = min (min (vec_capacity t.events - vec_len t.events) (receipts_room t.receipts))
+      room = min (min (vec_capacity t.events - vec_len t.events) t.receipts.room)
           (min (vec_capacity t.checks - vec_len t.checks)
           (min (vec_capacity t.incarnations - vec_len t.incarnations) (vec_capacity t.addressees - vec_len t.addressees)));
     } };

@@ -87,7 +87,7 @@ impl Tape {
         let kept = self.row(choice);
         let checks = self.checks_before(choice);
         let end = kept.place as usize;
-        self.receipts.cut(&self.events[end..], kept.receipts);
+        self.receipts.cut(kept.receipts);
         self.events.truncate(end);
         self.checks.truncate(checks as usize);
         self.incarnations.truncate(kept.sends as usize);

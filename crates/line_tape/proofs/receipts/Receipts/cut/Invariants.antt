@@ -1,9 +1,12 @@
-use Rattle.std.proofs.Common.{◌≡◌, ◌≤◌, take}
-use Rattle.line_names.specs.declared.messages.MsgName.{MsgName}
-use Rattle.line_tape.specs.Kept.{first_place, left_first, receipts_room}
-use Rattle.line_tape.specs.Transit.{names_received}
+use Rattle.std.proofs.Common.{◌≡◌, ◌≤◌, ◌-◌, map, take, vec_len, vec_capacity}
+use Rattle.line_tape.specs.Noted.{AreNoted, message_of}
 use Rattle.line_tape.proofs.receipts.Receipts.cut.Given as goal
 
-abbrev pub invariant-loop-event : goal.invariant-loop-event
-invariant-loop-event l =
-    ((message : MsgName) → first_place l.self message ≡ left_first l.end (names_received (take l.event-index l.events)) message (first_place l.fn.self message)) × (receipts_room l.fn.self ≤ receipts_room l.self)
+abbrev pub invariant-loop-self : goal.invariant-loop-self
+invariant-loop-self l =
+    AreNoted l.self-inside.receipts.items l.self-inside.last l.self-inside.root
+    × (take l.end (map message_of l.self-inside.receipts.items) ≡ take l.end l.fn.self.names)
+    × (vec_capacity l.initial.self-inside.receipts ≤ vec_capacity l.self-inside.receipts) × (vec_len l.self-inside.receipts ≤ vec_len l.initial.self-inside.receipts)
+
+abbrev pub decreases-loop-self : goal.decreases-loop-self
+decreases-loop-self l = vec_len l.self-inside.receipts

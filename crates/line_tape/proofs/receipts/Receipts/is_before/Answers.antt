@@ -1,12 +1,22 @@
--- A number that is kept is asked whether it is below the bound.
-use Rattle.std.proofs.Common.{ℕ, Option, sym, ap, ◌∙◌}
-use Rattle.std.specs.Prelude.{is_some, nat_lt}
-use Rattle.line_tape.specs.Kept.{below}
-use Rattle.line_tape.proofs.ReceiptLemmas.{some_if}
+-- The first receipt of the message is among the first ones where any is.
+use Rattle.std.proofs.Common.{◌≡◌, ◌≢◌, ◌≤◌, ◌↔◌, ℕ, List, false, true, map, not, take, sym, ap, ◌∙◌}
+use Rattle.std.specs.List.{Contains}
+use Rattle.std.specs.Prelude.{nat_eq}
+use Rattle.std.proofs.lemmas.Bool.{eq-eqb, false≢true, le-leb, leb-true}
+use Rattle.line_names.specs.declared.messages.MsgName.{MsgName}
+use Rattle.line_tape.specs.declared.receipts.chains.Receipt.{Receipt}
+use Rattle.line_tape.specs.Noted.{ReceiptsView, message_of}
+use Rattle.line_tape.proofs.FirstLemmas.{first_within_names}
 use Rattle.line_tape.proofs.receipts.Receipts.is_before.Goals as goal
 
-pub returns-in-Some : goal.returns-in-Some
-returns-in-Some c = sym (some_if (nat_lt c.in-Some.first.now c.args.end) c.in-Some.first.now) ∙ ap (λ (o : Option ℕ). is_some (below c.args.end o)) c.in-Some.ensures.value
+pub returns-then-first-ne0 : goal.returns-then-first-ne0
+returns-then-first-ne0 c =
+    let told : map message_of c.as_slice-receipts.result.now ≡ c.args.self.now.names = ap (λ (xs : List Receipt). map message_of xs) c.as_slice-receipts.ensures.value ∙ ap (λ (r : ReceiptsView). r.names) c.self.view_is in
+    let within : ((c.first_of-first.result ≢ 0) × (c.first_of-first.result ≤ c.args.end)) ↔ Contains (take c.args.end c.args.self.now.names) c.args.message.now = first_within_names c.as_slice-receipts.result.now (message_of c.of-wanted.result) c.args.message.now c.args.self.now.names c.args.end c.first_of-first.result told c.of-wanted.ensures.message c.first_of-first.ensures.found c.first_of-first.ensures.none in
+    (λ h. within.0 (c.if-first-ne0.true, leb-true c.first_of-first.result c.args.end h), λ k. le-leb c.first_of-first.result c.args.end (within.1 k).1)
 
-pub returns-in-None : goal.returns-in-None
-returns-in-None c = ap (λ (o : Option ℕ). is_some (below c.args.end o)) c.in-None.ensures.value
+pub returns-else-first-ne0 : goal.returns-else-first-ne0
+returns-else-first-ne0 c =
+    let told : map message_of c.as_slice-receipts.result.now ≡ c.args.self.now.names = ap (λ (xs : List Receipt). map message_of xs) c.as_slice-receipts.ensures.value ∙ ap (λ (r : ReceiptsView). r.names) c.self.view_is in
+    let within : ((c.first_of-first.result ≢ 0) × (c.first_of-first.result ≤ c.args.end)) ↔ Contains (take c.args.end c.args.self.now.names) c.args.message.now = first_within_names c.as_slice-receipts.result.now (message_of c.of-wanted.result) c.args.message.now c.args.self.now.names c.args.end c.first_of-first.result told c.of-wanted.ensures.message c.first_of-first.ensures.found c.first_of-first.ensures.none in
+    (λ h. absurd (false≢true (sym (ap (λ b. not b) (eq-eqb c.first_of-first.result 0 c.if-first-ne0.false)) ∙ h)), λ k. absurd ((within.1 k).0 c.if-first-ne0.false))

@@ -1,10 +1,12 @@
 -- An event more, with what is kept beside it.
-use Rattle.std.proofs.Common.{◌≡◌, ◌<◌, ◌++◌, ◌∷◌, [], List, length, sym, ap, subst, arith, rules}
+use Rattle.std.proofs.Common.{◌≡◌, ◌<◌, ◌++◌, ◌∷◌, [], List, length, sym, ap, ◌∙◌, subst, arith, rules}
+use Rattle.std.proofs.lemmas.List.Elements.{filter_map-append}
+use Rattle.line_names.specs.declared.messages.MsgName.{MsgName}
 use Rattle.line_tape.specs.declared.events.Event.{Event}
 use Rattle.line_tape.specs.declared.limits.TheConstants.{MOST_EVENTS}
 use Rattle.line_tape.specs.History.{IsTape}
-use Rattle.line_tape.specs.Kept.{AreNoted, AreRows, AreSettled}
-use Rattle.line_tape.specs.Transit.{names_received}
+use Rattle.line_tape.specs.Kept.{AreRows, AreSettled}
+use Rattle.line_tape.specs.Transit.{names_received, received_name}
 use Rattle.line_tape.specs.Views.{TapeView}
 use Rattle.line_tape.proofs.IndexLemmas.{AreSettled-push, IsTape-push}
 use Rattle.line_tape.proofs.RowLemmas.{receipts_le}
@@ -13,7 +15,7 @@ use Rattle.line_tape.proofs.tapes.Tape.append.Goals as goal
 pub note-requires-clause-few : goal.note-requires-clause-few
 note-requires-clause-few c =
     let seen : c.self.inside.events.items ≡ c.args.self.now.events = ap (λ (t : TapeView). t.events) c.self.view_is in
-    omega (arith, c.self.invariant.received.count_is, receipts_le c.self.inside.events.items, ap (λ (xs : List Event). length xs) seen, c.requires.few)
+    omega (arith, ap (λ (names : List MsgName). length names) c.self.invariant.received, receipts_le c.self.inside.events.items, ap (λ (xs : List Event). length xs) seen, c.requires.few)
 
 pub invariant_of-self : goal.invariant_of-self
 invariant_of-self c =
@@ -25,6 +27,6 @@ invariant_of-self c =
     record {
       tape = subst IsTape (sym pushed) (IsTape-push items event few c.requires.short c.self.invariant.tape);
       checked = subst (λ (xs : List Event). AreRows xs c.note_event.new.checks.items c.note_event.new.incarnations.items c.note_event.new.addressees.items) (sym pushed) (subst (λ (xs : List Event). AreRows (xs ++ event ∷ []) c.note_event.new.checks.items c.note_event.new.incarnations.items c.note_event.new.addressees.items) c.deref.ensures.value c.note_event.ensures.rows);
-      received = subst (λ (xs : List Event). AreNoted (names_received xs) c.note.new.self) (sym pushed) (c.note.ensures.noted items c.self.invariant.received);
+      received = c.note.ensures.names ∙ ap (λ (names : List MsgName). names ++ names_received (event ∷ [])) c.self.invariant.received ∙ sym (filter_map-append received_name items (event ∷ [])) ∙ ap names_received (sym pushed);
       unchanged = subst (λ (xs : List Event). AreSettled xs c.self.inside.settled) (sym pushed) (AreSettled-push items event c.self.inside.settled c.self.invariant.unchanged);
     }

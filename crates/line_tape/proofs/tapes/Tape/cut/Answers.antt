@@ -6,25 +6,14 @@ use Rattle.line_tape.specs.declared.tapes.CheckRow.{CheckRow}
 use Rattle.line_tape.specs.Event.{checks, sends}
 use Rattle.line_tape.specs.Front.{front}
 use Rattle.line_tape.specs.History.{IsTape}
-use Rattle.line_tape.specs.Kept.{AreNoted, AreRows, AreSettled}
-use Rattle.line_tape.specs.Transit.{names_received}
+use Rattle.line_tape.specs.Kept.{AreRows, AreSettled}
+use Rattle.line_tape.specs.Transit.{names_received, received_name}
 use Rattle.line_tape.specs.Views.{TapeView}
 use Rattle.line_tape.proofs.CutLemmas.{IsTape-take}
 use Rattle.line_tape.proofs.FrontLemmas.{place_le}
 use Rattle.line_tape.proofs.IndexLemmas.{AreRows-take, AreSettled-take}
-use Rattle.line_tape.proofs.tapes.Tape.cut.Goals.{After-deref}
+use Rattle.line_tape.proofs.RowLemmas.{told_front}
 use Rattle.line_tape.proofs.tapes.Tape.cut.Goals as goal
-
-within : (c : After-deref) → c.row-kept.result.place ≤ length c.deref.result.now
-within c =
-    let seen : c.self.inside.events.items ≡ c.args.self.now.events = ap (λ (t : TapeView). t.events) c.self.view_is in
-    omega (arith, c.row-kept.ensures.place, place_le c.args.self.now.events c.args.choice, ap (λ (xs : List Event). length xs) (c.deref.ensures.value ∙ seen))
-
-pub slice_bounds-cut-count : goal.slice_bounds-cut-count
-slice_bounds-cut-count c = within c
-
-pub slice_bounds-cut-start : goal.slice_bounds-cut-start
-slice_bounds-cut-start c = within c
 
 pub invariant_of-self : goal.invariant_of-self
 invariant_of-self c =
@@ -41,11 +30,10 @@ invariant_of-self c =
     let tos : c.truncate-4.new.self.items ≡ take (sends kept) c.self.inside.addressees.items = c.truncate-4.ensures.items ∙ ap (λ k. take k c.self.inside.addressees.items) sent in
     let checked : AreRows kept c.truncate-2.new.self.items c.truncate-3.new.self.items c.truncate-4.new.self.items =
     subst (λ (xs : List CheckRow). AreRows kept xs c.truncate-3.new.self.items c.truncate-4.new.self.items) (sym rows) (subst (λ xs. AreRows kept (take (checks kept) c.self.inside.checks.items) xs c.truncate-4.new.self.items) (sym incs) (subst (λ xs. AreRows kept (take (checks kept) c.self.inside.checks.items) (take (sends kept) c.self.inside.incarnations.items) xs) (sym tos) (AreRows-take items c.self.inside.checks.items c.self.inside.incarnations.items c.self.inside.addressees.items n c.self.invariant.checked))) in
-    let noted : AreNoted (names_received kept) c.cut.new.self =
-    c.cut.ensures.noted kept (sym (c.row-kept.ensures.receipts ∙ ap (λ (xs : List Event). length (names_received xs)) fronts)) (subst (λ (xs : List Event). AreNoted (names_received xs) c.self.inside.receipts) (sym (ap (λ (xs : List Event). kept ++ xs) (take_all (length c.deref.result.now - n) (drop n c.deref.result.now) (omega (arith, length-drop n c.deref.result.now))) ∙ ap (λ (xs : List Event). kept ++ drop n xs) c.deref.ensures.value ∙ take-append-drop n items)) c.self.invariant.received) in
+    let noted : c.cut.new.self.names ≡ names_received kept = c.cut.ensures.names ∙ ap (take c.row-kept.result.receipts) c.self.invariant.received ∙ ap (λ k. take k (names_received items)) (c.row-kept.ensures.receipts ∙ ap (λ (xs : List Event). length (names_received xs)) fronts) ∙ sym (told_front received_name items n) in
     record {
       tape = subst IsTape (sym cut) (IsTape-take items n c.self.invariant.tape);
       checked = subst (λ (xs : List Event). AreRows xs c.truncate-2.new.self.items c.truncate-3.new.self.items c.truncate-4.new.self.items) (sym cut) checked;
-      received = subst (λ (xs : List Event). AreNoted (names_received xs) c.cut.new.self) (sym cut) noted;
+      received = noted ∙ ap names_received (sym cut);
       unchanged = subst (λ (xs : List Event). AreSettled xs c.min-self-inside.result) (sym cut) (subst (AreSettled kept) (sym c.min-self-inside.ensures) (AreSettled-take items c.self.inside.settled n few c.self.invariant.unchanged));
     }

@@ -1,12 +1,11 @@
 -- The events that are settled, and the places of their checks, are right as they are.
 use Rattle.std.proofs.Common.{◌≡◌, ℕ, suc, List, length, take, sym, ap, ◌∙◌, subst, arith}
 use Rattle.std.specs.List.{filter_map}
-use Rattle.line_names.specs.declared.messages.MsgName.{MsgName}
 use Rattle.line_tape.specs.declared.events.Event.{Event}
 use Rattle.line_tape.specs.Event.{checks}
 use Rattle.line_tape.specs.Front.{check_place}
 use Rattle.line_tape.specs.History.{IsTape}
-use Rattle.line_tape.specs.Kept.{AreNoted, AreRows, AreSettled, WithPlaces}
+use Rattle.line_tape.specs.Kept.{AreRows, AreSettled, WithPlaces}
 use Rattle.line_tape.specs.Restart.{restarted_event}
 use Rattle.line_tape.specs.Transit.{names_received}
 use Rattle.line_tape.proofs.CutLemmas.{IsTape-restarted, checks_left}
@@ -39,7 +38,7 @@ invariant_of-self c =
     record {
       tape = subst IsTape (sym left) (IsTape-restarted items c.self.invariant.tape);
       checked = subst (λ (xs : List Event). AreRows xs c.place_checks.new.rows.items c.self.inside.incarnations.items c.self.inside.addressees.items) (sym left) (AreRows-restarted items c.self.inside.checks.items c.self.inside.incarnations.items c.self.inside.addressees.items c.self.invariant.checked c.place_checks.new.rows.items placed);
-      received = subst (λ (xs : List Event). AreNoted (names_received xs) c.self.inside.receipts) (sym left) (subst (λ (names : List MsgName). AreNoted names c.self.inside.receipts) (sym (names_restarted items)) c.self.invariant.received);
+      received = c.self.invariant.received ∙ sym (names_restarted items) ∙ ap names_received (sym left);
       unchanged = subst (λ (n : ℕ). AreSettled c.restart_events.new.events.items n) (sym many) (subst (λ (xs : List Event). AreSettled xs (length xs)) (sym left) (settled_left items));
     }
 

@@ -1,0 +1,69 @@
+//! The tree of the receipts that come out of order.
+ghost use Rattle.std.specs.Prelude.{◌≡◌, ◌≢◌, ◌<◌, ◌≤◌, Bool, ℕ, suc, List, length, map, vec_len, vec_capacity};
+ghost use Rattle.line_tape.specs.Noted.{AreInTree, IsNode, IsPut, IsSeatOf, message_of, seated};
+
+use super::chains::Receipt;
+
+/// A place in the tree for a receipt: below another one at one of its links, or at the root, where there is none above.
+#[derive(Clone, Copy)]
+pub struct Seat {
+    pub above: u32,
+    pub far: bool,
+}
+
+/// The link to the receipt that a seat has; 0 if it has none.
+pub fn link_at(receipts: &[Receipt], root: u32, seat: Seat) -> u32
+    requires node { IsNode receipts.now seat.above }
+    ensures { result ≡ seated receipts.now root seat.above seat.far }
+{
+    if seat.above == 0 {
+        root
+    } else if seat.far {
+        receipts[seat.above as usize - 1].far
+    } else {
+        receipts[seat.above as usize - 1].near
+    }
+}
+
+/// The seat that a receipt of the message has in the tree, or the empty one that the next such would have.
+///
+/// It takes at most one step more than a key has bits, and with numbers in a row a logarithm of how many receipts are in the tree.
+pub fn seat_of(receipts: &[Receipt], root: u32, wanted: &Receipt) -> Seat
+    requires tree { AreInTree receipts.now root }
+    ensures { IsSeatOf receipts.now root (message_of wanted.now) result.above result.far }
+{
+    let mut seat = Seat {
+        above: 0,
+        far: false,
+    };
+    let mut link = root;
+    let mut key = wanted.key();
+    while link != 0 {
+        if receipts[link as usize - 1].is_of(wanted) {
+            return seat;
+        }
+        seat = Seat {
+            above: link,
+            far: key % 2 == 1,
+        };
+        link = link_at(receipts, root, seat);
+        key /= 2;
+    }
+    seat
+}
+
+/// Puts another link into a seat.
+pub fn put(receipts: &mut Vec<Receipt>, root: &mut u32, seat: Seat, link: u32)
+    requires node { IsNode receipts.old.items seat.above }
+    ensures put { IsPut receipts.old.items root.old receipts.new.items root.new seat.above seat.far link }
+    ensures len { vec_len receipts.new ≡ vec_len receipts.old }
+    ensures capacity { vec_capacity receipts.old ≤ vec_capacity receipts.new }
+{
+    if seat.above == 0 {
+        *root = link;
+    } else if seat.far {
+        receipts[seat.above as usize - 1].far = link;
+    } else {
+        receipts[seat.above as usize - 1].near = link;
+    }
+}
