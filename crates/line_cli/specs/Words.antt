@@ -2,6 +2,7 @@
 use Rattle.std.specs.Prelude.{◌≡◌, ◌≢◌, ◌⊎◌, ◌≤◌, ℕ, List, [], ◌∷◌, IsSomeAnd, Some, codes, true, ⊤}
 use Rattle.std.specs.Str.Parse.{IsNumeral, digits_value, without_leading_plus}
 use Rattle.clap.specs.Words.{App, IsAmong, Kinds, Row, Rule, Text, fault_of, new_app, new_rule, one_of, subcommand_of, takes, with_rule, with_subcommand}
+use Rattle.clap.specs.Simple.{on_top}
 use Rattle.clap.specs.declared.error.kind.ErrorKind.{ErrorKind}
 use Rattle.clap.specs.declared.error.kind.ErrorKind.TheVariants as errors
 use Rattle.line_cli.specs.declared.words.Job.{Job}
@@ -17,10 +18,14 @@ option name default = record (new_rule name) { long = Some name; value_names = 1
 abbrev pub drill : App
 drill = with_rule (with_rule (new_app (codes "drill")) (option (codes "workers") (codes "2"))) (option (codes "rounds") (codes "1"))
 
+-- a command that tells its version and wants one of its subcommands
+abbrev pub as_program : App → App
+as_program app = on_top (λ shape. record shape { has_version = true; subcommand_required = true }) app
+
 -- the program and its subcommands
 abbrev pub recline : App
 recline =
-    with_subcommand (with_subcommand (with_subcommand (new_app (codes "recline")) (new_app (codes "run")).top) (new_app (codes "check")).top) drill.top
+    with_subcommand (with_subcommand (with_subcommand (as_program (new_app (codes "recline"))) (new_app (codes "run")).top) (new_app (codes "check")).top) drill.top
 
 -- the text spells the number, in decimal digits that a plus may stand before
 abbrev pub Spells : Text → ℕ → Type 0
@@ -61,20 +66,26 @@ pub record AsksForNoJob (words : List Text) : Type 0 where
   pub taken : refusals_of words ≡ []
   pub other : (job : Job) → AsksFor words job → ⊥
 
--- the words are refused, and not for help
+-- words that ask for help or for the version are refused by clap with these kinds
+abbrev pub IsNoText : ErrorKind → Type 0
+IsNoText kind = (kind ≢ errors.DisplayHelp) × (kind ≢ errors.DisplayVersion)
+
+-- the words are refused, and neither for help nor for the version
 pub record IsRefused (words : List Text) : Type 0 where
   pub kind : ErrorKind
   pub among : IsAmong kind (refusals_of words)
-  pub other : kind ≢ errors.DisplayHelp
+  pub other : IsNoText kind
 
--- why no job is done: help is asked for, or there is none, or memory was wanting, which no words tell
+-- why no job is done: help or the version is asked for, or there is none, or memory was wanting, which no words tell
 abbrev pub HasCause : List Text → LineFault → Type 0
 HasCause words (faults.Help text) = IsAmong errors.DisplayHelp (refusals_of words)
+HasCause words (faults.Version text) = IsAmong errors.DisplayVersion (refusals_of words)
 HasCause words faults.Bad = AsksForNoJob words ⊎ IsRefused words
 HasCause words faults.OutOfMemory = ⊤
 
 -- what an error of this kind is told as
 abbrev pub IsToldAs : ErrorKind → LineFault → Type 0
 IsToldAs kind (faults.Help text) = kind ≡ errors.DisplayHelp
-IsToldAs kind faults.Bad = (kind ≢ errors.DisplayHelp) × (kind ≢ errors.OutOfMemory)
+IsToldAs kind (faults.Version text) = kind ≡ errors.DisplayVersion
+IsToldAs kind faults.Bad = IsNoText kind × (kind ≢ errors.OutOfMemory)
 IsToldAs kind faults.OutOfMemory = ⊤

@@ -6,6 +6,7 @@
 ghost use Rattle.std.specs.Prelude.{◌≤◌};
 
 mod drills;
+mod helps;
 mod standard;
 mod statuses;
 mod words;
@@ -18,33 +19,39 @@ use line_devices::{Sink, put_all};
 use line_names::MOST_PROCESSES;
 use line_text::{check_text, run_text};
 use std::alloc::{AllocError, Global};
+use std::io::ErrorKind;
 use std::process::ExitCode;
 use std::sync::Wait;
 use std::thread::Threads;
 use std::{env, io};
 
+// Each fault is told by a line on standard error, and by the status. Where standard error fails, the
+// status is all that tells it, and stays as it is.
+
 /// Runs the script on standard input, and says how that went.
-fn run(rt: &(impl Input + Print + Eprint), alloc: Global) -> io::Result<u8> {
+fn run(rt: &(impl Input + Print + Eprint), alloc: Global) -> u8 {
     let mut source = ReadSource::new(rt.reader());
     let mut sink = WriteSink::new(io::writer(rt));
     match run_text(alloc, &mut source, &mut sink) {
-        Ok(done) => Ok(if done.refused == 0 { 0 } else { 1 }),
+        Ok(done) if done.refused == 0 => 0,
+        Ok(_) => 1,
         Err(fault) => {
-            eprintln!(rt; "recline: {fault}")?;
-            Ok(status_of_fault(fault.code))
+            let _ = eprintln!(rt; "recline: {fault}");
+            status_of_fault(fault.code)
         }
     }
 }
 
 /// Judges the claim on standard input, and says how that went.
-fn check(rt: &(impl Input + Print + Eprint), alloc: Global) -> io::Result<u8> {
+fn check(rt: &(impl Input + Print + Eprint), alloc: Global) -> u8 {
     let mut source = ReadSource::new(rt.reader());
     let mut sink = WriteSink::new(io::writer(rt));
     match check_text(alloc, &mut source, &mut sink) {
-        Ok(verdict) => Ok(if verdict.is_none() { 0 } else { 1 }),
+        Ok(None) => 0,
+        Ok(Some(_)) => 1,
         Err(fault) => {
-            eprintln!(rt; "recline: {fault}")?;
-            Ok(status_of_fault(fault.code))
+            let _ = eprintln!(rt; "recline: {fault}");
+            status_of_fault(fault.code)
         }
     }
 }
@@ -55,51 +62,59 @@ fn drill(
     alloc: Global,
     workers: u32,
     rounds: u32,
-) -> io::Result<u8>
+) -> u8
     requires { workers ≤ MOST_PROCESSES }
 {
     match drill_text(rt, alloc, workers, rounds) {
         Ok(text) => {
             let mut sink = WriteSink::new(io::writer(rt));
             if put_all(&mut sink, &text).is_err() || sink.finish().is_err() {
-                eprintln!(rt; "recline: 37 WriteFault")?;
-                return Ok(status_of_fault(37));
+                let _ = eprintln!(rt; "recline: 37 WriteFault");
+                return status_of_fault(37);
             }
-            Ok(0)
+            0
         }
         Err(error) => {
-            eprintln!(rt; "recline: {error}")?;
-            Ok(status_of_drill(error.why.code()))
+            let _ = eprintln!(rt; "recline: {error}");
+            status_of_drill(error.why.code())
         }
     }
 }
 
-/// Does what the words ask for, the program's name first, and says how that went.
-fn done(
-    rt: &(impl Input + Print + Eprint + Threads + Wait + Sync),
-    alloc: Global,
-    words: &[&str],
-) -> io::Result<u8> {
-    match command_of(alloc, words) {
-        Ok(Job::Run) => run(rt, alloc),
-        Ok(Job::Check) => check(rt, alloc),
-        Ok(Job::Drill { workers, rounds }) => drill(rt, alloc, workers, rounds),
-        Err(LineFault::Help(text)) => {
-            print!(rt; "{text}")?;
-            Ok(0)
+/// Shows a text that was asked for, and says how that went.
+fn show(rt: &(impl Print + Eprint), text: &str) -> u8 {
+    if print!(rt; "{text}").is_err() {
+        let _ = eprintln!(rt; "recline: record 0: 37 WriteFault");
+        return status_of_fault(37);
+    }
+    0
+}
+
+/// Answers words that ask for no job, and says how that went.
+fn answer(rt: &(impl Print + Eprint), fault: &LineFault) -> u8 {
+    match fault {
+        LineFault::Help(text) | LineFault::Version(text) => show(rt, text),
+        LineFault::Bad => {
+            let _ = eprintln!(rt; "recline: bad command line");
+            2
         }
-        Err(LineFault::Bad) => {
-            eprintln!(rt; "recline: bad command line")?;
-            Ok(2)
-        }
-        Err(LineFault::OutOfMemory) => {
-            eprintln!(rt; "recline: 0 OutOfMemory")?;
-            Ok(3)
+        LineFault::OutOfMemory => {
+            let _ = eprintln!(rt; "recline: 0 OutOfMemory");
+            status_of_fault(0)
         }
     }
 }
 
-/// These words, with the program's name before them.
+/// The words that the program was called with.
+fn given_words(rt: &HostRuntime, alloc: Global) -> io::Result<Vec<String>> {
+    let mut given = Vec::new(alloc);
+    for word in env::args(rt)? {
+        given.push(word)?;
+    }
+    Ok(given)
+}
+
+/// These words, with the program's name in place of the first.
 fn command_line<'a>(alloc: Global, given: &'a [String]) -> Result<Vec<&'a str>, AllocError> {
     let mut words = Vec::new(alloc);
     words.push("recline")?;
@@ -109,32 +124,32 @@ fn command_line<'a>(alloc: Global, given: &'a [String]) -> Result<Vec<&'a str>, 
     Ok(words)
 }
 
-/// Does what the command line asks for, and says how that went.
-fn status(
+/// Does what the given words ask for, and says how that went.
+fn done(
     rt: &(impl Input + Print + Eprint + Threads + Wait + Sync),
     alloc: Global,
     given: &[String],
-) -> io::Result<u8> {
-    let words = command_line(alloc, given)?;
-    done(rt, alloc, &words)
-}
-
-/// The words that the program was called with, its own name first.
-fn given_words(rt: &HostRuntime, alloc: Global) -> io::Result<Vec<String>> {
-    let mut given = Vec::new(alloc);
-    for word in env::args(rt)? {
-        given.push(word)?;
+) -> u8 {
+    let Ok(words) = command_line(alloc, given) else {
+        return answer(rt, &LineFault::OutOfMemory);
+    };
+    match command_of(alloc, &words) {
+        Ok(Job::Run) => run(rt, alloc),
+        Ok(Job::Check) => check(rt, alloc),
+        Ok(Job::Drill { workers, rounds }) => drill(rt, alloc, workers, rounds),
+        Err(fault) => answer(rt, &fault),
     }
-    Ok(given)
 }
 
 fn main(rt: HostRuntime) -> ExitCode {
-    let done = match given_words(&rt, rt.alloc()) {
-        Ok(given) => status(&rt, rt.alloc(), &given),
-        Err(error) => Err(error),
+    let status = match given_words(&rt, rt.alloc()) {
+        Ok(given) => done(&rt, rt.alloc(), &given),
+        Err(error) if error.kind() == ErrorKind::OutOfMemory => answer(
+            &rt,
+            &LineFault::OutOfMemory,
+        ),
+        // A word that is no text.
+        Err(_) => answer(&rt, &LineFault::Bad),
     };
-    match done {
-        Ok(status) => ExitCode::from(status),
-        Err(_) => ExitCode::from(3),
-    }
+    ExitCode::from(status)
 }

@@ -1,9 +1,43 @@
 //! Standard input and output, of which nothing is told.
-ghost use Rattle.std.specs.Prelude.{◌≡◌, None};
+ghost use Rattle.std.specs.Prelude.{◌≡◌, ◌≢◌, IfErr, None};
+ghost use Rattle.std.specs.Io.{ReadsAtMost, WritesAtMost};
+ghost use Rattle.std.specs.IoError.{error_kind};
 ghost use Rattle.line_devices.specs.Devices.{ends_after};
 
 use line_devices::{DeviceFault, Sink, Source};
-use std::io::{Read, Write};
+use std::io;
+use std::io::{ErrorKind, Read, Write};
+
+/// How often a call is made that a signal interrupts each time, at most. After that the device has failed.
+const TRIES: u32 = 1_000_000;
+
+/// Reads, and again where a signal interrupted that before a byte came, which is no fault of the device.
+fn read_again<R: Read>(reader: &mut R, into: &mut [u8]) -> io::Result<usize>
+    ensures within { ReadsAtMost result into.new }
+    ensures again { IfErr result (λ error. error_kind error ≢ ErrorKind.Interrupted) }
+{
+    for _try in 0..TRIES {
+        match reader.read(into) {
+            Err(error) if error.kind() == ErrorKind::Interrupted => {}
+            answer => return answer,
+        }
+    }
+    Err(io::Error::from(ErrorKind::TimedOut))
+}
+
+/// Writes, and again where a signal interrupted that before a byte went, which is no fault of the device.
+fn write_again<W: Write>(writer: &mut W, from: &[u8]) -> io::Result<usize>
+    ensures within { WritesAtMost result from.now }
+    ensures again { IfErr result (λ error. error_kind error ≢ ErrorKind.Interrupted) }
+{
+    for _try in 0..TRIES {
+        match writer.write(from) {
+            Err(error) if error.kind() == ErrorKind::Interrupted => {}
+            answer => return answer,
+        }
+    }
+    Err(io::Error::from(ErrorKind::TimedOut))
+}
 
 // Counts an end, where a call gave nothing.
 fn count_end(ends: &mut u64, count: usize)
@@ -55,7 +89,7 @@ impl<R: Read> Source for ReadSource<R> {
     ghost ends = { λ s. s.ends };
 
     fn fill(&mut self, into: &mut [u8]) -> Result<usize, DeviceFault> {
-        if let Ok(count) = self.reader.read(into) {
+        if let Ok(count) = read_again(&mut self.reader, into) {
             if let Some(given) = self.given.checked_add(count as u64) {
                 self.given = given;
                 count_end(&mut self.ends, count);
@@ -99,7 +133,7 @@ impl<W: Write> Sink for WriteSink<W> {
     ghost faults = { λ s. s.faults };
 
     fn put(&mut self, from: &[u8]) -> Result<usize, DeviceFault> {
-        match self.writer.write(from) {
+        match write_again(&mut self.writer, from) {
             Ok(count) => {
                 if count == 0 && !from.is_empty() {
                     self.faults = self.faults.saturating_add(1);

@@ -4,6 +4,7 @@ ghost use Rattle.clap.specs.Words.{FailsBy, app_of, found_of, kind_of, rule_of, 
 ghost use Rattle.clap.specs.declared.builder.command.Command.TheViews.{out-Command};
 ghost use Rattle.line_cli.specs.Words.{AsksFor, HasCause, IsAskedBy, IsInRange, IsNumberOf, IsTakenAs, IsToldAs, drill, option, recline, refusals_of};
 
+use crate::helps;
 use clap::error::ErrorKind;
 use clap::{Arg, ArgMatches, Command, Error};
 use std::alloc::{AllocError, Global};
@@ -29,6 +30,8 @@ pub enum Job {
 pub enum LineFault {
     /// Help was asked for; its text.
     Help(String),
+    /// The version was asked for; its text.
+    Version(String),
     /// The words are no command of the program.
     Bad,
     OutOfMemory,
@@ -69,14 +72,19 @@ fn matches_of_words<'a>(alloc: Global, words: &'a [&'a str]) -> Result<ArgMatche
         → kind_of e ≡ ErrorKind.OutOfMemory) }
     ensures kinds { FailsBy (refusals_of (map (λ w. w.now) words.entry.now)) result }
 {
-    let run = Command::new(alloc, "run").about(
-        "Reads a script on standard input and writes the replies on standard output",
-    );
-    let check = Command::new(alloc, "check").about(
-        "Reads a history and a claim on it on standard input and writes the verdict on standard output",
-    );
+    let run = Command::new(alloc, "run")
+        .about("Reads a script on standard input and writes the replies on standard output")
+        .after_help(helps::RUN);
+    let check = Command::new(alloc, "check")
+        .about(
+            "Reads a history and a claim on it on standard input and writes the verdict on standard output",
+        )
+        .after_help(helps::CHECK);
     let with_run = Command::new(alloc, "recline")
+        .version(helps::VERSION)
         .about("Plans where the processes of a failed computation go back to, and proves it")
+        .after_help(helps::STATUSES)
+        .subcommand_required(true)
         .subcommand(run)?;
     let with_check = with_run.subcommand(check)?;
     let recline = with_check.subcommand(drill_command(alloc)?)?;
@@ -120,6 +128,10 @@ fn fault_of(alloc: Global, error: &Error) -> LineFault
     match error.kind() {
         ErrorKind::DisplayHelp => match format!(in alloc; "{error}") {
             Ok(text) => LineFault::Help(text),
+            Err(_) => LineFault::OutOfMemory,
+        },
+        ErrorKind::DisplayVersion => match format!(in alloc; "{error}") {
+            Ok(text) => LineFault::Version(text),
             Err(_) => LineFault::OutOfMemory,
         },
         ErrorKind::OutOfMemory => LineFault::OutOfMemory,

@@ -11,12 +11,17 @@ use Rattle.line_cli.specs.declared.words.LineFault.TheVariants as faults
 use Rattle.line_cli.specs.Words.{HasCause, IsAskedBy, IsInRange, IsToldAs, refusals_of}
 use Rattle.line_cli.proofs.words.command_of.Goals as goal
 
-other_kinds : errors.OutOfMemory ≡ errors.DisplayHelp → ⊥
-other_kinds same = cc same
+no_help : errors.OutOfMemory ≡ errors.DisplayHelp → ⊥
+no_help same = cc same
+
+no_version : errors.OutOfMemory ≡ errors.DisplayVersion → ⊥
+no_version same = cc same
 
 told_for_cause : (words : List Text) (kind : ErrorKind) (fault : LineFault) → (kind ≡ errors.OutOfMemory) ⊎ IsAmong kind (refusals_of words) → IsToldAs kind fault → HasCause words fault
-told_for_cause words kind (faults.Help text) (inl memory) told = absurd (other_kinds (sym memory ∙ told))
+told_for_cause words kind (faults.Help text) (inl memory) told = absurd (no_help (sym memory ∙ told))
 told_for_cause words kind (faults.Help text) (inr among) told = subst (λ (k : ErrorKind). IsAmong k (refusals_of words)) told among
+told_for_cause words kind (faults.Version text) (inl memory) told = absurd (no_version (sym memory ∙ told))
+told_for_cause words kind (faults.Version text) (inr among) told = subst (λ (k : ErrorKind). IsAmong k (refusals_of words)) told among
 told_for_cause words kind faults.Bad (inl memory) told = absurd (told.1 memory)
 told_for_cause words kind faults.Bad (inr among) told = inr (record { kind = kind; among = among; other = told.0 })
 told_for_cause words kind faults.OutOfMemory either told = tt

@@ -3,10 +3,18 @@ use Rattle.std.proofs.Common.{rules, Bor, ap, ap₂, refl, subst, codes, true, m
 use Rattle.std.proofs.lemmas.Result.{IfErr-weaker, IfOk-weaker}
 use Rattle.clap.specs.Words.{App, FailsBy, app_of, fault_of, is_simple, is_simple_and_free, new_app, Text, subcommand_of, takes, with_subcommand}
 use Rattle.clap.proofs.OnLiterals.{clap_on_literals}
-use Rattle.clap.specs.Simple.{app_of_fields}
+use Rattle.clap.specs.Simple.{app_of_fields, on_top}
 use Rattle.clap.specs.declared.error.Error.{Error}
-use Rattle.line_cli.specs.Words.{recline, refusals_of}
+use Rattle.line_cli.specs.Words.{as_program, recline, refusals_of}
 use Rattle.line_cli.proofs.words.matches_of_words.Goals as goal
+
+-- a command that tells its version
+abbrev with_version : App → App
+with_version app = on_top (λ shape. record shape { has_version = true }) app
+
+-- a command that wants one of its subcommands
+abbrev with_required : App → App
+with_required app = on_top (λ shape. record shape { subcommand_required = true }) app
 
 free : is_simple_and_free recline ≡ true
 unfolding clap_on_literals
@@ -22,12 +30,14 @@ fails_as a words result same h = subst (λ (x : App). FailsBy (fault_of x words)
 
 pub returns : goal.returns
 returns c =
-    let run_is : app_of c.about-run.result ≡ new_app (codes "run") = ap app_of_fields c.about-run.ensures ∙ c.new.ensures.app in
-    let check_is : app_of c.about-check.result ≡ new_app (codes "check") = ap app_of_fields c.about-check.ensures ∙ c.new-2.ensures.app in
-    let top_is : app_of c.about.result ≡ new_app (codes "recline") = ap app_of_fields c.about.ensures ∙ c.new-3.ensures.app in
-    let with_run_is : app_of c.in_ok-with_run.with_run ≡ with_subcommand (new_app (codes "recline")) (new_app (codes "run")).top =
+    let run_is : app_of c.after_help-run.result ≡ new_app (codes "run") = ap app_of_fields c.after_help-run.ensures ∙ (ap app_of_fields c.about.ensures ∙ c.new.ensures.app) in
+    let check_is : app_of c.after_help-check.result ≡ new_app (codes "check") = ap app_of_fields c.after_help-check.ensures ∙ (ap app_of_fields c.about-2.ensures ∙ c.new-2.ensures.app) in
+    let told_is : app_of c.after_help.result ≡ with_version (new_app (codes "recline")) =
+    ap app_of_fields c.after_help.ensures ∙ (ap app_of_fields c.about-3.ensures ∙ (ap app_of_fields c.version.ensures ∙ ap with_version c.new-3.ensures.app)) in
+    let top_is : app_of c.subcommand_required.result ≡ as_program (new_app (codes "recline")) = ap app_of_fields c.subcommand_required.ensures ∙ ap with_required told_is in
+    let with_run_is : app_of c.in_ok-with_run.with_run ≡ with_subcommand (as_program (new_app (codes "recline"))) (new_app (codes "run")).top =
     c.in_ok-with_run.ensures.shape (search rules) ∙ ap₂ with_subcommand top_is (ap (λ (a : App). a.top) run_is) in
-    let with_check_is : app_of c.in_ok-with_check.with_check ≡ with_subcommand (with_subcommand (new_app (codes "recline")) (new_app (codes "run")).top) (new_app (codes "check")).top =
+    let with_check_is : app_of c.in_ok-with_check.with_check ≡ with_subcommand (with_subcommand (as_program (new_app (codes "recline"))) (new_app (codes "run")).top) (new_app (codes "check")).top =
     c.in_ok-with_check.ensures.shape (search rules) ∙ ap₂ with_subcommand with_run_is (ap (λ (a : App). a.top) check_is) in
     let recline_is : app_of c.in_ok-recline.recline ≡ recline = c.in_ok-recline.ensures.shape c.in_ok-drill_command.ensures.local
     ∙ ap₂ with_subcommand with_check_is (ap (λ (a : App). a.top) c.in_ok-drill_command.ensures.shape) in

@@ -1,0 +1,77 @@
+"""Runs of the program that are refused memory, or whose reads and writes fail.
+
+`preloaded.c` is compiled, and loaded before the C library of the program. It wants Linux, the GNU C
+library and a C compiler (`$CC`, or else cc, clang or gcc), which nothing else here needs.
+"""
+
+import os
+import pathlib
+import shutil
+import struct
+import subprocess
+from typing import NamedTuple
+
+TOP = pathlib.Path(__file__).resolve().parent.parent
+MOST_SECONDS = 60
+COUNTS = struct.Struct("=3Q")
+
+
+class Text(NamedTuple):
+    """What the program is run on: a name to be told, its words, and its standard input."""
+
+    name: str
+    words: list[str]
+    text: bytes
+
+
+class Answer(NamedTuple):
+    """What a run gives; the status is negative where a signal ended it, and None where nothing did."""
+
+    output: bytes
+    said: bytes
+    status: int | None
+
+
+class Counts(NamedTuple):
+    """How often a run asked for memory, read its input and wrote its output."""
+
+    growths: int
+    reads: int
+    writes: int
+
+
+def compiled(folder: str) -> str:
+    """Compiles the library into the folder, and answers its path."""
+    named = [os.environ.get("CC"), "cc", "clang", "gcc"]
+    compiler = next((it for it in named if it and shutil.which(it)), None)
+    if compiler is None:
+        raise SystemExit("a C compiler is wanted: set CC, or put cc on the path")
+    library = f"{folder}/preloaded.so"
+    words = [compiler, "-shared", "-fPIC", "-O1", "-w", "-fno-builtin", "-o", library]
+    subprocess.run([*words, str(TOP / "scripts" / "preloaded.c")], check=True)
+    return library
+
+
+def answered(program: str, library: str, it: Text, settings: dict[str, int]) -> tuple[Answer, Counts]:
+    """Runs the program with these settings of the library."""
+    kept = os.memfd_create("counts", 0)
+    os.ftruncate(kept, COUNTS.size)
+    environment = {"LD_PRELOAD": library, "COUNTS_FD": str(kept)}
+    environment.update((name, str(value)) for name, value in settings.items())
+    how = {"input": it.text, "capture_output": True, "check": False, "timeout": MOST_SECONDS}
+    try:
+        ran = subprocess.run([program, *it.words], env=environment, pass_fds=[kept], **how)
+        answer = Answer(ran.stdout, ran.stderr, ran.returncode)
+    except subprocess.TimeoutExpired:
+        answer = Answer(b"", b"", None)
+    with os.fdopen(kept, "rb") as counts:
+        return answer, Counts(*COUNTS.unpack(counts.read(COUNTS.size)))
+
+
+def examples() -> list[Text]:
+    """The examples of the repository, which `./test` runs."""
+    found = []
+    for text in sorted((TOP / "examples").glob("*.in")):
+        words = text.with_suffix(".args").read_text().split()
+        found.append(Text(f"example {text.stem}", words, text.read_bytes()))
+    return found
