@@ -10,6 +10,8 @@ use line_posts::{
 };
 use std::test::Fail;
 
+mod lines;
+mod reports;
 mod restart_steps;
 mod restarts;
 mod round_steps;

@@ -13,7 +13,7 @@ fn is_first_again(name: &MsgName) -> bool {
 }
 
 /// Whether that message was sent.
-fn is_sent(seen: &Result<MsgName, SendRefused>) -> bool {
+pub fn is_sent(seen: &Result<MsgName, SendRefused>) -> bool {
     match seen {
         Ok(name) => is_first_again(name),
         Err(_) => false,
@@ -21,7 +21,7 @@ fn is_sent(seen: &Result<MsgName, SendRefused>) -> bool {
 }
 
 /// Whether it was received, with its body.
-fn is_received(seen: &Result<Received, ReceiveWhy>) -> bool {
+pub fn is_received(seen: &Result<Received, ReceiveWhy>) -> bool {
     match seen {
         Ok(Received::Message { name, body }) => is_first_again(name)
             && body.bytes() == b"b".as_slice(),
