@@ -128,11 +128,9 @@ def wrong(entry: Entry, name: str, tapes: list[Tape], ceilings: list[Choice]) ->
     if name == "NotReceived":
         names = [words.message(it) for it in tape.received(entry.choice)]
         some = words.listed([*names[:MOST_NAMED], *(["others"] if len(names) > MOST_NAMED else [])])
-        got = f"what it has received by then is {some}" if names else "it has received nothing by then"
-        return (
-            f"process {entry.at} has not received {words.message(entry.message)} before "
-            f"{words.choice_of(entry.choice)}; {got}"
-        )
+        got = f"what it has received is {some}" if names else "it has received nothing"
+        before = "" if entry.choice == NOW else f"before {words.choice_of(entry.choice)} "
+        return f"{before}process {entry.at} has not received {words.message(entry.message)}; {got}"
     left = ceilings[sender]
     before = " by now" if left == NOW else f" before {words.choice_of(left)}, from which it can still go on"
     return (
@@ -179,7 +177,7 @@ def inconsistent(claim: Claim, tapes: list[Tape]) -> str:
     for p, choice in enumerate(claim.line):
         for name in tapes[p].received(choice):
             if not tapes[name.sender].sent(name, claim.line[name.sender]):
-                at = f"process {p} {'' if choice == NOW else 'at '}{words.choice_of(choice)}"
+                at = f"process {p}, {'' if choice == NOW else 'at '}{words.choice_of(choice)},"
                 ends = words.choice_of(claim.line[name.sender])
                 return (
                     f"that line cannot be gone on from: {at} has received {words.message(name)}, and process "

@@ -1,5 +1,6 @@
 """What of a story is shown: which records, of which processes, and what has to be said of the rest."""
 
+from collections.abc import Iterator
 from dataclasses import dataclass
 
 from slow_model.texts import NOW
@@ -51,17 +52,45 @@ def recovery_of(story: Story, number: int | None) -> Recovery | None:
     return story.recoveries[number - 1]
 
 
-def spoken_of(recovery: Recovery) -> set[int]:
-    """The places of all that a recovery speaks of, and of the receipts of what it sends again."""
-    found: list[Event | None] = [restart.check for restart in recovery.line]
+def crossing(recovery: Recovery) -> list[Message]:
+    """The replays from or to a process that goes back; the rest is on its way whatever failed."""
+    return [
+        message for message in recovery.replays
+        if min(recovery.line[message.process].choice, recovery.line[message.to].choice) != NOW
+    ]
+
+
+def spoken_of(recovery: Recovery) -> Iterator[list[Event]]:
+    """What a recovery speaks of, in groups: each entry in its order, then damaged checks, then replays."""
     for entry in recovery.passes:
-        found += [entry.check, entry.message, entry.receipt]
-    for message in recovery.replays:
-        found += [message, *(it for it in message.receipts if recovery in (it.cut_by, it.source))]
+        yield [entry.message, entry.receipt, *([entry.check] if entry.check else [])]
     for restart in recovery.line:
-        damaged = [it for it in restart.lost if isinstance(it, Check) and it.damage]
-        found += [*damaged, *(check.damage for check in damaged)]
-    return {recovery.place, *(it.place for it in found if it is not None and it.place >= 0)}
+        for check in restart.lost:
+            if isinstance(check, Check) and check.damage:
+                yield [check, check.damage]
+    for message in crossing(recovery):
+        yield [message, *(it for it in message.receipts if recovery in (it.cut_by, it.source))]
+
+
+def told_of(recovery: Recovery, chosen: set[int], most: int) -> tuple[set[int], set[int]]:
+    """The places of what a recovery speaks of, as far as so many records go, and the processes concerned.
+
+    A choice that the line has goes with it, where it is not older than all of that.
+    """
+    found: set[int] = {recovery.place}
+    records, concerned = {recovery.record}, set(recovery.failed)
+    for group in spoken_of(recovery):
+        if not chosen.intersection(it.process for it in group):
+            continue
+        if len(records | {it.record for it in group}) > most:
+            break
+        records |= {it.record for it in group}
+        found |= {it.place for it in group}
+        concerned |= {process for it in group for process in partners(it)}
+    checks = [it.check for it in recovery.line if it.check and it.process in concerned & chosen]
+    if len(records | {it.record for it in checks}) <= most:
+        return found | {it.place for it in checks if it.place >= 0}, concerned
+    return found | {it.place for it in checks if it.place > min(found)}, concerned
 
 
 def partners(it: Event) -> tuple[int, ...]:
@@ -78,7 +107,7 @@ def among(story: Story, chosen: tuple[int, ...], last: int) -> Events:
     if len(chosen) == story.processes:
         return story.events[:last + 1]
     wanted = set(chosen)
-    keep = set().union(*map(spoken_of, story.recoveries))
+    keep = {it.place for recovery in story.recoveries for group in spoken_of(recovery) for it in group}
     return [
         it for it in story.events[:last + 1]
         if isinstance(it, Recovery)
@@ -90,14 +119,6 @@ def last_records(events: Events, count: int) -> Events:
     """The events of so many last records; a record has two where it had a check taken first."""
     records = sorted({it.record for it in events[-2 * count:]})[-count:]
     return [it for it in events[-2 * count:] if it.record >= records[0]] if records else []
-
-
-def concerned(recovery: Recovery) -> set[int]:
-    """The processes that go back, or that an orphan or a replay goes from or to."""
-    found = {restart.process for restart in recovery.line if restart.choice != NOW}
-    for message in [*(entry.message for entry in recovery.passes), *recovery.replays]:
-        found |= {message.process, message.to}
-    return found | set(recovery.failed)
 
 
 def view_of(story: Story, wish: Wish) -> View:
@@ -115,12 +136,11 @@ def view_of(story: Story, wish: Wish) -> View:
     every = among(story, chosen, last)
     if not recovery or wish.last or len({it.record for it in every}) <= MOST:
         return finished(story, chosen, every, last_records(every, wish.last or MOST), None)
+    places, concerned = told_of(recovery, set(chosen), MOST)
     if not wish.processes:
-        chosen = tuple(sorted(concerned(recovery))) or chosen
+        chosen = tuple(sorted(concerned)) or chosen
         every = among(story, chosen, last)
-    spoken = spoken_of(recovery)
-    shown = last_records([it for it in every if it.place in spoken], MOST)
-    return finished(story, chosen, every, shown, recovery)
+    return finished(story, chosen, every, [it for it in every if it.place in places], recovery)
 
 
 def finished(
@@ -130,33 +150,35 @@ def finished(
     places = {it.place for it in shown}
     before = [None, *every]
     gaps = {it.place for last, it in zip(before, every) if it.place in places and last and last.place not in places}
-    left_out = len({it.record for it in every}) - len({it.record for it in shown})
-    notes = [*notes_on_records(shown, left_out, focus), *notes_on_processes(story, chosen), *notes_on_idle(story)]
+    notes = [*notes_on_records(story, every, shown, focus), *notes_on_processes(story, chosen), *notes_on_idle(story)]
     is_from_start = every[:1] == shown[:1]
     return View(story, chosen, tuple(shown), frozenset(gaps), is_from_start, tuple(notes))
 
 
-def notes_on_records(shown: Events, left_out: int, focus: Recovery | None) -> list[str]:
+def notes_on_records(story: Story, every: Events, shown: Events, focus: Recovery | None) -> list[str]:
     """What is said of the records that are left out, and of the entries that are about them."""
-    if not left_out:
+    if len(shown) == len(every):
         return []
-    rest = f" of which recovery {focus.number} does not speak, or that are older" if focus else ""
-    notes = [f"{words.capital(words.counted(left_out, 'record'))}{rest} left out."]
     places = {it.place for it in shown}
+    count = len({it.record for it in story.events}) - len({it.record for it in shown})
+    them = f"{words.counted(count, 'other record')} {'is' if count == 1 else 'are'} left out."
+    notes = [f"Shown is what recovery {focus.number} speaks of: {them}" if focus else words.capital(them)]
     for recovery in [it for it in shown if isinstance(it, Recovery)]:
-        unseen = [it.number for it in recovery.passes if it.receipt.place not in places]
-        if unseen:
-            notes.append(
-                f"Of the orphans of recovery {recovery.number}, those of "
-                f"{words.counted(len(unseen), 'entry', 'entries')} are not shown: ./explain tells of all."
-            )
+        numbers = [it.number for it in recovery.passes if it.receipt.place not in places]
+        if numbers:
+            what = ("entry " if len(numbers) == 1 else "entries ") + words.listed(words.ranges(numbers))
+            notes.append(f"So {'is' if len(numbers) == 1 else 'are'} {what} of recovery {recovery.number}: ./explain tells of all.")
+        again = [it for it in recovery.replays if it.place not in places]
+        if again:
+            notes.append(f"So {'is' if len(again) == 1 else 'are'} {words.counted(len(again), 'message')} that it sends again.")
     return notes
 
 
 def notes_on_processes(story: Story, chosen: tuple[int, ...]) -> list[str]:
     """What is said of the processes that are left out."""
     hidden = [p for p in range(story.processes) if p not in chosen]
-    return [f"{words.capital(words.processes(hidden))} left out."] if hidden else []
+    are = "is" if len(hidden) == 1 else "are"
+    return [f"{words.capital(words.processes(hidden))} {are} left out."] if hidden else []
 
 
 def notes_on_idle(story: Story) -> list[str]:
