@@ -11,7 +11,7 @@ from .stories import Event, MarkerReceipt, Message, Receipt, Recovery
 from .svg import Element
 
 STUB = 26.0  # how far an arrow goes whose other end is not shown
-SMALL, TINY = 11.0, 10.0
+SMALL, TINY = 11.0, 11.0
 MOST_BODY = 16  # so many digits of a body are shown
 DOTS = {"message": "dot", "gone": "lostdot", "orphan": "orphandot", "replay": "replaydot", "marker": "lostdot"}
 WORDS = {"orphan": "orphanword", "replay": "replayword", "gone": "faint"}
@@ -111,8 +111,10 @@ def sent(frame: Frame, message: Message, part: Part) -> Arrow:
     """The arrow of a message that is sent and not received in what is shown."""
     start = frame.columns[message.place], frame.rows[message.process]
     row = frame.rows.get(message.to, math.inf if message.to > message.process else -math.inf)
-    kind = message_kind(message, None, part)
-    return Arrow(kind, start, stub(start, row), title_of(message, None), message, has_end=False)
+    hidden = [it for it in message.receipts if it.process not in frame.rows and it in part.passes]
+    kind = message_kind(message, hidden[0] if hidden else None, part)
+    passes = part.passes[hidden[0]] if hidden else ()
+    return Arrow(kind, start, stub(start, row), title_of(message, None), message, passes, has_end=False)
 
 
 def of_marker(frame: Frame, marker: MarkerReceipt) -> Arrow | None:
@@ -176,6 +178,9 @@ def labels_of(arrow: Arrow, with_body: bool) -> Iterator[Label]:
         return
     if arrow.passes:
         parts = [0.5, 0.42, 0.58, 0.34, 0.66, 0.26, 0.74, 0.2, 0.8, 0.14, 0.86]
+        if not arrow.has_start or not arrow.has_end:
+            # A pill would hide the whole of it: it goes behind the end that is open.
+            parts = [1.3, 1.6] if arrow.has_start else [-0.3, -0.6]
         spots = tuple(arrow.along(it) for it in parts)
         beside = tuple(arrow.along(it, aside) for aside in (18.0, -18.0, 32.0, -32.0) for it in parts)
         text = ", ".join(span.replace(" to ", "–") for span in words.ranges(arrow.passes))
@@ -183,7 +188,7 @@ def labels_of(arrow: Arrow, with_body: bool) -> Iterator[Label]:
     text = f"m{arrow.message.name.number}"
     if with_body:
         body = arrow.message.body
-        text += f": {body[:MOST_BODY]}{'…' if len(body) > MOST_BODY else ''}"
+        text += f": {body[:MOST_BODY] or 'empty'}{'…' if len(body) > MOST_BODY else ''}"
     if not arrow.has_start:
         text += f" of {arrow.message.process}"
     if not arrow.has_end:

@@ -12,7 +12,7 @@ from .svg import Element, style
 from .views import View
 
 LEAST_WIDTH, READ_WIDTH = 560.0, 860.0
-TITLE, TEXT, NOTE, TICK = 17.0, 13.0, 12.0, 10.0
+TITLE, TEXT, NOTE, TICK = 17.0, 13.0, 12.0, 11.0
 AGAIN = 900.0  # so far apart the names of processes are written again
 FONT = "'DejaVu Sans', Verdana, Arial, sans-serif"
 
@@ -65,7 +65,7 @@ def names(frame: Frame) -> Iterator[Element]:
 def names_again(frame: Frame) -> Iterator[Label]:
     """The names of processes once more on the way, where the picture is long."""
     for process, y in frame.rows.items():
-        for count in range(1, int((frame.end - frame.start) // AGAIN) + 1):
+        for count in range(1, int((frame.end - frame.start - 200) // AGAIN) + 1):
             x = frame.start + count * AGAIN
             places = tuple((x + aside, y + down) for aside in (0, 40, -40, 80, -80) for down in (-12, 12))
             yield Label(f"process {process}", "faint", TICK, places)
@@ -138,7 +138,7 @@ def diagram(view: View, with_bodies: bool) -> Diagram:
 
 def whole(view: View, parts: list[Element], width: float, height: float) -> Element:
     """The picture with its title, its description, and its styles."""
-    size = f"width:100%;height:auto;min-width:{width * 0.8:.0f}px;max-width:{width * 1.25:.0f}px"
+    size = f"width:100%;height:auto;min-width:{width * 0.9:.0f}px;max-width:{width * 1.25:.0f}px"
     return Element("svg", {
         "xmlns": "http://www.w3.org/2000/svg", "viewBox": f"0 0 {width:.0f} {height:.0f}", "width": "100%",
         "style": size, "font-family": FONT, "role": "img", "aria-labelledby": "title desc",

@@ -10,7 +10,7 @@ from .views import View
 
 COLUMN, GAP, MARGIN = 40.0, 22.0, 16.0
 HALF = 9.0  # of the side of a check's square
-INDEX = 11.0  # the size of the index in it
+INDEX = 12.0  # the size of the index in it
 NAME = 13.0
 ABOVE, BELOW = 80.0, 40.0  # room above the first row for headings, and below the last
 

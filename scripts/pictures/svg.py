@@ -75,7 +75,8 @@ def rules(is_dark: bool) -> str:
         return "" if is_dark or not style else f";{style}"
 
     paper = PAPER[is_dark]
-    lines = [f".paper{{fill:{paper}}}"]
+    # Opened by itself the picture has the whole window's ground.
+    lines = [f"svg:root{{background:{paper}}}", f".paper{{fill:{paper}}}"]
     lines += [f".{kind}{{stroke:{of(ink)}{'' if is_dark else ';fill:none'}{rest(ink.style)}}}" for kind, ink in STROKES.items()]
     lines += [f".{kind}{{stroke:{of(ink)};fill:{paper}{rest(ink.style)}}}" for kind, ink in BOXES.items()]
     lines += [f".{kind}{{fill:{of(ink)}}}" for kind, ink in SPOTS.items()]
