@@ -1,0 +1,152 @@
+"""The whole picture: heading, diagram, axis and legend, one below the other."""
+
+from collections.abc import Iterator
+from dataclasses import dataclass
+
+from . import arrows, glyphs, lines, sentences
+from .frames import MARGIN, NAME, Frame, frame_of
+from .labels import Box, Label, Placed, Segment, placed, wrapped
+from .legends import legend
+from .stories import Event, Recovery
+from .svg import Element, style
+from .views import View
+
+LEAST_WIDTH, READ_WIDTH = 560.0, 860.0
+TITLE, TEXT, NOTE, TICK = 17.0, 13.0, 12.0, 11.0
+AGAIN = 900.0  # so far apart the names of processes are written again
+FONT = "'DejaVu Sans', Verdana, Arial, sans-serif"
+
+
+@dataclass(frozen=True)
+class Diagram:
+    """A picture, and what was placed on it."""
+
+    svg: Element
+    labels: tuple[Placed, ...]
+    left_out: tuple[Label, ...]
+    boxes: tuple[Box, ...]
+
+
+def text(content: str, kind: str, x: float, y: float, size: float, anchor: str = "start") -> Element:
+    """A line of text."""
+    return Element("text", {"class": kind, "x": x, "y": y, "font-size": size, "text-anchor": anchor}, (content,))
+
+
+def heading(view: View, width: float) -> tuple[list[Element], float]:
+    """The title, what each recovery came to, and what is left out; and how far down that goes."""
+    wide, found, y = min(width, READ_WIDTH) - 2 * MARGIN, [], MARGIN
+    parts = [(TITLE, "head", sentences.title(view))]
+    parts += [(TEXT, "said", sentences.summary(recovery)) for recovery in view.recoveries[-3:]]
+    parts += [(NOTE, "faint", " ".join(view.notes))] if view.notes else []
+    for size, kind, content in parts:
+        for row in wrapped(content, size, wide):
+            y += size * 1.35
+            found.append(text(row, kind, MARGIN, y, size))
+        y += 4
+    return found, y
+
+
+def ticks(frame: Frame) -> list[Placed]:
+    """The numbers of the records below the columns."""
+    found: dict[int, float] = {}
+    for it in frame.view.shown:
+        found.setdefault(it.record, frame.columns[it.place])
+    y = frame.bottom + 2
+    labels = [(Label(str(record), "faint", TICK, ()), (x, y)) for record, x in found.items()]
+    return [Placed(label, middle, label.box(middle)) for label, middle in labels]
+
+
+def names(frame: Frame) -> Iterator[Element]:
+    """The name of each process at the left end of its line."""
+    for process, y in frame.rows.items():
+        yield text(f"process {process}", "said", MARGIN, y + 4, NAME)
+
+
+def names_again(frame: Frame) -> Iterator[Label]:
+    """The names of processes once more on the way, where the picture is long."""
+    for process, y in frame.rows.items():
+        for count in range(1, int((frame.end - frame.start - 200) // AGAIN) + 1):
+            x = frame.start + count * AGAIN
+            places = tuple((x + aside, y + down) for aside in (0, 40, -40, 80, -80) for down in (-12, 12))
+            yield Label(f"process {process}", "faint", TICK, places)
+
+
+def taken(frame: Frame) -> list[Box]:
+    """The room that squares, crosses, ends of arrows and names take."""
+    found = [glyphs.box_of(check, middle) for check, middle in glyphs.checks_of(frame)]
+    for it in frame.view.shown:
+        x = frame.columns[it.place]
+        if isinstance(it, Recovery):
+            found += lines.recovery_boxes(frame, it)
+        elif isinstance(it, Event):
+            y = frame.rows[it.process]
+            found.append(Box(x - 4, y - 4, x + 4, y + 4))
+    found += [Box(MARGIN, y - 8, frame.start, y + 8) for y in frame.rows.values()]
+    return found
+
+
+def rows_of(frame: Frame) -> list[Segment]:
+    """The lines of the processes, as far as labels have to keep off them."""
+    return [((frame.start, y), (frame.end, y)) for y in frame.rows.values()]
+
+
+def label(it: Placed) -> list[Element]:
+    """A label where it was placed, on its ground if it has one."""
+    x, y = it.middle
+    size = it.label.size
+    if not it.label.is_pill:
+        return [text(it.label.text, it.label.kind, x, y + size * 0.35, size, "middle")]
+    box = {"x": it.box.left, "y": it.box.top, "width": it.box.right - it.box.left, "height": 16, "rx": 8}
+    return [Element("rect", {"class": "pill", **box}), text(it.label.text, "onpill", x, y + 4, size, "middle")]
+
+
+def diagram(view: View, with_bodies: bool) -> Diagram:
+    """Lays out and draws a view."""
+    # The height of the heading depends on the width, and that does not depend on the height.
+    width = max(LEAST_WIDTH, frame_of(view, 0).end + MARGIN)
+    head, y = heading(view, width)
+    frame = frame_of(view, y)
+    ways = list(arrows.arrows_of(frame))
+    recoveries, rounds = list(lines.recovery_lines(frame)), list(lines.round_lines(frame))
+    wanted = [
+        *lines.recovery_labels(frame), *lines.round_labels(frame), *glyphs.check_labels(frame),
+        *(it for way in ways for it in arrows.labels_of(way, with_bodies)), *names_again(frame),
+    ]
+    crossed = rows_of(frame) + [way.segment for way in ways if way.kind != "marker"]
+    crossed += [part for _, points in [*recoveries, *rounds] for part in lines.segments(points)]
+    axis = ticks(frame)
+    boxes = taken(frame) + [tick.box for tick in axis]
+    found, left_out = placed(wanted, boxes, crossed)
+    channels = {message for listed, _ in rounds for message in listed.channels}
+    drawn = [
+        *(part for process in frame.rows for part in glyphs.life(frame, process)),
+        *(part for recovery in view.recoveries for part in lines.moment(frame, recovery)),
+        *(lines.recovery_line(recovery, points) for recovery, points in recoveries),
+        *(lines.round_line(listed, points) for listed, points in rounds),
+        *(arrows.drawn(way) for way in ways),
+        *(arrows.channel_mark(way) for way in ways if way.message in channels),
+        *(part for recovery in view.recoveries for part in lines.restarts(frame, recovery)),
+        *(glyphs.square(check, middle, glyphs.kind_of(check, frame)) for check, middle in glyphs.checks_of(frame)),
+        *glyphs.damages(frame), *names(frame), text("record", "faint", MARGIN, frame.bottom + 5.5, TICK),
+        *(part for it in [*axis, *found] for part in label(it)),
+    ]
+    kinds = {way.kind for way in ways}
+    key, bottom = legend(frame, kinds, channels, frame.bottom + 20, min(width, READ_WIDTH) - 2 * MARGIN)
+    svg = whole(view, [*head, *drawn, *key], width, bottom + MARGIN)
+    return Diagram(svg, (*axis, *found), tuple(left_out), tuple(boxes))
+
+
+def whole(view: View, parts: list[Element], width: float, height: float) -> Element:
+    """The picture with its title, its description, and its styles."""
+    size = f"width:100%;height:auto;min-width:{width * 0.9:.0f}px;max-width:{width * 1.25:.0f}px"
+    return Element("svg", {
+        "xmlns": "http://www.w3.org/2000/svg", "viewBox": f"0 0 {width:.0f} {height:.0f}", "width": "100%",
+        "style": size, "font-family": FONT, "role": "img", "aria-labelledby": "title desc",
+    }, (
+        Element("title", {"id": "title"}, (sentences.title(view),)),
+        Element("desc", {"id": "desc"}, (sentences.description(view),)),
+        Element("style", {}, (style(),)),
+        Element("rect", {"class": "paper", "width": "100%", "height": "100%"}),
+        *parts,
+    ))
+

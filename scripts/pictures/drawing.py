@@ -1,0 +1,46 @@
+"""`./draw`: the picture of a script."""
+
+import argparse
+
+from . import diagrams, options, program, stories, svg, texts, views
+
+ABOUT = f"""Draws what a script does: a line for each process with its checks, messages, recoveries
+with their lines and certificates, and listed rounds, as SVG on standard output.
+
+    ./draw < examples/domino.in > domino.svg
+
+Without options a script of up to {views.MOST} records with an effect is drawn whole. Of a longer one
+the last recovery is, with the records that it speaks of, of the processes concerned. What is left
+out is said in the picture. The status is 0 where a picture was drawn, and else that of the program."""
+
+
+def words(given: list[str]) -> argparse.Namespace:
+    """What the words of the command line ask for."""
+    line = options.parser("draw", ABOUT)
+    line.add_argument("--last", type=options.number(1), metavar="K", help="the last K records, up to the recovery if one is named")
+    line.add_argument("--processes", type=options.numbers, default=(), metavar="P,..", help="these processes (all)")
+    line.add_argument("--bodies", action="store_true", help="the bytes of messages too")
+    return line.parse_args(given)
+
+
+def story_of(path: str, text: bytes) -> stories.Story:
+    """What a script does, by the replies of the program."""
+    output = program.answer(path, "run", text)
+    return stories.told(texts.read_script(text), texts.read_replies(output))
+
+
+def diagram_of(story: stories.Story, wish: views.Wish, with_bodies: bool) -> diagrams.Diagram:
+    """The picture of a story."""
+    return diagrams.diagram(views.view_of(story, wish), with_bodies)
+
+
+def main(given: list[str]) -> int:
+    """Draws standard input, and answers the status."""
+    asked = words(given)
+    try:
+        story = story_of(asked.program, program.read_input())
+        wish = views.Wish(asked.last, asked.recovery, asked.processes)
+        program.write_output(svg.written(diagram_of(story, wish, asked.bodies).svg))
+    except program.Fault as fault:
+        return program.tell("draw", fault)
+    return 0

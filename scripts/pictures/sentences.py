@@ -1,0 +1,204 @@
+"""A recovery in sentences: what happened, what was passed over and why, and what is sent again."""
+
+from collections.abc import Iterator, Sized
+
+from slow_model.histories import Name
+from slow_model.texts import NOW
+
+from . import words
+from .stories import Check, Message, Pass, Recovery, Restart, Story
+from .texts import Choice
+from .views import View
+
+MOST_TOLD = 12  # so many entries are told in a picture's description
+
+
+def failed(recovery: Recovery) -> str:
+    """Who failed."""
+    return f"{words.processes(recovery.failed)} failed" if recovery.failed else "nobody failed"
+
+
+# What pictures say.
+
+def title(view: View) -> str:
+    """What a picture shows."""
+    links = "in order" if view.story.is_fifo else "in any order"
+    count = words.counted(view.story.processes, "process", "processes")
+    numbers = [str(recovery.number) for recovery in view.recoveries]
+    what = f"; {'recovery' if len(numbers) == 1 else 'recoveries'} {words.listed(numbers)}" if numbers else ""
+    return f"{count}, links that deliver {links}{what}"
+
+
+def summary(recovery: Recovery) -> str:
+    """A recovery in short."""
+    back = [it.process for it in recovery.line if it.choice != NOW]
+    goes = "goes" if len(back) == 1 else "go"
+    where = f"{words.processes(back)} {goes} back" if back else "no process goes back"
+    lost = sum(len(it.lost) for it in recovery.line)
+
+    def are(them: Sized) -> str:
+        return "are" if len(them) > 1 else "is"
+
+    return (
+        f"Recovery {recovery.number}: {failed(recovery)}; {where}, with {words.counted(lost, 'event')} undone. "
+        f"{words.capital(words.counted(len(recovery.passes), 'choice'))} {are(recovery.passes)} passed over, and "
+        f"{words.counted(len(recovery.replays), 'message')} {are(recovery.replays)} sent again."
+    )
+
+
+def description(view: View) -> str:
+    """The picture in words, for those who do not see it."""
+    told = []
+    for recovery in view.recoveries:
+        told += [summary(recovery), *(reason(entry) for entry in recovery.passes[:MOST_TOLD])]
+        if len(recovery.passes) > MOST_TOLD:
+            told.append(f"{words.capital(words.counted(len(recovery.passes) - MOST_TOLD, 'more entry', 'more entries'))}.")
+        told.append(f"The recovery line: {words.listed([stands(it) for it in recovery.line])}.")
+    return " ".join([*told, *view.notes]) or "No recovery."
+
+
+def stands(restart: Restart) -> str:
+    """Where the line is at a process."""
+    return f"process {restart.process} {'' if restart.choice == NOW else 'at '}{words.choice_of(restart.choice)}"
+
+
+# Why a choice cannot be kept.
+
+def cannot(process: int, choice: Choice) -> str:
+    """That a choice of a process cannot be kept."""
+    if choice == NOW:
+        return f"process {process} cannot stay where it stands"
+    return f"process {process} cannot go on from {words.choice_of(choice)}"
+
+
+def not_sent(sender: int, ceiling: Choice) -> str:
+    """That the sender of an orphan has not sent it by its ceiling."""
+    if ceiling == NOW:
+        return f"process {sender}, even where it stands, has not sent it"
+    return f"process {sender}, back at {words.choice_of(ceiling)} by then, has not sent it"
+
+
+def orphan(process: int, choice: Choice, name: Name, ceiling: Choice) -> str:
+    """Why a choice of a process cannot be kept: a message, received before it and not sent."""
+    before = "" if choice == NOW else " before that"
+    told = f"{cannot(process, choice)}: it has received {words.message(name)}{before}, and {not_sent(name.sender, ceiling)}"
+    return f"{words.capital(told)}."
+
+
+def reason(entry: Pass) -> str:
+    """Why a choice was passed over."""
+    return orphan(entry.process, entry.choice, entry.message.name, entry.ceiling)
+
+
+# The explanation of a recovery.
+
+def explanation(story: Story, recovery: Recovery) -> Iterator[str]:
+    """A recovery in paragraphs and the entries of a list."""
+    yield headline(story, recovery)
+    yield from beginning(story, recovery)
+    if recovery.passes:
+        yield "From there on these choices had to be passed over, in the order of the certificate:"
+        yield from entries(recovery)
+        yield (
+            "That is all: each message that is received before the places that are left is sent before them. No "
+            "process could go on from a later place: each one that survives is in this list, with the message that "
+            "speaks against it."
+        )
+    else:
+        yield (
+            "That can be kept as it is: each message that is received before these places is sent before them. No "
+            "process could go on from a later place."
+        )
+    yield "The recovery line:"
+    yield from (f"  {goes_on(it)}" for it in recovery.line)
+    yield from again(recovery)
+
+
+def headline(story: Story, recovery: Recovery) -> str:
+    """Which recovery it is."""
+    count = len(story.recoveries)
+    which = f"Recovery {recovery.number}" + (f" of {count}" if count > 1 else "")
+    return f"{which}, at record {recovery.record} of the script: {failed(recovery)}."
+
+
+def beginning(story: Story, recovery: Recovery) -> Iterator[str]:
+    """The latest choice that each process had left to begin with."""
+    if not recovery.failed:
+        yield "To begin with, each process could stay where it stands."
+        return
+    one = len(recovery.failed) == 1
+    parts = []
+    for number, process in enumerate(recovery.failed):
+        first = recovery.first_ceilings[process]
+        goes = "" if number else " goes back"
+        parts.append(f"process {process}{goes} to {words.choice_of(first)}{skipped(recovery, process, first)}")
+    rest = "" if len(recovery.failed) == story.processes else " Each other process could stay where it stands."
+    yield (
+        f"{'A process that failed cannot stay where it stands' if one else 'Processes that failed cannot stay where they stand'}: "
+        f"to begin with, {words.listed(parts)}.{rest}"
+    )
+
+
+def skipped(recovery: Recovery, process: int, first: Choice) -> str:
+    """The damaged checks above the latest one that can be used."""
+    lost = [it for it in recovery.line[process].lost if isinstance(it, Check) and it.index > first and it.damage]
+    if not lost:
+        return ""
+    numbers = words.listed(words.ranges([check.index for check in lost]))
+    return f" (its {'check' if len(lost) == 1 else 'checks'} {numbers} {'is' if len(lost) == 1 else 'are'} damaged)"
+
+
+def entries(recovery: Recovery) -> Iterator[str]:
+    """The entries as a list: each with where its process falls to."""
+    after = [it.choice for it in recovery.line]
+    falls: list[Choice] = []
+    for entry in reversed(recovery.passes):
+        falls.append(after[entry.process])
+        after[entry.process] = entry.choice
+    wide = len(str(len(recovery.passes)))
+    for entry, fall in zip(recovery.passes, reversed(falls)):
+        yield f"{entry.number:>{wide + 2}}. {reason(entry)} So it falls to {words.choice_of(fall)}."
+
+
+def goes_on(restart: Restart) -> str:
+    """Where a process goes on from."""
+    if restart.choice == NOW:
+        return f"Process {restart.process} stays where it stands."
+    state = f", with the state {restart.state} that it stored there" if restart.state else ""
+    undone = f"{words.counted(len(restart.lost), 'event')} {'are' if len(restart.lost) > 1 else 'is'} undone"
+    return (
+        f"Process {restart.process} goes back to {words.choice_of(restart.choice)}{state}; {undone}. "
+        f"It goes on under incarnation {restart.incarnation}."
+    )
+
+
+# What is sent again.
+
+def again(recovery: Recovery) -> Iterator[str]:
+    """The messages that have to be delivered again, and why."""
+    if not recovery.replays:
+        yield "No message is sent again: each that is sent before that line is received before it."
+        return
+    one = len(recovery.replays) == 1
+    yield (
+        f"{'One message is' if one else f'{len(recovery.replays):,} messages are'} sent again, in transit at that "
+        "line: sent before it, and not received before it."
+    )
+    yield from (f"  {words.capital(in_transit(recovery, message))}" for message in recovery.replays)
+
+
+def in_transit(recovery: Recovery, message: Message) -> str:
+    """Why a message is sent again."""
+    start, end = recovery.line[message.process], recovery.line[message.to]
+    told = words.message(message.name)
+    if start.choice != NOW:
+        told += f" was sent before {words.choice_at(start.process, start.choice)}"
+    else:
+        told += f" was sent, and process {start.process} stays where it stands"
+    undone = next((it for it in message.receipts if it.cut_by is recovery), None)
+    if undone is None:
+        return f"{told}; it has not arrived at process {message.to}."
+    return (
+        f"{told}; it had not arrived before {words.choice_at(end.process, end.choice)}, and its receipt behind that is "
+        "undone."
+    )

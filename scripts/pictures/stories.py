@@ -1,0 +1,286 @@
+"""What happened: a script and its replies as events on the lines of processes.
+
+A **story** is told once, from the first record to the last. Which check, which message and which
+line are meant is what the replies say; of the machine only this is done anew, that a recovery takes
+the events behind a process's choice off its line.
+"""
+
+from collections.abc import Iterable
+from dataclasses import dataclass, field
+
+from slow_model.histories import Name
+from slow_model.texts import NOW
+
+from .texts import Choice, Command, Fields, Script, read_choice
+
+NO_EFFECT = {"refused", "stale", "repeated"}
+
+
+@dataclass(slots=True, kw_only=True, eq=False)
+class Event:
+    """Something on a process's line: its place in time, its record, and the recovery that took it off."""
+
+    place: int
+    record: int
+    process: int
+    cut_by: "Recovery | None" = None
+
+
+@dataclass(slots=True, kw_only=True, eq=False)
+class Check(Event):
+    """A check, or with index 0 the initial state; forced ones were taken before an item of a round."""
+
+    index: int
+    round: int | None = None
+    is_forced: bool = False
+    state: str = ""
+    damage: "Damage | None" = None
+
+
+@dataclass(slots=True, kw_only=True, eq=False)
+class Message(Event):
+    """A message was sent: its name, whom it goes to, its bytes as they are written, and its receipts."""
+
+    name: Name
+    to: int
+    body: str
+    receipts: "list[Receipt]" = field(default_factory=list)
+
+
+@dataclass(slots=True, kw_only=True, eq=False)
+class Receipt(Event):
+    """A message was received, on its way from its send or from a recovery that put it on its link again."""
+
+    message: Message
+    source: "Message | Recovery"
+
+
+@dataclass(slots=True, kw_only=True, eq=False)
+class MarkerReceipt(Event):
+    """The marker of a round came in, from its sender's check of the round."""
+
+    source: Check
+
+
+@dataclass(slots=True, kw_only=True, eq=False)
+class Damage(Event):
+    """A check was marked as damaged. It is no event of a tape."""
+
+    check: Check
+
+
+@dataclass(frozen=True, slots=True, eq=False)
+class Restart:
+    """Where a process goes on from, and the events that this takes off its tape."""
+
+    process: int
+    choice: Choice
+    incarnation: int
+    state: str
+    check: Check | None
+    lost: tuple[Event, ...]
+
+
+@dataclass(frozen=True, slots=True, eq=False)
+class Pass:
+    """An entry of a certificate, numbered from 1, with its sender's ceiling by then."""
+
+    number: int
+    process: int
+    choice: Choice
+    check: Check | None
+    message: Message
+    receipt: Receipt
+    ceiling: Choice
+
+
+@dataclass(slots=True, kw_only=True, eq=False)
+class Recovery:
+    """A recovery: its number from 1, who failed, the line, the certificate and the replays."""
+
+    place: int
+    record: int
+    number: int
+    failed: tuple[int, ...]
+    line: list[Restart]
+    passes: list[Pass]
+    replays: list[Message]
+    first_ceilings: list[Choice]
+
+
+@dataclass(frozen=True, slots=True, eq=False)
+class ListedRound:
+    """A round as it was listed: its checks, and the messages of its channels."""
+
+    number: int
+    place: int
+    checks: tuple[Check, ...]
+    channels: tuple[Message, ...]
+
+
+@dataclass(slots=True, eq=False)
+class Story:
+    """All of it. `idle` counts the records without an effect, by what was answered."""
+
+    processes: int
+    is_fifo: bool
+    records: int
+    initial: list[Check]
+    events: list[Event | Recovery] = field(default_factory=list)
+    recoveries: list[Recovery] = field(default_factory=list)
+    rounds: dict[int, ListedRound] = field(default_factory=dict)
+    idle: dict[str, int] = field(default_factory=dict)
+
+
+class Teller:
+    """Tells a story command by command, with what stands on the tapes meanwhile."""
+
+    def __init__(self, script: Script) -> None:
+        initial = [Check(place=-1, record=1, process=p, index=0) for p in range(script.processes)]
+        self.story = Story(script.processes, script.is_fifo, len(script.commands) + 1, initial)
+        self.tapes: list[list[Event]] = [[] for _ in initial]
+        self.checks: list[list[Check]] = [[check] for check in initial]
+        self.of_round: dict[tuple[int, int], Check] = {}
+        self.messages: dict[Name, Message] = {}
+
+    def tell(self, command: Command, reply: list[Fields]) -> None:
+        """Adds what a command did."""
+        answer, *values = reply[0]
+        if answer in NO_EFFECT:
+            self.story.idle[answer] = self.story.idle.get(answer, 0) + 1
+        elif answer == "sent":
+            self.tell_send(command, name_of(values))
+        elif answer == "took":
+            self.tell_receipt(command, name_of(values), values[3])
+        elif answer == "marked":
+            self.tell_marker(command, int(values[0]), values[1] == "forced")
+        elif answer in ("checked", "begun", "turned"):
+            self.add_check(command, int(values[0]), values[2:3], command.fields[1])
+        elif answer == "damaged":
+            self.tell_damage(command, int(values[0]), int(values[1]))
+        elif answer == "recovered":
+            self.tell_recovery(command, reply[1:])
+        elif answer == "rounds":
+            self.tell_rounds(reply[1:])
+
+    def at(self, command: Command, process: int) -> dict[str, int]:
+        """What every event has."""
+        return {"place": len(self.story.events), "record": command.record, "process": process}
+
+    def add(self, event: Event) -> None:
+        self.story.events.append(event)
+        self.tapes[event.process].append(event)
+
+    def add_check(
+        self, command: Command, process: int, of_round: list[str], state: str, is_forced: bool = False
+    ) -> None:
+        """A check: its index is one more than that of the tape's last."""
+        number = int(of_round[0]) if of_round else None
+        index = len(self.checks[process])
+        at = self.at(command, process)
+        check = Check(**at, index=index, round=number, is_forced=is_forced, state=state.lower())
+        self.add(check)
+        self.checks[process].append(check)
+        if number is not None:
+            self.of_round[process, number] = check
+
+    def tell_send(self, command: Command, name: Name) -> None:
+        to, body = int(command.fields[1]), command.fields[2].lower()
+        message = Message(**self.at(command, name.sender), name=name, to=to, body=body)
+        self.messages[name] = message
+        self.add(message)
+
+    def tell_receipt(self, command: Command, name: Name, of_round: str) -> None:
+        process, message = int(command.fields[1]), self.messages[name]
+        if of_round != "-":
+            self.add_check(command, process, [of_round], command.fields[3], is_forced=True)
+        source: Message | Recovery = message
+        if self.story.recoveries and self.story.recoveries[-1].place > source.place:
+            source = self.story.recoveries[-1]
+        receipt = Receipt(**self.at(command, process), message=message, source=source)
+        message.receipts.append(receipt)
+        self.add(receipt)
+
+    def tell_marker(self, command: Command, number: int, is_forced: bool) -> None:
+        sender, process = int(command.fields[0]), int(command.fields[1])
+        if is_forced:
+            self.add_check(command, process, [str(number)], command.fields[3], is_forced=True)
+        self.add(MarkerReceipt(**self.at(command, process), source=self.of_round[sender, number]))
+
+    def tell_damage(self, command: Command, process: int, index: int) -> None:
+        check = self.checks[process][index]
+        check.damage = Damage(**self.at(command, process), check=check)
+        self.add(check.damage)
+
+    def tell_rounds(self, records: Iterable[Fields]) -> None:
+        """Keeps each round that is listed for the first time."""
+        checks: dict[int, tuple[Check, ...]] = {}
+        channels: dict[int, list[Message]] = {}
+        for kind, *values in records:
+            number = int(values[0])
+            if kind == "round":
+                checks[number] = tuple(self.checks[p][int(c)] for p, c in enumerate(values[1:]))
+                channels[number] = []
+            else:
+                name = Name(int(values[1]), int(values[3]), int(values[4]))
+                channels[number].append(self.messages[name])
+        for number, line in checks.items():
+            listed = ListedRound(number, len(self.story.events), line, tuple(channels[number]))
+            self.story.rounds.setdefault(number, listed)
+
+    def tell_recovery(self, command: Command, records: list[Fields]) -> None:
+        """Adds a recovery, and takes off the tapes what stands behind its line."""
+        recoveries = self.story.recoveries
+        failed = tuple(sorted(set(map(int, command.fields))))
+        recovery = Recovery(
+            place=len(self.story.events), record=command.record, number=len(recoveries) + 1, failed=failed,
+            line=[], passes=[], replays=[], first_ceilings=[],
+        )
+        entries = [values for kind, *values in records if kind == "pass"]
+        lines = [values for kind, *values in records if kind == "line"]
+        recovery.first_ceilings = [read_choice(values[1]) for values in lines]
+        for number in range(len(entries), 0, -1):
+            recovery.passes.append(self.entry(number, entries[number - 1], recovery.first_ceilings))
+        recovery.passes.reverse()
+        names = [name_of(values) for kind, *values in records if kind == "replay"]
+        recovery.replays = [self.messages[name] for name in names]
+        recovery.line = [self.restarted(values, recovery) for values in lines]
+        self.story.events.append(recovery)
+        recoveries.append(recovery)
+
+    def entry(self, number: int, values: Fields, ceilings: list[Choice]) -> Pass:
+        """An entry, told from the last one back: the ceilings are lifted to what they were before it."""
+        process, choice, message = int(values[0]), read_choice(values[1]), self.messages[name_of(values[2:])]
+        ceiling = ceilings[message.name.sender]
+        ceilings[process] = choice
+        check = None if choice == NOW else self.checks[process][int(choice)]
+        receipt = next(it for it in reversed(message.receipts) if it.cut_by is None and it.process == process)
+        return Pass(number, process, choice, check, message, receipt, ceiling)
+
+    def restarted(self, values: Fields, recovery: Recovery) -> Restart:
+        """Takes off a process's tape what stands behind its choice."""
+        process, choice = int(values[0]), read_choice(values[1])
+        tape, checks = self.tapes[process], self.checks[process]
+        check, lost = None, []
+        if choice != NOW:
+            check = checks[int(choice)]
+            while tape and tape[-1].place > check.place:
+                event = tape.pop()
+                event.cut_by = recovery
+                if not isinstance(event, Damage):
+                    lost.append(event)
+            del checks[int(choice) + 1:]
+        return Restart(process, choice, int(values[2]), values[3], check, tuple(reversed(lost)))
+
+
+def name_of(values: Fields) -> Name:
+    """The message's name in three fields."""
+    return Name(int(values[0]), int(values[1]), int(values[2]))
+
+
+def told(script: Script, replies: Iterable[list[Fields]]) -> Story:
+    """The story of a script and its replies. It takes one pass over both."""
+    teller = Teller(script)
+    for command, reply in zip(script.commands, replies, strict=True):
+        teller.tell(command, reply)
+    return teller.story

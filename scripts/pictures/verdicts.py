@@ -1,0 +1,219 @@
+"""A check text in sentences: what is claimed, what each entry says, and what is wrong with it."""
+
+from collections.abc import Iterator
+from dataclasses import dataclass
+
+from slow_model.claims import Claim
+from slow_model.histories import Check, Entry, Name, Recv, Send
+from slow_model.texts import NOW
+
+from . import sentences, words
+from .texts import Choice
+
+MOST_NAMED = 6  # so many messages are listed
+
+
+@dataclass(frozen=True)
+class Tape:
+    """What has to be asked of a tape: where its checks stand, its sends by number, and its receipts."""
+
+    checks: tuple[int, ...]
+    sends: tuple[tuple[int, Name], ...]
+    receipts: tuple[tuple[int, Name], ...]
+    surviving: tuple[Choice, ...]
+
+    def place(self, choice: Choice) -> float:
+        """How many events stand before a choice that the tape has."""
+        if choice == NOW:
+            return NOW
+        return self.checks[int(choice) - 1] if choice else 0
+
+    def sent(self, name: Name, choice: Choice) -> bool:
+        """Whether a message of this process is sent before a choice."""
+        return name.number < len(self.sends) and self.sends[name.number][1] == name and (
+            self.sends[name.number][0] <= self.place(choice)
+        )
+
+    def received(self, choice: Choice) -> list[Name]:
+        """The messages that are received before a choice."""
+        return [name for place, name in self.receipts if place <= self.place(choice)]
+
+    def lower(self, choice: Choice) -> Choice:
+        """The latest surviving choice before one."""
+        return max(it for it in self.surviving if it < choice)
+
+
+def tapes_of(claim: Claim) -> list[Tape]:
+    """The tapes of a claim's history."""
+    found = []
+    for p, events in enumerate(claim.history.tapes):
+        placed = list(enumerate(events, 1))
+        checks = tuple(place for place, it in placed if isinstance(it, Check))
+        sends = [(place, it) for place, it in placed if isinstance(it, Send)]
+        named = tuple((place, Name(p, it.incarnation, number)) for number, (place, it) in enumerate(sends))
+        receipts = tuple((place, it.message) for place, it in placed if isinstance(it, Recv))
+        whole = [check for check in range(1, len(checks) + 1) if (p, check) not in claim.marks]
+        surviving = (0, *whole, *(() if p in claim.failed else (NOW,)))
+        found.append(Tape(checks, named, receipts, surviving))
+    return found
+
+
+def explanation(claim: Claim, verdict: str) -> Iterator[str]:
+    """A claim in paragraphs and the entries of a list, with the verdict of the program."""
+    kind, *fields = verdict.strip().split(",")
+    code = fields[2] if fields else ""
+    fault = int(fields[0]) if fields and fields[0] != "-" else None
+    yield from claimed(claim)
+    if code == "BadShape":
+        yield words.capital(f"{misshapen(claim)}.")
+    else:
+        tapes = tapes_of(claim)
+        ceilings = [tape.surviving[-1] for tape in tapes]
+        yield from entries(claim, tapes, ceilings, fault, code)
+        if kind == "valid":
+            yield valid(claim)
+        elif code == "LineDiffers":
+            yield words.capital(f"{other_line(claim, ceilings)}.")
+        elif code == "NotConsistent":
+            yield words.capital(f"{inconsistent(claim, tapes)}.")
+    yield f"The verdict: {verdict.strip()}"
+    if fault is not None:
+        yield f"The verdict counts entries from 0: its entry {fault} is number {fault + 1} of this list."
+
+
+def entries(
+    claim: Claim, tapes: list[Tape], ceilings: list[Choice], fault: int | None, code: str
+) -> Iterator[str]:
+    """The entries as a list, up to the first that is wrong. It lowers the ceilings as they go."""
+    if claim.entries:
+        yield "What the entries say, one after another, and whether it is so:"
+    wide = len(str(len(claim.entries))) + 2
+    for number, entry in enumerate(claim.entries):
+        said = sentences.orphan(entry.at, entry.choice, entry.message, ceilings[entry.message.sender])
+        if number == fault:
+            yield f"{number + 1:>{wide}}. {said} That is wrong: {wrong(entry, code, tapes, ceilings)}."
+            yield from unread(claim, number)
+            return
+        ceilings[entry.at] = tapes[entry.at].lower(entry.choice)
+        yield f"{number + 1:>{wide}}. {said} So it is, and it falls to {words.choice_of(ceilings[entry.at])}."
+
+
+# What is claimed.
+
+def claimed(claim: Claim) -> Iterator[str]:
+    """Who failed, what is damaged, and the line."""
+    failed = sorted(claim.failed)
+    parts = [f"{words.processes(failed)} failed" if failed else "nobody failed"]
+    by_process: dict[int, list[int]] = {}
+    for p, check in sorted(claim.marks):
+        by_process.setdefault(p, []).append(check)
+    for p, checks in by_process.items():
+        numbers = words.listed(words.ranges(checks))
+        parts.append(
+            f"{'check' if len(checks) == 1 else 'checks'} {numbers} of process {p} {'is' if len(checks) == 1 else 'are'} damaged"
+        )
+    stands = [
+        f"process {p} {'' if choice == NOW else 'at '}{words.choice_of(choice)}" for p, choice in enumerate(claim.line)
+    ]
+    yield f"The claim: {words.listed(parts)}. The latest line that can be gone on from is then {words.listed(stands)}."
+
+
+# What is wrong.
+
+def wrong(entry: Entry, name: str, tapes: list[Tape], ceilings: list[Choice]) -> str:
+    """What is wrong with an entry."""
+    tape, sender = tapes[entry.at], entry.message.sender
+    if name == "NotTop":
+        return not_top(entry, ceilings[entry.at])
+    if name == "NotReceived":
+        names = [words.message(it) for it in tape.received(entry.choice)]
+        some = words.listed([*names[:MOST_NAMED], *(["others"] if len(names) > MOST_NAMED else [])])
+        got = f"what it has received is {some}" if names else "it has received nothing"
+        before = "" if entry.choice == NOW else f"before {words.choice_of(entry.choice)} "
+        return f"{before}process {entry.at} has not received {words.message(entry.message)}; {got}"
+    left = ceilings[sender]
+    before = " by now" if left == NOW else f" before {words.choice_of(left)}, from which it can still go on"
+    return (
+        f"process {sender} has sent that message{before}, so that nothing speaks against process {entry.at} having "
+        "received it"
+    )
+
+
+def not_top(entry: Entry, ceiling: Choice) -> str:
+    """That an entry passes over another choice than the latest one that is left."""
+    if entry.choice > ceiling:
+        gone = "is passed over already, or cannot be used"
+        return (
+            f"{words.choice_at(entry.at, entry.choice)} {gone}; the latest choice that process {entry.at} has left is "
+            f"{words.choice_of(ceiling)}"
+        )
+    return (
+        f"the latest choice that process {entry.at} has left is {words.choice_of(ceiling)}, and that has to be passed "
+        f"over before {words.choice_of(entry.choice)}"
+    )
+
+
+def unread(claim: Claim, number: int) -> Iterator[str]:
+    """That the entries behind the first wrong one were not looked at."""
+    rest = len(claim.entries) - number - 1
+    if rest:
+        them = "The entry behind it was" if rest == 1 else f"The {rest:,} entries behind it were"
+        yield f"{them} not looked at."
+
+
+def other_line(claim: Claim, ceilings: list[Choice]) -> str:
+    """Where the entries lead to another line."""
+    parts = [
+        f"process {p} to {words.choice_of(left)}, where the claim has {words.choice_of(choice)}"
+        for p, (left, choice) in enumerate(zip(ceilings, claim.line)) if left != choice
+    ]
+    if not claim.entries:
+        return f"without an entry the line is another one: {words.listed(parts)}"
+    return f"so the entries lead to another line: {words.listed(parts)}"
+
+
+def inconsistent(claim: Claim, tapes: list[Tape]) -> str:
+    """A message that the claimed line receives and does not send."""
+    for p, choice in enumerate(claim.line):
+        for name in tapes[p].received(choice):
+            if not tapes[name.sender].sent(name, claim.line[name.sender]):
+                at = f"process {p}, {'' if choice == NOW else 'at '}{words.choice_of(choice)},"
+                ends = words.choice_of(claim.line[name.sender])
+                return (
+                    f"that line cannot be gone on from: {at} has received {words.message(name)}, and process "
+                    f"{name.sender} has not sent it before {ends}"
+                )
+    return "a message is received before that line that is not sent before it"
+
+
+def misshapen(claim: Claim) -> str:
+    """What the claim names and the history does not have."""
+    history, count = claim.history, len(claim.history.tapes)
+    if len(claim.line) != count:
+        return (
+            f"the claimed line has {words.counted(len(claim.line), 'choice')}, and the history has "
+            f"{words.counted(count, 'process', 'processes')}"
+        )
+    checks = [len([it for it in tape if isinstance(it, Check)]) for tape in history.tapes]
+    named = [("said to be damaged", p, check) for p, check in sorted(claim.marks)]
+    named += [("in the line", p, choice) for p, choice in enumerate(claim.line)]
+    named += [("passed over in an entry", entry.at, entry.choice) for entry in claim.entries]
+    for what, p, choice in named:
+        if choice != NOW and choice > checks[p]:
+            has = words.counted(checks[p], "check") if checks[p] else "no check"
+            return f"{words.choice_at(p, choice)} is {what}, and that process has {has}"
+    return "it names what the history does not have"
+
+
+def valid(claim: Claim) -> str:
+    """That nothing is wrong."""
+    if not claim.entries:
+        return (
+            "No entry is needed: the line is at the latest choices that survive, and it receives "
+            "no message that is not sent before it. So it is the latest line."
+        )
+    return (
+        "So the entries lead to the claimed line, and that receives no message that is not sent "
+        "before it. So it is the latest line: each later choice that survives is in the list, with the message that "
+        "speaks against it."
+    )

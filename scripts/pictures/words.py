@@ -1,0 +1,62 @@
+"""The words that pictures and sentences share."""
+
+from collections.abc import Sequence
+
+from slow_model.histories import Name
+from slow_model.texts import NOW
+
+from .texts import Choice
+
+
+def choice_of(choice: Choice) -> str:
+    """A choice of a process that was named before."""
+    if choice == NOW:
+        return "where it stands"
+    return "its initial state" if choice == 0 else f"its check {choice:.0f}"
+
+
+def choice_at(process: int, choice: Choice) -> str:
+    """A choice, with its process."""
+    if choice == NOW:
+        return f"where process {process} stands"
+    return f"the initial state of process {process}" if choice == 0 else f"check {choice:.0f} of process {process}"
+
+
+def message(name: Name) -> str:
+    """A message by its name. The first incarnation of its sender, 0, is not told."""
+    under = f", sent under its incarnation {name.incarnation}" if name.incarnation else ""
+    return f"message {name.number} of process {name.sender}{under}"
+
+
+def counted(count: int, one: str, many: str = "") -> str:
+    """A number of things, or none; a word alone takes an s."""
+    return f"{count:,} {one if count == 1 else many or one + 's'}" if count else f"no {one}"
+
+
+def listed(parts: Sequence[str]) -> str:
+    """Parts of a sentence: one, two and three."""
+    return " and ".join([", ".join(parts[:-1]), parts[-1]] if len(parts) > 1 else parts)
+
+
+def ranges(numbers: Sequence[int]) -> list[str]:
+    """Rising numbers, with three or more in a row written from the first to the last."""
+    found: list[list[int]] = []
+    for number in numbers:
+        if found and number == found[-1][-1] + 1:
+            found[-1].append(number)
+        else:
+            found.append([number])
+    spans = []
+    for run in found:
+        spans += [f"{run[0]} to {run[-1]}"] if len(run) > 2 else [str(number) for number in run]
+    return spans
+
+
+def processes(numbers: Sequence[int]) -> str:
+    """Some processes, at least one."""
+    return ("process " if len(numbers) == 1 else "processes ") + listed(ranges(numbers))
+
+
+def capital(sentence: str) -> str:
+    """A sentence with its first letter large."""
+    return sentence[:1].upper() + sentence[1:]
