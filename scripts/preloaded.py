@@ -41,6 +41,12 @@ class Counts(NamedTuple):
     writes: int
 
 
+def built_program() -> str:
+    """The program of this repository, which is proved and built first where it isn't."""
+    subprocess.run([TOP / "recline", "--version"], stdout=subprocess.DEVNULL, check=True)
+    return str(TOP / "crates" / "line_cli" / "out" / "line_cli")
+
+
 def compiled(folder: str) -> str:
     """Compiles the library into the folder, and answers its path."""
     named = [os.environ.get("CC"), "cc", "clang", "gcc"]
