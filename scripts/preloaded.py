@@ -1,7 +1,7 @@
 """Runs of the program that are refused memory, or whose reads and writes fail.
 
 `preloaded.c` is compiled, and loaded before the C library of the program. It wants Linux, the GNU C
-library and a C compiler (`$CC`, or else cc, clang or gcc), which nothing else here needs.
+library and a C compiler: `$CC`, or else cc, clang or gcc.
 """
 
 import os
@@ -12,7 +12,8 @@ import subprocess
 from typing import NamedTuple
 
 TOP = pathlib.Path(__file__).resolve().parent.parent
-MOST_SECONDS = 60
+# Workers of a drill that wait in vain take 10,000,000 turns.
+MOST_SECONDS = 600
 COUNTS = struct.Struct("=3Q")
 
 
@@ -25,7 +26,7 @@ class Text(NamedTuple):
 
 
 class Answer(NamedTuple):
-    """What a run gives; the status is negative where a signal ended it, and None where nothing did."""
+    """What a run gives. The status is negative where a signal ended it, None where time did."""
 
     output: bytes
     said: bytes
@@ -40,6 +41,12 @@ class Counts(NamedTuple):
     writes: int
 
 
+def built_program() -> str:
+    """The program of this repository, which is proved and built first where it isn't."""
+    subprocess.run([TOP / "recline", "--version"], stdout=subprocess.DEVNULL, check=True)
+    return str(TOP / "crates" / "line_cli" / "out" / "line_cli")
+
+
 def compiled(folder: str) -> str:
     """Compiles the library into the folder, and answers its path."""
     named = [os.environ.get("CC"), "cc", "clang", "gcc"]
@@ -52,15 +59,24 @@ def compiled(folder: str) -> str:
     return library
 
 
-def answered(program: str, library: str, it: Text, settings: dict[str, int]) -> tuple[Answer, Counts]:
+def answered(
+    program: str, library: str, it: Text, settings: dict[str, int]
+) -> tuple[Answer, Counts]:
     """Runs the program with these settings of the library."""
     kept = os.memfd_create("counts", 0)
     os.ftruncate(kept, COUNTS.size)
     environment = {"LD_PRELOAD": library, "COUNTS_FD": str(kept)}
     environment.update((name, str(value)) for name, value in settings.items())
-    how = {"input": it.text, "capture_output": True, "check": False, "timeout": MOST_SECONDS}
     try:
-        ran = subprocess.run([program, *it.words], env=environment, pass_fds=[kept], **how)
+        ran = subprocess.run(
+            [program, *it.words],
+            input=it.text,
+            capture_output=True,
+            check=False,
+            timeout=MOST_SECONDS,
+            env=environment,
+            pass_fds=[kept],
+        )
         answer = Answer(ran.stdout, ran.stderr, ran.returncode)
     except subprocess.TimeoutExpired:
         answer = Answer(b"", b"", None)

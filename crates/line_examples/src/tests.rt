@@ -7,6 +7,7 @@ use std::test::Fail;
 mod build;
 mod catalogues;
 mod claims;
+mod growths;
 mod markers;
 mod runs;
 mod texts;
