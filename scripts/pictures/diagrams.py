@@ -8,7 +8,7 @@ from .frames import MARGIN, NAME, Frame, frame_of
 from .labels import Box, Label, Placed, Segment, placed, wrapped
 from .legends import legend
 from .stories import Event, Recovery
-from .svg import Element, style
+from .svg import Element, style, text
 from .views import View
 
 LEAST_WIDTH, READ_WIDTH = 560.0, 860.0
@@ -25,11 +25,6 @@ class Diagram:
     labels: tuple[Placed, ...]
     left_out: tuple[Label, ...]
     boxes: tuple[Box, ...]
-
-
-def text(content: str, kind: str, x: float, y: float, size: float, anchor: str = "start") -> Element:
-    """A line of text."""
-    return Element("text", {"class": kind, "x": x, "y": y, "font-size": size, "text-anchor": anchor}, (content,))
 
 
 def heading(view: View, width: float) -> tuple[list[Element], float]:
@@ -67,7 +62,9 @@ def names_again(frame: Frame) -> Iterator[Label]:
     for process, y in frame.rows.items():
         for count in range(1, int((frame.end - frame.start - 200) // AGAIN) + 1):
             x = frame.start + count * AGAIN
-            places = tuple((x + aside, y + down) for aside in (0, 40, -40, 80, -80) for down in (-12, 12))
+            places = tuple(
+                (x + aside, y + down) for aside in (0, 40, -40, 80, -80) for down in (-12, 12)
+            )
             yield Label(f"process {process}", "faint", TICK, places)
 
 
@@ -96,8 +93,17 @@ def label(it: Placed) -> list[Element]:
     size = it.label.size
     if not it.label.is_pill:
         return [text(it.label.text, it.label.kind, x, y + size * 0.35, size, "middle")]
-    box = {"x": it.box.left, "y": it.box.top, "width": it.box.right - it.box.left, "height": 16, "rx": 8}
-    return [Element("rect", {"class": "pill", **box}), text(it.label.text, "onpill", x, y + 4, size, "middle")]
+    box = {
+        "x": it.box.left,
+        "y": it.box.top,
+        "width": it.box.right - it.box.left,
+        "height": 16,
+        "rx": 8,
+    }
+    return [
+        Element("rect", {"class": "pill", **box}),
+        text(it.label.text, "onpill", x, y + 4, size, "middle"),
+    ]
 
 
 def diagram(view: View, with_bodies: bool) -> Diagram:
@@ -109,8 +115,11 @@ def diagram(view: View, with_bodies: bool) -> Diagram:
     ways = list(arrows.arrows_of(frame))
     recoveries, rounds = list(lines.recovery_lines(frame)), list(lines.round_lines(frame))
     wanted = [
-        *lines.recovery_labels(frame), *lines.round_labels(frame), *glyphs.check_labels(frame),
-        *(it for way in ways for it in arrows.labels_of(way, with_bodies)), *names_again(frame),
+        *lines.recovery_labels(frame),
+        *lines.round_labels(frame),
+        *glyphs.check_labels(frame),
+        *(it for way in ways for it in arrows.labels_of(way, with_bodies)),
+        *names_again(frame),
     ]
     crossed = rows_of(frame) + [way.segment for way in ways if way.kind != "marker"]
     crossed += [part for _, points in [*recoveries, *rounds] for part in lines.segments(points)]
@@ -124,14 +133,21 @@ def diagram(view: View, with_bodies: bool) -> Diagram:
         *(lines.recovery_line(recovery, points) for recovery, points in recoveries),
         *(lines.round_line(listed, points) for listed, points in rounds),
         *(arrows.drawn(way) for way in ways),
-        *(arrows.channel_mark(way) for way in ways if way.message in channels),
+        *(glyphs.channel_mark(way.along(0.5)) for way in ways if way.message in channels),
         *(part for recovery in view.recoveries for part in lines.restarts(frame, recovery)),
-        *(glyphs.square(check, middle, glyphs.kind_of(check, frame)) for check, middle in glyphs.checks_of(frame)),
-        *glyphs.damages(frame), *names(frame), text("record", "faint", MARGIN, frame.bottom + 5.5, TICK),
+        *(
+            glyphs.square(check, middle, glyphs.kind_of(check, frame))
+            for check, middle in glyphs.checks_of(frame)
+        ),
+        *glyphs.damages(frame),
+        *names(frame),
+        text("record", "faint", MARGIN, frame.bottom + 5.5, TICK),
         *(part for it in [*axis, *found] for part in label(it)),
     ]
     kinds = {way.kind for way in ways}
-    key, bottom = legend(frame, kinds, channels, frame.bottom + 20, min(width, READ_WIDTH) - 2 * MARGIN)
+    key, bottom = legend(
+        frame, kinds, channels, frame.bottom + 20, min(width, READ_WIDTH) - 2 * MARGIN
+    )
     svg = whole(view, [*head, *drawn, *key], width, bottom + MARGIN)
     return Diagram(svg, (*axis, *found), tuple(left_out), tuple(boxes))
 
@@ -139,14 +155,22 @@ def diagram(view: View, with_bodies: bool) -> Diagram:
 def whole(view: View, parts: list[Element], width: float, height: float) -> Element:
     """The picture with its title, its description, and its styles."""
     size = f"width:100%;height:auto;min-width:{width * 0.9:.0f}px;max-width:{width * 1.25:.0f}px"
-    return Element("svg", {
-        "xmlns": "http://www.w3.org/2000/svg", "viewBox": f"0 0 {width:.0f} {height:.0f}", "width": "100%",
-        "style": size, "font-family": FONT, "role": "img", "aria-labelledby": "title desc",
-    }, (
-        Element("title", {"id": "title"}, (sentences.title(view),)),
-        Element("desc", {"id": "desc"}, (sentences.description(view),)),
-        Element("style", {}, (style(),)),
-        Element("rect", {"class": "paper", "width": "100%", "height": "100%"}),
-        *parts,
-    ))
-
+    return Element(
+        "svg",
+        {
+            "xmlns": "http://www.w3.org/2000/svg",
+            "viewBox": f"0 0 {width:.0f} {height:.0f}",
+            "width": "100%",
+            "style": size,
+            "font-family": FONT,
+            "role": "img",
+            "aria-labelledby": "title desc",
+        },
+        (
+            Element("title", {"id": "title"}, (sentences.title(view),)),
+            Element("desc", {"id": "desc"}, (sentences.description(view),)),
+            Element("style", {}, (style(),)),
+            Element("rect", {"class": "paper", "width": "100%", "height": "100%"}),
+            *parts,
+        ),
+    )

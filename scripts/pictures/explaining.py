@@ -3,12 +3,12 @@
 import argparse
 from collections.abc import Iterable
 
-from slow_model.claims import read_claim
+from slow_model.claims import Claim, read_claim
 
 from . import drawing, options, program, sentences, verdicts, views
 
-ABOUT = """Says in sentences what the last recovery of a script came to: what cannot be kept and why,
-where each process goes back to, and what is sent again.
+ABOUT = """Says in sentences what the last recovery of a script came to: what cannot be kept and
+why, where each process goes back to, and what is sent again.
 
     ./explain < examples/domino.in
     ./explain --claim < examples/claim_not_orphan.in
@@ -39,7 +39,8 @@ def of_script(path: str, text: bytes, number: int | None) -> Iterable[str]:
 def of_claim(path: str, text: bytes) -> Iterable[str]:
     """The sentences on a check text."""
     verdict = program.answer(path, "check", text).decode("ascii")
-    return verdicts.explanation(read_claim(text), verdict)
+    claim: Claim = read_claim(text)  # type: ignore[no-untyped-call]
+    return verdicts.explanation(claim, verdict)
 
 
 def main(given: list[str]) -> int:
@@ -47,7 +48,11 @@ def main(given: list[str]) -> int:
     asked = words(given)
     try:
         text = program.read_input()
-        told = of_claim(asked.program, text) if asked.claim else of_script(asked.program, text, asked.recovery)
+        told = (
+            of_claim(asked.program, text)
+            if asked.claim
+            else of_script(asked.program, text, asked.recovery)
+        )
         program.write_output("".join(f"{line}\n" for line in told))
     except program.Fault as fault:
         return program.tell("explain", fault)

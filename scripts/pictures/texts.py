@@ -8,8 +8,19 @@ from slow_model.texts import NOW
 Fields = list[str]
 Choice = float  # the index of a check, or NOW, which is later than each
 ANSWERS = {
-    "sent", "took", "marked", "stale", "repeated", "checked", "begun", "turned", "damaged", "recovered", "rounds",
-    "history", "refused",
+    "sent",
+    "took",
+    "marked",
+    "stale",
+    "repeated",
+    "checked",
+    "begun",
+    "turned",
+    "damaged",
+    "recovered",
+    "rounds",
+    "history",
+    "refused",
 }  # the first records of replies
 
 
