@@ -204,7 +204,7 @@ def labels_of(arrow: Arrow, with_body: bool) -> Iterator[Label]:
         parts = [0.5, 0.42, 0.58, 0.34, 0.66, 0.26, 0.74, 0.2, 0.8, 0.14, 0.86]
         if not arrow.has_start or not arrow.has_end:
             # A pill would hide the whole of it: it goes behind the end that is open.
-            parts = [1.3, 1.6] if arrow.has_start else [-0.3, -0.6]
+            parts = [1.3, 1.6, 2.0, 2.4] if arrow.has_start else [-0.3, -0.6, -1.0, -1.4]
         spots = tuple(arrow.along(it) for it in parts)
         beside = tuple(
             arrow.along(it, aside) for aside in (18.0, -18.0, 32.0, -32.0) for it in parts
@@ -223,15 +223,9 @@ def labels_of(arrow: Arrow, with_body: bool) -> Iterator[Label]:
         text += f" to {arrow.message.to}"
     wide = width_of(text, TINY) / 2 + 4
     middles = [arrow.along(part) for part in (0.3, 0.4, 0.5, 0.6, 0.7, 0.22, 0.8)]
-    sides = [
-        (wide, 0.0),
-        (-wide, 0.0),
-        (wide, -8.0),
-        (-wide, -8.0),
-        (wide, 8.0),
-        (-wide, 8.0),
-        (0.0, -11.0),
-        (0.0, 11.0),
-    ]
+    sides = [(wide * side, down) for down in (0.0, -8.0, 8.0) for side in (1, -1)]
+    sides += [(wide * side, down) for down in (-11.0, 11.0) for side in (0, 0.5, -0.5)]
+    if not arrow.has_start or not arrow.has_end:
+        sides += [(wide * side, down) for down in (-24.0, 24.0, -38.0, 38.0) for side in (0, 1, -1)]
     places = tuple((x + right, y + down) for right, down in sides for x, y in middles)
     yield Label(text, WORDS.get(arrow.kind, "said"), TINY, places, is_needed=with_body)

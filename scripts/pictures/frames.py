@@ -110,6 +110,4 @@ def frame_of(view: View, top: float) -> Frame:
             x += apart / 2
     rows = rows_of(view.processes, top)
     bottom = max(rows.values()) + BELOW
-    return Frame(
-        view, rows, columns, restarts, earlier, tuple(breaks), start, x + apart * 0.75, bottom
-    )
+    return Frame(view, rows, columns, restarts, earlier, tuple(breaks), start, x + apart, bottom)

@@ -26,6 +26,15 @@ class Box(NamedTuple):
             and other.top < self.bottom
         )
 
+    def is_in(self, other: "Box") -> bool:
+        """Whether nothing of it is outside the other."""
+        return (
+            other.left <= self.left
+            and self.right <= other.right
+            and other.top <= self.top
+            and self.bottom <= other.bottom
+        )
+
 
 def width_of(text: str, size: float) -> float:
     """How wide a text is at most in the usual fonts without serifs."""
@@ -129,15 +138,16 @@ def around(boxes: Sequence[Box]) -> Box:
 
 
 def placed(
-    labels: Sequence[Label], taken: Iterable[Box], lines: Sequence[Segment]
+    labels: Sequence[Label], sheet: Box, taken: Iterable[Box], lines: Sequence[Segment]
 ) -> tuple[list[Placed], list[Label]]:
-    """Puts each label where it meets no other and crosses the fewest lines.
+    """Puts each label on the sheet where it meets no other and crosses the fewest lines.
 
     Needed labels come first, each at the best of its free places. Those without room are told.
     """
     room, found, left_out = Room(taken), [], []
     for label in sorted(labels, key=lambda it: not it.is_needed):
-        free = [place for place in label.places if room.is_free(label.box(place))]
+        boxes = [(place, label.box(place)) for place in label.places]
+        free = [place for place, box in boxes if box.is_in(sheet) and room.is_free(box)]
         if not free:
             left_out.append(label)
             continue
