@@ -203,7 +203,7 @@ def labels_of(arrow: Arrow, with_body: bool) -> Iterator[Label]:
     if arrow.passes:
         parts = [0.5, 0.42, 0.58, 0.34, 0.66, 0.26, 0.74, 0.2, 0.8, 0.14, 0.86]
         if not arrow.has_start or not arrow.has_end:
-            # A pill would hide the whole of it: it goes behind the end that is open.
+            # A pill would hide the whole of it: it goes beyond the end that is open.
             parts = [1.3, 1.6, 2.0, 2.4] if arrow.has_start else [-0.3, -0.6, -1.0, -1.4]
         spots = tuple(arrow.along(it) for it in parts)
         beside = tuple(

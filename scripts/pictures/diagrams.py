@@ -166,9 +166,7 @@ def footing(
     if without_room:
         y += NOTE * 1.35
         many = words.counted(without_room, "label")
-        note = (
-            f"{words.capital(many)} found no room: what a mark is, is told where it is pointed at."
-        )
+        note = f"{words.capital(many)} found no room: point at a mark to see what it is."
         found.append(text(note, "faint", MARGIN, y, NOTE))
     return found, y
 

@@ -3,7 +3,7 @@
 import argparse
 from collections.abc import Iterable
 
-from slow_model.claims import Claim, read_claim
+from slow_model.claims import read_claim
 
 from . import drawing, options, program, sentences, verdicts, views
 
@@ -39,8 +39,7 @@ def of_script(path: str, text: bytes, number: int | None) -> Iterable[str]:
 def of_claim(path: str, text: bytes) -> Iterable[str]:
     """The sentences on a check text."""
     verdict = program.answer(path, "check", text).decode("ascii")
-    claim: Claim = read_claim(text)  # type: ignore[no-untyped-call]
-    return verdicts.explanation(claim, verdict)
+    return verdicts.explanation(read_claim(text), verdict)
 
 
 def main(given: list[str]) -> int:

@@ -44,7 +44,7 @@ class Frame:
         return self.earlier.get(event) if found is None and isinstance(event, Check) else found
 
     def source(self, source: "Message | Recovery | Check") -> float | None:
-        """Where what is received starts from: replays start behind their recovery."""
+        """Where what is received starts from: replays start after their recovery."""
         return (
             self.restarts.get(source.number)
             if isinstance(source, Recovery)
@@ -77,7 +77,7 @@ def earlier_checks(view: View) -> list[list[Check]]:
 
 
 def has_restarts(recovery: Recovery, processes: tuple[int, ...]) -> bool:
-    """Whether something goes on behind a recovery: a process that goes back, or a replay."""
+    """Whether something goes on after a recovery: a process that goes back, or a replay."""
     return bool(recovery.replays) or any(
         recovery.line[process].choice != NOW for process in processes
     )

@@ -94,7 +94,7 @@ def check_title(check: Check) -> str:
     """What is told of a check where it is pointed at."""
     if not check.index:
         return f"Initial state of process {check.process}"
-    told = f"Check {check.index} of process {check.process}; record {check.record}"
+    told = f"Checkpoint {check.index} of process {check.process}; record {check.record}"
     told += f", for round {check.round}" if check.round else ""
     told += ", taken before what came in" if check.is_forced else ""
     told += f", state {check.state}" if check.state else ", no bytes stored"
@@ -181,7 +181,7 @@ def check_labels(frame: Frame) -> Iterator[Label]:
     for it in frame.view.shown:
         if isinstance(it, Damage):
             place = frame.columns[it.place], frame.rows[it.process]
-            yield word(f"check {it.check.index} damaged", "orphanword", place)
+            yield word(f"checkpoint {it.check.index} damaged", "orphanword", place)
 
 
 def damages(frame: Frame) -> Iterator[Element]:
@@ -189,7 +189,7 @@ def damages(frame: Frame) -> Iterator[Element]:
     for it in frame.view.shown:
         if isinstance(it, Damage):
             x, y = frame.columns[it.place], frame.rows[it.process]
-            title = f"Check {it.check.index} of process {it.process} is marked as damaged"
+            title = f"Checkpoint {it.check.index} of process {it.process} is marked as damaged"
             title += f"; record {it.record}"
             yield Element(
                 "g",

@@ -63,12 +63,12 @@ def keys(frame: Frame, kinds: set[str], channels: set[Message]) -> Iterator[Key]
         yield Key((box("check"), text("0", "said", 16, 4, INDEX, "middle")), "initial state")
     if any(check.index for check in checks):
         yield Key(
-            (box("check"), text("2", "said", 16, 4, INDEX, "middle")), "check, with its index"
+            (box("check"), text("2", "said", 16, 4, INDEX, "middle")), "checkpoint, with its index"
         )
     if any(check.round for check in checks):
-        yield Key((box("inround", 16, 2), box("check", 16, -2)), "check of a round")
+        yield Key((box("inround", 16, 2), box("check", 16, -2)), "checkpoint of a round")
     if any(check.damage for check in checks):
-        yield Key((box("check"), *cross("scratch", 16, HALF + 3)), "damaged check")
+        yield Key((box("check"), *cross("scratch", 16, HALF + 3)), "damaged checkpoint")
     yield from arrow_keys(kinds, channels)
     if view.recoveries:
         yield from recovery_keys(frame, squares)
@@ -112,10 +112,10 @@ def recovery_keys(frame: Frame, squares: set[str]) -> Iterator[Key]:
         yield Key(cross("cross", 16, 7), "process failed")
     if any(restart.choice != NOW for recovery in view.recoveries for restart in recovery.line):
         lost = box("cut"), text("2", "faint", 16, 4, INDEX, "middle")
-        yield Key((glyphs.line("lost", (0, 0), (32, 0)), *lost), "undone: behind the line")
+        yield Key((glyphs.line("lost", (0, 0), (32, 0)), *lost), "undone: after the line")
         yield Key(
             (box("again"), text("1", "said", 16, 4, INDEX, "middle")),
-            "goes on again from this check",
+            "goes on again from this checkpoint",
         )
 
 

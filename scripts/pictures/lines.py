@@ -82,7 +82,7 @@ def moment(frame: Frame, recovery: Recovery) -> Iterator[Element]:
 
 
 def restarts(frame: Frame, recovery: Recovery) -> Iterator[Element]:
-    """The checks from which processes go on, each in a dashed square behind the recovery."""
+    """The checks from which processes go on, each in a dashed square after the recovery."""
     for process, y in frame.rows.items():
         restart = recovery.line[process]
         if restart.choice == NOW:
@@ -180,7 +180,7 @@ def round_lines(frame: Frame) -> Iterator[tuple[ListedRound, list[Point]]]:
 
 def round_line(listed: ListedRound, points: list[Point]) -> Element:
     """The line of a round, as a thin one."""
-    checks = [f"process {p} its check {check.index}" for p, check in enumerate(listed.checks)]
+    checks = [f"process {p} its checkpoint {check.index}" for p, check in enumerate(listed.checks)]
     return polyline("round", points, f"Round {listed.number}: {', '.join(checks)}")
 
 

@@ -39,7 +39,9 @@ def summary(recovery: Recovery) -> str:
     where = f"{words.processes(back)} {goes} back" if back else "no process goes back"
     lost = words.counted(sum(len(it.lost) for it in recovery.line), "event")
     passes, replays = len(recovery.passes), len(recovery.replays)
-    passed = f"{words.counted(passes, 'choice')} {words.are(passes)} passed over"
+    passed = f"{words.counted(passes, 'later choice')} {words.are(passes)} passed over"
+    if passes:
+        passed += f" for {'an orphan message' if passes == 1 else 'orphan messages'}"
     again = f"{words.counted(replays, 'message')} {words.are(replays)} sent again"
     happened = f"Recovery {recovery.number}: {failed(recovery)}; {where}, with {lost} undone."
     return f"{happened} {words.capital(passed)}, and {again}."
@@ -100,12 +102,15 @@ def explanation(story: Story, recovery: Recovery) -> Iterator[str]:
     yield headline(story, recovery)
     yield from beginning(story, recovery)
     if recovery.passes:
-        yield "From there on these choices had to be passed over, in the order of the certificate:"
+        yield (
+            "From there on, more places had to be given up, one after another. These are the "
+            "entries of the certificate, in its order:"
+        )
         yield from entries(recovery)
         yield (
             "That is all: each message that is received before the places that are left is sent "
-            "before them. No process could go on from a later place: each one that survives is in "
-            "this list, with the message that speaks against it."
+            "before them. No process could go on from a later place: each one that can be used is "
+            "in this list, with the orphan message that speaks against it."
         )
     else:
         yield (
@@ -210,4 +215,4 @@ def in_transit(recovery: Recovery, message: Message) -> str:
     if undone is None:
         return f"{told}; it has not arrived at process {message.to}."
     place = words.choice_at(end.process, end.choice)
-    return f"{told}; it had not arrived before {place}, and its receipt behind that is undone."
+    return f"{told}; it had not arrived before {place}, and its receipt after that is undone."

@@ -2,7 +2,7 @@
 
 A **story** is told once, from the first record to the last. Which check, which message and which
 line are meant is what the replies say; of the machine only this is done anew, that a recovery takes
-the events behind a process's choice off its line.
+the events after a process's choice off its line.
 """
 
 from collections.abc import Iterable
@@ -234,7 +234,7 @@ class Teller:
             self.story.rounds.setdefault(number, listed)
 
     def tell_recovery(self, command: Command, records: list[Fields]) -> None:
-        """Adds a recovery, and takes off the tapes what stands behind its line."""
+        """Adds a recovery, and takes off the tapes what stands after its line."""
         recoveries = self.story.recoveries
         failed = tuple(sorted(set(map(int, command.fields))))
         recovery = Recovery(
@@ -275,7 +275,7 @@ class Teller:
         return Pass(number, process, choice, check, message, receipt, ceiling)
 
     def restarted(self, values: Fields, recovery: Recovery) -> Restart:
-        """Takes off a process's tape what stands behind its choice."""
+        """Takes off a process's tape what stands after its choice."""
         process, choice = int(values[0]), read_choice(values[1])
         tape, checks = self.tapes[process], self.checks[process]
         check, lost = None, []

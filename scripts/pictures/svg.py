@@ -81,7 +81,7 @@ def text(
 
 
 def number(value: Attribute) -> str:
-    """A number with one digit behind the point at most; text as it is."""
+    """A number with one digit after the point at most; text as it is."""
     return value if isinstance(value, str) else f"{round(value, 1) + 0.0:.10g}"
 
 

@@ -148,11 +148,12 @@ def wrong(entry: Entry, name: str, tapes: list[Tape], ceilings: list[Choice]) ->
 
 def not_top(entry: Entry, tape: Tape, ceiling: Choice) -> str:
     """That an entry passes over another choice than the latest one that is left."""
-    left = f"the latest choice that process {entry.at} has left is {words.choice_of(ceiling)}"
+    place = words.choice_of(ceiling)
+    left = f"the latest place that process {entry.at} can still go on from is {place}"
     if entry.choice < ceiling and entry.choice in tape.surviving:
-        return f"{left}, and that has to be passed over before {words.choice_of(entry.choice)}"
+        return f"{left}, and that has to be given up before {words.choice_of(entry.choice)}"
     if entry.choice in tape.surviving:
-        gone = f"{words.choice_of(entry.choice)} is passed over already"
+        gone = f"{words.choice_of(entry.choice)} is given up already"
     elif entry.choice == NOW:
         gone = f"process {entry.at} failed, and where it stands is lost"
     else:
@@ -161,10 +162,10 @@ def not_top(entry: Entry, tape: Tape, ceiling: Choice) -> str:
 
 
 def unread(claim: Claim, number: int) -> Iterator[str]:
-    """That the entries behind the first wrong one were not looked at."""
+    """That the entries after the first wrong one were not looked at."""
     rest = len(claim.entries) - number - 1
     if rest:
-        them = "The entry behind it was" if rest == 1 else f"The {rest:,} entries behind it were"
+        them = "The entry after it was" if rest == 1 else f"The {rest:,} entries after it were"
         yield f"{them} not looked at."
 
 
@@ -208,7 +209,7 @@ def misshapen(claim: Claim) -> str:
     named += [("passed over in an entry", entry.at, entry.choice) for entry in claim.entries]
     for what, p, choice in named:
         if choice != NOW and choice > checks[p]:
-            has = words.counted(checks[p], "check") if checks[p] else "no check"
+            has = words.counted(checks[p], "checkpoint")
             return f"{words.choice_at(p, choice)} is {what}, and that process has {has}"
     return "it names what the history does not have"
 
@@ -217,11 +218,11 @@ def valid(claim: Claim) -> str:
     """That nothing is wrong."""
     if not claim.entries:
         return (
-            "No entry is needed: the line is at the latest choices that survive, and it receives "
-            "no message that is not sent before it. So it is the latest line."
+            "No entry is needed: the line is at the latest places that can be used, and it "
+            "receives no message that is not sent before it. So it is the latest line."
         )
     return (
         "So the entries lead to the claimed line, and that receives no message that is not sent "
-        "before it. So it is the latest line: each later choice that survives is in the list, with "
-        "the message that speaks against it."
+        "before it. So it is the latest line: each later place that can be used is in the list, "
+        "with the orphan message that speaks against it."
     )

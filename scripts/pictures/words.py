@@ -12,7 +12,7 @@ def choice_of(choice: Choice) -> str:
     """A choice of a process that was named before."""
     if choice == NOW:
         return "where it stands"
-    return "its initial state" if choice == 0 else f"its check {choice:.0f}"
+    return "its initial state" if choice == 0 else f"its checkpoint {choice:.0f}"
 
 
 def choice_at(process: int, choice: Choice) -> str:
@@ -22,7 +22,7 @@ def choice_at(process: int, choice: Choice) -> str:
     return (
         f"the initial state of process {process}"
         if choice == 0
-        else f"check {choice:.0f} of process {process}"
+        else f"checkpoint {choice:.0f} of process {process}"
     )
 
 
@@ -48,8 +48,8 @@ def are(count: int) -> str:
 
 
 def checks(numbers: Sequence[int]) -> str:
-    """Some checks, at least one."""
-    return f"{'check' if len(numbers) == 1 else 'checks'} {listed(ranges(numbers))}"
+    """Some checkpoints, at least one."""
+    return f"{'checkpoint' if len(numbers) == 1 else 'checkpoints'} {listed(ranges(numbers))}"
 
 
 def listed(parts: Sequence[str]) -> str:
