@@ -121,7 +121,7 @@ def square(check: Check, middle: Point, kind: str) -> Element:
             line("scratch", (left, top), (right, bottom)),
             line("scratch", (left, bottom), (right, top)),
         ]
-    word = "faint" if kind == "cut" and not check.damage else "said"
+    word = "head" if check.damage else "faint" if kind == "cut" else "said"
     parts.append(text(str(check.index), word, x, y + 4, INDEX, "middle"))
     return Element("g", {}, tuple(parts))
 

@@ -23,10 +23,10 @@ def failed(recovery: Recovery) -> str:
 
 def title(view: View) -> str:
     """What a picture shows."""
-    links = "in order" if view.story.is_fifo else "in any order"
+    links = "ordered" if view.story.is_fifo else "unordered"
     count = words.counted(view.story.processes, "process", "processes")
     numbers = [str(recovery.number) for recovery in view.recoveries]
-    title = f"{count}, links that deliver {links}"
+    title = f"{count}, {links} links"
     if not numbers:
         return title
     return f"{title}; {'recovery' if len(numbers) == 1 else 'recoveries'} {words.listed(numbers)}"

@@ -22,12 +22,13 @@ class Ink(NamedTuple):
     style: str = ""
 
 
-# The hues are those of Okabe and Ito, which colour-blind people tell apart, lightened on dark
-# ground and darkened on light. No kind is told by its hue alone: each has a form of its own.
+# Any two of these are far apart for those who see all colours and for each kind of colour blindness,
+# and text in them is easy to read on its ground. No kind is told by its colour alone: each has a
+# form of its own.
 INK, PALE, PAPER = ("#1f2328", "#e6edf3"), ("#656d76", "#8d96a0"), ("#ffffff", "#0d1117")
 GREY = ("#a0a8b1", "#5d6671")  # of lines, which need less contrast than text
-LINE, ORPHAN = ("#0072b2", "#56b4e9"), ("#c04a00", "#ff9a4d")
-REPLAY, ROUND = ("#007a5a", "#2fd0a5"), ("#9b4f80", "#e0a3c8")
+LINE, ORPHAN = ("#0024d6", "#0a95ff"), ("#c04a00", "#ff9a4d")
+REPLAY, ROUND = ("#00856a", "#1fffa5"), ("#862786", "#ca91ca")
 STROKES = {
     "life": Ink(*INK, "stroke-width:2"),
     "lost": Ink(*GREY, "stroke-width:1.4"),

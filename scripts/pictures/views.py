@@ -205,8 +205,10 @@ def notes_on_processes(story: Story, chosen: tuple[int, ...]) -> list[str]:
 
 def notes_on_idle(story: Story) -> list[str]:
     """What is said of records without an effect."""
-    found = [
-        words.counted(count, f"command {kind}", f"commands {kind}")
-        for kind, count in story.idle.items()
-    ]
+    what = {
+        "refused": ("refused command", "refused commands"),
+        "stale": ("delivery of a stale copy", "deliveries of stale copies"),
+        "repeated": ("delivery of a repeated copy", "deliveries of repeated copies"),
+    }
+    found = [words.counted(count, *what[kind]) for kind, count in story.idle.items()]
     return [f"Without effect, and not shown: {words.listed(found)}."] if found else []
