@@ -4,7 +4,7 @@ from collections.abc import Iterator
 
 from slow_model.texts import NOW
 
-from . import words
+from . import sentences, words
 from .frames import HALF, INDEX, Frame
 from .glyphs import around, line, polyline, word
 from .labels import Box, Label, Point, Segment, width_of
@@ -26,13 +26,6 @@ def last_row(frame: Frame) -> float:
 
 
 # Recoveries.
-
-
-def failed_words(recovery: Recovery) -> str:
-    """Who failed."""
-    if not recovery.failed:
-        return "nobody failed"
-    return f"{words.processes(recovery.failed)} failed"
 
 
 def stops(frame: Frame, recovery: Recovery) -> list[Point]:
@@ -63,17 +56,19 @@ def recovery_line(recovery: Recovery, points: list[Point]) -> Element:
     return polyline("line", points, f"Recovery line {recovery.number}: {', '.join(stands)}")
 
 
+def moment_ends(frame: Frame, recovery: Recovery) -> list[Point]:
+    """The ends of the thin line where a recovery happens."""
+    x = frame.columns[recovery.place]
+    return [(x, first_row(frame) - 30), (x, last_row(frame) + 24)]
+
+
 def moment(frame: Frame, recovery: Recovery) -> Iterator[Element]:
     """When a recovery happens: a thin line down, and a cross at each process that failed."""
     x = frame.columns[recovery.place]
-    told = Element(
-        "title",
-        {},
-        (f"Recovery {recovery.number}, record {recovery.record}: {failed_words(recovery)}",),
-    )
-    yield Element(
-        "g", {}, (told, line("moment", (x, first_row(frame) - 30), (x, last_row(frame) + 24)))
-    )
+    failed = sentences.failed(recovery)
+    title = f"Recovery {recovery.number}, record {recovery.record}: {failed}"
+    told = Element("title", {}, (title,))
+    yield Element("g", {}, (told, line("moment", *moment_ends(frame, recovery))))
     for process in recovery.failed:
         if process in frame.rows:
             y = frame.rows[process]
