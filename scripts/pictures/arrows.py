@@ -13,12 +13,18 @@ from .svg import Element
 STUB = 26.0  # how far an arrow goes whose other end is not shown
 SMALL, TINY = 11.0, 11.0
 MOST_BODY = 16  # so many digits of a body are shown
-DOTS = {"message": "dot", "gone": "lostdot", "orphan": "orphandot", "replay": "replaydot", "marker": "lostdot"}
+DOTS = {
+    "message": "dot",
+    "gone": "lostdot",
+    "orphan": "orphandot",
+    "replay": "replaydot",
+    "marker": "lostdot",
+}
 WORDS = {"orphan": "orphanword", "replay": "replayword", "gone": "faint"}
 
 
 class Arrow(NamedTuple):
-    """An arrow: its kind, its ends, what it is, and the numbers of the entries that name its message."""
+    """An arrow: its kind, its ends, what it is, and the entries that name its message."""
 
     kind: str
     start: Point
@@ -52,7 +58,7 @@ class Part(NamedTuple):
 
 
 def part_of(frame: Frame) -> Part:
-    """The receipts of orphans with the numbers of their entries, and the messages that are sent again."""
+    """The receipts of orphans with their entries, and the messages that are sent again."""
     passes: dict[Receipt, tuple[int, ...]] = {}
     replays: dict[Message, list[Recovery]] = {}
     for recovery in frame.view.recoveries:
@@ -80,7 +86,9 @@ def message_kind(message: Message, receipt: Receipt | None, part: Part) -> str:
     sent_again = part.replays.get(message, [])
     if receipt is None:
         return "replay" if sent_again else "gone" if message.cut_by else "message"
-    if receipt.cut_by in sent_again or (isinstance(receipt.source, Recovery) and not receipt.cut_by):
+    if receipt.cut_by in sent_again or (
+        isinstance(receipt.source, Recovery) and not receipt.cut_by
+    ):
         return "replay"
     return "gone" if message.cut_by or receipt.cut_by else "message"
 
@@ -114,7 +122,9 @@ def sent(frame: Frame, message: Message, part: Part) -> Arrow:
     hidden = [it for it in message.receipts if it.process not in frame.rows and it in part.passes]
     kind = message_kind(message, hidden[0] if hidden else None, part)
     passes = part.passes[hidden[0]] if hidden else ()
-    return Arrow(kind, start, stub(start, row), title_of(message, None), message, passes, has_end=False)
+    return Arrow(
+        kind, start, stub(start, row), title_of(message, None), message, passes, has_end=False
+    )
 
 
 def of_marker(frame: Frame, marker: MarkerReceipt) -> Arrow | None:
@@ -124,8 +134,9 @@ def of_marker(frame: Frame, marker: MarkerReceipt) -> Arrow | None:
         return None
     start = x, frame.rows[marker.source.process]
     end = frame.columns[marker.place], frame.rows[marker.process]
-    title = f"Marker of round {marker.source.round} from process {marker.source.process} to process {marker.process}"
-    return Arrow("marker", start, end, f"{title}; record {marker.record}", None)
+    title = f"Marker of round {marker.source.round} from process {marker.source.process}"
+    title += f" to process {marker.process}; record {marker.record}"
+    return Arrow("marker", start, end, title, None)
 
 
 def arrows_of(frame: Frame) -> Iterator[Arrow]:
@@ -133,7 +144,11 @@ def arrows_of(frame: Frame) -> Iterator[Arrow]:
     part = part_of(frame)
     found: list[Arrow] = []
     shown = [it for it in frame.view.shown if isinstance(it, Event)]
-    ways = {it.message for it in shown if isinstance(it, Receipt) and not isinstance(it.source, Recovery)}
+    ways = {
+        it.message
+        for it in shown
+        if isinstance(it, Receipt) and not isinstance(it.source, Recovery)
+    }
     for it in shown:
         if isinstance(it, Receipt):
             found.append(received(frame, it, part))
@@ -153,11 +168,18 @@ def tip(arrow: Arrow) -> Element:
     size = 6.0 if arrow.kind == "marker" else 9.0
     base = to_x - across * size, to_y - down * size
     wide = size * 0.42
-    points = [arrow.end, (base[0] - down * wide, base[1] + across * wide),
-              (base[0] + down * wide, base[1] - across * wide)]
-    return Element("polygon", {
-        "class": DOTS[arrow.kind], "points": " ".join(f"{px:.1f},{py:.1f}" for px, py in points),
-    })
+    points = [
+        arrow.end,
+        (base[0] - down * wide, base[1] + across * wide),
+        (base[0] + down * wide, base[1] - across * wide),
+    ]
+    return Element(
+        "polygon",
+        {
+            "class": DOTS[arrow.kind],
+            "points": " ".join(f"{px:.1f},{py:.1f}" for px, py in points),
+        },
+    )
 
 
 def drawn(arrow: Arrow) -> Element:
@@ -165,26 +187,32 @@ def drawn(arrow: Arrow) -> Element:
     (x, y), (to_x, to_y) = arrow.start, arrow.end
     # A thick line would stick out beside the point of the head.
     end = arrow.along(1 - 5 / max(math.hypot(to_x - x, to_y - y), 6))
-    parts = [Element("title", {}, (arrow.title,)),
-             Element("line", {"class": arrow.kind, "x1": x, "y1": y, "x2": end[0], "y2": end[1]})]
+    parts = [
+        Element("title", {}, (arrow.title,)),
+        Element("line", {"class": arrow.kind, "x1": x, "y1": y, "x2": end[0], "y2": end[1]}),
+    ]
     if arrow.kind != "marker" and arrow.has_start:
         parts.append(Element("circle", {"class": DOTS[arrow.kind], "cx": x, "cy": y, "r": 3}))
     return Element("g", {}, (*parts, tip(arrow)))
 
 
 def labels_of(arrow: Arrow, with_body: bool) -> Iterator[Label]:
-    """The numbers of the entries that name an arrow's message; and its own number, with its body if asked for."""
+    """The entries that name an arrow's message, and its own number, with its body if asked for."""
     if arrow.message is None:
         return
     if arrow.passes:
         parts = [0.5, 0.42, 0.58, 0.34, 0.66, 0.26, 0.74, 0.2, 0.8, 0.14, 0.86]
         if not arrow.has_start or not arrow.has_end:
-            # A pill would hide the whole of it: it goes behind the end that is open.
-            parts = [1.3, 1.6] if arrow.has_start else [-0.3, -0.6]
+            # A pill would hide the whole of it: it goes beyond the end that is open.
+            parts = [1.3, 1.6, 2.0, 2.4] if arrow.has_start else [-0.3, -0.6, -1.0, -1.4]
         spots = tuple(arrow.along(it) for it in parts)
-        beside = tuple(arrow.along(it, aside) for aside in (18.0, -18.0, 32.0, -32.0) for it in parts)
+        beside = tuple(
+            arrow.along(it, aside) for aside in (18.0, -18.0, 32.0, -32.0) for it in parts
+        )
         text = ", ".join(span.replace(" to ", "–") for span in words.ranges(arrow.passes))
-        yield Label(text, "pill", SMALL, spots + beside, is_pill=True, is_needed=True, own=arrow.segment)
+        yield Label(
+            text, "pill", SMALL, spots + beside, is_pill=True, is_needed=True, own=arrow.segment
+        )
     text = f"m{arrow.message.name.number}"
     if with_body:
         body = arrow.message.body
@@ -194,13 +222,10 @@ def labels_of(arrow: Arrow, with_body: bool) -> Iterator[Label]:
     if not arrow.has_end:
         text += f" to {arrow.message.to}"
     wide = width_of(text, TINY) / 2 + 4
-    spots = [arrow.along(part) for part in (0.3, 0.4, 0.5, 0.6, 0.7, 0.22, 0.8)]
-    sides = [(wide, 0.0), (-wide, 0.0), (wide, -8.0), (-wide, -8.0), (wide, 8.0), (-wide, 8.0), (0.0, -11.0), (0.0, 11.0)]
-    places = tuple((x + right, y + down) for right, down in sides for x, y in spots)
+    middles = [arrow.along(part) for part in (0.3, 0.4, 0.5, 0.6, 0.7, 0.22, 0.8)]
+    sides = [(wide * side, down) for down in (0.0, -8.0, 8.0) for side in (1, -1)]
+    sides += [(wide * side, down) for down in (-11.0, 11.0) for side in (0, 0.5, -0.5)]
+    if not arrow.has_start or not arrow.has_end:
+        sides += [(wide * side, down) for down in (-24.0, 24.0, -38.0, 38.0) for side in (0, 1, -1)]
+    places = tuple((x + right, y + down) for right, down in sides for x, y in middles)
     yield Label(text, WORDS.get(arrow.kind, "said"), TINY, places, is_needed=with_body)
-
-
-def channel_mark(arrow: Arrow) -> Element:
-    """The mark on a message that is in the channel of a listed round."""
-    x, y = arrow.along(0.5)
-    return Element("circle", {"class": "inround", "cx": x, "cy": y, "r": 5})

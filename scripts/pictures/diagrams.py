@@ -3,12 +3,12 @@
 from collections.abc import Iterator
 from dataclasses import dataclass
 
-from . import arrows, glyphs, lines, sentences
+from . import arrows, glyphs, lines, sentences, words
 from .frames import MARGIN, NAME, Frame, frame_of
-from .labels import Box, Label, Placed, Segment, placed, wrapped
+from .labels import Box, Label, Placed, Point, Segment, placed, wrapped
 from .legends import legend
-from .stories import Event, Recovery
-from .svg import Element, style
+from .stories import Event, ListedRound, Message, Recovery
+from .svg import Element, style, text
 from .views import View
 
 LEAST_WIDTH, READ_WIDTH = 560.0, 860.0
@@ -24,12 +24,6 @@ class Diagram:
     svg: Element
     labels: tuple[Placed, ...]
     left_out: tuple[Label, ...]
-    boxes: tuple[Box, ...]
-
-
-def text(content: str, kind: str, x: float, y: float, size: float, anchor: str = "start") -> Element:
-    """A line of text."""
-    return Element("text", {"class": kind, "x": x, "y": y, "font-size": size, "text-anchor": anchor}, (content,))
 
 
 def heading(view: View, width: float) -> tuple[list[Element], float]:
@@ -67,7 +61,9 @@ def names_again(frame: Frame) -> Iterator[Label]:
     for process, y in frame.rows.items():
         for count in range(1, int((frame.end - frame.start - 200) // AGAIN) + 1):
             x = frame.start + count * AGAIN
-            places = tuple((x + aside, y + down) for aside in (0, 40, -40, 80, -80) for down in (-12, 12))
+            places = tuple(
+                (x + aside, y + down) for aside in (0, 40, -40, 80, -80) for down in (-12, 12)
+            )
             yield Label(f"process {process}", "faint", TICK, places)
 
 
@@ -85,68 +81,145 @@ def taken(frame: Frame) -> list[Box]:
     return found
 
 
-def rows_of(frame: Frame) -> list[Segment]:
-    """The lines of the processes, as far as labels have to keep off them."""
-    return [((frame.start, y), (frame.end, y)) for y in frame.rows.values()]
-
-
 def label(it: Placed) -> list[Element]:
     """A label where it was placed, on its ground if it has one."""
     x, y = it.middle
     size = it.label.size
     if not it.label.is_pill:
         return [text(it.label.text, it.label.kind, x, y + size * 0.35, size, "middle")]
-    box = {"x": it.box.left, "y": it.box.top, "width": it.box.right - it.box.left, "height": 16, "rx": 8}
-    return [Element("rect", {"class": "pill", **box}), text(it.label.text, "onpill", x, y + 4, size, "middle")]
+    box = {
+        "x": it.box.left,
+        "y": it.box.top,
+        "width": it.box.right - it.box.left,
+        "height": 16,
+        "rx": 8,
+    }
+    return [
+        Element("rect", {"class": "pill", **box}),
+        text(it.label.text, "onpill", x, y + 4, size, "middle"),
+    ]
+
+
+@dataclass(frozen=True)
+class Marks:
+    """The arrows and lines of a picture."""
+
+    ways: list[arrows.Arrow]
+    recoveries: list[tuple[Recovery, list[Point]]]
+    rounds: list[tuple[ListedRound, list[Point]]]
+
+    @property
+    def channels(self) -> set[Message]:
+        """The messages in the channels of the rounds whose lines are drawn."""
+        return {message for listed, _ in self.rounds for message in listed.channels}
+
+
+def labels_of(frame: Frame, marks: Marks, with_bodies: bool) -> list[Label]:
+    """All that is to be written at marks."""
+    return [
+        *lines.recovery_labels(frame),
+        *lines.round_labels(frame),
+        *glyphs.check_labels(frame),
+        *(it for way in marks.ways for it in arrows.labels_of(way, with_bodies)),
+        *names_again(frame),
+    ]
+
+
+def crossed(frame: Frame, marks: Marks) -> list[Segment]:
+    """What labels keep off where they can: all lines but those of markers."""
+    across = [points for _, points in [*marks.recoveries, *marks.rounds]]
+    across += [lines.moment_ends(frame, recovery) for recovery in frame.view.recoveries]
+    return [
+        *(((frame.start, y), (frame.end, y)) for y in frame.rows.values()),
+        *(way.segment for way in marks.ways if way.kind != "marker"),
+        *(segment for points in across for segment in lines.segments(points)),
+    ]
+
+
+def drawn(frame: Frame, marks: Marks) -> list[Element]:
+    """The marks, what lies on top last."""
+    recoveries = frame.view.recoveries
+    channels = [way for way in marks.ways if way.message in marks.channels]
+    squares = [
+        glyphs.square(check, middle, glyphs.kind_of(check, frame))
+        for check, middle in glyphs.checks_of(frame)
+    ]
+    return [
+        *(part for process in frame.rows for part in glyphs.life(frame, process)),
+        *(part for recovery in recoveries for part in lines.moment(frame, recovery)),
+        *(lines.recovery_line(*line) for line in marks.recoveries),
+        *(lines.round_line(*line) for line in marks.rounds),
+        *(arrows.drawn(way) for way in marks.ways),
+        *(glyphs.channel_mark(way.along(0.5)) for way in channels),
+        *(part for recovery in recoveries for part in lines.restarts(frame, recovery)),
+        *squares,
+        *glyphs.damages(frame),
+        *names(frame),
+    ]
+
+
+def footing(
+    frame: Frame, marks: Marks, without_room: int, width: float
+) -> tuple[list[Element], float]:
+    """The legend, and what could not be written; and how far down that goes."""
+    kinds = {way.kind for way in marks.ways}
+    found, y = legend(frame, kinds, marks.channels, frame.bottom + 20, width)
+    if without_room:
+        y += NOTE * 1.35
+        many = words.counted(without_room, "label")
+        note = f"{words.capital(many)} found no room: point at a mark to see what it is."
+        found.append(text(note, "faint", MARGIN, y, NOTE))
+    return found, y
 
 
 def diagram(view: View, with_bodies: bool) -> Diagram:
     """Lays out and draws a view."""
     # The height of the heading depends on the width, and that does not depend on the height.
     width = max(LEAST_WIDTH, frame_of(view, 0).end + MARGIN)
-    head, y = heading(view, width)
-    frame = frame_of(view, y)
-    ways = list(arrows.arrows_of(frame))
-    recoveries, rounds = list(lines.recovery_lines(frame)), list(lines.round_lines(frame))
-    wanted = [
-        *lines.recovery_labels(frame), *lines.round_labels(frame), *glyphs.check_labels(frame),
-        *(it for way in ways for it in arrows.labels_of(way, with_bodies)), *names_again(frame),
-    ]
-    crossed = rows_of(frame) + [way.segment for way in ways if way.kind != "marker"]
-    crossed += [part for _, points in [*recoveries, *rounds] for part in lines.segments(points)]
+    head, top = heading(view, width)
+    frame = frame_of(view, top)
+    marks = Marks(
+        list(arrows.arrows_of(frame)),
+        list(lines.recovery_lines(frame)),
+        list(lines.round_lines(frame)),
+    )
     axis = ticks(frame)
     boxes = taken(frame) + [tick.box for tick in axis]
-    found, left_out = placed(wanted, boxes, crossed)
-    channels = {message for listed, _ in rounds for message in listed.channels}
-    drawn = [
-        *(part for process in frame.rows for part in glyphs.life(frame, process)),
-        *(part for recovery in view.recoveries for part in lines.moment(frame, recovery)),
-        *(lines.recovery_line(recovery, points) for recovery, points in recoveries),
-        *(lines.round_line(listed, points) for listed, points in rounds),
-        *(arrows.drawn(way) for way in ways),
-        *(arrows.channel_mark(way) for way in ways if way.message in channels),
-        *(part for recovery in view.recoveries for part in lines.restarts(frame, recovery)),
-        *(glyphs.square(check, middle, glyphs.kind_of(check, frame)) for check, middle in glyphs.checks_of(frame)),
-        *glyphs.damages(frame), *names(frame), text("record", "faint", MARGIN, frame.bottom + 5.5, TICK),
+    sheet = Box(2, top, width - 2, frame.bottom + 8)
+    wanted = labels_of(frame, marks, with_bodies)
+    found, left_out = placed(wanted, sheet, boxes, crossed(frame, marks))
+    without_room = len([it for it in left_out if it.is_needed])
+    foot, bottom = footing(frame, marks, without_room, min(width, READ_WIDTH) - 2 * MARGIN)
+    parts = [
+        *head,
+        *drawn(frame, marks),
+        text("record", "faint", MARGIN, frame.bottom + 5.5, TICK),
         *(part for it in [*axis, *found] for part in label(it)),
+        *foot,
     ]
-    kinds = {way.kind for way in ways}
-    key, bottom = legend(frame, kinds, channels, frame.bottom + 20, min(width, READ_WIDTH) - 2 * MARGIN)
-    svg = whole(view, [*head, *drawn, *key], width, bottom + MARGIN)
-    return Diagram(svg, (*axis, *found), tuple(left_out), tuple(boxes))
+    svg = whole(view, parts, width, bottom + MARGIN)
+    return Diagram(svg, (*axis, *found), tuple(left_out))
 
 
 def whole(view: View, parts: list[Element], width: float, height: float) -> Element:
     """The picture with its title, its description, and its styles."""
     size = f"width:100%;height:auto;min-width:{width * 0.9:.0f}px;max-width:{width * 1.25:.0f}px"
-    return Element("svg", {
-        "xmlns": "http://www.w3.org/2000/svg", "viewBox": f"0 0 {width:.0f} {height:.0f}", "width": "100%",
-        "style": size, "font-family": FONT, "role": "img", "aria-labelledby": "title desc",
-    }, (
-        Element("title", {"id": "title"}, (sentences.title(view),)),
-        Element("desc", {"id": "desc"}, (sentences.description(view),)),
-        Element("style", {}, (style(),)),
-        Element("rect", {"class": "paper", "width": "100%", "height": "100%"}),
-        *parts,
-    ))
-
+    return Element(
+        "svg",
+        {
+            "xmlns": "http://www.w3.org/2000/svg",
+            "viewBox": f"0 0 {width:.0f} {height:.0f}",
+            "width": "100%",
+            "style": size,
+            "font-family": FONT,
+            "role": "img",
+            "aria-labelledby": "title desc",
+        },
+        (
+            Element("title", {"id": "title"}, (sentences.title(view),)),
+            Element("desc", {"id": "desc"}, (sentences.description(view),)),
+            Element("style", {}, (style(),)),
+            Element("rect", {"class": "paper", "width": "100%", "height": "100%"}),
+            *parts,
+        ),
+    )

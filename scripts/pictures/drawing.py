@@ -9,16 +9,28 @@ with their lines and certificates, and listed rounds, as SVG on standard output.
 
     ./draw < examples/domino.in > domino.svg
 
-Without options a script of up to {views.MOST} records with an effect is drawn whole. Of a longer one
-the last recovery is, with the records that it speaks of, of the processes concerned. What is left
-out is said in the picture. The status is 0 where a picture was drawn, and else that of the program."""
+Without options a script of up to {views.MOST} records with an effect is drawn whole. Of a longer
+one the last recovery is, with the records that it speaks of, of the processes concerned. What is
+left out is said in the picture. The status is 0 where a picture was drawn, and else that of the
+program."""
 
 
 def words(given: list[str]) -> argparse.Namespace:
     """What the words of the command line ask for."""
     line = options.parser("draw", ABOUT)
-    line.add_argument("--last", type=options.number(1), metavar="K", help="the last K records, up to the recovery if one is named")
-    line.add_argument("--processes", type=options.numbers, default=(), metavar="P,..", help="these processes (all)")
+    line.add_argument(
+        "--last",
+        type=options.number(1),
+        metavar="K",
+        help="the last K records, up to the recovery if one is named",
+    )
+    line.add_argument(
+        "--processes",
+        type=options.numbers,
+        default=(),
+        metavar="P,..",
+        help="these processes (all)",
+    )
     line.add_argument("--bodies", action="store_true", help="the bytes of messages too")
     return line.parse_args(given)
 

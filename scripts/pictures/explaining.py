@@ -7,8 +7,8 @@ from slow_model.claims import read_claim
 
 from . import drawing, options, program, sentences, verdicts, views
 
-ABOUT = """Says in sentences what the last recovery of a script came to: what cannot be kept and why,
-where each process goes back to, and what is sent again.
+ABOUT = """Says in sentences what the last recovery of a script came to: what cannot be kept and
+why, where each process goes back to, and what is sent again.
 
     ./explain < examples/domino.in
     ./explain --claim < examples/claim_not_orphan.in
@@ -47,7 +47,11 @@ def main(given: list[str]) -> int:
     asked = words(given)
     try:
         text = program.read_input()
-        told = of_claim(asked.program, text) if asked.claim else of_script(asked.program, text, asked.recovery)
+        told = (
+            of_claim(asked.program, text)
+            if asked.claim
+            else of_script(asked.program, text, asked.recovery)
+        )
         program.write_output("".join(f"{line}\n" for line in told))
     except program.Fault as fault:
         return program.tell("explain", fault)

@@ -44,8 +44,12 @@ class Frame:
         return self.earlier.get(event) if found is None and isinstance(event, Check) else found
 
     def source(self, source: "Message | Recovery | Check") -> float | None:
-        """Where what is received starts from: a recovery puts replays on their links behind itself."""
-        return self.restarts.get(source.number) if isinstance(source, Recovery) else self.column(source)
+        """Where what is received starts from: replays start after their recovery."""
+        return (
+            self.restarts.get(source.number)
+            if isinstance(source, Recovery)
+            else self.column(source)
+        )
 
     def stop(self, recovery: Recovery, process: int) -> float | None:
         """Where a recovery's line meets the line of a process."""
@@ -73,8 +77,10 @@ def earlier_checks(view: View) -> list[list[Check]]:
 
 
 def has_restarts(recovery: Recovery, processes: tuple[int, ...]) -> bool:
-    """Whether something goes on behind a recovery: a process that goes back, or a replay."""
-    return bool(recovery.replays) or any(recovery.line[process].choice != NOW for process in processes)
+    """Whether something goes on after a recovery: a process that goes back, or a replay."""
+    return bool(recovery.replays) or any(
+        recovery.line[process].choice != NOW for process in processes
+    )
 
 
 def frame_of(view: View, top: float) -> Frame:
@@ -104,4 +110,4 @@ def frame_of(view: View, top: float) -> Frame:
             x += apart / 2
     rows = rows_of(view.processes, top)
     bottom = max(rows.values()) + BELOW
-    return Frame(view, rows, columns, restarts, earlier, tuple(breaks), start, x + apart * 0.75, bottom)
+    return Frame(view, rows, columns, restarts, earlier, tuple(breaks), start, x + apart, bottom)

@@ -7,7 +7,7 @@ from slow_model.texts import NOW
 from .frames import HALF, INDEX, Frame, half_width
 from .labels import Box, Label, Point, width_of
 from .stories import Check, Damage
-from .svg import Element
+from .svg import Element, text
 
 SMALL = 11.0
 Span = tuple[float, float]
@@ -15,7 +15,9 @@ Span = tuple[float, float]
 
 def line(kind: str, start: Point, end: Point) -> Element:
     """A straight line."""
-    return Element("line", {"class": kind, "x1": start[0], "y1": start[1], "x2": end[0], "y2": end[1]})
+    return Element(
+        "line", {"class": kind, "x1": start[0], "y1": start[1], "x2": end[0], "y2": end[1]}
+    )
 
 
 def polyline(kind: str, points: list[Point], title: str) -> Element:
@@ -26,6 +28,7 @@ def polyline(kind: str, points: list[Point], title: str) -> Element:
 
 
 # Lines of processes.
+
 
 def lives(frame: Frame, process: int) -> tuple[list[Span], list[Span]]:
     """Where a process's line is kept, and where a recovery has taken it off."""
@@ -67,14 +70,18 @@ def life(frame: Frame, process: int) -> Iterator[Element]:
         kept[0] = (frame.start + HALF, kept[0][1])
     for kind, spans in (("lost", lost), ("life", kept)):
         for span in spans:
-            yield from (line(kind, (left, y), (right, y)) for left, right in without(span, frame.breaks))
+            yield from (
+                line(kind, (left, y), (right, y)) for left, right in without(span, frame.breaks)
+            )
             yield from (
                 line("gap", (max(start, span[0]), y), (min(end, span[1]), y))
-                for start, end in frame.breaks if start < span[1] and end > span[0]
+                for start, end in frame.breaks
+                if start < span[1] and end > span[0]
             )
 
 
 # Checks.
+
 
 def kind_of(check: Check, frame: Frame) -> str:
     """What a check's square looks like: on a line, taken off, of a round, or none of these."""
@@ -87,7 +94,7 @@ def check_title(check: Check) -> str:
     """What is told of a check where it is pointed at."""
     if not check.index:
         return f"Initial state of process {check.process}"
-    told = f"Check {check.index} of process {check.process}; record {check.record}"
+    told = f"Checkpoint {check.index} of process {check.process}; record {check.record}"
     told += f", for round {check.round}" if check.round else ""
     told += ", taken before what came in" if check.is_forced else ""
     told += f", state {check.state}" if check.state else ", no bytes stored"
@@ -95,19 +102,27 @@ def check_title(check: Check) -> str:
 
 
 def square(check: Check, middle: Point, kind: str) -> Element:
-    """A check's square with its index; a second frame where it is of a round, crossed out where damaged."""
+    """A check's square with its index: in a frame if it is of a round, crossed out if damaged."""
     (x, y), half = middle, half_width(check)
     box = {"x": x - half, "y": y - HALF, "width": 2 * half, "height": 2 * HALF}
     parts = [Element("title", {}, (check_title(check),)), Element("rect", {"class": kind, **box})]
     if check.round:
-        outer = {"x": x - half - 4, "y": y - HALF - 4, "width": 2 * half + 8, "height": 2 * HALF + 8, "rx": 4}
+        outer = {
+            "x": x - half - 4,
+            "y": y - HALF - 4,
+            "width": 2 * half + 8,
+            "height": 2 * HALF + 8,
+            "rx": 4,
+        }
         parts.insert(1, Element("rect", {"class": "inround", **outer}))
     if check.damage:
         left, right, top, bottom = x - half - 4, x + half + 4, y - HALF - 4, y + HALF + 4
-        parts += [line("scratch", (left, top), (right, bottom)), line("scratch", (left, bottom), (right, top))]
-    word = "faint" if kind == "cut" and not check.damage else "said"
-    place = {"x": x, "y": y + 4, "font-size": INDEX, "text-anchor": "middle"}
-    parts.append(Element("text", {"class": word, **place}, (str(check.index),)))
+        parts += [
+            line("scratch", (left, top), (right, bottom)),
+            line("scratch", (left, bottom), (right, top)),
+        ]
+    word = "head" if check.damage else "faint" if kind == "cut" else "said"
+    parts.append(text(str(check.index), word, x, y + 4, INDEX, "middle"))
     return Element("g", {}, tuple(parts))
 
 
@@ -123,23 +138,32 @@ def checks_of(frame: Frame) -> Iterator[tuple[Check, Point]]:
 def box_of(check: Check, middle: Point) -> Box:
     """The room that a check's square takes, with the frame of its round."""
     half, more = half_width(check), 5 if check.round or check.damage else 1
-    return Box(middle[0] - half - more, middle[1] - HALF - more, middle[0] + half + more, middle[1] + HALF + more)
+    return Box(
+        middle[0] - half - more,
+        middle[1] - HALF - more,
+        middle[0] + half + more,
+        middle[1] + HALF + more,
+    )
 
 
 def around(middle: Point, wide: float) -> tuple[Point, ...]:
     """Places for a label of that width around a glyph: above and below it, then at its sides."""
     x, y = middle
     near = [(x, y - 22), (x, y + 22), (x, y - 38), (x, y + 38)]
-    aside = [(x + side * (wide / 2 + 14), y + down) for down in (-22, 22, -38, 38) for side in (1, -1)]
+    aside = [
+        (x + side * (wide / 2 + 14), y + down) for down in (-22, 22, -38, 38) for side in (1, -1)
+    ]
     return (*near, *aside, (x, y - 54), (x, y + 54))
 
 
-def word(text: str, kind: str, middle: Point, is_below: bool = False, is_needed: bool = True) -> Label:
+def word(
+    told: str, kind: str, middle: Point, is_below: bool = False, is_needed: bool = True
+) -> Label:
     """A word at a glyph."""
-    places = around(middle, width_of(text, SMALL))
+    places = around(middle, width_of(told, SMALL))
     if is_below:
         places = (places[1], places[0], *places[2:])
-    return Label(text, kind, SMALL, places, is_needed=is_needed)
+    return Label(told, kind, SMALL, places, is_needed=is_needed)
 
 
 def check_labels(frame: Frame) -> Iterator[Label]:
@@ -147,11 +171,17 @@ def check_labels(frame: Frame) -> Iterator[Label]:
     listed = {check for it in frame.view.story.rounds.values() for check in it.checks}
     for check, middle in checks_of(frame):
         if check.round:
-            yield word(f"round {check.round}", "roundword", middle, is_below=True, is_needed=check not in listed)
+            yield word(
+                f"round {check.round}",
+                "roundword",
+                middle,
+                is_below=True,
+                is_needed=check not in listed,
+            )
     for it in frame.view.shown:
         if isinstance(it, Damage):
             place = frame.columns[it.place], frame.rows[it.process]
-            yield word(f"check {it.check.index} damaged", "orphanword", place)
+            yield word(f"checkpoint {it.check.index} damaged", "orphanword", place)
 
 
 def damages(frame: Frame) -> Iterator[Element]:
@@ -159,8 +189,19 @@ def damages(frame: Frame) -> Iterator[Element]:
     for it in frame.view.shown:
         if isinstance(it, Damage):
             x, y = frame.columns[it.place], frame.rows[it.process]
-            title = f"Check {it.check.index} of process {it.process} is marked as damaged; record {it.record}"
-            yield Element("g", {}, (
-                Element("title", {}, (title,)),
-                line("scratch", (x - 4, y - 4), (x + 4, y + 4)), line("scratch", (x - 4, y + 4), (x + 4, y - 4)),
-            ))
+            title = f"Checkpoint {it.check.index} of process {it.process} is marked as damaged"
+            title += f"; record {it.record}"
+            yield Element(
+                "g",
+                {},
+                (
+                    Element("title", {}, (title,)),
+                    line("scratch", (x - 4, y - 4), (x + 4, y + 4)),
+                    line("scratch", (x - 4, y + 4), (x + 4, y - 4)),
+                ),
+            )
+
+
+def channel_mark(middle: Point) -> Element:
+    """The mark on a message that is in the channel of a listed round."""
+    return Element("circle", {"class": "inround", "cx": middle[0], "cy": middle[1], "r": 5})

@@ -20,8 +20,19 @@ class Box(NamedTuple):
     def meets(self, other: "Box") -> bool:
         """Whether the two have room in common."""
         return (
-            self.left < other.right and other.left < self.right
-            and self.top < other.bottom and other.top < self.bottom
+            self.left < other.right
+            and other.left < self.right
+            and self.top < other.bottom
+            and other.top < self.bottom
+        )
+
+    def is_in(self, other: "Box") -> bool:
+        """Whether nothing of it is outside the other."""
+        return (
+            other.left <= self.left
+            and self.right <= other.right
+            and other.top <= self.top
+            and self.bottom <= other.bottom
         )
 
 
@@ -58,9 +69,15 @@ class Label(NamedTuple):
 
     def box(self, middle: Point) -> Box:
         """The room that it takes around a place."""
-        across = max(width_of(self.text, self.size) + 8, 16) if self.is_pill else width_of(self.text, self.size) + 2
+        across = (
+            max(width_of(self.text, self.size) + 8, 16)
+            if self.is_pill
+            else width_of(self.text, self.size) + 2
+        )
         up = 16 if self.is_pill else self.size * 1.25
-        return Box(middle[0] - across / 2, middle[1] - up / 2, middle[0] + across / 2, middle[1] + up / 2)
+        return Box(
+            middle[0] - across / 2, middle[1] - up / 2, middle[0] + across / 2, middle[1] + up / 2
+        )
 
 
 class Placed(NamedTuple):
@@ -92,14 +109,19 @@ class Room:
 
     def is_free(self, box: Box) -> bool:
         """Whether the box meets none that is taken."""
-        return not any(box.meets(other) for spot in self.spots(box) for other in self.cells.get(spot, ()))
+        return not any(
+            box.meets(other) for spot in self.spots(box) for other in self.cells.get(spot, ())
+        )
 
 
 def crosses(box: Box, segment: Segment) -> bool:
     """Whether a segment goes through a box: what is left of it between the sides is not empty."""
     (x, y), (to_x, to_y) = segment
     first, last = 0.0, 1.0
-    for start, step, low, high in ((x, to_x - x, box.left, box.right), (y, to_y - y, box.top, box.bottom)):
+    for start, step, low, high in (
+        (x, to_x - x, box.left, box.right),
+        (y, to_y - y, box.top, box.bottom),
+    ):
         if step == 0:
             if not low < start < high:
                 return False
@@ -116,15 +138,16 @@ def around(boxes: Sequence[Box]) -> Box:
 
 
 def placed(
-    labels: Sequence[Label], taken: Iterable[Box], lines: Sequence[Segment]
+    labels: Sequence[Label], sheet: Box, taken: Iterable[Box], lines: Sequence[Segment]
 ) -> tuple[list[Placed], list[Label]]:
-    """Puts each label where it meets no other and crosses the fewest lines, and tells those without room.
+    """Puts each label on the sheet where it meets no other and crosses the fewest lines.
 
-    Needed labels come first, each at the best of its free places.
+    Needed labels come first, each at the best of its free places. Those without room are told.
     """
     room, found, left_out = Room(taken), [], []
     for label in sorted(labels, key=lambda it: not it.is_needed):
-        free = [place for place in label.places if room.is_free(label.box(place))]
+        boxes = [(place, label.box(place)) for place in label.places]
+        free = [place for place, box in boxes if box.is_in(sheet) and room.is_free(box)]
         if not free:
             left_out.append(label)
             continue

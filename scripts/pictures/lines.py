@@ -4,12 +4,12 @@ from collections.abc import Iterator
 
 from slow_model.texts import NOW
 
-from . import words
+from . import sentences, words
 from .frames import HALF, INDEX, Frame
 from .glyphs import around, line, polyline, word
 from .labels import Box, Label, Point, Segment, width_of
 from .stories import ListedRound, Recovery
-from .svg import Element
+from .svg import Element, text
 
 HEADING = 12.0
 SMALL = 11.0
@@ -27,12 +27,6 @@ def last_row(frame: Frame) -> float:
 
 # Recoveries.
 
-def failed_words(recovery: Recovery) -> str:
-    """Who failed."""
-    if not recovery.failed:
-        return "nobody failed"
-    return f"{words.processes(recovery.failed)} failed"
-
 
 def stops(frame: Frame, recovery: Recovery) -> list[Point]:
     """Where the line of a recovery meets the processes that are shown."""
@@ -43,7 +37,11 @@ def stops(frame: Frame, recovery: Recovery) -> list[Point]:
 def through(points: list[Point], above: float, below: float, aside: float = 0.0) -> list[Point]:
     """A line through points, straight on above the first and below the last."""
     shifted = [(x + aside, y) for x, y in points]
-    return [(shifted[0][0], points[0][1] - above), *shifted, (shifted[-1][0], points[-1][1] + below)]
+    return [
+        (shifted[0][0], points[0][1] - above),
+        *shifted,
+        (shifted[-1][0], points[-1][1] + below),
+    ]
 
 
 def recovery_lines(frame: Frame) -> Iterator[tuple[Recovery, list[Point]]]:
@@ -58,11 +56,19 @@ def recovery_line(recovery: Recovery, points: list[Point]) -> Element:
     return polyline("line", points, f"Recovery line {recovery.number}: {', '.join(stands)}")
 
 
+def moment_ends(frame: Frame, recovery: Recovery) -> list[Point]:
+    """The ends of the thin line where a recovery happens."""
+    x = frame.columns[recovery.place]
+    return [(x, first_row(frame) - 30), (x, last_row(frame) + 24)]
+
+
 def moment(frame: Frame, recovery: Recovery) -> Iterator[Element]:
     """When a recovery happens: a thin line down, and a cross at each process that failed."""
     x = frame.columns[recovery.place]
-    told = Element("title", {}, (f"Recovery {recovery.number}, record {recovery.record}: {failed_words(recovery)}",))
-    yield Element("g", {}, (told, line("moment", (x, first_row(frame) - 30), (x, last_row(frame) + 24))))
+    failed = sentences.failed(recovery)
+    title = f"Recovery {recovery.number}, record {recovery.record}: {failed}"
+    told = Element("title", {}, (title,))
+    yield Element("g", {}, (told, line("moment", *moment_ends(frame, recovery))))
     for process in recovery.failed:
         if process in frame.rows:
             y = frame.rows[process]
@@ -71,7 +77,7 @@ def moment(frame: Frame, recovery: Recovery) -> Iterator[Element]:
 
 
 def restarts(frame: Frame, recovery: Recovery) -> Iterator[Element]:
-    """The checks from which processes go on, each in a dashed square behind the recovery."""
+    """The checks from which processes go on, each in a dashed square after the recovery."""
     for process, y in frame.rows.items():
         restart = recovery.line[process]
         if restart.choice == NOW:
@@ -83,12 +89,24 @@ def restarts(frame: Frame, recovery: Recovery) -> Iterator[Element]:
             f"Process {process} goes on from {words.choice_of(restart.choice)}{state}, "
             f"under incarnation {restart.incarnation}"
         )
-        place = {"x": x, "y": y + 4, "font-size": INDEX, "text-anchor": "middle"}
-        yield Element("g", {}, (
-            Element("title", {}, (title,)),
-            Element("rect", {"class": "again", "x": x - half, "y": y - HALF, "width": 2 * half, "height": 2 * HALF}),
-            Element("text", {"class": "said", **place}, (index,)),
-        ))
+        yield Element(
+            "g",
+            {},
+            (
+                Element("title", {}, (title,)),
+                Element(
+                    "rect",
+                    {
+                        "class": "again",
+                        "x": x - half,
+                        "y": y - HALF,
+                        "width": 2 * half,
+                        "height": 2 * HALF,
+                    },
+                ),
+                text(index, "said", x, y + 4, INDEX, "middle"),
+            ),
+        )
 
 
 def recovery_boxes(frame: Frame, recovery: Recovery) -> Iterator[Box]:
@@ -103,15 +121,15 @@ def recovery_boxes(frame: Frame, recovery: Recovery) -> Iterator[Box]:
             yield Box(middle - half - 1, y - HALF - 1, middle + half + 1, y + HALF + 1)
 
 
-def heading(text: str, kind: str, x: float, y: float) -> Label:
+def heading(told: str, kind: str, x: float, y: float) -> Label:
     """A heading above the first row: as low as there is room."""
-    wide = width_of(text, HEADING) / 2
+    wide = width_of(told, HEADING) / 2
     places = [(x + side * wide, y - up) for up in (0, 16, 32) for side in (0, 1, -1)]
-    return Label(text, kind, HEADING, tuple(places), is_needed=True)
+    return Label(told, kind, HEADING, tuple(places), is_needed=True)
 
 
 def recovery_labels(frame: Frame) -> Iterator[Label]:
-    """Headings, who failed, incarnations, and the numbers of entries at the choices that they pass over."""
+    """Headings, who failed, incarnations, and entries at the choices that they pass over."""
     top = first_row(frame) - 40
     for recovery, points in recovery_lines(frame):
         x = frame.columns[recovery.place]
@@ -126,7 +144,12 @@ def recovery_labels(frame: Frame) -> Iterator[Label]:
                 yield word("failed", "said", (x, y))
             if recovery.line[process].choice != NOW:
                 place = frame.restarts[recovery.number], y
-                yield word(f"incarnation {recovery.line[process].incarnation}", "faint", place, is_below=True)
+                yield word(
+                    f"incarnation {recovery.line[process].incarnation}",
+                    "faint",
+                    place,
+                    is_below=True,
+                )
 
 
 def pass_labels(frame: Frame, recovery: Recovery) -> Iterator[Label]:
@@ -140,8 +163,9 @@ def pass_labels(frame: Frame, recovery: Recovery) -> Iterator[Label]:
 
 # Rounds.
 
+
 def round_lines(frame: Frame) -> Iterator[tuple[ListedRound, list[Point]]]:
-    """The line of each listed round whose checks are all shown, beside the middle of their squares."""
+    """The line of each listed round whose checks are all shown, beside their middles."""
     for listed in frame.view.story.rounds.values():
         found = [(frame.column(listed.checks[process]), y) for process, y in frame.rows.items()]
         points = [(x, y) for x, y in found if x is not None]
@@ -151,7 +175,7 @@ def round_lines(frame: Frame) -> Iterator[tuple[ListedRound, list[Point]]]:
 
 def round_line(listed: ListedRound, points: list[Point]) -> Element:
     """The line of a round, as a thin one."""
-    checks = [f"process {p} its check {check.index}" for p, check in enumerate(listed.checks)]
+    checks = [f"process {p} its checkpoint {check.index}" for p, check in enumerate(listed.checks)]
     return polyline("round", points, f"Round {listed.number}: {', '.join(checks)}")
 
 

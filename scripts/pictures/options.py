@@ -8,10 +8,12 @@ from .program import PROGRAM
 
 def number(least: int) -> Callable[[str], int]:
     """A reader of numbers from `least` on."""
+
     def read(field: str) -> int:
         if not (field.isascii() and field.isdigit()) or len(field) > 9 or int(field) < least:
             raise argparse.ArgumentTypeError(f"'{field}' is no number from {least} on")
         return int(field)
+
     return read
 
 
@@ -23,9 +25,19 @@ def numbers(field: str) -> tuple[int, ...]:
 def parser(tool: str, about: str) -> argparse.ArgumentParser:
     """A parser with what both tools take."""
     found = argparse.ArgumentParser(
-        prog=tool, description=about, formatter_class=argparse.RawDescriptionHelpFormatter, allow_abbrev=False,
+        prog=tool,
+        description=about,
+        formatter_class=argparse.RawDescriptionHelpFormatter,
+        allow_abbrev=False,
         usage=f"./{tool} [OPTIONS] < INPUT",
     )
-    found.add_argument("--recovery", type=number(1), metavar="I", help="the I-th recovery of the script (the last)")
-    found.add_argument("--program", default=str(PROGRAM), metavar="PATH", help="the program (./recline, which is built if need be)")
+    found.add_argument(
+        "--recovery", type=number(1), metavar="I", help="the I-th recovery of the script (the last)"
+    )
+    found.add_argument(
+        "--program",
+        default=str(PROGRAM),
+        metavar="PATH",
+        help="the program (./recline, which is built if need be)",
+    )
     return found

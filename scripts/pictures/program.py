@@ -5,12 +5,14 @@ import subprocess
 import sys
 
 PROGRAM = pathlib.Path(__file__).resolve().parent.parent.parent / "recline"
-FAULT = 2  # the least status of a fault: below it all commands were answered, or the claim was judged
+FAULT = (
+    2  # the least status of a fault: below it all commands were answered, or the claim was judged
+)
 DEVICE_FAULT = 3
 
 
 class Fault(Exception):
-    """Nothing can be shown: the status, and a line for standard error unless the program has said it."""
+    """Nothing can be shown: the status, and what to say of it unless the program has."""
 
     def __init__(self, status: int, said: str = "") -> None:
         super().__init__(status, said)

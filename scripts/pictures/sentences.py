@@ -1,6 +1,6 @@
 """A recovery in sentences: what happened, what was passed over and why, and what is sent again."""
 
-from collections.abc import Iterator, Sized
+from collections.abc import Iterator
 
 from slow_model.histories import Name
 from slow_model.texts import NOW
@@ -20,13 +20,16 @@ def failed(recovery: Recovery) -> str:
 
 # What pictures say.
 
+
 def title(view: View) -> str:
     """What a picture shows."""
-    links = "in order" if view.story.is_fifo else "in any order"
+    links = "ordered" if view.story.is_fifo else "unordered"
     count = words.counted(view.story.processes, "process", "processes")
     numbers = [str(recovery.number) for recovery in view.recoveries]
-    what = f"; {'recovery' if len(numbers) == 1 else 'recoveries'} {words.listed(numbers)}" if numbers else ""
-    return f"{count}, links that deliver {links}{what}"
+    title = f"{count}, {links} links"
+    if not numbers:
+        return title
+    return f"{title}; {'recovery' if len(numbers) == 1 else 'recoveries'} {words.listed(numbers)}"
 
 
 def summary(recovery: Recovery) -> str:
@@ -34,16 +37,14 @@ def summary(recovery: Recovery) -> str:
     back = [it.process for it in recovery.line if it.choice != NOW]
     goes = "goes" if len(back) == 1 else "go"
     where = f"{words.processes(back)} {goes} back" if back else "no process goes back"
-    lost = sum(len(it.lost) for it in recovery.line)
-
-    def are(them: Sized) -> str:
-        return "are" if len(them) > 1 else "is"
-
-    return (
-        f"Recovery {recovery.number}: {failed(recovery)}; {where}, with {words.counted(lost, 'event')} undone. "
-        f"{words.capital(words.counted(len(recovery.passes), 'choice'))} {are(recovery.passes)} passed over, and "
-        f"{words.counted(len(recovery.replays), 'message')} {are(recovery.replays)} sent again."
-    )
+    lost = words.counted(sum(len(it.lost) for it in recovery.line), "event")
+    passes, replays = len(recovery.passes), len(recovery.replays)
+    passed = f"{words.counted(passes, 'later choice')} {words.are(passes)} passed over"
+    if passes:
+        passed += f" for {'an orphan message' if passes == 1 else 'orphan messages'}"
+    again = f"{words.counted(replays, 'message')} {words.are(replays)} sent again"
+    happened = f"Recovery {recovery.number}: {failed(recovery)}; {where}, with {lost} undone."
+    return f"{happened} {words.capital(passed)}, and {again}."
 
 
 def description(view: View) -> str:
@@ -51,18 +52,20 @@ def description(view: View) -> str:
     told = []
     for recovery in view.recoveries:
         told += [summary(recovery), *(reason(entry) for entry in recovery.passes[:MOST_TOLD])]
-        if len(recovery.passes) > MOST_TOLD:
-            told.append(f"{words.capital(words.counted(len(recovery.passes) - MOST_TOLD, 'more entry', 'more entries'))}.")
+        more = len(recovery.passes) - MOST_TOLD
+        if more > 0:
+            told.append(f"And {words.counted(more, 'more entry', 'more entries')}.")
         told.append(f"The recovery line: {words.listed([stands(it) for it in recovery.line])}.")
     return " ".join([*told, *view.notes]) or "No recovery."
 
 
 def stands(restart: Restart) -> str:
     """Where the line is at a process."""
-    return f"process {restart.process} {'' if restart.choice == NOW else 'at '}{words.choice_of(restart.choice)}"
+    return f"process {restart.process} {words.at_choice(restart.choice)}"
 
 
 # Why a choice cannot be kept.
+
 
 def cannot(process: int, choice: Choice) -> str:
     """That a choice of a process cannot be kept."""
@@ -81,8 +84,9 @@ def not_sent(sender: int, ceiling: Choice) -> str:
 def orphan(process: int, choice: Choice, name: Name, ceiling: Choice) -> str:
     """Why a choice of a process cannot be kept: a message, received before it and not sent."""
     before = "" if choice == NOW else " before that"
-    told = f"{cannot(process, choice)}: it has received {words.message(name)}{before}, and {not_sent(name.sender, ceiling)}"
-    return f"{words.capital(told)}."
+    received = f"it has received {words.message(name)}{before}"
+    cannot_keep = words.capital(cannot(process, choice))
+    return f"{cannot_keep}: {received}, and {not_sent(name.sender, ceiling)}."
 
 
 def reason(entry: Pass) -> str:
@@ -92,22 +96,26 @@ def reason(entry: Pass) -> str:
 
 # The explanation of a recovery.
 
+
 def explanation(story: Story, recovery: Recovery) -> Iterator[str]:
     """A recovery in paragraphs and the entries of a list."""
     yield headline(story, recovery)
     yield from beginning(story, recovery)
     if recovery.passes:
-        yield "From there on these choices had to be passed over, in the order of the certificate:"
+        yield (
+            "From there on, more places had to be given up, one after another. These are the "
+            "entries of the certificate, in its order:"
+        )
         yield from entries(recovery)
         yield (
-            "That is all: each message that is received before the places that are left is sent before them. No "
-            "process could go on from a later place: each one that survives is in this list, with the message that "
-            "speaks against it."
+            "That is all: each message that is received before the places that are left is sent "
+            "before them. No process could go on from a later place: each one that can be used is "
+            "in this list, with the orphan message that speaks against it."
         )
     else:
         yield (
-            "That can be kept as it is: each message that is received before these places is sent before them. No "
-            "process could go on from a later place."
+            "That can be kept as it is: each message that is received before these places is sent "
+            "before them. No process could go on from a later place."
         )
     yield "The recovery line:"
     yield from (f"  {goes_on(it)}" for it in recovery.line)
@@ -131,21 +139,28 @@ def beginning(story: Story, recovery: Recovery) -> Iterator[str]:
     for number, process in enumerate(recovery.failed):
         first = recovery.first_ceilings[process]
         goes = "" if number else " goes back"
-        parts.append(f"process {process}{goes} to {words.choice_of(first)}{skipped(recovery, process, first)}")
-    rest = "" if len(recovery.failed) == story.processes else " Each other process could stay where it stands."
-    yield (
-        f"{'A process that failed cannot stay where it stands' if one else 'Processes that failed cannot stay where they stand'}: "
-        f"to begin with, {words.listed(parts)}.{rest}"
+        damaged = skipped(recovery, process, first)
+        parts.append(f"process {process}{goes} to {words.choice_of(first)}{damaged}")
+    cannot_stay = (
+        "A process that failed cannot stay where it stands"
+        if one
+        else "Processes that failed cannot stay where they stand"
     )
+    yield f"{cannot_stay}: to begin with, {words.listed(parts)}."
+    if len(recovery.failed) < story.processes:
+        yield "Each other process could stay where it stands."
 
 
 def skipped(recovery: Recovery, process: int, first: Choice) -> str:
     """The damaged checks above the latest one that can be used."""
-    lost = [it for it in recovery.line[process].lost if isinstance(it, Check) and it.index > first and it.damage]
+    lost = [
+        it
+        for it in recovery.line[process].lost
+        if isinstance(it, Check) and it.index > first and it.damage
+    ]
     if not lost:
         return ""
-    numbers = words.listed(words.ranges([check.index for check in lost]))
-    return f" (its {'check' if len(lost) == 1 else 'checks'} {numbers} {'is' if len(lost) == 1 else 'are'} damaged)"
+    return f" (its {words.checks([it.index for it in lost])} {words.are(len(lost))} damaged)"
 
 
 def entries(recovery: Recovery) -> Iterator[str]:
@@ -165,24 +180,25 @@ def goes_on(restart: Restart) -> str:
     if restart.choice == NOW:
         return f"Process {restart.process} stays where it stands."
     state = f", with the state {restart.state} that it stored there" if restart.state else ""
-    undone = f"{words.counted(len(restart.lost), 'event')} {'are' if len(restart.lost) > 1 else 'is'} undone"
-    return (
-        f"Process {restart.process} goes back to {words.choice_of(restart.choice)}{state}; {undone}. "
-        f"It goes on under incarnation {restart.incarnation}."
-    )
+    lost = len(restart.lost)
+    back = f"Process {restart.process} goes back to {words.choice_of(restart.choice)}{state}"
+    undone = f"{words.counted(lost, 'event')} {words.are(lost)} undone"
+    return f"{back}; {undone}. It goes on under incarnation {restart.incarnation}."
 
 
 # What is sent again.
+
 
 def again(recovery: Recovery) -> Iterator[str]:
     """The messages that have to be delivered again, and why."""
     if not recovery.replays:
         yield "No message is sent again: each that is sent before that line is received before it."
         return
-    one = len(recovery.replays) == 1
+    count = len(recovery.replays)
+    many = words.counted(count, "message")
     yield (
-        f"{'One message is' if one else f'{len(recovery.replays):,} messages are'} sent again, in transit at that "
-        "line: sent before it, and not received before it."
+        f"{many} {words.are(count)} sent again, in transit at that line: sent before it, and not "
+        "received before it."
     )
     yield from (f"  {words.capital(in_transit(recovery, message))}" for message in recovery.replays)
 
@@ -198,7 +214,5 @@ def in_transit(recovery: Recovery, message: Message) -> str:
     undone = next((it for it in message.receipts if it.cut_by is recovery), None)
     if undone is None:
         return f"{told}; it has not arrived at process {message.to}."
-    return (
-        f"{told}; it had not arrived before {words.choice_at(end.process, end.choice)}, and its receipt behind that is "
-        "undone."
-    )
+    place = words.choice_at(end.process, end.choice)
+    return f"{told}; it had not arrived before {place}, and its receipt after that is undone."

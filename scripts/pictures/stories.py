@@ -2,7 +2,7 @@
 
 A **story** is told once, from the first record to the last. Which check, which message and which
 line are meant is what the replies say; of the machine only this is done anew, that a recovery takes
-the events behind a process's choice off its line.
+the events after a process's choice off its line.
 """
 
 from collections.abc import Iterable
@@ -16,19 +16,19 @@ from .texts import Choice, Command, Fields, Script, read_choice
 NO_EFFECT = {"refused", "stale", "repeated"}
 
 
-@dataclass(slots=True, kw_only=True, eq=False)
+@dataclass(slots=True, eq=False)
 class Event:
-    """Something on a process's line: its place in time, its record, and the recovery that took it off."""
+    """Something on a process's line: its place in time, its record, and what took it off."""
 
     place: int
     record: int
     process: int
-    cut_by: "Recovery | None" = None
+    cut_by: "Recovery | None" = field(default=None, kw_only=True)
 
 
 @dataclass(slots=True, kw_only=True, eq=False)
 class Check(Event):
-    """A check, or with index 0 the initial state; forced ones were taken before an item of a round."""
+    """A check, or with index 0 the initial state; forced where an item of a round asked for it."""
 
     index: int
     round: int | None = None
@@ -39,7 +39,7 @@ class Check(Event):
 
 @dataclass(slots=True, kw_only=True, eq=False)
 class Message(Event):
-    """A message was sent: its name, whom it goes to, its bytes as they are written, and its receipts."""
+    """A message was sent: its name, whom it goes to, its bytes as written, and its receipts."""
 
     name: Name
     to: int
@@ -49,7 +49,7 @@ class Message(Event):
 
 @dataclass(slots=True, kw_only=True, eq=False)
 class Receipt(Event):
-    """A message was received, on its way from its send or from a recovery that put it on its link again."""
+    """A message was received, from its send, or from the recovery that sent it again."""
 
     message: Message
     source: "Message | Recovery"
@@ -136,7 +136,7 @@ class Teller:
     """Tells a story command by command, with what stands on the tapes meanwhile."""
 
     def __init__(self, script: Script) -> None:
-        initial = [Check(place=-1, record=1, process=p, index=0) for p in range(script.processes)]
+        initial = [Check(-1, 1, p, index=0) for p in range(script.processes)]
         self.story = Story(script.processes, script.is_fifo, len(script.commands) + 1, initial)
         self.tapes: list[list[Event]] = [[] for _ in initial]
         self.checks: list[list[Check]] = [[check] for check in initial]
@@ -163,22 +163,27 @@ class Teller:
         elif answer == "rounds":
             self.tell_rounds(reply[1:])
 
-    def at(self, command: Command, process: int) -> dict[str, int]:
+    def at(self, command: Command, process: int) -> tuple[int, int, int]:
         """What every event has."""
-        return {"place": len(self.story.events), "record": command.record, "process": process}
+        return len(self.story.events), command.record, process
 
     def add(self, event: Event) -> None:
         self.story.events.append(event)
         self.tapes[event.process].append(event)
 
     def add_check(
-        self, command: Command, process: int, of_round: list[str], state: str, is_forced: bool = False
+        self,
+        command: Command,
+        process: int,
+        of_round: list[str],
+        state: str,
+        is_forced: bool = False,
     ) -> None:
         """A check: its index is one more than that of the tape's last."""
         number = int(of_round[0]) if of_round else None
         index = len(self.checks[process])
         at = self.at(command, process)
-        check = Check(**at, index=index, round=number, is_forced=is_forced, state=state.lower())
+        check = Check(*at, index=index, round=number, is_forced=is_forced, state=state.lower())
         self.add(check)
         self.checks[process].append(check)
         if number is not None:
@@ -186,7 +191,7 @@ class Teller:
 
     def tell_send(self, command: Command, name: Name) -> None:
         to, body = int(command.fields[1]), command.fields[2].lower()
-        message = Message(**self.at(command, name.sender), name=name, to=to, body=body)
+        message = Message(*self.at(command, name.sender), name=name, to=to, body=body)
         self.messages[name] = message
         self.add(message)
 
@@ -197,7 +202,7 @@ class Teller:
         source: Message | Recovery = message
         if self.story.recoveries and self.story.recoveries[-1].place > source.place:
             source = self.story.recoveries[-1]
-        receipt = Receipt(**self.at(command, process), message=message, source=source)
+        receipt = Receipt(*self.at(command, process), message=message, source=source)
         message.receipts.append(receipt)
         self.add(receipt)
 
@@ -205,11 +210,11 @@ class Teller:
         sender, process = int(command.fields[0]), int(command.fields[1])
         if is_forced:
             self.add_check(command, process, [str(number)], command.fields[3], is_forced=True)
-        self.add(MarkerReceipt(**self.at(command, process), source=self.of_round[sender, number]))
+        self.add(MarkerReceipt(*self.at(command, process), source=self.of_round[sender, number]))
 
     def tell_damage(self, command: Command, process: int, index: int) -> None:
         check = self.checks[process][index]
-        check.damage = Damage(**self.at(command, process), check=check)
+        check.damage = Damage(*self.at(command, process), check=check)
         self.add(check.damage)
 
     def tell_rounds(self, records: Iterable[Fields]) -> None:
@@ -229,12 +234,18 @@ class Teller:
             self.story.rounds.setdefault(number, listed)
 
     def tell_recovery(self, command: Command, records: list[Fields]) -> None:
-        """Adds a recovery, and takes off the tapes what stands behind its line."""
+        """Adds a recovery, and takes off the tapes what stands after its line."""
         recoveries = self.story.recoveries
         failed = tuple(sorted(set(map(int, command.fields))))
         recovery = Recovery(
-            place=len(self.story.events), record=command.record, number=len(recoveries) + 1, failed=failed,
-            line=[], passes=[], replays=[], first_ceilings=[],
+            place=len(self.story.events),
+            record=command.record,
+            number=len(recoveries) + 1,
+            failed=failed,
+            line=[],
+            passes=[],
+            replays=[],
+            first_ceilings=[],
         )
         entries = [values for kind, *values in records if kind == "pass"]
         lines = [values for kind, *values in records if kind == "line"]
@@ -249,16 +260,22 @@ class Teller:
         recoveries.append(recovery)
 
     def entry(self, number: int, values: Fields, ceilings: list[Choice]) -> Pass:
-        """An entry, told from the last one back: the ceilings are lifted to what they were before it."""
-        process, choice, message = int(values[0]), read_choice(values[1]), self.messages[name_of(values[2:])]
+        """An entry, told from the last one back: the ceilings become what they were before it."""
+        process, choice, message = (
+            int(values[0]),
+            read_choice(values[1]),
+            self.messages[name_of(values[2:])],
+        )
         ceiling = ceilings[message.name.sender]
         ceilings[process] = choice
         check = None if choice == NOW else self.checks[process][int(choice)]
-        receipt = next(it for it in reversed(message.receipts) if it.cut_by is None and it.process == process)
+        receipt = next(
+            it for it in reversed(message.receipts) if it.cut_by is None and it.process == process
+        )
         return Pass(number, process, choice, check, message, receipt, ceiling)
 
     def restarted(self, values: Fields, recovery: Recovery) -> Restart:
-        """Takes off a process's tape what stands behind its choice."""
+        """Takes off a process's tape what stands after its choice."""
         process, choice = int(values[0]), read_choice(values[1])
         tape, checks = self.tapes[process], self.checks[process]
         check, lost = None, []
@@ -269,7 +286,7 @@ class Teller:
                 event.cut_by = recovery
                 if not isinstance(event, Damage):
                     lost.append(event)
-            del checks[int(choice) + 1:]
+            del checks[int(choice) + 1 :]
         return Restart(process, choice, int(values[2]), values[3], check, tuple(reversed(lost)))
 
 

@@ -8,8 +8,19 @@ from slow_model.texts import NOW
 Fields = list[str]
 Choice = float  # the index of a check, or NOW, which is later than each
 ANSWERS = {
-    "sent", "took", "marked", "stale", "repeated", "checked", "begun", "turned", "damaged", "recovered", "rounds",
-    "history", "refused",
+    "sent",
+    "took",
+    "marked",
+    "stale",
+    "repeated",
+    "checked",
+    "begun",
+    "turned",
+    "damaged",
+    "recovered",
+    "rounds",
+    "history",
+    "refused",
 }  # the first records of replies
 
 
@@ -48,7 +59,7 @@ def read_choice(field: str) -> Choice:
 def read_replies(output: bytes) -> Iterator[list[Fields]]:
     """The records of each reply, in the order of the commands.
 
-    A bundle is a history with a claim behind it, so that its records go on to its `end`.
+    A bundle is a history with a claim after it, so that its records go on to its `end`.
     """
     reply: list[Fields] = []
     for line in output.decode("ascii").splitlines():

@@ -15,7 +15,7 @@ MOST_NAMED = 6  # so many messages are listed
 
 @dataclass(frozen=True)
 class Tape:
-    """What has to be asked of a tape: where its checks stand, its sends by number, and its receipts."""
+    """What is asked of a tape: where its checks stand, its sends by number, and its receipts."""
 
     checks: tuple[int, ...]
     sends: tuple[tuple[int, Name], ...]
@@ -30,8 +30,10 @@ class Tape:
 
     def sent(self, name: Name, choice: Choice) -> bool:
         """Whether a message of this process is sent before a choice."""
-        return name.number < len(self.sends) and self.sends[name.number][1] == name and (
-            self.sends[name.number][0] <= self.place(choice)
+        return (
+            name.number < len(self.sends)
+            and self.sends[name.number][1] == name
+            and (self.sends[name.number][0] <= self.place(choice))
         )
 
     def received(self, choice: Choice) -> list[Name]:
@@ -50,7 +52,9 @@ def tapes_of(claim: Claim) -> list[Tape]:
         placed = list(enumerate(events, 1))
         checks = tuple(place for place, it in placed if isinstance(it, Check))
         sends = [(place, it) for place, it in placed if isinstance(it, Send)]
-        named = tuple((place, Name(p, it.incarnation, number)) for number, (place, it) in enumerate(sends))
+        named = tuple(
+            (place, Name(p, it.incarnation, number)) for number, (place, it) in enumerate(sends)
+        )
         receipts = tuple((place, it.message) for place, it in placed if isinstance(it, Recv))
         whole = [check for check in range(1, len(checks) + 1) if (p, check) not in claim.marks]
         surviving = (0, *whole, *(() if p in claim.failed else (NOW,)))
@@ -78,7 +82,7 @@ def explanation(claim: Claim, verdict: str) -> Iterator[str]:
             yield words.capital(f"{inconsistent(claim, tapes)}.")
     yield f"The verdict: {verdict.strip()}"
     if fault is not None:
-        yield f"The verdict counts entries from 0: its entry {fault} is number {fault + 1} of this list."
+        yield f"It counts the entries from 0: its entry {fault} is number {fault + 1} of this list."
 
 
 def entries(
@@ -89,16 +93,20 @@ def entries(
         yield "What the entries say, one after another, and whether it is so:"
     wide = len(str(len(claim.entries))) + 2
     for number, entry in enumerate(claim.entries):
-        said = sentences.orphan(entry.at, entry.choice, entry.message, ceilings[entry.message.sender])
+        said = sentences.orphan(
+            entry.at, entry.choice, entry.message, ceilings[entry.message.sender]
+        )
+        item = f"{number + 1:>{wide}}. {said}"
         if number == fault:
-            yield f"{number + 1:>{wide}}. {said} That is wrong: {wrong(entry, code, tapes, ceilings)}."
+            yield f"{item} That is wrong: {wrong(entry, code, tapes, ceilings)}."
             yield from unread(claim, number)
             return
-        ceilings[entry.at] = tapes[entry.at].lower(entry.choice)
-        yield f"{number + 1:>{wide}}. {said} So it is, and it falls to {words.choice_of(ceilings[entry.at])}."
+        ceilings[entry.at] = fall = tapes[entry.at].lower(entry.choice)
+        yield f"{item} So it is, and it falls to {words.choice_of(fall)}."
 
 
 # What is claimed.
+
 
 def claimed(claim: Claim) -> Iterator[str]:
     """Who failed, what is damaged, and the line."""
@@ -108,23 +116,20 @@ def claimed(claim: Claim) -> Iterator[str]:
     for p, check in sorted(claim.marks):
         by_process.setdefault(p, []).append(check)
     for p, checks in by_process.items():
-        numbers = words.listed(words.ranges(checks))
-        parts.append(
-            f"{'check' if len(checks) == 1 else 'checks'} {numbers} of process {p} {'is' if len(checks) == 1 else 'are'} damaged"
-        )
-    stands = [
-        f"process {p} {'' if choice == NOW else 'at '}{words.choice_of(choice)}" for p, choice in enumerate(claim.line)
-    ]
-    yield f"The claim: {words.listed(parts)}. The latest line that can be gone on from is then {words.listed(stands)}."
+        parts.append(f"{words.checks(checks)} of process {p} {words.are(len(checks))} damaged")
+    stands = [f"process {p} {words.at_choice(choice)}" for p, choice in enumerate(claim.line)]
+    line = f"The latest line that can be gone on from is then {words.listed(stands)}."
+    yield f"The claim: {words.listed(parts)}. {line}"
 
 
 # What is wrong.
+
 
 def wrong(entry: Entry, name: str, tapes: list[Tape], ceilings: list[Choice]) -> str:
     """What is wrong with an entry."""
     tape, sender = tapes[entry.at], entry.message.sender
     if name == "NotTop":
-        return not_top(entry, ceilings[entry.at])
+        return not_top(entry, tape, ceilings[entry.at])
     if name == "NotReceived":
         names = [words.message(it) for it in tape.received(entry.choice)]
         some = words.listed([*names[:MOST_NAMED], *(["others"] if len(names) > MOST_NAMED else [])])
@@ -132,32 +137,35 @@ def wrong(entry: Entry, name: str, tapes: list[Tape], ceilings: list[Choice]) ->
         before = "" if entry.choice == NOW else f"before {words.choice_of(entry.choice)} "
         return f"{before}process {entry.at} has not received {words.message(entry.message)}; {got}"
     left = ceilings[sender]
-    before = " by now" if left == NOW else f" before {words.choice_of(left)}, from which it can still go on"
+    before = " by now"
+    if left != NOW:
+        before = f" before {words.choice_of(left)}, from which it can still go on"
     return (
-        f"process {sender} has sent that message{before}, so that nothing speaks against process {entry.at} having "
-        "received it"
+        f"process {sender} has sent that message{before}, so that nothing speaks against "
+        f"process {entry.at} having received it"
     )
 
 
-def not_top(entry: Entry, ceiling: Choice) -> str:
+def not_top(entry: Entry, tape: Tape, ceiling: Choice) -> str:
     """That an entry passes over another choice than the latest one that is left."""
-    if entry.choice > ceiling:
-        gone = "is passed over already, or cannot be used"
-        return (
-            f"{words.choice_at(entry.at, entry.choice)} {gone}; the latest choice that process {entry.at} has left is "
-            f"{words.choice_of(ceiling)}"
-        )
-    return (
-        f"the latest choice that process {entry.at} has left is {words.choice_of(ceiling)}, and that has to be passed "
-        f"over before {words.choice_of(entry.choice)}"
-    )
+    place = words.choice_of(ceiling)
+    left = f"the latest place that process {entry.at} can still go on from is {place}"
+    if entry.choice < ceiling and entry.choice in tape.surviving:
+        return f"{left}, and that has to be given up before {words.choice_of(entry.choice)}"
+    if entry.choice in tape.surviving:
+        gone = f"{words.choice_of(entry.choice)} is given up already"
+    elif entry.choice == NOW:
+        gone = f"process {entry.at} failed, and where it stands is lost"
+    else:
+        gone = f"{words.choice_of(entry.choice)} is damaged, and never one to go on from"
+    return f"{gone}; {left}"
 
 
 def unread(claim: Claim, number: int) -> Iterator[str]:
-    """That the entries behind the first wrong one were not looked at."""
+    """That the entries after the first wrong one were not looked at."""
     rest = len(claim.entries) - number - 1
     if rest:
-        them = "The entry behind it was" if rest == 1 else f"The {rest:,} entries behind it were"
+        them = "The entry after it was" if rest == 1 else f"The {rest:,} entries after it were"
         yield f"{them} not looked at."
 
 
@@ -165,7 +173,8 @@ def other_line(claim: Claim, ceilings: list[Choice]) -> str:
     """Where the entries lead to another line."""
     parts = [
         f"process {p} to {words.choice_of(left)}, where the claim has {words.choice_of(choice)}"
-        for p, (left, choice) in enumerate(zip(ceilings, claim.line)) if left != choice
+        for p, (left, choice) in enumerate(zip(ceilings, claim.line))
+        if left != choice
     ]
     if not claim.entries:
         return f"without an entry the line is another one: {words.listed(parts)}"
@@ -177,12 +186,12 @@ def inconsistent(claim: Claim, tapes: list[Tape]) -> str:
     for p, choice in enumerate(claim.line):
         for name in tapes[p].received(choice):
             if not tapes[name.sender].sent(name, claim.line[name.sender]):
-                at = f"process {p}, {'' if choice == NOW else 'at '}{words.choice_of(choice)},"
-                ends = words.choice_of(claim.line[name.sender])
-                return (
-                    f"that line cannot be gone on from: {at} has received {words.message(name)}, and process "
-                    f"{name.sender} has not sent it before {ends}"
+                receipt = (
+                    f"process {p}, {words.at_choice(choice)}, has received {words.message(name)}"
                 )
+                ends = words.choice_of(claim.line[name.sender])
+                none = f"process {name.sender} has not sent it before {ends}"
+                return f"that line cannot be gone on from: {receipt}, and {none}"
     return "a message is received before that line that is not sent before it"
 
 
@@ -200,7 +209,7 @@ def misshapen(claim: Claim) -> str:
     named += [("passed over in an entry", entry.at, entry.choice) for entry in claim.entries]
     for what, p, choice in named:
         if choice != NOW and choice > checks[p]:
-            has = words.counted(checks[p], "check") if checks[p] else "no check"
+            has = words.counted(checks[p], "checkpoint")
             return f"{words.choice_at(p, choice)} is {what}, and that process has {has}"
     return "it names what the history does not have"
 
@@ -209,11 +218,11 @@ def valid(claim: Claim) -> str:
     """That nothing is wrong."""
     if not claim.entries:
         return (
-            "No entry is needed: the line is at the latest choices that survive, and it receives "
-            "no message that is not sent before it. So it is the latest line."
+            "No entry is needed: the line is at the latest places that can be used, and it "
+            "receives no message that is not sent before it. So it is the latest line."
         )
     return (
         "So the entries lead to the claimed line, and that receives no message that is not sent "
-        "before it. So it is the latest line: each later choice that survives is in the list, with the message that "
-        "speaks against it."
+        "before it. So it is the latest line: each later place that can be used is in the list, "
+        "with the orphan message that speaks against it."
     )

@@ -1,4 +1,4 @@
-"""What of a story is shown: which records, of which processes, and what has to be said of the rest."""
+"""What of a story is shown: which records, of which processes, and what is said of the rest."""
 
 from collections.abc import Iterator
 from dataclasses import dataclass
@@ -55,13 +55,14 @@ def recovery_of(story: Story, number: int | None) -> Recovery | None:
 def crossing(recovery: Recovery) -> list[Message]:
     """The replays from or to a process that goes back; the rest is on its way whatever failed."""
     return [
-        message for message in recovery.replays
+        message
+        for message in recovery.replays
         if min(recovery.line[message.process].choice, recovery.line[message.to].choice) != NOW
     ]
 
 
 def spoken_of(recovery: Recovery) -> Iterator[list[Event]]:
-    """What a recovery speaks of, in groups: each entry in its order, then damaged checks, then replays."""
+    """What a recovery speaks of, in groups: the entries in order, damaged checks, replays."""
     for entry in recovery.passes:
         yield [entry.message, entry.receipt, *([entry.check] if entry.check else [])]
     for restart in recovery.line:
@@ -73,9 +74,10 @@ def spoken_of(recovery: Recovery) -> Iterator[list[Event]]:
 
 
 def told_of(recovery: Recovery, chosen: set[int], most: int) -> tuple[set[int], set[int]]:
-    """The places of what a recovery speaks of, as far as so many records go, and the processes concerned.
+    """The places of what a recovery speaks of, and the processes concerned.
 
-    A choice that the line has goes with it, where it is not older than all of that.
+    No more than so many records are taken. A choice that the line has goes with it, where it is not
+    older than all of that.
     """
     found: set[int] = {recovery.place}
     records, concerned = {recovery.record}, set(recovery.failed)
@@ -103,22 +105,26 @@ def partners(it: Event) -> tuple[int, ...]:
 
 
 def among(story: Story, chosen: tuple[int, ...], last: int) -> Events:
-    """What happens among some processes, up to a place; of what a recovery speaks of, with any partner."""
+    """What happens among some processes, or is spoken of by a recovery, up to a place."""
     if len(chosen) == story.processes:
-        return story.events[:last + 1]
+        return story.events[: last + 1]
     wanted = set(chosen)
-    keep = {it.place for recovery in story.recoveries for group in spoken_of(recovery) for it in group}
+    keep = {
+        it.place for recovery in story.recoveries for group in spoken_of(recovery) for it in group
+    }
     return [
-        it for it in story.events[:last + 1]
+        it
+        for it in story.events[: last + 1]
         if isinstance(it, Recovery)
-        or wanted.issuperset(partners(it)) or (it.process in wanted and it.place in keep)
+        or wanted.issuperset(partners(it))
+        or (it.process in wanted and it.place in keep)
     ]
 
 
 def last_records(events: Events, count: int) -> Events:
     """The events of so many last records; a record has two where it had a check taken first."""
-    records = sorted({it.record for it in events[-2 * count:]})[-count:]
-    return [it for it in events[-2 * count:] if it.record >= records[0]] if records else []
+    records = sorted({it.record for it in events[-2 * count :]})[-count:]
+    return [it for it in events[-2 * count :] if it.record >= records[0]] if records else []
 
 
 def view_of(story: Story, wish: Wish) -> View:
@@ -149,28 +155,44 @@ def finished(
     """A view with its gaps and notes. `every` is what could be shown of these processes."""
     places = {it.place for it in shown}
     before = [None, *every]
-    gaps = {it.place for last, it in zip(before, every) if it.place in places and last and last.place not in places}
-    notes = [*notes_on_records(story, every, shown, focus), *notes_on_processes(story, chosen), *notes_on_idle(story)]
+    gaps = {
+        it.place
+        for last, it in zip(before, every)
+        if it.place in places and last and last.place not in places
+    }
+    notes = [
+        *notes_on_records(story, every, shown, focus),
+        *notes_on_processes(story, chosen),
+        *notes_on_idle(story),
+    ]
     is_from_start = every[:1] == shown[:1]
     return View(story, chosen, tuple(shown), frozenset(gaps), is_from_start, tuple(notes))
 
 
-def notes_on_records(story: Story, every: Events, shown: Events, focus: Recovery | None) -> list[str]:
+def notes_on_records(
+    story: Story, every: Events, shown: Events, focus: Recovery | None
+) -> list[str]:
     """What is said of the records that are left out, and of the entries that are about them."""
     if len(shown) == len(every):
         return []
     places = {it.place for it in shown}
     count = len({it.record for it in story.events}) - len({it.record for it in shown})
     them = f"{words.counted(count, 'other record')} {'is' if count == 1 else 'are'} left out."
-    notes = [f"Shown is what recovery {focus.number} speaks of: {them}" if focus else words.capital(them)]
+    notes = [
+        f"Shown is what recovery {focus.number} speaks of: {them}" if focus else words.capital(them)
+    ]
     for recovery in [it for it in shown if isinstance(it, Recovery)]:
         numbers = [it.number for it in recovery.passes if it.receipt.place not in places]
         if numbers:
-            what = ("entry " if len(numbers) == 1 else "entries ") + words.listed(words.ranges(numbers))
-            notes.append(f"So {'is' if len(numbers) == 1 else 'are'} {what} of recovery {recovery.number}: ./explain tells of all.")
+            what = ("entry " if len(numbers) == 1 else "entries ") + words.listed(
+                words.ranges(numbers)
+            )
+            where = f"of recovery {recovery.number}: ./explain tells of all"
+            notes.append(f"So {words.are(len(numbers))} {what} {where}.")
         again = [it for it in recovery.replays if it.place not in places]
         if again:
-            notes.append(f"So {'is' if len(again) == 1 else 'are'} {words.counted(len(again), 'message')} that it sends again.")
+            many = words.counted(len(again), "message")
+            notes.append(f"So {words.are(len(again))} {many} that it sends again.")
     return notes
 
 
@@ -183,6 +205,10 @@ def notes_on_processes(story: Story, chosen: tuple[int, ...]) -> list[str]:
 
 def notes_on_idle(story: Story) -> list[str]:
     """What is said of records without an effect."""
-    found = [words.counted(count, f"command {kind}", f"commands {kind}") for kind, count in story.idle.items()]
+    what = {
+        "refused": ("refused command", "refused commands"),
+        "stale": ("delivery of a stale copy", "deliveries of stale copies"),
+        "repeated": ("delivery of a repeated copy", "deliveries of repeated copies"),
+    }
+    found = [words.counted(count, *what[kind]) for kind, count in story.idle.items()]
     return [f"Without effect, and not shown: {words.listed(found)}."] if found else []
-

@@ -12,14 +12,23 @@ def choice_of(choice: Choice) -> str:
     """A choice of a process that was named before."""
     if choice == NOW:
         return "where it stands"
-    return "its initial state" if choice == 0 else f"its check {choice:.0f}"
+    return "its initial state" if choice == 0 else f"its checkpoint {choice:.0f}"
 
 
 def choice_at(process: int, choice: Choice) -> str:
     """A choice, with its process."""
     if choice == NOW:
         return f"where process {process} stands"
-    return f"the initial state of process {process}" if choice == 0 else f"check {choice:.0f} of process {process}"
+    return (
+        f"the initial state of process {process}"
+        if choice == 0
+        else f"checkpoint {choice:.0f} of process {process}"
+    )
+
+
+def at_choice(choice: Choice) -> str:
+    """Where a process that was named before is, with a choice."""
+    return choice_of(choice) if choice == NOW else f"at {choice_of(choice)}"
 
 
 def message(name: Name) -> str:
@@ -31,6 +40,16 @@ def message(name: Name) -> str:
 def counted(count: int, one: str, many: str = "") -> str:
     """A number of things, or none; a word alone takes an s."""
     return f"{count:,} {one if count == 1 else many or one + 's'}" if count else f"no {one}"
+
+
+def are(count: int) -> str:
+    """The verb for so many things; of none as of one."""
+    return "are" if count > 1 else "is"
+
+
+def checks(numbers: Sequence[int]) -> str:
+    """Some checkpoints, at least one."""
+    return f"{'checkpoint' if len(numbers) == 1 else 'checkpoints'} {listed(ranges(numbers))}"
 
 
 def listed(parts: Sequence[str]) -> str:
