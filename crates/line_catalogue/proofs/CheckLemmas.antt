@@ -265,7 +265,7 @@ in-step n tape damaged choice m old some many within count reads are = record {
   each = λ k c d le there same.
       let before : List Event = front tape choice in
       let was : (j : ℕ) → j ≤ m → (get_or some j d).place ≡ check_place before j = λ j h.
-          ap (λ (row : Row). row.place) (reads j d h) ∙ (are.each j d (omega (arith, h, within))).place_is ∙ sym (place-kept tape choice j (omega (arith, h, many)))
+      ap (λ (row : Row). row.place) (reads j d h) ∙ (are.each j d (omega (arith, h, within))).place_is ∙ sym (place-kept tape choice j (omega (arith, h, many)))
       in
       was k (omega (arith, le, there, count)) ∙ sym (place-same before k c le (sym same ∙ was c (omega (arith, there, count))));
 }

@@ -180,7 +180,11 @@ impl Catalogue {
         match choice {
             Choice::Check(0) => None,
             Choice::Check(c) => Some(self.latest_check(p, c - 1, failed)),
-            Choice::Now => Some(self.latest_check(p, self.ledger.history().tape(p).checks(), failed)),
+            Choice::Now => Some(self.latest_check(
+                p,
+                self.ledger.history().tape(p).checks(),
+                failed,
+            )),
         }
     }
 

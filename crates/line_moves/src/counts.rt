@@ -27,8 +27,8 @@ pub fn count_channels(
     requires turning { IsTurning catalogue.old.processes turning.now }
     ensures channels { IfOk result (λ channels. (state : List ℕ)
         → channels ≡ completed_channels
-            (with_event catalogue.old.processes at (Check state (Some turning.now.number)))
-            turning.now) }
+        (with_event catalogue.old.processes at (Check state (Some turning.now.number)))
+        turning.now) }
     ensures processes { catalogue.new.processes ≡ catalogue.old.processes }
     ensures marks { catalogue.new.marks ≡ catalogue.old.marks }
     ensures rooms { catalogue.new.rooms ≡ catalogue.old.rooms }

@@ -273,7 +273,7 @@ module _ (rs os : List Receipt) (root other n above : ℕ) (far : Bool) (d : ℕ
 -- one receipt less, and no link to it
 module _ (rs os : List Receipt) (root other n : ℕ) (short : length rs ≡ n) (long : length os ≡ suc n) (h : AreAlike os rs n) (tree : AreInTree os root)
     (slot : (link : ℕ) (side : Bool) → link ≤ n → IsNode os link
-        → ((seated rs other link side ≡ seated os root link side) × (seated os root link side ≢ suc n)) ⊎ ((seated rs other link side ≡ 0) × (seated os root link side ≡ suc n))) where
+    → ((seated rs other link side ≡ seated os root link side) × (seated os root link side ≢ suc n)) ⊎ ((seated rs other link side ≡ 0) × (seated os root link side ≡ suc n))) where
   was_node : (link : ℕ) → IsNode rs link → IsNode os link
   was_node link low = node_alike rs os n link (alike_back os rs n h) (omega arith) (let l : link ≤ length rs = node_le rs link low in omega arith) low
 

@@ -104,7 +104,11 @@ impl Channels {
     /// The channels that messages are on which are in transit at a line of a history: each on the one to the process that its send names.
     ///
     /// It looks once at each of them, and takes memory for each two processes and for each message; it fails without.
-    pub fn of(alloc: Global, history: &History, messages: &[MsgName]) -> Result<Channels, AllocError>
+    pub fn of(
+        alloc: Global,
+        history: &History,
+        messages: &[MsgName],
+    ) -> Result<Channels, AllocError>
         ensures transit { (line : List Choice) → messages.now ≡ in_transit history.now.processes line
             → IfOk result (λ channels. channels ≡ channels_at history.now.processes line) }
         ensures table { IfOk result (λ channels. IsTable (length history.now.processes) channels) }

@@ -18,7 +18,7 @@ returns-then-index-place-clause-rows c =
     let row : Row = c.index.result.now in
     let told : c.unwrap-place.result ≡ place tape (AtCheck at) = (rw c.unwrap-place.ensures at c.place.ensures).1 in
     let same : (d : Row) → (get_or old at d).place ≡ place tape (AtCheck at) = λ d.
-        sym (c.loop-c.invariant.left at d (omega arith)) ∙ ap (λ (r : Row). r.place) (get_or_default rows at d row (omega (arith, within, c.loop-c.invariant.count)) ∙ sym c.index.ensures) ∙ c.if-index-place.true ∙ told
+    sym (c.loop-c.invariant.left at d (omega arith)) ∙ ap (λ (r : Row). r.place) (get_or_default rows at d row (omega (arith, within, c.loop-c.invariant.count)) ∙ sym c.index.ensures) ∙ c.if-index-place.true ∙ told
     in
     record {
       count = c.loop-c.invariant.count;

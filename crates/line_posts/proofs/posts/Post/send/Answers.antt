@@ -17,10 +17,14 @@ invariant_of-self-2 c =
     let numbered = c.sends-number.ensures in
     let parcel = c.message-parcel.ensures in
     let to = c.get.ensures.value in
-    let last = c.send.ensures.same in
-    (send_keeps _ c.args.to c.args.body _ _ _ _ h (omega (arith, count, long, c.in_default.ensures.process)) c.in_default.ensures.other
-    (cc (sent, free.tape, inc)) (cc (put, to, parcel, numbered, inc, free.tape, free.ends)), inc, told,
-    last.n_is ∙ (free.same.n_is ∙ n), last.me_is ∙ (free.same.me_is ∙ me_is))
+    let last = c.send.ensures.same in (
+      send_keeps _ c.args.to c.args.body _ _ _ _ h (omega (arith, count, long, c.in_default.ensures.process)) c.in_default.ensures.other
+          (cc (sent, free.tape, inc)) (cc (put, to, parcel, numbered, inc, free.tape, free.ends)),
+      inc,
+      told,
+      last.n_is ∙ (free.same.n_is ∙ n),
+      last.me_is ∙ (free.same.me_is ∙ me_is),
+    )
 
 pub returns-clause-same : goal.returns-clause-same
 returns-clause-same c =
