@@ -1,23 +1,17 @@
 -- The counts of sends and the processes to be visited, as a process is lowered.
-use Rattle.std.proofs.Common.{◌≡◌, ◌≢◌, ℕ, zero, suc, ◌+◌, ◌<◌, ◌≤◌, Bool, true, false, List, [], ◌∷◌, ◌++◌, length, map, take, get_or, set, inl, inr, drop, Some, None, refl, sym, ap, ◌∙◌, subst, arith}
-use Rattle.std.specs.List.{Contains, range_with_len, slice_get, cons_option}
-use Rattle.std.proofs.lemmas.List.Elements.{filter_map-append}
-use Rattle.std.proofs.lemmas.Option.{get_or_from_slice_get, slice_get-get_or}
-use Rattle.line_tape.proofs.FrontLemmas.{slice_get-append_left}
+use Rattle.std.proofs.Common.{◌≡◌, ◌≢◌, ℕ, ◌<◌, ◌≤◌, Bool, List, length, get_or, set, inl, inr, sym, ap, ◌∙◌, subst, arith}
+use Rattle.std.specs.List.{Contains}
 use Rattle.std.proofs.lemmas.Bool.{cases_eq}
-use Rattle.std.proofs.lemmas.List.{ext_get_or, length-map, length-set, get_or-set_same, get_or-set_other, get_or_push, length_push, append-nil, take_all, take_more, take-append-drop}
-use Rattle.std.proofs.lemmas.List.FromFn.{length-range_with_len}
+use Rattle.std.proofs.lemmas.List.{ext_get_or, length-set, get_or-set_same, get_or-set_other}
 use Rattle.line_names.specs.declared.choices.Choice.{Choice}
-use Rattle.line_names.specs.declared.choices.Choice.TheVariants.{Check as AtCheck, Now}
-use Rattle.line_names.specs.declared.messages.MsgName.{MsgName}
+use Rattle.line_names.specs.declared.choices.Choice.TheVariants.{Check as AtCheck}
 use Rattle.line_names.specs.Lines.{choice_at}
-use Rattle.line_names.specs.Sets.{is_member}
 use Rattle.line_tape.specs.declared.events.Event.{Event}
 use Rattle.line_tape.specs.declared.events.Event.TheVariants.{Recv}
-use Rattle.line_tape.specs.Event.{incarnation_of, incarnations_sent, sends, Holds}
+use Rattle.line_tape.specs.Event.{sends, Holds}
 use Rattle.line_tape.specs.Front.{front}
 use Rattle.line_tape.specs.History.{Process, tape_at}
-use Rattle.line_tape.specs.Line.{events_before, IsLine, AreSentBefore}
+use Rattle.line_tape.specs.Line.{events_before, AreSentBefore}
 use Rattle.line_vectors.specs.Reach.{reach_from, sent_count, sents_of}
 use Rattle.line_catalogue.specs.Agreement.{Agrees}
 use Rattle.line_catalogue.proofs.LaneLemmas.{on_tape, numbers-decide}

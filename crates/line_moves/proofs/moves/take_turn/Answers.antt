@@ -1,5 +1,5 @@
 -- The check agrees, and what was counted before it is what is in transit at the round's checks with it.
-use Rattle.std.proofs.Common.{◌≡◌, ◌<◌, ℕ, cond, false, List, length, Option, Some, None, sym, ap, ◌∙◌, subst, arith}
+use Rattle.std.proofs.Common.{◌≡◌, ℕ, cond, false, List, length, Option, Some, None, sym, ap, ◌∙◌, subst, arith}
 use Rattle.line_names.specs.declared.messages.MsgName.{MsgName}
 use Rattle.line_tape.specs.declared.events.Event.TheVariants.{Check}
 use Rattle.line_tape.specs.Colours.{is_completed_unordered}

@@ -1,5 +1,5 @@
 -- The incarnation is that of the send, or the present one past the sends.
-use Rattle.std.proofs.Common.{◌≡◌, ℕ, List, length, get_or, inl, inr, None, Some, sym, ap, ◌∙◌, arith}
+use Rattle.std.proofs.Common.{◌≡◌, ℕ, List, length, get_or, inl, inr, None, Some, sym, ap, ◌∙◌}
 use Rattle.std.specs.List.{slice_get}
 use Rattle.std.proofs.lemmas.Bool.{cases_lt}
 use Rattle.std.proofs.lemmas.List.{get_or_past}

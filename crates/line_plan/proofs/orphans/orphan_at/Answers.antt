@@ -1,12 +1,11 @@
 -- The first lane beyond its count names an orphan; where none is, all that was received is sent before the line.
-use Rattle.std.proofs.Common.{◌≡◌, ℕ, ◌+◌, ◌-◌, ◌<◌, ◌≤◌, List, length, get_or, sym, ap, ◌∙◌, subst, arith}
+use Rattle.std.proofs.Common.{◌≡◌, ℕ, ◌+◌, ◌-◌, ◌<◌, List, length, get_or, sym, ap, ◌∙◌, subst, arith}
 use Rattle.line_names.specs.declared.choices.Choice.{Choice}
-use Rattle.line_names.specs.declared.messages.MsgName.{MsgName}
 use Rattle.line_names.specs.Lines.{choice_at}
 use Rattle.line_tape.specs.declared.events.Event.{Event}
 use Rattle.line_tape.specs.Front.{front}
 use Rattle.line_tape.specs.History.{Process, tape_at, IsHistory}
-use Rattle.line_tape.specs.Line.{events_before, IsOrphanAmong}
+use Rattle.line_tape.specs.Line.{IsOrphanAmong}
 use Rattle.line_vectors.specs.Vectors.{Fits}
 use Rattle.line_vectors.specs.Reach.{reach_from, reach_of, reach_before, sent_count, sents_of}
 use Rattle.line_catalogue.specs.Agreement.{named}

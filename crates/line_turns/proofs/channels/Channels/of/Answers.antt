@@ -1,10 +1,9 @@
 -- One message more is put.
 use Rattle.std.proofs.Common.{◌≡◌, ℕ, ◌+◌, ◌++◌, List, [], length, map, replicate, ap, ◌∙◌, subst, sym, arith}
 use Rattle.std.proofs.lemmas.List.{map-id}
-use Rattle.line_names.specs.declared.choices.Choice.{Choice}
 use Rattle.line_names.specs.declared.messages.MsgName.{MsgName}
 use Rattle.line_tape.specs.History.{Process}
-use Rattle.line_tape.specs.Transit.{in_transit, in_transit_between}
+use Rattle.line_tape.specs.Transit.{in_transit_between}
 use Rattle.line_turns.specs.Tables.{between, IsTable}
 use Rattle.line_turns.proofs.ChannelLemmas.{ArePut, addressee_within, sender_within, ArePut-end, ArePut-more, ArePut-none, ArePut-start}
 use Rattle.line_turns.proofs.TableLemmas.{between-none, table_of-all, IsTable-none}
