@@ -1,5 +1,5 @@
 -- Receipts that are ahead, aside or last, as receipts come and go.
-use Rattle.std.proofs.Common.{◌≡◌, ◌≢◌, ℕ, zero, suc, ◌+◌, ◌<◌, ◌≤◌, Bool, true, false, List, length, set, get_or, refl, sym, ap, ◌∙◌, subst, arith, inl, inr}
+use Rattle.std.proofs.Common.{◌≡◌, ◌≢◌, ℕ, zero, suc, ◌<◌, ◌≤◌, List, length, set, get_or, refl, sym, ap, ◌∙◌, subst, arith, inl, inr}
 use Rattle.std.proofs.lemmas.Bool.{cases_lt, cases_eq}
 use Rattle.std.proofs.lemmas.List.{get_or-set_same, get_or-set_other}
 use Rattle.line_names.specs.declared.limits.TheConstants.{MOST_PROCESSES}
@@ -158,9 +158,10 @@ pub chained_alike : (rs os : List Receipt) (n : ℕ) → AreAlike rs os n → n 
 chained_alike rs os n h few chained links i l a =
     let old : IsAhead rs i = ahead_alike os rs n i (alike_back rs os n h) l a in
     let from : from_of (name_at rs i) ≡ from_of (name_at os i) = ap from_of (h.each i l) in
-    let within : i < length rs = omega arith in
-    (last_alike rs os n i (from_of (name_at rs i)) (from_of (name_at os i)) (receipt_at rs i).near (receipt_at os i).near h (omega arith) from (links i l old).0 (chained.near i within old),
-      back_alike rs os n i (from_of (name_at rs i)) (from_of (name_at os i)) (receipt_at rs i).far (receipt_at os i).far h (omega arith) from (links i l old).1 (chained.far i within old))
+    let within : i < length rs = omega arith in (
+      last_alike rs os n i (from_of (name_at rs i)) (from_of (name_at os i)) (receipt_at rs i).near (receipt_at os i).near h (omega arith) from (links i l old).0 (chained.near i within old),
+      back_alike rs os n i (from_of (name_at rs i)) (from_of (name_at os i)) (receipt_at rs i).far (receipt_at os i).far h (omega arith) from (links i l old).1 (chained.far i within old),
+    )
 
 -- one receipt more
 pub chained_more : (rs os : List Receipt) (n : ℕ) → length rs ≡ n → length os ≡ suc n → AreAlike rs os n → AreChained rs

@@ -1,5 +1,5 @@
 -- The first receipt of a message, and whether it is among the first ones of a tape.
-use Rattle.std.proofs.Common.{◌≡◌, ◌≢◌, ◌↔◌, ℕ, zero, suc, ◌<◌, ◌≤◌, ◌⊎◌, [], ◌∷◌, Bool, true, false, List, length, take, get_or, map, replicate, refl, sym, ap, ◌∙◌, subst, arith, inl, inr}
+use Rattle.std.proofs.Common.{◌≡◌, ◌≢◌, ◌↔◌, ℕ, zero, suc, ◌<◌, ◌≤◌, ◌⊎◌, [], Bool, true, false, List, length, take, get_or, map, replicate, refl, sym, ap, ◌∙◌, subst, arith, inl, inr}
 use Rattle.std.specs.List.{Contains}
 use Rattle.std.proofs.Math.ListN.{get_or-map}
 use Rattle.std.proofs.lemmas.Bool.{cases_lt, false≢true}
@@ -9,7 +9,7 @@ use Rattle.line_names.specs.declared.messages.MsgName.{MsgName}
 use Rattle.line_names.specs.Names.{is_name}
 use Rattle.line_names.proofs.NameLemmas.{is_name-true, is_name-same}
 use Rattle.line_tape.specs.declared.receipts.chains.Receipt.{Receipt}
-use Rattle.line_tape.specs.Noted.{AreInTree, AreNoted, IsAhead, IsAside, IsLast, IsNode, IsSeatOf, message_of, name_at, receipt_at, seated}
+use Rattle.line_tape.specs.Noted.{AreNoted, IsAhead, IsAside, IsNode, IsSeatOf, message_of, name_at, seated}
 use Rattle.line_tape.proofs.AheadLemmas.{from_of, number_of}
 use Rattle.line_tape.proofs.SeatLemmas.{none_node}
 
@@ -65,30 +65,36 @@ name_in rs i m l =
 pub first_within : (rs : List Receipt) (m : MsgName) (end link : ℕ)
     → ((i : ℕ) → link ≡ suc i → (i < length rs) × (name_at rs i ≡ m) × ((j : ℕ) → j < i → name_at rs j ≢ m))
     → (link ≡ 0 → (i : ℕ) → i < length rs → name_at rs i ≢ m) → ((link ≢ 0) × (link ≤ end)) ↔ Contains (take end (map message_of rs)) m
-first_within rs m end zero found none =
-    (λ both. absurd (both.0 refl), λ k.
-    let i : ℕ = k.0 in
-    let many : length (map message_of rs) ≡ length rs = length-map rs message_of in
-    let low : i < length (take end (map message_of rs)) = k.1 in
-    let few : i < length rs = omega (arith, length-take end (map message_of rs)) in
-    let early : i < end = omega (arith, length-take end (map message_of rs)) in
-    absurd (none refl i few (sym (name_in rs i m few) ∙ sym (get_or-take end (map message_of rs) i m early) ∙ k.2)))
+first_within rs m end zero found none = (
+  λ both. absurd (both.0 refl),
+  λ k.
+      let i : ℕ = k.0 in
+      let many : length (map message_of rs) ≡ length rs = length-map rs message_of in
+      let low : i < length (take end (map message_of rs)) = k.1 in
+      let few : i < length rs = omega (arith, length-take end (map message_of rs)) in
+      let early : i < end = omega (arith, length-take end (map message_of rs)) in
+      absurd (none refl i few (sym (name_in rs i m few) ∙ sym (get_or-take end (map message_of rs) i m early) ∙ k.2)),
+)
 first_within rs m end (suc i) found none =
     let here : (i < length rs) × (name_at rs i ≡ m) × ((j : ℕ) → j < i → name_at rs j ≢ m) = found i refl in
     let l : i < length rs = here.0 in
-    let many : length (map message_of rs) ≡ length rs = length-map rs message_of in
-    (λ both.
-    let low : suc i ≤ end = both.1 in
-    (i, omega (arith, length-take end (map message_of rs)), get_or-take end (map message_of rs) i m (omega arith) ∙ name_in rs i m l ∙ here.1), λ k.
-    let j : ℕ = k.0 in
-    let low : j < length (take end (map message_of rs)) = k.1 in
-    let few : j < length rs = omega (arith, length-take end (map message_of rs)) in
-    let early : j < end = omega (arith, length-take end (map message_of rs)) in
-    let named : name_at rs j ≡ m = sym (name_in rs j m few) ∙ sym (get_or-take end (map message_of rs) j m early) ∙ k.2 in
-    (λ none. absurd (omega arith), elim (cases_lt j i) [
-      | inl g ↦ absurd (here.2 j g named)
-      | inr g ↦ omega arith
-    ]))
+    let many : length (map message_of rs) ≡ length rs = length-map rs message_of in (
+      λ both.
+          let low : suc i ≤ end = both.1 in
+          (i, omega (arith, length-take end (map message_of rs)), get_or-take end (map message_of rs) i m (omega arith) ∙ name_in rs i m l ∙ here.1),
+      λ k.
+          let j : ℕ = k.0 in
+          let low : j < length (take end (map message_of rs)) = k.1 in
+          let few : j < length rs = omega (arith, length-take end (map message_of rs)) in
+          let early : j < end = omega (arith, length-take end (map message_of rs)) in
+          let named : name_at rs j ≡ m = sym (name_in rs j m few) ∙ sym (get_or-take end (map message_of rs) j m early) ∙ k.2 in (
+            λ none. absurd (omega arith),
+            elim (cases_lt j i) [
+              | inl g ↦ absurd (here.2 j g named)
+              | inr g ↦ omega arith
+            ],
+          ),
+    )
 
 -- the index of no receipts
 pub noted_none : (rs : List Receipt) (last : List ℕ) → rs ≡ [] → last ≡ replicate MOST_PROCESSES 0 → AreNoted rs last 0

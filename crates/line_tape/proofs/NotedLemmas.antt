@@ -4,15 +4,15 @@ use Rattle.std.specs.Prelude.{if◌then◌else◌}
 use Rattle.std.proofs.Math.ListN.{get_or-map}
 use Rattle.std.proofs.Math.Seq.{get_or-append_seam, map-set_same}
 use Rattle.std.proofs.lemmas.Grind.{get_or-set_at}
-use Rattle.std.proofs.lemmas.Bool.{cases_lt, cases_eq}
+use Rattle.std.proofs.lemmas.Bool.{cases_eq}
 use Rattle.std.proofs.lemmas.List.{get_or-set_same, get_or-set_other, get_or_append_left, get_or-take, get_or_default, length_push, length-take-le}
 use Rattle.line_names.specs.declared.limits.TheConstants.{MOST_PROCESSES}
 use Rattle.line_names.specs.declared.messages.MsgName.{MsgName}
 use Rattle.line_tape.specs.declared.limits.TheConstants.{MOST_EVENTS}
 use Rattle.line_tape.specs.declared.receipts.chains.Receipt.{Receipt}
-use Rattle.line_tape.specs.Noted.{AreAlike, AreChained, AreInTree, AreLast, AreNoted, IsAhead, IsAside, IsBack, IsLast, IsLed, IsNode, IsPut, IsSeatOf, key_of, message_of, name_at, receipt_at, seated}
-use Rattle.line_tape.proofs.AheadLemmas.{alike_back, ahead_alike, chained_less, chained_more, ends_put, from_of, last_alike, last_here, last_is_here, last_longer, last_shorter, number_of}
-use Rattle.line_tape.proofs.SeatLemmas.{node_alike, node_le, none_node, same_seat, seated-append, seated-take, tree_less, tree_more, tree_same}
+use Rattle.line_tape.specs.Noted.{AreAlike, AreInTree, AreLast, AreNoted, IsAhead, IsAside, IsBack, IsLast, IsLed, IsNode, IsPut, IsSeatOf, key_of, message_of, name_at, receipt_at, seated}
+use Rattle.line_tape.proofs.AheadLemmas.{chained_less, chained_more, ends_put, from_of, last_alike, last_here, last_is_here, last_longer, last_shorter, number_of}
+use Rattle.line_tape.proofs.SeatLemmas.{node_alike, node_le, same_seat, seated-append, seated-take, tree_less, tree_more, tree_same}
 
 abbrev near_of : Receipt → ℕ
 near_of r = r.near
@@ -35,6 +35,7 @@ put_below rs root k link far r low name here other = record {
     same true false j o e = inl (ap near_of (get_or-set_at rs k j r _ e low) ∙ o ∙ ap (λ x. (receipt_at rs x).near) (sym e))
     same false true j o e = inl (ap far_of (get_or-set_at rs k j r _ e low) ∙ o ∙ ap (λ x. (receipt_at rs x).far) (sym e))
     same false false j o e = inr (ap (λ x. suc x) e, λ _. refl)
+
     go : (far side : Bool) (seat : ℕ) → (if far then r.far else r.near) ≡ link → (if far then r.near else r.far) ≡ (if far then (receipt_at rs k).near else (receipt_at rs k).far)
         → (seated (set rs k r) root seat side ≡ seated rs root seat side) ⊎ ((seat ≡ suc k) × (seat ≢ 0 → side ≡ far))
     go far side zero i o = inl refl
@@ -198,13 +199,13 @@ noted_aside rs os last root other above far r noted few long sender near back be
     } in
     noted_behind rs os last root other r noted few long alike name sender (λ i l a. links_put rs more os root other above (n + 1) n i far refl seat.node put (λ link side low. seated-append rs (r ∷ []) root link side low) l a) below
     (tree_more rs os root other n above far seat.led.0 refl long alike noted.tree
-        (λ link side few. elim (put.elsewhere link side) [ inl e ↦ inl (e ∙ seated-append rs (r ∷ []) root link side few) | inr e ↦ inr e ])
-        there was
-        (λ side. elim (put.elsewhere (suc n) side) [
-          | inl e ↦ e ∙ ap (λ (x : Receipt). if side then x.far else x.near) (more_here rs r) ∙ leaf_of r side near back
-          | inr (e, f) ↦ absurd (omega arith)
-        ])
-        aside seat.node (subst (λ (m : MsgName). IsLed rs root (key_of m) above far seat.led.0) (sym name) seat.led.1))
+    (λ link side few. elim (put.elsewhere link side) [ inl e ↦ inl (e ∙ seated-append rs (r ∷ []) root link side few) | inr e ↦ inr e ])
+    there was
+    (λ side. elim (put.elsewhere (suc n) side) [
+      | inl e ↦ e ∙ ap (λ (x : Receipt). if side then x.far else x.near) (more_here rs r) ∙ leaf_of r side near back
+      | inr (e, f) ↦ absurd (omega arith)
+    ])
+    aside seat.node (subst (λ (m : MsgName). IsLed rs root (key_of m) above far seat.led.0) (sym name) seat.led.1))
 
 -- the receipts without the last
 take_alike : (os : List Receipt) (n : ℕ) → AreAlike os (take n os) n
@@ -234,8 +235,8 @@ noted_less_ahead os last root n noted long slot at =
       chained = chained_less rs os n short long h noted.chained (λ i l a. take_links os n i l);
       ends = ends_put rs last n s (receipt_at os n).near short slot (last_alike os rs n n _ _ _ _ h (omega arith) refl refl (noted.chained.near n (omega arith) here.1))
           (λ q l ne.
-              let old : IsLast os (suc n) q (get_or last q 0) = subst (λ m. IsLast os m q (get_or last q 0)) long (noted.ends.each q l) in
-              last_shorter rs os n q (get_or last q 0) h (λ e. ne (sym (old.back.each n e).2)) old);
+          let old : IsLast os (suc n) q (get_or last q 0) = subst (λ m. IsLast os m q (get_or last q 0)) long (noted.ends.each q l) in
+          last_shorter rs os n q (get_or last q 0) h (λ e. ne (sym (old.back.each n e).2)) old);
       tree = tree_less rs os root root n short long h noted.tree (λ link side low node. inl (seated-take os n root link side low, no_link os root n link side noted.tree (λ a. a.behind here.1) node));
     }
 
@@ -282,21 +283,21 @@ noted_less_aside os mid last root other n above far noted long whole ne seat at 
     let short : length rs ≡ n = length-take-le n mid (omega arith) in
     less_behind rs os last root other n noted short long h
     (λ i l a.
-        let e : ((receipt_at os i).near ≡ (receipt_at mid i).near) × ((receipt_at os i).far ≡ (receipt_at mid i).far) = links_put os os mid root other above 0 (suc n) i far long seat.node put (λ link side low. refl) (omega arith) a in
-        let f : ((receipt_at mid i).near ≡ (receipt_at rs i).near) × ((receipt_at mid i).far ≡ (receipt_at rs i).far) = take_links mid n i l in
-        (e.0 ∙ f.0, e.1 ∙ f.1))
+    let e : ((receipt_at os i).near ≡ (receipt_at mid i).near) × ((receipt_at os i).far ≡ (receipt_at mid i).far) = links_put os os mid root other above 0 (suc n) i far long seat.node put (λ link side low. refl) (omega arith) a in
+    let f : ((receipt_at mid i).near ≡ (receipt_at rs i).near) × ((receipt_at mid i).far ≡ (receipt_at rs i).far) = take_links mid n i l in
+    (e.0 ∙ f.0, e.1 ∙ f.1))
     (is_behind os last root n noted long ne)
     (tree_less rs os root other n short long h noted.tree (λ link side low node.
-        let cut : seated rs other link side ≡ seated mid other link side = seated-take mid n other link side low in
-        let gone : (link ≡ above) × (link ≢ 0 → side ≡ far) → ((seated rs other link side ≡ 0) × (seated os root link side ≡ suc n)) = λ same.
-            (cut ∙ same_seat mid other link above side far same.0 same.1 ∙ put.there, same_seat os root link above side far same.0 same.1 ∙ at) in
-        elim (put.elsewhere link side) [
-          | inl e ↦ elim (cases_eq (seated os root link side) (suc n)) [
-            | inl is ↦ inr (gone (noted.tree.apart link above side far node seat.node (λ none. absurd (omega (arith, is, none))) (is ∙ sym at)))
-            | inr other ↦ inl (cut ∙ e, other)
-          ]
-          | inr same ↦ inr (gone same)
-        ]))
+    let cut : seated rs other link side ≡ seated mid other link side = seated-take mid n other link side low in
+    let gone : (link ≡ above) × (link ≢ 0 → side ≡ far) → ((seated rs other link side ≡ 0) × (seated os root link side ≡ suc n)) = λ same.
+    (cut ∙ same_seat mid other link above side far same.0 same.1 ∙ put.there, same_seat os root link above side far same.0 same.1 ∙ at) in
+    elim (put.elsewhere link side) [
+      | inl e ↦ elim (cases_eq (seated os root link side) (suc n)) [
+        | inl is ↦ inr (gone (noted.tree.apart link above side far node seat.node (λ none. absurd (omega (arith, is, none))) (is ∙ sym at)))
+        | inr other ↦ inl (cut ∙ e, other)
+      ]
+      | inr same ↦ inr (gone same)
+    ]))
 
 -- the lists as they stand in a call: a slice of the receipts, and the receipts with one more
 module _ (rs items : List Receipt) (last : List ℕ) (root : ℕ) (seen : rs ≡ items) (before : AreNoted items last root) (few : length items < MOST_EVENTS) where

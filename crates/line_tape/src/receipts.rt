@@ -66,7 +66,12 @@ fn first_of(receipts: &[Receipt], last: u32, root: u32, seat: Seat, wanted: &Rec
 }
 
 /// Takes in a further receipt, in room that was made for it.
-fn add(receipts: &mut Vec<Receipt>, last: &mut [u32; MOST_PROCESSES], root: &mut u32, receipt: Receipt)
+fn add(
+    receipts: &mut Vec<Receipt>,
+    last: &mut [u32; MOST_PROCESSES],
+    root: &mut u32,
+    receipt: Receipt,
+)
     requires noted { AreNoted receipts.old.items last.old root.old }
     requires sender { receipt.from < MOST_PROCESSES }
     requires links { (receipt.near ≡ 0) × (receipt.far ≡ 0) }

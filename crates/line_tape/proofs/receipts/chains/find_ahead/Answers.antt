@@ -1,5 +1,5 @@
 -- Back along the chain, past greater numbers alone.
-use Rattle.std.proofs.Common.{◌≡◌, ◌≢◌, ◌<◌, ◌≤◌, ◌-◌, ◌+◌, ℕ, suc, List, length, arith, ap, sym, ◌∙◌}
+use Rattle.std.proofs.Common.{◌≡◌, ◌≢◌, ◌<◌, ◌≤◌, ◌-◌, ℕ, suc, List, length, arith, ap, sym, ◌∙◌}
 use Rattle.line_tape.specs.declared.receipts.chains.Receipt.{Receipt}
 use Rattle.line_tape.specs.Noted.{IsAhead, name_at}
 use Rattle.line_tape.proofs.AheadLemmas.{back_le, back_wide, from_of, number_of}
@@ -22,11 +22,13 @@ loop-link-preserved c =
     let some : c.loop-link.link ≡ suc k = omega arith in
     let here : (k < length rs) × IsAhead rs k × (from_of (name_at rs k) ≡ c.args.wanted.now.from) = c.loop-link.invariant.0.each k some in
     let low : k < length rs = here.0 in
-    let greater : c.args.wanted.now.number < number_of (name_at rs k) = omega arith in
-    (back_wide rs k (length rs) (from_of (name_at rs k)) c.args.wanted.now.from c.back_from-link.result (omega arith) here.2 c.back_from-link.ensures.back, λ i l a from number.
-    let early : i < c.loop-link.link = c.loop-link.invariant.1 i l a from number in
-    let ne : i ≢ k = λ is.
-        let e : number_of (name_at rs i) ≡ number_of (name_at rs k) = ap (λ x. number_of (name_at rs x)) is in
-        let f : number_of (name_at rs i) ≡ c.args.wanted.now.number = number in
-        omega arith in
-    c.back_from-link.ensures.passed greater i (omega arith) a (from ∙ sym here.2) number)
+    let greater : c.args.wanted.now.number < number_of (name_at rs k) = omega arith in (
+      back_wide rs k (length rs) (from_of (name_at rs k)) c.args.wanted.now.from c.back_from-link.result (omega arith) here.2 c.back_from-link.ensures.back,
+      λ i l a from number.
+          let early : i < c.loop-link.link = c.loop-link.invariant.1 i l a from number in
+          let ne : i ≢ k = λ is.
+          let e : number_of (name_at rs i) ≡ number_of (name_at rs k) = ap (λ x. number_of (name_at rs x)) is in
+          let f : number_of (name_at rs i) ≡ c.args.wanted.now.number = number in
+          omega arith in
+          c.back_from-link.ensures.passed greater i (omega arith) a (from ∙ sym here.2) number,
+    )

@@ -1,5 +1,5 @@
 -- Down the tree by the bits of the key.
-use Rattle.std.proofs.Common.{◌≡◌, ◌≢◌, ◌≤◌, ◌<◌, ◌-◌, ◌+◌, ◌/◌, ℕ, suc, false, true, List, length, refl, sym, ap, ◌∙◌, subst, arith}
+use Rattle.std.proofs.Common.{◌≡◌, ◌≢◌, ◌≤◌, ◌-◌, ◌/◌, ℕ, suc, List, length, refl, sym, ap, ◌∙◌, subst, arith}
 use Rattle.std.proofs.lemmas.Bool.{false≢true}
 use Rattle.line_names.specs.declared.messages.MsgName.{MsgName}
 use Rattle.line_names.proofs.NameLemmas.{is_name-true, is_name-same}
@@ -31,11 +31,18 @@ loop-link-preserved c =
     let some : link ≢ 0 = c.loop-link-test.true in
     let node : IsNode rs link = subst (IsNode rs) c.loop-link.invariant.1 (c.requires.tree.nodes c.loop-link.seat.above c.loop-link.seat.far c.loop-link.invariant.0) in
     let other : (i : ℕ) → link ≡ suc i → name_at rs i ≢ m = λ i e same.
-        let is : i ≡ link - 1 = omega arith in
-        false≢true (sym c.if-is_of.false ∙ c.is_of.ensures ∙ is_name-same (name_at rs (link - 1)) m (subst (λ k. name_at rs k ≡ m) is same)) in
-    (node, sym c.link_at-link.ensures, (suc d,
-      ap (λ k. next_down rs root k (is_far (rest_of_key (key_of m) d))) here ∙ next_some rs root link (is_far (rest_of_key (key_of m) d)) some ∙ ap (λ k. seated rs root link (is_far k)) rest ∙ sym c.link_at-link.ensures,
-      ap (λ k. k / 2) rest, (here, some, ap is_far (sym rest)), walk_goes_on rs root d link m here other c.loop-link.invariant.2.4))
+    let is : i ≡ link - 1 = omega arith in
+    false≢true (sym c.if-is_of.false ∙ c.is_of.ensures ∙ is_name-same (name_at rs (link - 1)) m (subst (λ k. name_at rs k ≡ m) is same)) in (
+      node,
+      sym c.link_at-link.ensures,
+      (
+        suc d,
+        ap (λ k. next_down rs root k (is_far (rest_of_key (key_of m) d))) here ∙ next_some rs root link (is_far (rest_of_key (key_of m) d)) some ∙ ap (λ k. seated rs root link (is_far k)) rest ∙ sym c.link_at-link.ensures,
+        ap (λ k. k / 2) rest,
+        (here, some, ap is_far (sym rest)),
+        walk_goes_on rs root d link m here other c.loop-link.invariant.2.4,
+      ),
+    )
 
 pub returns-then-is_of : goal.returns-then-is_of
 returns-then-is_of c =
