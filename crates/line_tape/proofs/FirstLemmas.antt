@@ -1,5 +1,5 @@
 -- The first receipt of a message, and whether it is among the first ones of a tape.
-use Rattle.std.proofs.Common.{◌≡◌, ◌≢◌, ◌↔◌, ℕ, zero, suc, ◌<◌, ◌≤◌, ◌⊎◌, [], ◌∷◌, Bool, true, false, List, length, take, get_or, map, replicate, refl, sym, ap, ◌∙◌, subst, arith, inl, inr}
+use Rattle.std.proofs.Common.{◌≡◌, ◌≢◌, ◌↔◌, ℕ, zero, suc, ◌<◌, ◌≤◌, ◌⊎◌, [], Bool, true, false, List, length, take, get_or, map, replicate, refl, sym, ap, ◌∙◌, subst, arith, inl, inr}
 use Rattle.std.specs.List.{Contains}
 use Rattle.std.proofs.Math.ListN.{get_or-map}
 use Rattle.std.proofs.lemmas.Bool.{cases_lt, false≢true}
@@ -9,7 +9,7 @@ use Rattle.line_names.specs.declared.messages.MsgName.{MsgName}
 use Rattle.line_names.specs.Names.{is_name}
 use Rattle.line_names.proofs.NameLemmas.{is_name-true, is_name-same}
 use Rattle.line_tape.specs.declared.receipts.chains.Receipt.{Receipt}
-use Rattle.line_tape.specs.Noted.{AreInTree, AreNoted, IsAhead, IsAside, IsLast, IsNode, IsSeatOf, message_of, name_at, receipt_at, seated}
+use Rattle.line_tape.specs.Noted.{AreNoted, IsAhead, IsAside, IsNode, IsSeatOf, message_of, name_at, seated}
 use Rattle.line_tape.proofs.AheadLemmas.{from_of, number_of}
 use Rattle.line_tape.proofs.SeatLemmas.{none_node}
 

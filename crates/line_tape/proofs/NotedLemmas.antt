@@ -4,15 +4,15 @@ use Rattle.std.specs.Prelude.{if◌then◌else◌}
 use Rattle.std.proofs.Math.ListN.{get_or-map}
 use Rattle.std.proofs.Math.Seq.{get_or-append_seam, map-set_same}
 use Rattle.std.proofs.lemmas.Grind.{get_or-set_at}
-use Rattle.std.proofs.lemmas.Bool.{cases_lt, cases_eq}
+use Rattle.std.proofs.lemmas.Bool.{cases_eq}
 use Rattle.std.proofs.lemmas.List.{get_or-set_same, get_or-set_other, get_or_append_left, get_or-take, get_or_default, length_push, length-take-le}
 use Rattle.line_names.specs.declared.limits.TheConstants.{MOST_PROCESSES}
 use Rattle.line_names.specs.declared.messages.MsgName.{MsgName}
 use Rattle.line_tape.specs.declared.limits.TheConstants.{MOST_EVENTS}
 use Rattle.line_tape.specs.declared.receipts.chains.Receipt.{Receipt}
-use Rattle.line_tape.specs.Noted.{AreAlike, AreChained, AreInTree, AreLast, AreNoted, IsAhead, IsAside, IsBack, IsLast, IsLed, IsNode, IsPut, IsSeatOf, key_of, message_of, name_at, receipt_at, seated}
-use Rattle.line_tape.proofs.AheadLemmas.{alike_back, ahead_alike, chained_less, chained_more, ends_put, from_of, last_alike, last_here, last_is_here, last_longer, last_shorter, number_of}
-use Rattle.line_tape.proofs.SeatLemmas.{node_alike, node_le, none_node, same_seat, seated-append, seated-take, tree_less, tree_more, tree_same}
+use Rattle.line_tape.specs.Noted.{AreAlike, AreInTree, AreLast, AreNoted, IsAhead, IsAside, IsBack, IsLast, IsLed, IsNode, IsPut, IsSeatOf, key_of, message_of, name_at, receipt_at, seated}
+use Rattle.line_tape.proofs.AheadLemmas.{chained_less, chained_more, ends_put, from_of, last_alike, last_here, last_is_here, last_longer, last_shorter, number_of}
+use Rattle.line_tape.proofs.SeatLemmas.{node_alike, node_le, same_seat, seated-append, seated-take, tree_less, tree_more, tree_same}
 
 abbrev near_of : Receipt → ℕ
 near_of r = r.near

@@ -1,11 +1,11 @@
 -- The tree of receipts as they come and go, and walks in it.
-use Rattle.std.proofs.Common.{◌≡◌, ◌≢◌, ℕ, zero, suc, ◌+◌, ◌-◌, ◌<◌, ◌≤◌, ◌⊎◌, ◌++◌, ◌∷◌, [], Bool, true, false, List, length, take, get_or, refl, sym, ap, ◌∙◌, subst, arith, inl, inr}
+use Rattle.std.proofs.Common.{◌≡◌, ◌≢◌, ℕ, zero, suc, ◌+◌, ◌-◌, ◌<◌, ◌≤◌, ◌⊎◌, ◌++◌, Bool, false, List, length, take, refl, sym, ap, ◌∙◌, subst, arith, inl, inr}
 use Rattle.std.specs.Prelude.{if◌then◌else◌}
 use Rattle.std.proofs.lemmas.Bool.{cases_lt, cases_eq}
 use Rattle.std.proofs.lemmas.List.{get_or_append_left, get_or-take}
 use Rattle.line_names.specs.declared.messages.MsgName.{MsgName}
 use Rattle.line_tape.specs.declared.receipts.chains.Receipt.{Receipt}
-use Rattle.line_tape.specs.Noted.{AreAlike, AreInTree, IsAside, IsLed, IsNode, IsSeatOf, is_far, key_of, name_at, next_down, receipt_at, rest_of_key, seated, walked}
+use Rattle.line_tape.specs.Noted.{AreAlike, AreInTree, IsAside, IsLed, IsNode, IsSeatOf, is_far, key_of, name_at, next_down, rest_of_key, seated, walked}
 use Rattle.line_tape.proofs.AheadLemmas.{alike_back, aside_alike}
 
 pub none_node : (rs : List Receipt) → IsNode rs 0

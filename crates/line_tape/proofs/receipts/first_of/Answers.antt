@@ -1,5 +1,5 @@
 -- In the tree, or ahead, or nowhere.
-use Rattle.std.proofs.Common.{◌≡◌, ◌<◌, ℕ, suc, List, length, sym, ◌∙◌, arith}
+use Rattle.std.proofs.Common.{◌≡◌, ◌<◌, List, length, sym, ◌∙◌, arith}
 use Rattle.line_tape.specs.declared.receipts.chains.Receipt.{Receipt}
 use Rattle.line_tape.specs.Noted.{IsAhead, IsAside, message_of, name_at}
 use Rattle.line_tape.proofs.FirstLemmas.{ahead_first, aside_first, none_received}

@@ -1,4 +1,4 @@
-use Rattle.std.proofs.Common.{◌≡◌, ◌≤◌, ◌-◌, map, take, vec_len, vec_capacity}
+use Rattle.std.proofs.Common.{◌≡◌, ◌≤◌, map, take, vec_len, vec_capacity}
 use Rattle.line_tape.specs.Noted.{AreNoted, message_of}
 use Rattle.line_tape.proofs.receipts.Receipts.cut.Given as goal
 

@@ -1,5 +1,5 @@
 -- Back along the chain, past greater numbers alone.
-use Rattle.std.proofs.Common.{◌≡◌, ◌≢◌, ◌<◌, ◌≤◌, ◌-◌, ◌+◌, ℕ, suc, List, length, arith, ap, sym, ◌∙◌}
+use Rattle.std.proofs.Common.{◌≡◌, ◌≢◌, ◌<◌, ◌≤◌, ◌-◌, ℕ, suc, List, length, arith, ap, sym, ◌∙◌}
 use Rattle.line_tape.specs.declared.receipts.chains.Receipt.{Receipt}
 use Rattle.line_tape.specs.Noted.{IsAhead, name_at}
 use Rattle.line_tape.proofs.AheadLemmas.{back_le, back_wide, from_of, number_of}

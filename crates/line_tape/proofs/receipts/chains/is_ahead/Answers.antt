@@ -1,5 +1,5 @@
 -- The last one is a receipt.
-use Rattle.std.proofs.Common.{◌≡◌, ◌-◌, ℕ, suc, arith}
+use Rattle.std.proofs.Common.{◌≡◌, ◌-◌, suc, arith}
 use Rattle.line_tape.proofs.receipts.chains.is_ahead.Goals as goal
 
 pub bounds-receipts-last : goal.bounds-receipts-last

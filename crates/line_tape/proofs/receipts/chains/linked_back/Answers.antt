@@ -1,5 +1,5 @@
 -- The links back of the last one, and of the one further back.
-use Rattle.std.proofs.Common.{◌≡◌, ◌<◌, ◌≤◌, ◌-◌, ℕ, suc, List, length, arith, ◌∙◌}
+use Rattle.std.proofs.Common.{◌≡◌, ◌<◌, ◌-◌, ℕ, suc, List, length, arith, ◌∙◌}
 use Rattle.line_tape.specs.declared.receipts.chains.Receipt.{Receipt}
 use Rattle.line_tape.specs.Noted.{IsAhead, name_at, receipt_at}
 use Rattle.line_tape.proofs.AheadLemmas.{back_wide, from_of}

@@ -1,5 +1,5 @@
 -- What stands above a seat is a receipt.
-use Rattle.std.proofs.Common.{◌≡◌, ◌-◌, ℕ, suc, arith}
+use Rattle.std.proofs.Common.{◌≡◌, ◌-◌, suc, arith}
 use Rattle.line_tape.proofs.receipts.trees.link_at.Goals as goal
 
 pub bounds-receipts-seat : goal.bounds-receipts-seat

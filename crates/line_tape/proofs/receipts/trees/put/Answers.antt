@@ -1,6 +1,6 @@
 -- One of two links of a receipt, or the root, is written.
-use Rattle.std.proofs.Common.{◌≡◌, ◌<◌, ◌≤◌, ◌-◌, ℕ, suc, true, false, length, refl, arith}
-use Rattle.line_tape.proofs.NotedLemmas.{put_root, put_seat}
+use Rattle.std.proofs.Common.{◌≤◌, true, false, length, refl, arith}
+use Rattle.line_tape.proofs.NotedLemmas.{put_seat}
 use Rattle.line_tape.proofs.SeatLemmas.{node_le}
 use Rattle.line_tape.proofs.receipts.trees.put.Goals as goal
 
