@@ -13,13 +13,12 @@ mod words;
 
 use crate::drills::drill_text;
 use crate::standard::{ReadSource, WriteSink};
-use crate::statuses::{status_of_drill, status_of_fault};
+use crate::statuses::{fault_of_reading, status_of_drill, status_of_fault};
 use crate::words::{Job, LineFault, command_of};
 use line_devices::{Sink, put_all};
 use line_names::MOST_PROCESSES;
 use line_text::{check_text, run_text};
 use std::alloc::{AllocError, Global};
-use std::io::ErrorKind;
 use std::process::ExitCode;
 use std::sync::Wait;
 use std::thread::Threads;
@@ -144,12 +143,7 @@ fn done(
 fn main(rt: HostRuntime) -> ExitCode {
     let status = match given_words(&rt, rt.alloc()) {
         Ok(given) => done(&rt, rt.alloc(), &given),
-        Err(error) if error.kind() == ErrorKind::OutOfMemory => answer(
-            &rt,
-            &LineFault::OutOfMemory,
-        ),
-        // A word that is no text.
-        Err(_) => answer(&rt, &LineFault::Bad),
+        Err(error) => answer(&rt, &fault_of_reading(&error)),
     };
     ExitCode::from(status)
 }

@@ -7,7 +7,6 @@ use std::test::Fail;
 mod build;
 mod catalogues;
 mod claims;
-mod growths;
 mod markers;
 mod runs;
 mod texts;

@@ -35,7 +35,7 @@ pub fn failed(processes: &[u32]) -> Result<ProcSet, Fail> {
 }
 
 /// The process that did this, and the event.
-pub fn event_of(alloc: Global, did: Did) -> Result<(ProcId, Event), Fail> {
+fn event_of(alloc: Global, did: Did) -> Result<(ProcId, Event), Fail> {
     match did {
         Did::Sends(from, to) => {
             let to = process(to)?;
