@@ -126,9 +126,8 @@ def labels_of(frame: Frame, marks: Marks, with_bodies: bool) -> list[Label]:
 
 
 def crossed(frame: Frame, marks: Marks) -> list[Segment]:
-    """What labels keep off where they can: all lines but those of markers."""
+    """What labels keep off where they can: all lines but the thin dotted ones."""
     across = [points for _, points in [*marks.recoveries, *marks.rounds]]
-    across += [lines.moment_ends(frame, recovery) for recovery in frame.view.recoveries]
     return [
         *(((frame.start, y), (frame.end, y)) for y in frame.rows.values()),
         *(way.segment for way in marks.ways if way.kind != "marker"),
