@@ -4,7 +4,7 @@ from collections.abc import Iterator
 from dataclasses import dataclass
 
 from . import arrows, glyphs, lines, sentences, words
-from .frames import MARGIN, NAME, Frame, frame_of
+from .frames import MARGIN, NAME, TICK, Frame, frame_of
 from .labels import Box, Label, Placed, Point, Segment, placed, wrapped
 from .legends import legend
 from .stories import Event, ListedRound, Message, Recovery
@@ -12,7 +12,7 @@ from .svg import Element, style, text
 from .views import View
 
 LEAST_WIDTH, READ_WIDTH = 560.0, 860.0
-TITLE, TEXT, NOTE, TICK = 17.0, 13.0, 12.0, 11.0
+TITLE, TEXT, NOTE = 17.0, 13.0, 12.0
 AGAIN = 900.0  # so far apart the names of processes are written again
 FONT = "'DejaVu Sans', Verdana, Arial, sans-serif"
 
