@@ -4,7 +4,7 @@ from collections.abc import Iterator
 from dataclasses import dataclass
 
 from . import arrows, glyphs, lines, sentences, words
-from .frames import MARGIN, NAME, Frame, frame_of
+from .frames import MARGIN, NAME, TICK, Frame, frame_of
 from .labels import Box, Label, Placed, Point, Segment, placed, wrapped
 from .legends import legend
 from .stories import Event, ListedRound, Message, Recovery
@@ -12,7 +12,7 @@ from .svg import Element, style, text
 from .views import View
 
 LEAST_WIDTH, READ_WIDTH = 560.0, 860.0
-TITLE, TEXT, NOTE, TICK = 17.0, 13.0, 12.0, 11.0
+TITLE, TEXT, NOTE = 17.0, 13.0, 12.0
 AGAIN = 900.0  # so far apart the names of processes are written again
 FONT = "'DejaVu Sans', Verdana, Arial, sans-serif"
 
@@ -126,9 +126,8 @@ def labels_of(frame: Frame, marks: Marks, with_bodies: bool) -> list[Label]:
 
 
 def crossed(frame: Frame, marks: Marks) -> list[Segment]:
-    """What labels keep off where they can: all lines but those of markers."""
+    """What labels keep off where they can: all lines but the thin dotted ones."""
     across = [points for _, points in [*marks.recoveries, *marks.rounds]]
-    across += [lines.moment_ends(frame, recovery) for recovery in frame.view.recoveries]
     return [
         *(((frame.start, y), (frame.end, y)) for y in frame.rows.values()),
         *(way.segment for way in marks.ways if way.kind != "marker"),

@@ -12,6 +12,7 @@ COLUMN, GAP, MARGIN = 40.0, 22.0, 16.0
 HALF = 9.0  # of the side of a check's square
 INDEX = 12.0  # the size of the index in it
 NAME = 13.0
+TICK = 11.0  # of the numbers of records
 ABOVE, BELOW = 80.0, 40.0  # room above the first row for headings, and below the last
 
 
@@ -86,7 +87,8 @@ def has_restarts(recovery: Recovery, processes: tuple[int, ...]) -> bool:
 def frame_of(view: View, top: float) -> Frame:
     """Lays a view out, from that height down."""
     checks = [it for it in view.shown if isinstance(it, Check)]
-    apart = max([COLUMN, *(2 * half_width(check) + 8 for check in checks)])
+    record = max((width_of(str(it.record), TICK) for it in view.shown), default=0) + 6
+    apart = max([COLUMN, record, *(2 * half_width(check) + 8 for check in checks)])
     names = max(width_of(f"process {process}", NAME) for process in view.processes)
     x = start = MARGIN + names + 14
     before = earlier_checks(view)

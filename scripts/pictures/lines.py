@@ -56,19 +56,14 @@ def recovery_line(recovery: Recovery, points: list[Point]) -> Element:
     return polyline("line", points, f"Recovery line {recovery.number}: {', '.join(stands)}")
 
 
-def moment_ends(frame: Frame, recovery: Recovery) -> list[Point]:
-    """The ends of the thin line where a recovery happens."""
-    x = frame.columns[recovery.place]
-    return [(x, first_row(frame) - 30), (x, last_row(frame) + 24)]
-
-
 def moment(frame: Frame, recovery: Recovery) -> Iterator[Element]:
     """When a recovery happens: a thin line down, and a cross at each process that failed."""
     x = frame.columns[recovery.place]
     failed = sentences.failed(recovery)
     title = f"Recovery {recovery.number}, record {recovery.record}: {failed}"
     told = Element("title", {}, (title,))
-    yield Element("g", {}, (told, line("moment", *moment_ends(frame, recovery))))
+    ends = (x, first_row(frame) - 30), (x, last_row(frame) + 24)
+    yield Element("g", {}, (told, line("moment", *ends)))
     for process in recovery.failed:
         if process in frame.rows:
             y = frame.rows[process]

@@ -155,7 +155,8 @@ class Teller:
         elif answer == "marked":
             self.tell_marker(command, int(values[0]), values[1] == "forced")
         elif answer in ("checked", "begun", "turned"):
-            self.add_check(command, int(values[0]), values[2:3], command.fields[1])
+            number = int(values[2]) if values[2:] else None
+            self.add_check(command, int(values[0]), int(values[1]), number, command.fields[1])
         elif answer == "damaged":
             self.tell_damage(command, int(values[0]), int(values[1]))
         elif answer == "recovered":
@@ -175,19 +176,23 @@ class Teller:
         self,
         command: Command,
         process: int,
-        of_round: list[str],
+        index: int,
+        number: int | None,
         state: str,
         is_forced: bool = False,
     ) -> None:
-        """A check: its index is one more than that of the tape's last."""
-        number = int(of_round[0]) if of_round else None
-        index = len(self.checks[process])
+        """A check, of the round of that number if it is of one."""
         at = self.at(command, process)
         check = Check(*at, index=index, round=number, is_forced=is_forced, state=state.lower())
         self.add(check)
-        self.checks[process].append(check)
+        self.checks[process][index:] = [check]
         if number is not None:
             self.of_round[process, number] = check
+
+    def force_check(self, command: Command, process: int, number: int) -> None:
+        """A check taken before an item of a round. No reply has its index: it is the next."""
+        index = len(self.checks[process])
+        self.add_check(command, process, index, number, command.fields[3], is_forced=True)
 
     def tell_send(self, command: Command, name: Name) -> None:
         to, body = int(command.fields[1]), command.fields[2].lower()
@@ -198,7 +203,7 @@ class Teller:
     def tell_receipt(self, command: Command, name: Name, of_round: str) -> None:
         process, message = int(command.fields[1]), self.messages[name]
         if of_round != "-":
-            self.add_check(command, process, [of_round], command.fields[3], is_forced=True)
+            self.force_check(command, process, int(of_round))
         source: Message | Recovery = message
         if self.story.recoveries and self.story.recoveries[-1].place > source.place:
             source = self.story.recoveries[-1]
@@ -209,7 +214,7 @@ class Teller:
     def tell_marker(self, command: Command, number: int, is_forced: bool) -> None:
         sender, process = int(command.fields[0]), int(command.fields[1])
         if is_forced:
-            self.add_check(command, process, [str(number)], command.fields[3], is_forced=True)
+            self.force_check(command, process, number)
         self.add(MarkerReceipt(*self.at(command, process), source=self.of_round[sender, number]))
 
     def tell_damage(self, command: Command, process: int, index: int) -> None:

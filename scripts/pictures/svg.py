@@ -22,9 +22,9 @@ class Ink(NamedTuple):
     style: str = ""
 
 
-# Any two of these are far apart for those who see all colours and for each kind of colour blindness,
-# and text in them is easy to read on its ground. No kind is told by its colour alone: each has a
-# form of its own.
+# Any two of these are far apart for those who see all colours and for each kind of colour
+# blindness, and text in them is easy to read on its ground. No kind is told by its colour alone:
+# each has a form of its own.
 INK, PALE, PAPER = ("#1f2328", "#e6edf3"), ("#656d76", "#8d96a0"), ("#ffffff", "#0d1117")
 GREY = ("#a0a8b1", "#5d6671")  # of lines, which need less contrast than text
 LINE, ORPHAN = ("#0024d6", "#0a95ff"), ("#c04a00", "#ff9a4d")
