@@ -11,13 +11,18 @@ import re
 import shutil
 import subprocess
 import tempfile
+from collections.abc import Iterable, Sequence
 
 ROOT = pathlib.Path(__file__).resolve().parent.parent
 # What a check takes at most, so that only as many run at once as there is memory for.
 BYTES_A_CHECK = 3_000_000_000
+# A path, or the text of one.
+Path = str | os.PathLike[str]
+# Of each crate those that it stands on.
+Below = dict[str, list[str]]
 
 
-def stands_on():
+def stands_on() -> Below:
     """Of each crate of the repository the crates of the repository that it stands on."""
     found = {}
     for line in (ROOT / "crates.txt").read_text().splitlines():
@@ -27,11 +32,11 @@ def stands_on():
     return {name: [it for it in below if it in found] for name, below in found.items()}
 
 
-def needed(tops, below):
+def needed(tops: Iterable[str], below: Below) -> list[str]:
     """The crates `tops` and all that they stand on, each after those that it stands on."""
-    order = []
+    order: list[str] = []
 
-    def visit(name):
+    def visit(name: str) -> None:
         for it in below[name]:
             visit(it)
         if name not in order:
@@ -42,29 +47,29 @@ def needed(tops, below):
     return order
 
 
-def weight(name):
+def weight(name: str) -> int:
     """A measure of what proving a crate takes: its lines of code, definitions and proofs."""
     folder = ROOT / "crates" / name
     files = [it for part in ("src", "specs", "proofs") for it in (folder / part).rglob("*") if it.is_file()]
     return sum(it.read_bytes().count(b"\n") for it in files)
 
 
-def chains(order, below):
+def chains(order: Sequence[str], below: Below) -> dict[str, int]:
     """Of each crate the weight of the heaviest chain of crates that begins with it and waits for it."""
-    found = {}
+    found: dict[str, int] = {}
     for name in reversed(order):
         found[name] = weight(name) + max((found[it] for it in order if name in below[it]), default=0)
     return found
 
 
-def lanes():
+def lanes() -> int:
     """How many checks may run at once: one for each processor, and as many as there is memory for."""
     free = re.search(r"MemAvailable:\s+(\d+)", pathlib.Path("/proc/meminfo").read_text())
     room = int(free[1]) * 1024 // BYTES_A_CHECK if free else 1
     return max(1, min(len(os.sched_getaffinity(0)), room))
 
 
-def link(source, target):
+def link(source: Path, target: Path) -> None:
     """A second name for a file; where the file system has none to give, a copy."""
     try:
         os.link(source, target)
@@ -72,20 +77,23 @@ def link(source, target):
         shutil.copy2(source, target)
 
 
-def link_folder(source, target):
+def link_folder(source: Path, target: Path) -> None:
     """A folder with second names for all files of another, if there is one."""
     if pathlib.Path(source).is_dir():
         shutil.copytree(source, target, copy_function=link)
 
 
-def new_folder(prefix):
-    """A new folder that goes with its `with`, where links to the repository's files can be made: in .git, if there is one."""
+def new_folder(prefix: str) -> tempfile.TemporaryDirectory[str]:
+    """A new folder that goes with its `with`: in .git if there is one, where files are linked."""
     inside = ROOT / ".git"
     return tempfile.TemporaryDirectory(prefix=prefix, dir=inside if inside.is_dir() else None)
 
 
-def make_room(room, top, name, below):
-    """Fills the folder `room` with the crate and what it stands on, from the tree at `top`, with what earlier runs proved."""
+def make_room(room: Path, top: Path, name: str, below: Below) -> pathlib.Path:
+    """Fills the folder `room` with the crate and what it stands on, and answers the crate's folder.
+
+    They come from the tree at `top`, with what earlier runs proved.
+    """
     room, top = pathlib.Path(room), pathlib.Path(top)
     crates = needed([name], below)
     lines = (top / "crates.txt").read_text().splitlines()
@@ -103,24 +111,26 @@ def make_room(room, top, name, below):
     return room / "crates" / name
 
 
-def run(words, folder, log):
+def run(words: Sequence[Path], folder: Path, log: Path) -> int:
     """Runs a command in a folder, what it says goes to the file `log`; answers its status."""
     with open(log, "wb") as out:
-        how = {"stdin": subprocess.DEVNULL, "stdout": out, "stderr": subprocess.STDOUT}
-        return subprocess.run(words, cwd=folder, check=False, **how).returncode
+        return subprocess.run(
+            words, cwd=folder, check=False,
+            stdin=subprocess.DEVNULL, stdout=out, stderr=subprocess.STDOUT,
+        ).returncode
 
 
-def put_out(made, home):
+def put_out(made: Path, home: Path) -> None:
     """Puts what was proved and built in a room where it belongs, in place of what was there."""
     shutil.rmtree(home, ignore_errors=True)
     pathlib.Path(home).parent.mkdir(parents=True, exist_ok=True)
     shutil.move(made, home)
 
 
-def build(top, name, jobs, below, log):
-    """Proves and builds a crate of the tree at `top` in a room of its own, and keeps what was made; answers whether it is proved.
+def build(top: Path, name: str, jobs: int, below: Below, log: Path) -> bool:
+    """Proves and builds a crate of the tree at `top` in a room of its own, and keeps what was made.
 
-    A crate that is proved already costs a look at its files.
+    It answers whether the crate is proved. One that is proved already costs a look at its files.
     """
     with new_folder("recline-room-") as room:
         crate = make_room(room, top, name, below)

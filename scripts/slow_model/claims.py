@@ -1,14 +1,17 @@
 """Claims and check texts: `recline check`."""
 
+from collections.abc import Callable, Iterator, Sequence
 from dataclasses import dataclass, field
+from typing import Any
 
-from .histories import Check, Entry, History, Mark, Name, Recv, Send
+from .histories import Check, Entry, Event, History, Line, Mark, Marks, Name, Recv, Send
 from .texts import (
-    MOST_BODY, MOST_EVENTS, MOST_PROCESSES, MOST_STATE, NAMES, Fault, choice, fields_of, first_record, hexadecimal,
-    incarnation, number, numbered, records_of, round_number, round_or_none, told, want, written,
+    MOST_BODY, MOST_EVENTS, MOST_PROCESSES, MOST_STATE, NAMES, Answer, Fault, Record, choice,
+    fields_of, first_record, hexadecimal, incarnation, number, numbered, records_of, round_number,
+    round_or_none, told, want, written,
 )
 
-READERS = {
+READERS: dict[str, list[Callable[[str], Any]]] = {
     "tape": [number, incarnation],
     "send": [number, incarnation, hexadecimal],
     "recv": [number, incarnation, number],
@@ -22,14 +25,17 @@ READERS = {
 
 @dataclass
 class Claim:
-    """That a line is the latest of a history for some damage marks and a failed set, with the entries that show it."""
-    history: History
-    marks: set = field(default_factory=set)
-    failed: set = field(default_factory=set)
-    line: list = field(default_factory=list)
-    entries: list = field(default_factory=list)
+    """That a line is the latest of a history, for some damage marks and a failed set.
 
-    def records(self):
+    The entries show it.
+    """
+    history: History
+    marks: Marks = field(default_factory=set)
+    failed: set[int] = field(default_factory=set)
+    line: Line = field(default_factory=list)
+    entries: list[Entry] = field(default_factory=list)
+
+    def records(self) -> Iterator[Record]:
         yield from self.history.records()
         for p, check in sorted(self.marks):
             yield "damage", p, check
@@ -39,7 +45,7 @@ class Claim:
             yield "pass", at, passed, *message
         yield ("end",)
 
-    def has_shape(self):
+    def has_shape(self) -> bool:
         has = self.history.has_choice
         return (
             len(self.line) == len(self.history.tapes)
@@ -48,7 +54,7 @@ class Claim:
             and all(has(entry.at, entry.choice) for entry in self.entries)
         )
 
-    def first_fault(self):
+    def first_fault(self) -> tuple[int | None, int] | None:
         """The entry and the number of the first fault of the claim, or none."""
         if not self.has_shape():
             return None, 16
@@ -69,12 +75,12 @@ class Claim:
 class Reading:
     """What was read of a check text among n processes, and the part that its last record stands in."""
 
-    def __init__(self, n):
+    def __init__(self, n: int) -> None:
         self.n, self.part = n, "tapes"
         self.claim = Claim(History(0))
         self.tapes = self.claim.history.tapes
 
-    def may_stand(self, kind):
+    def may_stand(self, kind: str) -> bool:
         """Whether a record of this kind may come next."""
         has_all = len(self.tapes) == self.n
         if kind == "tape":
@@ -85,65 +91,65 @@ class Reading:
             return self.part in ("tapes", "damages") and has_all
         return self.part == {"line": "failed", "pass": "line", "end": "line"}.get(kind)
 
-    def read(self, fields):
+    def read(self, fields: Sequence[str]) -> None:
         kind, rest = fields[0], fields[1:]
         want(self.may_stand(kind), 32)
         getattr(self, f"read_{kind}")(*fields_of(readers_of(kind, len(rest)), rest))
 
-    def known(self, *processes):
+    def known(self, *processes: int) -> None:
         want(all(p < self.n for p in processes), 1)
 
-    def add(self, event):
+    def add(self, event: Event) -> None:
         want(len(self.tapes[-1]) < MOST_EVENTS, 3)
         self.tapes[-1].append(event)
 
-    def read_tape(self, p, inc):
+    def read_tape(self, p: int, inc: int) -> None:
         want(p == len(self.tapes), 32)
         self.tapes.append([])
         self.claim.history.incarnations.append(inc)
 
-    def read_send(self, to, inc, body):
+    def read_send(self, to: int, inc: int, body: bytes) -> None:
         self.known(to)
         want(len(body) <= MOST_BODY, 2)
         self.add(Send(to, inc, body))
 
-    def read_recv(self, sender, inc, count):
+    def read_recv(self, sender: int, inc: int, count: int) -> None:
         self.known(sender)
         self.add(Recv(Name(sender, inc, count)))
 
-    def read_check(self, state, of_round):
+    def read_check(self, state: bytes, of_round: int | None) -> None:
         want(len(state) <= MOST_STATE, 5)
         self.add(Check(state, of_round))
 
-    def read_mark(self, sender, of_round):
+    def read_mark(self, sender: int, of_round: int) -> None:
         self.known(sender)
         self.add(Mark(sender, of_round))
 
-    def read_damage(self, p, check):
+    def read_damage(self, p: int, check: int) -> None:
         self.known(p)
         want(check != 0, 7)
         want((p, check) not in self.claim.marks, 8)
         self.claim.marks.add((p, check))
         self.part = "damages"
 
-    def read_failed(self, *failed):
+    def read_failed(self, *failed: int) -> None:
         self.known(*failed)
         self.claim.failed.update(failed)
         self.part = "failed"
 
-    def read_line(self, *line):
+    def read_line(self, *line: int) -> None:
         self.claim.line.extend(line)
         self.part = "line"
 
-    def read_pass(self, at, passed, sender, inc, count):
+    def read_pass(self, at: int, passed: int, sender: int, inc: int, count: int) -> None:
         self.known(at, sender)
         self.claim.entries.append(Entry(at, passed, Name(sender, inc, count)))
 
-    def read_end(self):
+    def read_end(self) -> None:
         self.part = "end"
 
 
-def readers_of(kind, width):
+def readers_of(kind: str, width: int) -> Sequence[Callable[[str], Any]]:
     """What reads the fields of a record of that many."""
     if kind == "failed":
         return [number] * width
@@ -153,7 +159,7 @@ def readers_of(kind, width):
     return READERS[kind]
 
 
-def read_claim(text):
+def read_claim(text: bytes) -> Claim:
     records = records_of(text)
     reading = Reading(numbered(1, first_record, records[0], "history", 3))
     for i, fields in enumerate(records[1:], 2):
@@ -163,7 +169,7 @@ def read_claim(text):
     return reading.claim
 
 
-def check(text):
+def check(text: bytes) -> Answer:
     """What the program has to write, say and answer."""
     try:
         claim = read_claim(text)

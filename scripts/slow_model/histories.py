@@ -6,9 +6,10 @@ of choices, one for each process. Damage marks are a set of processes with a che
 
 import itertools
 import math
-from typing import NamedTuple
+from collections.abc import Iterable, Iterator, Sequence
+from typing import NamedTuple, TypeVar
 
-from .texts import NOW
+from .texts import NOW, Record
 
 # A plan is compared with all lines of surviving choices where there are no more than these.
 MOST_LINES = 500
@@ -49,11 +50,21 @@ class Mark(NamedTuple):
 class Entry(NamedTuple):
     """A choice that is passed over, and a message that would be an orphan there."""
     at: int
-    choice: float
+    choice: int
     message: Name
 
 
-def among(kind, events):
+Event = Send | Recv | Check | Mark
+Kind = TypeVar("Kind", Send, Recv, Check, Mark)
+# What a link holds.
+Item = Name | Marker
+# A process with a check, for each damaged one.
+Marks = set[tuple[int, int]]
+# A choice for each process.
+Line = list[int]
+
+
+def among(kind: type[Kind], events: Iterable[Event]) -> list[Kind]:
     """The events of one kind."""
     return [event for event in events if isinstance(event, kind)]
 
@@ -61,61 +72,61 @@ def among(kind, events):
 class History:
     """A tape of events and a present incarnation for each process."""
 
-    def __init__(self, n):
-        self.tapes = [[] for _ in range(n)]
+    def __init__(self, n: int) -> None:
+        self.tapes: list[list[Event]] = [[] for _ in range(n)]
         self.incarnations = [0] * n
 
-    def processes(self):
+    def processes(self) -> range:
         return range(len(self.tapes))
 
-    # Choices and fronts.
+    # Choices, and what stands before them.
 
-    def checks(self, p):
+    def checks(self, p: int) -> int:
         """How many checks a tape has."""
         return len(among(Check, self.tapes[p]))
 
-    def has_choice(self, p, choice):
+    def has_choice(self, p: int, choice: int) -> bool:
         return choice == NOW or choice <= self.checks(p)
 
-    def front(self, p, choice):
+    def front(self, p: int, choice: int) -> list[Event]:
         """The events that stand before a choice."""
         if choice == NOW:
             return self.tapes[p]
         places = [place for place, event in enumerate(self.tapes[p], 1) if isinstance(event, Check)]
         return self.tapes[p][:places[choice - 1]] if choice else []
 
-    def stored(self, p, choice):
+    def stored(self, p: int, choice: int) -> bytes | None:
         """The state that a process goes on from: nothing is stored for NOW."""
         if choice == NOW:
             return None
-        return self.front(p, choice)[-1].state if choice else b""
+        return among(Check, self.front(p, choice))[-1].state if choice else b""
 
     # Messages and lines.
 
-    def sent(self, p, choice=NOW):
+    def sent(self, p: int, choice: int = NOW) -> list[tuple[Name, int]]:
         """The messages sent before a choice, each with the process that its send names."""
         sends = among(Send, self.front(p, choice))
         return [(Name(p, send.incarnation, number), send.to) for number, send in enumerate(sends)]
 
-    def received(self, p, choice=NOW):
+    def received(self, p: int, choice: int = NOW) -> list[Name]:
         """The messages received before a choice."""
         return [event.message for event in among(Recv, self.front(p, choice))]
 
-    def is_sent_before(self, line, message):
+    def is_sent_before(self, line: Sequence[int], message: Name) -> bool:
         return message in [name for name, _ in self.sent(message.sender, line[message.sender])]
 
-    def is_held(self, message):
+    def is_held(self, message: Name) -> bool:
         return self.is_sent_before([NOW for _ in self.processes()], message)
 
-    def orphans(self, line, p):
+    def orphans(self, line: Sequence[int], p: int) -> list[Name]:
         """What a process has received before a line and what is not sent before it."""
         return [name for name in self.received(p, line[p]) if not self.is_sent_before(line, name)]
 
-    def is_consistent(self, line):
+    def is_consistent(self, line: Sequence[int]) -> bool:
         return not any(self.orphans(line, p) for p in self.processes())
 
-    def in_transit(self, line):
-        """What is sent before a line and not received before its addressee's choice, with the addressee."""
+    def in_transit(self, line: Sequence[int]) -> list[tuple[Name, int]]:
+        """What is in transit at a line, each message with its addressee."""
         return [
             (name, to)
             for p in self.processes()
@@ -123,31 +134,36 @@ class History:
             if name not in self.received(to, line[to])
         ]
 
-    def restart(self, line):
+    def restart(self, line: Sequence[int]) -> None:
         """Each process goes on from its choice: marks go, and checks lose their round."""
         for p in self.processes():
             front = [event for event in self.front(p, line[p]) if not isinstance(event, Mark)]
-            self.tapes[p] = [event._replace(round=None) if isinstance(event, Check) else event for event in front]
+            self.tapes[p] = [
+                event._replace(round=None) if isinstance(event, Check) else event for event in front
+            ]
             self.incarnations[p] += line[p] != NOW
 
     # Surviving choices, and plans.
 
-    def next_lower(self, marks, p, choice):
+    def next_lower(self, marks: Marks, p: int, choice: int) -> int:
         """The latest surviving choice before a choice."""
         checks = range(self.checks(p) if choice == NOW else choice - 1, 0, -1)
         return next((check for check in checks if (p, check) not in marks), 0)
 
-    def latest_choices(self, marks, failed):
+    def latest_choices(self, marks: Marks, failed: Iterable[int]) -> Line:
         """The latest surviving choice of each process."""
-        return [self.next_lower(marks, p, NOW) if p in failed else NOW for p in self.processes()]
+        gone = set(failed)
+        return [self.next_lower(marks, p, NOW) if p in gone else NOW for p in self.processes()]
 
-    def plan(self, marks, failed):
+    def plan(self, marks: Marks, failed: Iterable[int]) -> tuple[Line, list[Entry], int]:
         """The planned line, the entries of its certificate, and the number of sweeps.
 
         A sweep visits the processes in order, and lowers each while it has an orphan; the entry
         names the lowest sender of one, and the latest message from there.
         """
-        line, entries, sweeps, was_lowered = self.latest_choices(marks, failed), [], 0, True
+        gone = set(failed)
+        line, sweeps, was_lowered = self.latest_choices(marks, gone), 0, True
+        entries: list[Entry] = []
         while was_lowered:
             was_lowered, sweeps = False, sweeps + 1
             for p in self.processes():
@@ -156,29 +172,33 @@ class History:
                     entries.append(Entry(p, line[p], message))
                     line[p] = self.next_lower(marks, p, line[p])
                     was_lowered = True
-        self.check_by_all_lines(marks, failed, line)
+        self.check_by_all_lines(marks, gone, line)
         return line, entries, sweeps
 
-    def surviving(self, marks, failed, p):
+    def surviving(self, marks: Marks, failed: set[int], p: int) -> list[int]:
         """All surviving choices of a process."""
         checks = [check for check in range(1, self.checks(p) + 1) if (p, check) not in marks]
         return [0, *checks, *([] if p in failed else [NOW])]
 
-    def check_by_all_lines(self, marks, failed, line):
-        """Tries every line of surviving choices, where they are few: the planned one has to be the latest consistent one."""
+    def check_by_all_lines(self, marks: Marks, failed: set[int], line: Line) -> None:
+        """Tries every line of surviving choices, where they are few.
+
+        The planned line has to be the latest consistent one.
+        """
         choices = [self.surviving(marks, failed, p) for p in self.processes()]
         if math.prod(map(len, choices)) > MOST_LINES:
             return
         every = [list(it) for it in itertools.product(*choices) if self.is_consistent(it)]
         latest = [max(it[p] for it in every) for p in self.processes()]
         if line != latest or latest not in every:
-            raise AssertionError(f"the plan of the slow model, {line}, is not the latest line, {latest}")
+            raise AssertionError(f"the slow model plans {line}, and the latest line is {latest}")
 
     # Links that keep their order.
 
-    def put_on_link(self, p, q):
+    def put_on_link(self, p: int, q: int) -> list[Item]:
         """What p put on its link to q: its messages, and a marker for each check of a round."""
-        items, number = [], 0
+        items: list[Item] = []
+        number = 0
         for event in self.tapes[p]:
             if isinstance(event, Send):
                 if event.to == q:
@@ -188,9 +208,9 @@ class History:
                 items.append(Marker(event.round))
         return items
 
-    def taken_from_link(self, p, q):
+    def taken_from_link(self, p: int, q: int) -> list[Item]:
         """What q took from its link from p."""
-        items = []
+        items: list[Item] = []
         for event in self.tapes[q]:
             if isinstance(event, Recv) and event.message.sender == p:
                 items.append(event.message)
@@ -198,7 +218,7 @@ class History:
                 items.append(Marker(event.round))
         return items
 
-    def link(self, p, q):
+    def link(self, p: int, q: int) -> list[Item]:
         """What remains of what was put on a link after what was taken from it."""
         put, taken = self.put_on_link(p, q), self.taken_from_link(p, q)
         assert put[:len(taken)] == taken, "the history does not fit"
@@ -206,59 +226,64 @@ class History:
 
     # Rounds and colours.
 
-    def colour_of(self, p):
+    def colour_of(self, p: int) -> int:
         return colour(self.tapes[p])
 
-    def message_colour(self, message):
+    def message_colour(self, message: Name) -> int:
         """The sender's colour where the message's send stands."""
         tape = self.tapes[message.sender]
         places = [place for place, event in enumerate(tape) if isinstance(event, Send)]
         return colour(tape[:places[message.number]])
 
-    def newest_round(self):
+    def newest_round(self) -> int:
         """The greatest round on the tapes, or 0."""
         return max(map(self.colour_of, self.processes()))
 
-    def check_of_round(self, p, number):
+    def check_of_round(self, p: int, number: int) -> int | None:
         """The index of a tape's check of a round, or none."""
         checks = among(Check, self.tapes[p])
         return next((index for index, check in enumerate(checks, 1) if check.round == number), None)
 
-    def round_line(self, number):
-        return [self.check_of_round(p, number) for p in self.processes()]
+    def round_line(self, number: int) -> Line:
+        """The checks of a round, of the processes that have one."""
+        checks = [self.check_of_round(p, number) for p in self.processes()]
+        return [check for check in checks if check is not None]
 
-    def after_check(self, p, number):
-        """The events after a tape's check of a round."""
-        return self.tapes[p][len(self.front(p, self.check_of_round(p, number))):]
+    def after_check(self, p: int, number: int) -> list[Event]:
+        """The events after a tape's check of a round, which it has."""
+        check = self.check_of_round(p, number)
+        assert check is not None
+        return self.tapes[p][len(self.front(p, check)):]
 
-    def is_completed(self, number, is_fifo):
-        """Each tape has its check of the round and, with markers, a mark of it from each other process after it."""
-        if None in self.round_line(number):
+    def is_completed(self, number: int, is_fifo: bool) -> bool:
+        """Each tape has its check of the round, and with markers a mark from each other process."""
+        if len(self.round_line(number)) < len(self.tapes):
             return False
         pairs = [(p, q) for q in self.processes() for p in self.processes() if p != q]
         return not is_fifo or all(Mark(p, number) in self.after_check(q, number) for p, q in pairs)
 
-    def channel(self, number, p, q, is_fifo):
+    def channel(self, number: int, p: int, q: int, is_fifo: bool) -> list[Name]:
         """The channel of a completed round from p to q."""
         if not is_fifo:
-            return [name for name, to in self.in_transit(self.round_line(number)) if (name.sender, to) == (p, q)]
+            transit = self.in_transit(self.round_line(number))
+            return [name for name, to in transit if (name.sender, to) == (p, q)]
         after = self.after_check(q, number)
         received = among(Recv, after[:after.index(Mark(p, number))])
         return [event.message for event in received if event.message.sender == p]
 
     # As records.
 
-    def records(self):
+    def records(self) -> Iterator[Record]:
         """The records of the history."""
         yield "history", 1, len(self.tapes)
         for p in self.processes():
             yield "tape", p, self.incarnations[p]
             for event in self.tapes[p]:
-                fields = event.message if isinstance(event, Recv) else event
+                fields: Record = event.message if isinstance(event, Recv) else event
                 yield type(event).__name__.lower(), *fields
 
 
-def colour(events):
+def colour(events: Iterable[Event]) -> int:
     """The greatest round of the checks among some events, or 0."""
     return max((check.round or 0 for check in among(Check, events)), default=0)
 

@@ -1,62 +1,72 @@
 """The machine: one method for each command, which answers the records of its reply or refuses."""
 
+from collections.abc import Sequence
 from typing import NamedTuple
 
 from .claims import Claim
-from .histories import Check, History, Mark, Marker, Recv, Send
-from .texts import MOST_BODY, MOST_EVENTS, MOST_INCARNATION, MOST_ROUND, MOST_STATE, NOW, refuse
+from .histories import Check, History, Item, Line, Mark, Marker, Marks, Name, Recv, Send
+from .texts import (
+    MOST_BODY, MOST_EVENTS, MOST_INCARNATION, MOST_ROUND, MOST_STATE, NOW, Record, refuse,
+)
+
+Records = list[Record]
 
 
 class Round(NamedTuple):
     """A listed round: its checks, and what its channels hold, by sender, addressee and order."""
     number: int
-    checks: list
-    channels: list
+    checks: Line
+    channels: list[tuple[int, int, Name]]
 
 
 class World:
-    """A history, damage marks, the last round begun, listed rounds, and copies where links keep no order."""
+    """A history, damage marks, the last round begun, listed rounds, and copies without order."""
 
-    def __init__(self, n, mode):
+    def __init__(self, n: int, mode: str) -> None:
         self.n, self.is_fifo = n, mode == "fifo"
         self.history = History(n)
-        self.marks = set()
+        self.marks: Marks = set()
         self.begun = 0
-        self.listed = []
-        self.copies = {}
+        self.listed: list[Round] = []
+        self.copies: dict[tuple[int, int], list[Name]] = {}
 
-    def link(self, p, q):
+    def link(self, p: int, q: int) -> Sequence[Item]:
         """What a link holds."""
-        return self.history.link(p, q) if self.is_fifo else self.copies.get((p, q), [])
+        if self.is_fifo:
+            return self.history.link(p, q)
+        return self.copies.get((p, q), [])
 
-    def open_round(self):
+    def open_round(self) -> int | None:
         """The greatest round on the tapes where it is not completed, or none."""
         newest = self.history.newest_round()
         return newest if newest and not self.history.is_completed(newest, self.is_fifo) else None
 
-    def has_no_room(self, p, events):
+    def has_no_room(self, p: int, events: int) -> bool:
         return len(self.history.tapes[p]) + events > MOST_EVENTS
 
-    def known(self, *processes):
+    def known(self, *processes: int) -> None:
         refuse(1, any(p >= self.n for p in processes))
 
-    def add_check(self, p, state, number):
+    def add_check(self, p: int, state: bytes, number: int | None) -> int:
         """Adds a check and answers its index."""
         self.history.tapes[p].append(Check(state, number))
         return self.history.checks(p)
 
-    def list_completed(self):
+    def list_completed(self) -> None:
         """Lists the newest round where the step before has completed it."""
         newest = self.history.newest_round()
         if not newest or newest in [listed.number for listed in self.listed] or self.open_round():
             return
         pairs = [(p, q) for p in range(self.n) for q in range(self.n) if p != q]
-        channels = [(p, q, name) for p, q in pairs for name in self.history.channel(newest, p, q, self.is_fifo)]
+        channels = [
+            (p, q, name) for p, q in pairs
+            for name in self.history.channel(newest, p, q, self.is_fifo)
+        ]
         self.listed.append(Round(newest, self.history.round_line(newest), channels))
 
     # Steps. The refusals stand in the order in which they are asked.
 
-    def send(self, source, to, body):
+    def send(self, source: int, to: int, body: bytes) -> Records:
         self.known(source, to)
         refuse(2, len(body) > MOST_BODY)
         refuse(17, source == to)
@@ -67,7 +77,7 @@ class World:
             self.copies.setdefault((source, to), []).append(name)
         return [("sent", *name)]
 
-    def deliver(self, source, to, pick, state):
+    def deliver(self, source: int, to: int, pick: int, state: bytes) -> Records:
         self.known(source, to)
         refuse(17, source == to)
         refuse(5, len(state) > MOST_STATE)
@@ -83,7 +93,7 @@ class World:
             return [("repeated", *item)]
         return self.take_message(to, item, state)
 
-    def take_marker(self, source, to, number, state):
+    def take_marker(self, source: int, to: int, number: int, state: bytes) -> Records:
         forced = self.history.check_of_round(to, number) is None
         refuse(3, self.has_no_room(to, 1 + forced))
         if forced:
@@ -92,8 +102,8 @@ class World:
         self.list_completed()
         return [("marked", number, "forced" if forced else "closed")]
 
-    def take_message(self, to, message, state):
-        """A message of a later colour than its receiver's forces a check first; with markers none has a colour."""
+    def take_message(self, to: int, message: Name, state: bytes) -> Records:
+        """A message of a later colour than its receiver's forces a check."""
         number = 0 if self.is_fifo else self.history.message_colour(message)
         forced = number > self.history.colour_of(to)
         refuse(3, self.has_no_room(to, 1 + forced))
@@ -103,13 +113,13 @@ class World:
         self.list_completed()
         return [("took", *message, number if forced else None)]
 
-    def check(self, at, state):
+    def check(self, at: int, state: bytes) -> Records:
         self.known(at)
         refuse(5, len(state) > MOST_STATE)
         refuse(3, self.has_no_room(at, 1))
         return [("checked", at, self.add_check(at, state, None))]
 
-    def begin(self, at, state):
+    def begin(self, at: int, state: bytes) -> Records:
         self.known(at)
         refuse(5, len(state) > MOST_STATE)
         refuse(20, self.open_round())
@@ -120,7 +130,7 @@ class World:
         self.list_completed()
         return [("begun", at, check, self.begun)]
 
-    def turn(self, at, state):
+    def turn(self, at: int, state: bytes) -> Records:
         self.known(at)
         refuse(22, self.is_fifo)
         refuse(5, len(state) > MOST_STATE)
@@ -131,7 +141,7 @@ class World:
         self.list_completed()
         return [("turned", at, check, number)]
 
-    def damage(self, at, check):
+    def damage(self, at: int, check: int) -> Records:
         self.known(at)
         refuse(7, check == 0)
         refuse(4, not self.history.has_choice(at, check))
@@ -139,16 +149,20 @@ class World:
         self.marks.add((at, check))
         return [("damaged", at, check)]
 
-    def recover(self, *failed):
+    def recover(self, *failed: int) -> Records:
         self.known(*failed)
         line, entries, sweeps = self.history.plan(self.marks, failed)
         incarnations = self.history.incarnations
-        refuse(24, any(line[p] != NOW and incarnations[p] == MOST_INCARNATION for p in range(self.n)))
+        is_last = [incarnation == MOST_INCARNATION for incarnation in incarnations]
+        refuse(24, any(line[p] != NOW and is_last[p] for p in range(self.n)))
         replays = self.history.in_transit(line)
         states = [self.history.stored(p, line[p]) for p in range(self.n)]
         self.history.restart(line)
         self.marks = {(p, check) for p, check in self.marks if check <= line[p]}
-        self.listed = [listed for listed in self.listed if all(c <= line[p] for p, c in enumerate(listed.checks))]
+        self.listed = [
+            listed for listed in self.listed
+            if all(check <= line[p] for p, check in enumerate(listed.checks))
+        ]
         if not self.is_fifo:
             for name, to in replays:
                 self.copies.setdefault((name.sender, to), []).append(name)
@@ -161,17 +175,17 @@ class World:
 
     # Views.
 
-    def rounds(self):
-        records = [("rounds", len(self.listed))]
+    def rounds(self) -> Records:
+        records: Records = [("rounds", len(self.listed))]
         for number, checks, channels in self.listed:
             records.append(("round", number, *checks))
             records += [("channel", number, p, q, *name[1:]) for p, q, name in channels]
         return records
 
-    def history_text(self):
+    def history_text(self) -> Records:
         return list(self.history.records())
 
-    def bundle(self, *failed):
+    def bundle(self, *failed: int) -> Records:
         self.known(*failed)
         line, entries, _ = self.history.plan(self.marks, failed)
         return list(Claim(self.history, self.marks, set(failed), line, entries).records())

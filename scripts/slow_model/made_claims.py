@@ -4,14 +4,16 @@ A claim is what a plan makes after a random script, or what a chain in another o
 on a history that tells what could not happen. Then perhaps something in it is changed.
 """
 
+from random import Random
+
 from .claims import Claim
-from .histories import Check, Entry, Mark, Name, Recv, Send
+from .histories import Check, Entry, Event, Mark, Name, Recv, Send
 from .made_scripts import DOMINOES, ROUNDS, TALK, Player
 from .made_texts import odd_first, one_in, text_of
 from .texts import NOW
 
 
-def some_check_text(chance):
+def some_check_text(chance: Random) -> bytes:
     """A check text of a claim after a script."""
     player = Player(chance, [TALK, ROUNDS, DOMINOES, DOMINOES, DOMINOES]).play()
     failed = {p for p in player.processes(0, 1, 1, 2, 3) if p < player.n}
@@ -35,7 +37,7 @@ def some_check_text(chance):
     return text_of(chance, records, one_in(chance, 3))
 
 
-def some_chain(chance, claim):
+def some_chain(chance: Random, claim: Claim) -> None:
     """A chain whose entries come in any order and name any orphan; one in four stops early."""
     history = claim.history
     claim.line = history.latest_choices(claim.marks, claim.failed)
@@ -49,11 +51,11 @@ def some_chain(chance, claim):
         claim.line[p] = history.next_lower(claim.marks, p, claim.line[p])
 
 
-def some_process(chance, claim):
+def some_process(chance: Random, claim: Claim) -> int:
     return chance.randrange(len(claim.history.tapes))
 
 
-def some_name(chance, claim):
+def some_name(chance: Random, claim: Claim) -> Name:
     """A name, most often one that somebody has sent or received."""
     history = claim.history
     p, q = some_process(chance, claim), some_process(chance, claim)
@@ -63,7 +65,7 @@ def some_name(chance, claim):
     return Name(p, chance.choice([0, 0, 1, 65_535]), chance.choice([0, 1, 2, 3, 2**32 - 1]))
 
 
-def near_name(chance, claim, name):
+def near_name(chance: Random, claim: Claim, name: Name) -> Name:
     """A name that differs in one thing."""
     return chance.choice([
         name._replace(sender=some_process(chance, claim)),
@@ -73,7 +75,7 @@ def near_name(chance, claim, name):
     ])
 
 
-def near_choice(chance, claim, p, choice):
+def near_choice(chance: Random, claim: Claim, p: int, choice: int) -> int:
     """A choice below or above one, or any."""
     checks = claim.history.checks(p)
     below = checks if choice == NOW else max(choice - 1, 0)
@@ -81,24 +83,24 @@ def near_choice(chance, claim, p, choice):
     return chance.choice([below, below, above, above, 0, NOW, checks, checks + 1])
 
 
-def drop_entry(chance, claim):
+def drop_entry(chance: Random, claim: Claim) -> None:
     if claim.entries:
         del claim.entries[chance.randrange(len(claim.entries))]
 
 
-def double_entry(chance, claim):
+def double_entry(chance: Random, claim: Claim) -> None:
     if claim.entries:
         claim.entries.insert(chance.randint(0, len(claim.entries)), chance.choice(claim.entries))
 
 
-def exchange_entries(chance, claim):
+def exchange_entries(chance: Random, claim: Claim) -> None:
     if len(claim.entries) > 1:
         i = chance.randrange(len(claim.entries) - 1)
         j = i + 1 if one_in(chance, 2) else chance.randrange(len(claim.entries))
         claim.entries[i], claim.entries[j] = claim.entries[j], claim.entries[i]
 
 
-def other_entry(chance, claim):
+def other_entry(chance: Random, claim: Claim) -> None:
     """An entry with another message, another choice or another process."""
     if not claim.entries:
         p = some_process(chance, claim)
@@ -115,7 +117,7 @@ def other_entry(chance, claim):
     ])
 
 
-def moved_line(chance, claim):
+def moved_line(chance: Random, claim: Claim) -> None:
     """A choice of the line moved up or down; or a choice too few or too many."""
     if one_in(chance, 12):
         claim.line = claim.line[:-1] if one_in(chance, 2) and len(claim.line) > 1 else [*claim.line, 0]
@@ -125,7 +127,7 @@ def moved_line(chance, claim):
         claim.line[p] = near_choice(chance, claim, p, claim.line[p])
 
 
-def one_too_low(chance, claim):
+def one_too_low(chance: Random, claim: Claim) -> None:
     """One check lower than needed, with an entry for it that names something received about there."""
     p = some_process(chance, claim)
     received = claim.history.received(p)
@@ -137,17 +139,17 @@ def one_too_low(chance, claim):
     claim.line[p] = claim.history.next_lower(claim.marks, p, claim.line[p])
 
 
-def other_failed(chance, claim):
+def other_failed(chance: Random, claim: Claim) -> None:
     claim.failed = claim.failed ^ {some_process(chance, claim)}
 
 
-def other_marks(chance, claim):
+def other_marks(chance: Random, claim: Claim) -> None:
     p = some_process(chance, claim)
     checks = claim.history.checks(p)
     claim.marks = claim.marks ^ {(p, chance.choice([checks, chance.randint(1, checks + 1), chance.randint(0, checks)]))}
 
 
-def other_event(chance, claim):
+def other_event(chance: Random, claim: Claim) -> None:
     """An event changed, dropped, doubled or moved: the history may tell what could not happen."""
     p = some_process(chance, claim)
     tape = claim.history.tapes[p]
@@ -156,10 +158,12 @@ def other_event(chance, claim):
         return
     i = chance.randrange(len(tape))
     how = chance.choice(["other", "other", "drop", "double", "move", "receive", "mark", "incarnation"])
-    if how == "other" and isinstance(tape[i], Recv):
-        tape[i] = Recv(near_name(chance, claim, tape[i].message))
-    elif how == "other" and isinstance(tape[i], Send):
-        tape[i] = Send(some_process(chance, claim), chance.choice([0, 1, tape[i].incarnation]), tape[i].body)
+    event = tape[i]
+    if how == "other" and isinstance(event, Recv):
+        tape[i] = Recv(near_name(chance, claim, event.message))
+    elif how == "other" and isinstance(event, Send):
+        to, inc = some_process(chance, claim), chance.choice([0, 1, event.incarnation])
+        tape[i] = Send(to, inc, event.body)
     elif how == "drop":
         del tape[i]
     elif how == "double":
@@ -180,7 +184,7 @@ CHANGES = [
 ]
 
 
-def past_limits(chance, claim):
+def past_limits(chance: Random, claim: Claim) -> None:
     """Values that no text may have, or only just may."""
     n = len(claim.history.tapes)
     for tape in claim.history.tapes:
@@ -201,7 +205,7 @@ def past_limits(chance, claim):
         ])
 
 
-def odd_event(chance, n, event):
+def odd_event(chance: Random, n: int, event: Event) -> Event:
     if isinstance(event, Send):
         return Send(chance.choice([event.to, n]), event.incarnation, b"d" * chance.choice([64, 65]))
     if isinstance(event, Recv):

@@ -1,11 +1,16 @@
 """Random scripts. The machine runs a script while it is made, so that most commands are sensible."""
 
+from collections.abc import Sequence
+from random import Random
+from typing import Any
+
+from .histories import Item
 from .machine import World
 from .made_texts import odd_first, one_in, text_of
 from .scripts import answer, command_of
-from .texts import shown
+from .texts import Record, shown
 
-# How often each kind of command comes. A relay is a message, its receipt, and a check behind it.
+# How often each kind of command comes. A relay is a message, its receipt, and a check after it.
 TALK = {
     "send": 30, "deliver": 40, "check": 14, "damage": 3, "recover": 2, "begin": 4, "turn": 3, "rounds": 2, "history": 1,
     "bundle": 1,
@@ -24,64 +29,64 @@ CARE = 90  # one in so many values is an odd one; in a careless command every ot
 class Player:
     """Makes the commands of a script one by one, and runs them meanwhile."""
 
-    def __init__(self, chance, moods):
+    def __init__(self, chance: Random, moods: Sequence[dict[str, int]]) -> None:
         self.chance = chance
         self.n = chance.choice([63, 64] if one_in(chance, 100) else PROCESSES)
         self.mode = chance.choice(["fifo", "unordered"])
         self.world = World(self.n, self.mode)
-        self.commands = []
+        self.commands: list[Record] = []
         self.care = CARE
         self.holder = 0  # the process that the last relay went to
         self.weights = chance.choice(moods)
 
-    def is_odd(self):
+    def is_odd(self) -> bool:
         return one_in(self.chance, self.care)
 
-    def process(self):
+    def process(self) -> int:
         odd = [self.n, self.n + 1, 64, 2**32 - 1]
         return self.chance.choice(odd) if self.is_odd() else self.chance.randrange(self.n)
 
-    def processes(self, *counts):
+    def processes(self, *counts: int) -> list[int]:
         return [self.process() for _ in range(self.chance.choice(counts))]
 
-    def pair(self):
+    def pair(self) -> tuple[int, int]:
         source, to = self.process(), self.process()
         return source, (source + 1) % self.n if source == to and not self.is_odd() else to
 
-    def link(self, source, to):
+    def link(self, source: int, to: int) -> Sequence[Item]:
         """What a link holds; nothing where there is no such link."""
         return self.world.link(source, to) if max(source, to) < self.n and source != to else []
 
-    def waiting(self, source, to):
-        """The places on a link whose items can be taken: in order the first, else the copies not received yet."""
+    def waiting(self, source: int, to: int) -> list[int]:
+        """The places on a link whose items can be taken: the first, or copies not received yet."""
         items = self.link(source, to)
         if self.mode == "fifo" or not items:
             return list(range(len(items[:1])))
         received = self.world.history.received(to)
         return [place for place, name in enumerate(items) if name not in received]
 
-    def pick(self, source, to):
+    def pick(self, source: int, to: int) -> int:
         if self.is_odd():
             return self.chance.choice([0, 1, 2, 3, 2**32, 2**64 - 1])
         if self.mode == "unordered" and one_in(self.chance, 6):
             return self.chance.randrange(len(self.link(source, to)) or 1)
         return self.chance.choice(self.waiting(source, to) or [0])
 
-    def busy_pair(self):
+    def busy_pair(self) -> tuple[int, int] | None:
         """Two processes with something that waits on their link, where some are found."""
         return next((pair for pair in (self.pair() for _ in range(12)) if self.waiting(*pair)), None)
 
-    def state(self):
+    def state(self) -> bytes:
         if self.is_odd():
             return b"c" * self.chance.choice([64, 65, 65, 4096, 4097, 4097])
         return self.chance.choice([b"", b"a", b"\x00\xff", b"\xa0\xb1", b"b" * self.chance.randrange(4)])
 
-    def damaged(self):
+    def damaged(self) -> tuple[int, int]:
         at = self.process()
         checks = self.world.history.checks(at) if at < self.n else 0
         return at, self.chance.choice([checks, checks, self.chance.randint(0, checks + 1)])
 
-    def command(self):
+    def command(self) -> Record:
         """A command, most often one that the machine takes."""
         self.care = 2 if one_in(self.chance, 30) else CARE
         kind = self.chance.choices(list(self.weights), list(self.weights.values()))[0]
@@ -102,8 +107,8 @@ class Player:
             return kind, *self.damaged()
         return kind, *(self.processes(0, 1, 1, 2, 3) if kind in ("recover", "bundle") else [])
 
-    def relay(self):
-        """The holder sends a message, which is delivered; the next holder takes a check, which the command is."""
+    def relay(self) -> Record:
+        """The holder sends a message, which is delivered; the command is the next one's check."""
         source, to = self.holder, self.chance.randrange(self.n)
         if source != to:
             self.add("send", source, to, self.state())
@@ -112,25 +117,26 @@ class Player:
         self.holder = to
         return "check", to, self.state()
 
-    def add(self, *command):
+    def add(self, *command: Any) -> None:
         self.commands.append(command)
         answer(self.world, *command_of([shown(field) for field in command]))
 
-    def play(self):
+    def play(self) -> "Player":
         for _ in range(self.chance.choice(LENGTHS)):
             self.add(*self.command())
         self.care = CARE
         return self
 
 
-def some_script(chance):
+def some_script(chance: Random) -> bytes:
     """A script."""
     player = Player(chance, [TALK, ROUNDS, ROUNDS, DOMINOES]).play()
-    bundle, recover = ["bundle", *player.processes(0, 1, 2)], ["recover", *player.processes(1, 1, 2)]
+    bundle: Record = ["bundle", *player.processes(0, 1, 2)]
+    recover: Record = ["recover", *player.processes(1, 1, 2)]
     for end in [["rounds"], ["history"], bundle, recover, ["rounds"]]:
         if one_in(chance, 2):
             player.add(*end)
-    first = ("world", 1, player.n, player.mode)
+    first: Record = ("world", 1, player.n, player.mode)
     if one_in(chance, 80):
         first = odd_first(chance, "world", player.n, player.mode)
     return text_of(chance, [first, *player.commands], one_in(chance, 5))

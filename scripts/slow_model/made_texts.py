@@ -1,6 +1,10 @@
 """Random texts of given records: in loose spellings, and with records, fields or bytes changed."""
 
-from .texts import shown
+from collections.abc import Callable, Iterable, Sequence
+from random import Random
+from typing import Any
+
+from .texts import NOW, Record, shown
 
 ODD_NUMBERS = [
     "0", "1", "2", "3", "64", "65535", "65536", "4294967295", "4294967296", "18446744073709551615",
@@ -20,32 +24,33 @@ ODD_TEXTS = [
 ]
 
 
-def one_in(chance, times):
+def one_in(chance: Random, times: int) -> bool:
     return chance.random() < 1 / times
 
 
-def loosely(chance, field):
+def loosely(chance: Random, field: Any) -> str:
     """A field in another spelling of the same value."""
     if isinstance(field, bytes):
         upper = chance.randint(0, 2 * len(field))
         return field.hex()[:upper].upper() + field.hex()[upper:]
-    if isinstance(field, int) and one_in(chance, 8):
+    if isinstance(field, int) and field != NOW and one_in(chance, 8):
         return "0" * chance.randrange(12) + str(field)
     return shown(field)
 
 
-def odd_first(chance, kind, n, *mode):
+def odd_first(chance: Random, kind: str, n: int, *mode: str) -> Record:
     """A first record that may have another version, number of processes or mode."""
     other_mode = [chance.choice([field, "lifo", ""]) for field in mode]
     return kind, chance.choice([1, 1, 0, 3]), chance.choice([n, n + 1, 0, 64, 65, 2**32]), *other_mode
 
 
-def text_of(chance, records, is_changed):
-    """The text of some records, perhaps spelled loosely; perhaps changed, so that it may spell something else."""
+def text_of(chance: Random, values: Iterable[Record], is_changed: bool) -> bytes:
+    """The text of some records, perhaps spelled loosely, perhaps changed to something else."""
     if one_in(chance, 200):
         return chance.choice(ODD_TEXTS)
-    spelling = loosely if one_in(chance, 3) else lambda _, field: shown(field)
-    records = [[spelling(chance, field) for field in record] for record in records]
+    is_loose = one_in(chance, 3)
+    spelling: Callable[[Random, Any], str] = loosely if is_loose else lambda _, field: shown(field)
+    records = [[spelling(chance, field) for field in record] for record in values]
     changes_bytes = is_changed and one_in(chance, 3)
     if is_changed and not changes_bytes:
         for _ in range(chance.choice([1, 1, 2])):
@@ -55,7 +60,7 @@ def text_of(chance, records, is_changed):
     return with_other_bytes(chance, text) if changes_bytes else text
 
 
-def change_records(chance, records):
+def change_records(chance: Random, records: list[list[str]]) -> None:
     """Drops, doubles, exchanges or moves a record, or changes fields of one."""
     kind = chance.choice(sorted({record[0] for record in records}))  # also those of which there are few
     i = chance.choice([i for i, record in enumerate(records) if record[0] == kind])
@@ -80,15 +85,16 @@ def change_records(chance, records):
             record[at] = other_field(chance, record[at], records[j])
 
 
-def other_field(chance, field, record):
+def other_field(chance: Random, field: str, record: Sequence[str]) -> str:
     """Another field: for a number most often a number, else any odd one or one of another record."""
     if field.isdigit() and one_in(chance, 2):
         return chance.choice(ODD_NUMBERS)
     return chance.choice(chance.choice(ODD_FIELDS) if one_in(chance, 2) else record)
 
 
-def with_other_bytes(chance, text):
-    text = bytearray(text)
+def with_other_bytes(chance: Random, before: bytes) -> bytes:
+    """A text with one or two bytes more, fewer or others."""
+    text = bytearray(before)
     for _ in range(chance.choice([1, 1, 2])):
         at = chance.randrange(len(text) + 1)
         how = chance.choice(["add", "replace", "cut"])

@@ -1,7 +1,8 @@
 """What texts are made of: records, fields, and the names of refusals and faults."""
 
-import math
 import re
+from collections.abc import Callable, Iterable, Sequence
+from typing import Any, TypeVar
 
 NAMES = {
     0: "OutOfMemory", 1: "NoSuchProcess", 2: "BodyTooLong", 3: "TapeFull", 4: "NoSuchCheck",
@@ -11,17 +12,22 @@ NAMES = {
     22: "WrongMode", 23: "NoMoreRounds", 24: "NoMoreIncarnations", 32: "BadRecord",
     33: "BadNumber", 34: "NoWorld", 35: "BadVersion",
 }
-NOW = math.inf  # the choice that is later than every check
+NOW = 2**100  # the choice that is later than every check
 MOST_PROCESSES, MOST_BODY, MOST_STATE, MOST_EVENTS = 64, 64, 4096, 1_000_000
 MOST_INCARNATION, MOST_ROUND = 65_535, 65_535
 DIGITS, HEX_DIGITS = set("0123456789"), set("0123456789abcdefABCDEF")
+# The values of a record's fields: words, numbers, bytes, and None for `-`.
+Record = Sequence[Any]
+# What the program writes and says, and its status.
+Answer = tuple[bytes, bytes, int]
+Value = TypeVar("Value")
 TEXT = re.compile(rb"([ !#-~\n]|\r\n)*")  # blanks to tildes but the double quote; a return only before a line feed
 
 
 class Fault(Exception):
     """A fault of the text: its number, and its record once that is known."""
 
-    def __init__(self, code, record=None):
+    def __init__(self, code: int, record: int | None = None) -> None:
         super().__init__(code, record)
         self.code, self.record = code, record
 
@@ -29,24 +35,24 @@ class Fault(Exception):
 class Refusal(Exception):
     """A refused command: its number."""
 
-    def __init__(self, code):
+    def __init__(self, code: int) -> None:
         super().__init__(code)
         self.code = code
 
 
-def want(holds, code):
+def want(holds: object, code: int) -> None:
     """A fault unless something holds."""
     if not holds:
         raise Fault(code)
 
 
-def refuse(code, cause):
+def refuse(code: int, cause: object) -> None:
     """A refusal where its cause holds."""
     if cause:
         raise Refusal(code)
 
 
-def numbered(record, read, *values):
+def numbered(record: int, read: Callable[..., Value], *values: Any) -> Value:
     """What is read of a record; a fault of it has the record's number."""
     try:
         return read(*values)
@@ -56,7 +62,7 @@ def numbered(record, read, *values):
 
 # Reading.
 
-def records_of(text):
+def records_of(text: bytes) -> list[list[str]]:
     if not TEXT.fullmatch(text):
         raise Fault(32, 0)
     lines = text.decode("ascii").replace("\r\n", "\n").split("\n")
@@ -66,7 +72,7 @@ def records_of(text):
     return records
 
 
-def number(field, most=2**32 - 1, least=0):
+def number(field: str, most: int = 2**32 - 1, least: int = 0) -> int:
     want(field and DIGITS.issuperset(field), 33)
     # A field may have thousands of leading zeros.
     digits = field.lstrip("0") or "0"
@@ -74,38 +80,38 @@ def number(field, most=2**32 - 1, least=0):
     return int(digits)
 
 
-def place(field):
+def place(field: str) -> int:
     return number(field, 2**64 - 1)
 
 
-def incarnation(field):
+def incarnation(field: str) -> int:
     return number(field, MOST_INCARNATION)
 
 
-def round_number(field):
+def round_number(field: str) -> int:
     return number(field, MOST_ROUND, 1)
 
 
-def round_or_none(field):
+def round_or_none(field: str) -> int | None:
     return None if field == "-" else round_number(field)
 
 
-def choice(field):
+def choice(field: str) -> int:
     return NOW if field == "now" else number(field)
 
 
-def hexadecimal(field):
+def hexadecimal(field: str) -> bytes:
     want(len(field) % 2 == 0 and HEX_DIGITS.issuperset(field), 33)
     return bytes.fromhex(field)
 
 
-def fields_of(readers, fields):
+def fields_of(readers: Sequence[Callable[[str], Any]], fields: Sequence[str]) -> list[Any]:
     """The values of the fields of a record, one reader for each, from left to right."""
     want(len(readers) == len(fields), 32)
     return [reader(field) for reader, field in zip(readers, fields)]
 
 
-def first_record(fields, kind, width):
+def first_record(fields: Sequence[str], kind: str, width: int) -> int:
     """The number of processes of a first record, whose other fields are its kind and its version."""
     want(fields[0] == kind, 34)
     want(len(fields) == width, 32)
@@ -117,7 +123,7 @@ def first_record(fields, kind, width):
 
 # Writing.
 
-def shown(value):
+def shown(value: Any) -> str:
     """A field as it is written."""
     if value is None:
         return "-"
@@ -126,10 +132,11 @@ def shown(value):
     return value.hex() if isinstance(value, bytes) else str(value)
 
 
-def written(records):
+def written(records: Iterable[Record]) -> bytes:
     return "".join(",".join(map(shown, record)) + "\n" for record in records).encode()
 
 
-def told(fault):
+def told(fault: Fault) -> Answer:
     """What the program writes, says and answers where a text has a fault."""
-    return b"", f"recline: record {fault.record}: {fault.code} {NAMES[fault.code]}\n".encode(), 2
+    said = f"recline: record {fault.record}: {fault.code} {NAMES[fault.code]}\n"
+    return b"", said.encode(), 2
