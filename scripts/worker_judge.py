@@ -21,7 +21,7 @@ def answers(history: rules.History, p: int, opening: int) -> bytes:
     events = tape.events
     number = sum(event[0] == "send" for event in events[:opening])
     index = sum(event[0] == "check" for event in events[:opening])
-    found = []
+    found: list[bytes] = []
     forced = b""
     for event in events[opening:]:
         kind = event[0]
@@ -106,7 +106,7 @@ class Judge:
         for p, tape in enumerate(own.tapes):
             if tape.records[: self.opened[p]] != self.opening[p]:
                 raise Difference(f"the tape of worker {p} does not begin with the opening one")
-            for place, _, inc, _ in reversed(tape.sends):
+            for place, _addressee, inc, _body in tape.sends:
                 if place >= self.opened[p] and inc != self.incarnations[p]:
                     raise Difference(f"worker {p} sends under incarnation {inc}")
 

@@ -140,7 +140,8 @@ class Reader:
             if kind == "restarted":
                 restarted = plan = Plan()
             elif kind == "generation":
-                now = Generation(*map(int, row[1:]))
+                seed, lineage, number, n, capacity = map(int, row[1:])
+                now = Generation(seed, lineage, number, n, capacity)
                 if now.number == 0:
                     del self.kept[:-1]
                     restarted = None
