@@ -5,23 +5,23 @@ import struct
 import zlib
 
 import worker_rules as rules
-from worker_records import Difference
+from worker_records import Difference, Generation, Plan, name_of
 
 INITIAL_DAMAGE, NO_SUCH_CHECK, ALREADY_DAMAGED, MARKED = 7, 4, 8, 100
 
 
-def data(field):
+def data(field: str) -> bytes:
     """Bytes as a worker puts them down: their length and themselves."""
     return struct.pack(">Q", len(field) // 2) + bytes.fromhex(field)
 
 
-def answers(history, p, opening):
+def answers(history: rules.History, p: int, opening: int) -> bytes:
     """What the calls of a worker must have answered, by its events, as the worker puts it down."""
     tape = history.tapes[p]
     events = tape.events
     number = sum(event[0] == "send" for event in events[:opening])
     index = sum(event[0] == "check" for event in events[:opening])
-    found = []
+    found: list[bytes] = []
     forced = b""
     for event in events[opening:]:
         kind = event[0]
@@ -30,7 +30,7 @@ def answers(history, p, opening):
             found += [b"s", numbers, data(event[3])]
             number += 1
         elif kind == "recv":
-            name = tuple(map(int, event[1:]))
+            name = name_of(event[1:])
             body = history.tapes[name[0]].sends[name[2]][3]
             found += [b"r", struct.pack(">IIII", name[0], *name), data(body)]
         elif kind == "mark":
@@ -50,16 +50,18 @@ def answers(history, p, opening):
 class Judge:
     """Judges the generations of one program, one after another."""
 
-    def __init__(self):
-        self.counts = collections.Counter()
-        self.opening = []
-        self.incarnations = []
-        self.damaged = set()
+    def __init__(self) -> None:
+        self.counts: collections.Counter[str] = collections.Counter()
+        self.opening: list[list[str]] = []
+        self.opened: list[int] = []
+        self.incarnations: list[int] = []
+        self.damaged: set[tuple[int, int]] = set()
         self.floor = 0
-        self.last = None  # the history and the plan that the next generation goes on from
-        self.lengths = []
+        # The history and the plan that the next generation goes on from.
+        self.last: tuple[rules.History, Plan] | None = None
+        self.lengths: list[int] = []
 
-    def judge(self, now):
+    def judge(self, now: Generation) -> None:
         """Judges a generation; raises a difference where something is not as it must be."""
         if now.number == 0:
             self.open_lineage(now.n)
@@ -76,15 +78,17 @@ class Judge:
         self.judge_gathered(now, own)
         self.count(now, own)
 
-    def open_lineage(self, n):
+    def open_lineage(self, n: int) -> None:
         """A fleet has done nothing."""
         self.opening = [[] for _ in range(n)]
         self.incarnations = [0] * n
         self.damaged = set()
         self.floor = 0
 
-    def go_on(self, now):
+    def go_on(self, now: Generation) -> None:
         """A generation goes on from the line that was planned of the last one."""
+        if self.last is None:
+            raise Difference("a restart before the first generation")
         own, plan = self.last
         if now.restarted != plan:
             raise Difference("the restart does not go on from the line that was planned")
@@ -95,18 +99,18 @@ class Judge:
         self.damaged = {(p, k) for p, k in self.damaged if line[p] is None or k <= line[p]}
         self.counts["restarts"] += 1
 
-    def judge_opening(self, now, own):
+    def judge_opening(self, now: Generation, own: rules.History) -> None:
         """Each tape begins with the opening one, and new messages have the present incarnation."""
         if now.own.incarnations != self.incarnations:
             raise Difference(f"incarnations {now.own.incarnations} and not {self.incarnations}")
         for p, tape in enumerate(own.tapes):
             if tape.records[: self.opened[p]] != self.opening[p]:
                 raise Difference(f"the tape of worker {p} does not begin with the opening one")
-            for place, _, inc, _ in reversed(tape.sends):
+            for place, _addressee, inc, _body in tape.sends:
                 if place >= self.opened[p] and inc != self.incarnations[p]:
                     raise Difference(f"worker {p} sends under incarnation {inc}")
 
-    def judge_calls(self, now, own):
+    def judge_calls(self, now: Generation, own: rules.History) -> None:
         """Each worker was answered what its tape says, and got the bodies that were sent."""
         for p in range(now.n):
             log = now.logs[p]
@@ -119,7 +123,7 @@ class Judge:
             self.counts["full"] += log.full
             self.counts["nothing"] += log.nothing
 
-    def judge_collected(self, now, own):
+    def judge_collected(self, now: Generation, own: rules.History) -> None:
         """The collector has the opening tapes, and then what it took of the reports."""
         taken, planned, kept, faults = now.watch
         if now.collected.incarnations != now.own.incarnations:
@@ -136,14 +140,14 @@ class Judge:
             raise Difference(f"{planned} live plans, {kept} kept their lines, {faults} faults")
         self.counts["live"] += planned
 
-    def judge_rounds(self, own):
+    def judge_rounds(self, own: rules.History) -> None:
         """Rounds are numbered on behind the last one that the lead began."""
         lead = list(own.tapes[0].round_checks)
         if lead != list(range(self.floor + 1, self.floor + 1 + len(lead))):
             raise Difference(f"rounds {lead} behind round {self.floor}")
         self.floor += len(lead)
 
-    def judge_live(self, now, own):
+    def judge_live(self, now: Generation, own: rules.History) -> None:
         """The plans on the way are the latest lines of what was collected by then."""
         everyone = set(range(now.n))
         for live in now.lives:
@@ -153,7 +157,7 @@ class Judge:
             rules.must_be_planned(own, live.events, everyone, self.damaged, live.plan)
             self.counts["judged"] += 1
 
-    def judge_gathered(self, now, own):
+    def judge_gathered(self, now: Generation, own: rules.History) -> None:
         """What was gathered is what a worker did, or reported; plan and rounds are right."""
         self.lengths = own.whole()
         for p in now.failed:
@@ -173,7 +177,7 @@ class Judge:
                 self.judge_round(own, number, front)
         self.last = own, now.plan
 
-    def judge_round(self, own, number, front):
+    def judge_round(self, own: rules.History, number: int, front: list[int]) -> None:
         """A completed round is a snapshot, and no line goes behind it where its checks survive."""
         rules.must_be_snapshot(own, number)
         places = [tape.round_checks[number] + 1 for tape in own.tapes]
@@ -182,7 +186,7 @@ class Judge:
             raise Difference(f"the line goes behind round {number}")
         self.counts["rounds"] += 1
 
-    def judge_damage(self, now, own):
+    def judge_damage(self, now: Generation, own: rules.History) -> None:
         """Marks are refused where they must be."""
         for p, check, code in now.damages:
             checks = sum(front <= self.lengths[p] for front in own.tapes[p].fronts) - 1
@@ -200,7 +204,7 @@ class Judge:
                 self.damaged.add((p, check))
                 self.counts["damages"] += 1
 
-    def count(self, now, own):
+    def count(self, now: Generation, own: rules.History) -> None:
         """Counts what was judged."""
         self.counts["generations"] += 1
         self.counts["lineages"] += now.number == 0

@@ -7,7 +7,12 @@ falls behind it.
 
 import bisect
 
-from worker_records import Difference
+from worker_records import Choice, Difference, Name, Passed, Plan, Texts, name_of
+
+# Of each process its surviving choices, each with the events before it, the latest last.
+Choices = list[list[tuple[int, Choice]]]
+# By two processes, the names and the rounds of markers on a link.
+Links = dict[tuple[int, int], list[Name | int]]
 
 NOT_SENT = 1 << 60
 
@@ -15,25 +20,27 @@ NOT_SENT = 1 << 60
 class Tape:
     """The events of a process, and where they stand."""
 
-    def __init__(self, incarnation, records):
+    def __init__(self, incarnation: int, records: list[str]) -> None:
         self.incarnation = incarnation
         self.records = records
         self.events = [record.split(",") for record in records]
-        self.sends = []  # of each number: place, addressee, incarnation, body
-        self.receipts = {}  # place of the Recv of a name
+        # Of each number: place, addressee, incarnation, body.
+        self.sends: list[tuple[int, int, int, str]] = []
+        self.receipts: dict[Name, int] = {}  # place of the Recv of a name
         self.fronts = [0]  # how many events lie before each check and with it
-        self.round_checks = {}  # place of the Check of a round
-        self.marks = {}  # place of the first Mark of a sender and a round
+        self.round_checks: dict[int, int] = {}  # place of the Check of a round
+        # Place of the first Mark of a sender and a round.
+        self.marks: dict[tuple[int, int], int] = {}
         for place, event in enumerate(self.events):
             self.put_down(place, event)
 
-    def put_down(self, place, event):
+    def put_down(self, place: int, event: list[str]) -> None:
         """Puts down where an event stands."""
         kind = event[0]
         if kind == "send":
             self.sends.append((place, int(event[1]), int(event[2]), event[3]))
         elif kind == "recv":
-            name = tuple(map(int, event[1:]))
+            name = name_of(event[1:])
             if name in self.receipts:
                 raise Difference(f"message {name} is received twice")
             self.receipts[name] = place
@@ -50,32 +57,34 @@ class Tape:
 class History:
     """The tapes of all processes, and who received what of whom."""
 
-    def __init__(self, texts):
-        self.tapes = [Tape(*it) for it in zip(texts.incarnations, texts.records)]
+    def __init__(self, texts: Texts) -> None:
+        pairs = zip(texts.incarnations, texts.records)
+        self.tapes = [Tape(incarnation, records) for incarnation, records in pairs]
         self.n = len(self.tapes)
         # By sender: the place of the Send, the receiver, the place of the Recv.
-        self.received = [[] for _ in self.tapes]
+        self.received: list[list[tuple[int, int, int]]] = [[] for _ in self.tapes]
         for q, tape in enumerate(self.tapes):
             for (p, inc, number), place in tape.receipts.items():
                 self.received[p].append((self.sent_at(p, inc, number), q, place))
         for of_one in self.received:
             of_one.sort()
 
-    def sent_at(self, p, inc, number):
+    def sent_at(self, p: int, inc: int, number: int) -> int:
         """The place of the Send of a name on its sender's tape."""
         sends = self.tapes[p].sends
         if number < len(sends) and sends[number][2] == inc:
             return sends[number][0]
         return NOT_SENT
 
-    def whole(self):
+    def whole(self) -> list[int]:
         """How many events each tape has."""
         return [len(tape.events) for tape in self.tapes]
 
 
-def links(history):
+def links(history: History) -> tuple[Links, Links]:
     """What each process sent to each other one and received of it, in order: names and markers."""
-    sent, received = {}, {}
+    sent: Links = {}
+    received: Links = {}
     for p, tape in enumerate(history.tapes):
         number = 0
         for event in tape.events:
@@ -83,7 +92,7 @@ def links(history):
                 sent.setdefault((p, int(event[1])), []).append((p, int(event[2]), number))
                 number += 1
             elif event[0] == "recv":
-                name = tuple(map(int, event[1:]))
+                name = name_of(event[1:])
                 received.setdefault((p, name[0]), []).append(name)
             elif event[0] == "mark":
                 received.setdefault((p, int(event[1])), []).append(int(event[2]))
@@ -94,7 +103,7 @@ def links(history):
     return sent, received
 
 
-def must_fit(history):
+def must_fit(history: History) -> None:
     """Links that keep their order can lead to this history."""
     sent, received = links(history)
     for (q, p), taken in received.items():
@@ -106,19 +115,23 @@ def must_fit(history):
                 raise Difference(f"worker {p} has a mark of round {number} before its check")
 
 
-def surviving(history, lengths, failed, damaged):
+def surviving(
+    history: History, lengths: list[int], failed: set[int], damaged: set[tuple[int, int]]
+) -> Choices:
     """Of each process its surviving choices, each with the events before it, the latest last."""
-    found = []
+    found: Choices = []
     for p, tape in enumerate(history.tapes):
         count = bisect.bisect_right(tape.fronts, lengths[p])
-        choices = [(tape.fronts[k], k) for k in range(count) if (p, k) not in damaged]
+        choices: list[tuple[int, Choice]] = [
+            (tape.fronts[k], k) for k in range(count) if (p, k) not in damaged
+        ]
         if p not in failed:
             choices.append((lengths[p], None))
         found.append(choices)
     return found
 
 
-def latest(history, choices):
+def latest(history: History, choices: Choices) -> tuple[list[Choice], list[int]]:
     """The recovery line: from the latest choices each receiver of an orphan falls behind it."""
     at = [len(it) - 1 for it in choices]
     front = [it[-1][0] for it in choices]
@@ -135,12 +148,13 @@ def latest(history, choices):
     return [choices[p][at[p]][1] for p in range(history.n)], front
 
 
-def front_of(history, lengths, line):
+def front_of(history: History, lengths: list[int], line: list[Choice]) -> list[int]:
     """How many events lie before each choice of a line."""
-    return [lengths[p] if it is None else history.tapes[p].fronts[it] for p, it in enumerate(line)]
+    fronts = [tape.fronts for tape in history.tapes]
+    return [lengths[p] if it is None else fronts[p][it] for p, it in enumerate(line)]
 
 
-def is_consistent(history, front):
+def is_consistent(history: History, front: list[int]) -> bool:
     """Whether no message is received before the line that is not sent before it."""
     for p, of_one in enumerate(history.received):
         for _, q, place in of_one[bisect.bisect_left(of_one, (front[p],)) :]:
@@ -149,7 +163,7 @@ def is_consistent(history, front):
     return True
 
 
-def in_transit(history, front):
+def in_transit(history: History, front: list[int]) -> list[Name]:
     """What is sent before the line and not received before it, by sender, then number."""
     found = []
     for p, tape in enumerate(history.tapes):
@@ -162,7 +176,9 @@ def in_transit(history, front):
     return found
 
 
-def must_lead(history, choices, passed, line):
+def must_lead(
+    history: History, choices: Choices, passed: list[Passed], line: list[Choice]
+) -> None:
     """The entries lead from the latest surviving choices to the line, each by an orphan."""
     at = [len(it) - 1 for it in choices]
     for k, (q, choice, name) in enumerate(passed):
@@ -180,7 +196,13 @@ def must_lead(history, choices, passed, line):
         raise Difference("the entries do not lead to the line")
 
 
-def must_be_planned(history, lengths, failed, damaged, plan):
+def must_be_planned(
+    history: History,
+    lengths: list[int],
+    failed: set[int],
+    damaged: set[tuple[int, int]],
+    plan: Plan,
+) -> None:
     """The plan is the latest line, with entries that lead to it and what is in transit there."""
     choices = surviving(history, lengths, failed, damaged)
     line, front = latest(history, choices)
@@ -195,7 +217,7 @@ def must_be_planned(history, lengths, failed, damaged, plan):
         raise Difference(f"{plan.sweeps} sweeps for {len(plan.passed)} entries")
 
 
-def is_completed(history, lengths, number):
+def is_completed(history: History, lengths: list[int], number: int) -> bool:
     """Whether each tape has its check of a round, and behind it a mark from each other process."""
     for q, tape in enumerate(history.tapes):
         check = tape.round_checks.get(number, NOT_SENT)
@@ -207,7 +229,7 @@ def is_completed(history, lengths, number):
     return True
 
 
-def channel(tape, sender, number):
+def channel(tape: Tape, sender: int, number: int) -> list[Name]:
     """What is received of a sender behind the check of a round and before the sender's mark."""
     check = tape.round_checks[number]
     mark = tape.marks.get((sender, number), NOT_SENT)
@@ -215,12 +237,12 @@ def channel(tape, sender, number):
     return [name for name, place in receipts if name[0] == sender and check < place < mark]
 
 
-def must_be_snapshot(history, number):
+def must_be_snapshot(history: History, number: int) -> None:
     """The checks of a completed round are consistent, and its channels what is in transit there."""
     front = [tape.round_checks[number] + 1 for tape in history.tapes]
     if not is_consistent(history, front):
         raise Difference(f"round {number} has an orphan")
-    there = {}
+    there: dict[tuple[int, int], list[Name]] = {}
     for name in in_transit(history, front):
         there.setdefault((name[0], history.tapes[name[0]].sends[name[2]][1]), []).append(name)
     for q, tape in enumerate(history.tapes):
@@ -229,7 +251,7 @@ def must_be_snapshot(history, number):
                 raise Difference(f"round {number} has another channel from {p} to {q}")
 
 
-def cut(history, lengths, line):
+def cut(history: History, lengths: list[int], line: list[Choice]) -> list[list[str]]:
     """The tapes behind a restart: cut at the line, without marks and rounds."""
     front = front_of(history, lengths, line)
     tapes = []
