@@ -1,5 +1,5 @@
 -- What is left to look at: it stays right by every event and by a restart, and with what is received behind a line it is enough.
-use Rattle.std.proofs.Common.{◌≡◌, ℕ, zero, suc, ◌+◌, ◌<◌, ◌≤◌, Bool, true, false, not, cond, List, [], ◌∷◌, ◌++◌, length, take, drop, get_or, map, filter, Some, refl, sym, ap, ◌∙◌, subst, arith, inl, inr, Result, Ok, Err, OnOk, OnErr, IsErrOf}
+use Rattle.std.proofs.Common.{◌≡◌, ℕ, zero, suc, ◌+◌, ◌<◌, ◌≤◌, Bool, true, false, not, cond, List, [], ◌∷◌, ◌++◌, length, take, drop, get_or, map, filter, Some, refl, sym, ap, ◌∙◌, subst, arith, inl, inr}
 use Rattle.std.specs.List.{Contains, slice_get, flat_map, list_any, range_with_len}
 use Rattle.std.proofs.lemmas.Bool.{cases_lt, false≢true, false_from_ne_true}
 use Rattle.std.proofs.lemmas.List.{take-append-drop, length-append, length-set}
@@ -11,8 +11,6 @@ use Rattle.line_names.specs.Lines.{choice_at}
 use Rattle.line_names.specs.Names.{is_name}
 use Rattle.line_tape.specs.declared.events.Event.{Event}
 use Rattle.line_tape.specs.declared.events.Event.TheVariants.{Recv}
-use Rattle.line_tape.specs.declared.histories.HistoryError.{HistoryError}
-use Rattle.line_tape.specs.declared.histories.HistoryError.TheVariants.{NoSuchProcess}
 use Rattle.line_tape.specs.Event.{incarnation_of, incarnations_sent, sends}
 use Rattle.line_tape.specs.Fit.{IsSentTo}
 use Rattle.line_tape.specs.Front.{place, front}
@@ -179,17 +177,6 @@ AreLeft-restarted history line starts e count are =
           let names : names_received (tape_at (restarted history line) q) ≡ names_received (events_before history line q) = ap names_received (tape_restarted history line q e) ∙ names_restarted (events_before history line q) in
           in-transit history line q m (sender-within history line starts m.from m.number (are m.from) low) i (ap (λ (xs : List ℕ). slice_get xs m.number) (sym tos) ∙ sent.to_is) (ap (list_any (is_name m)) (sym names) ∙ unseen);
     }
-
--- so it stays right whether an event is added or refused
-pub AreLeft-push : (r : Result (Unit {0}) HistoryError) (old new : List Process) (starts : List ℕ) (left : List MsgName) (at : ℕ) (e : Event) → OnOk r (new ≡ with_event old at e) → OnErr r (new ≡ old) → (length old ≤ at → IsErrOf r NoSuchProcess)
-    → AreLeft old starts left → AreLeft new starts left
-AreLeft-push (Ok u) old new starts left at e ok err out are =
-    let within : at < length old = elim (cases_lt at (length old)) [
-      | inl h ↦ h
-      | inr past ↦ absurd (cc (out (omega arith)))
-    ] in
-    subst (λ (h : List Process). AreLeft h starts left) (sym ok) (AreLeft-event old starts left at e within are)
-AreLeft-push (Err f) old new starts left at e ok err out are = subst (λ (h : List Process). AreLeft h starts left) (sym err) are
 
 -- where each send is to be looked at, nothing has to be left
 pub AreLeft-anew : (history : List Process) (starts : List ℕ) (left : List MsgName) → length starts ≡ length history → ((p : ℕ) → start_at starts p ≡ 0) → AreLeft history starts left

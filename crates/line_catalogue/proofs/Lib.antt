@@ -7,3 +7,4 @@ pub mod TableLemmas
 pub mod NumberLemmas
 pub mod OpenLemmas
 pub mod LeftLemmas
+pub mod DamageLemmas

@@ -2,6 +2,7 @@
 ghost use Rattle.std.specs.Prelude.{◌≡◌, ◌<◌, ◌≤◌, ◌↔◌, IsTrue, All, length};
 ghost use Rattle.line_tape.specs.Event.{NamesBelow};
 ghost use Rattle.line_tape.specs.History.{tape_at};
+ghost use Rattle.line_tape.specs.Views.{damaged_at};
 ghost use Rattle.line_catalogue.specs.Agreement.{NameAgrees, EventAgrees, Agrees};
 ghost use Rattle.line_catalogue.specs.Damage.{AreOnChecks};
 
@@ -62,19 +63,18 @@ pub fn agrees(history: &History) -> bool
     true
 }
 
-/// Whether none of the checks is above the last one.
-fn none_above(checks: &[u32], last: u32) -> bool
-    ensures { IsTrue result ↔ All (λ check. check ≤ last) checks.now }
+/// Whether no mark of the process is above the last one of its checks: the latest mark tells.
+fn none_above(marks: &Marks, p: ProcId, last: u32) -> bool
+    requires { p < length marks.now.damaged }
+    ensures { IsTrue result ↔ All (λ check. check ≤ last) (damaged_at marks.now p) }
 {
-    for check in checks {
-        if *check > last {
-            return false;
-        }
+    match marks.latest(p.get() as usize) {
+        Some(latest) => latest <= last,
+        None => true,
     }
-    true
 }
 
-/// Whether each mark is on a check that its tape has. It looks once at each mark.
+/// Whether each mark is on a check that its tape has. It looks at the latest mark of each process.
 pub fn are_on_checks(history: &History, marks: &Marks) -> bool
     requires { length marks.now.damaged ≡ length history.now.processes }
     ensures { IsTrue result ↔ AreOnChecks history.now.processes marks.now }
@@ -82,7 +82,7 @@ pub fn are_on_checks(history: &History, marks: &Marks) -> bool
     let n = history.n();
     for q in 0..n {
         let p = ProcId::try_new(q, n).unwrap();
-        if !none_above(marks.checks(q as usize), history.tape(p).checks()) {
+        if !none_above(marks, p, history.tape(p).checks()) {
             return false;
         }
     }

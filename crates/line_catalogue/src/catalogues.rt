@@ -77,7 +77,7 @@ impl Catalogue {
 
     /// The catalogue of a history and its marks, in memory of its own.
     ///
-    /// It looks once at each event and at each mark.
+    /// It looks once at each event, and asks once for a mark of each check.
     pub fn of(alloc: Global, history: &History, marks: &Marks) -> Result<Catalogue, CatalogueError>
         requires { length marks.now.damaged ≡ length history.now.processes }
         ensures processes { IfOk result (λ catalogue. catalogue.processes ≡ history.now.processes) }
@@ -217,9 +217,10 @@ impl Catalogue {
         self.rows.reserve(p, k)
     }
 
-    /// Adds an event that may come next, in room that was made for it.
+    /// Adds an event that may come next, in room that was made for it: what `add` does where it is not
+    /// refused, for a caller that has made those tests. It takes no memory.
     #[tactic(auto, using(crate::proofs::CatalogueLemmas::lesser_at))]
-    fn append(&mut self, p: ProcId, event: Event)
+    pub fn append(&mut self, p: ProcId, event: Event)
         requires process { p < length self.old.processes }
         requires named { NamesBelow (length self.old.processes) event }
         requires short { HasLongState event → ⊥ }
@@ -235,7 +236,7 @@ impl Catalogue {
         let place = tape.len() + 1;
         let sends = tape.sends();
         self.rows.append(p, &event, place, sends);
-        self.ledger.push(p, event).unwrap();
+        self.ledger.append(p, event);
     }
 
     /// Adds an event at the end of the tape of a process. A check costs a vector; any other event costs the same however much was added before.
@@ -269,7 +270,7 @@ impl Catalogue {
         Ok(())
     }
 
-    /// Marks a check as damaged. It looks at each mark of the process.
+    /// Marks a check as damaged. It costs the logarithm of the marks of the process.
     pub fn damage(&mut self, p: ProcId, check: u32) -> Result<(), DamageError>
         requires { p < length self.old.processes }
         ensures ok { OnOk result (self.new.marks ≡ with_mark self.old.marks p check) }
@@ -328,7 +329,7 @@ impl Catalogue {
 
     /// Has each process go on from its choice of a consistent line, as `History::restart` does, and takes the marks off the checks that it cuts off. It takes no memory and cannot fail.
     ///
-    /// Each message that is received before a consistent line is sent before it, so the history goes on to agree. It looks at the marks of each process that goes back and at one vector of it, at each check that came since the last restart, and otherwise costs what `History::restart` does.
+    /// Each message that is received before a consistent line is sent before it, so the history goes on to agree. It looks at the marks that it takes off, at one more and one vector of each process that goes back, at each check that came since the last restart, and otherwise costs what `History::restart` does.
     pub fn restart(&mut self, line: &Line)
         requires line { IsLine self.old.processes line.now }
         requires consistent { IsConsistent self.old.processes line.now }

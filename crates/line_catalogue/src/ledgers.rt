@@ -1,6 +1,6 @@
 //! A history, and beside it what is left to look at, so that little tells what is in transit.
-ghost use Rattle.std.specs.Prelude.{◌≡◌, ◌≢◌, ◌<◌, ◌≤◌, ◌+◌, ◌↔◌, ◌⊎◌, ℕ, length, replicate};
-ghost use Rattle.std.specs.Prelude.{IfOk, IfSome, IsErrOf, IsOk, OnErr, OnOk};
+ghost use Rattle.std.specs.Prelude.{◌≡◌, ◌≢◌, ◌<◌, ◌≤◌, ◌+◌, ℕ, length, replicate};
+ghost use Rattle.std.specs.Prelude.{IfOk, IfSome, IsOk, OnOk};
 ghost use Rattle.line_tape.specs.Event.{sends, HasLongState, NamesBelow};
 ghost use Rattle.line_tape.specs.History.{tape_at, with_event};
 ghost use Rattle.line_tape.specs.Line.{events_before, IsLine};
@@ -12,7 +12,7 @@ ghost use Rattle.line_catalogue.specs.Left.{start_at, AreLeft};
 use crate::candidates::candidates;
 use crate::transits::add_open;
 use line_names::{Line, MsgName, ProcId};
-use line_tape::{Event, History, HistoryError, MOST_EVENTS};
+use line_tape::{Event, History, MOST_EVENTS};
 use std::alloc::{AllocError, Global};
 use std::marker::Model;
 
@@ -133,25 +133,19 @@ impl Ledger {
         self.history.reserve(p, k)
     }
 
-    /// Adds an event at the end of the tape of a process.
-    pub fn push(&mut self, p: ProcId, event: Event) -> Result<(), HistoryError>
-        ensures ok { OnOk result (self.new.processes ≡ with_event self.old.processes p event) }
-        ensures err { OnErr result (self.new.processes ≡ self.old.processes) }
-        ensures process { IsErrOf result HistoryError.NoSuchProcess
-            ↔ ((length self.old.processes ≤ p)
-            ⊎ (NamesBelow (length self.old.processes) event → ⊥)) }
-        ensures long { IsErrOf result HistoryError.StateTooLong
-            ↔ ((p < length self.old.processes) × NamesBelow (length self.old.processes) event
-            × HasLongState event) }
-        ensures full { IsErrOf result HistoryError.TapeFull
-            ↔ ((p < length self.old.processes) × NamesBelow (length self.old.processes) event
-            × (HasLongState event → ⊥) × (length (tape_at self.old.processes p) ≡ MOST_EVENTS)) }
-        ensures room { 0 < room_at self.old p → result ≢ Err HistoryError.OutOfMemory }
+    /// Adds an event that may come next, in room that was made for it.
+    pub fn append(&mut self, p: ProcId, event: Event)
+        requires process { p < length self.old.processes }
+        requires named { NamesBelow (length self.old.processes) event }
+        requires short { HasLongState event → ⊥ }
+        requires few { length (tape_at self.old.processes p) < MOST_EVENTS }
+        requires room { 0 < room_at self.old p }
+        ensures processes { self.new.processes ≡ with_event self.old.processes p event }
         ensures spent { room_at self.old p ≤ room_at self.new p + 1 }
         ensures others { (q : ℕ) → q ≢ p → room_at self.new q ≡ room_at self.old q }
     {
         let _count = self.starts.len();
-        self.history.push(p, event)
+        self.history.append(p, event);
     }
 
     /// The messages in transit at a line, by sender, then number.

@@ -1,10 +1,11 @@
 //! The rows and vectors of all processes.
-ghost use Rattle.std.specs.Prelude.{◌≡◌, ◌≢◌, ◌<◌, ◌≤◌, ◌+◌, ℕ, [], ◌∷◌, ◌++◌, All, List, length, slice_set, slice_index_or, IfOk, IsOk, OnOk};
+ghost use Rattle.std.specs.Prelude.{◌≡◌, ◌≢◌, ◌<◌, ◌≤◌, ◌+◌, ℕ, [], ◌∷◌, ◌++◌, All, List, length, slice_set, slice_index_or, IfOk, IsOk, OnOk, if◌then◌else◌};
 ghost use Rattle.line_names.specs.declared.choices.Choice.TheVariants.{Check as AtCheck};
 ghost use Rattle.line_names.specs.Lines.{choice_at};
 ghost use Rattle.line_tape.specs.declared.events.Event.{Event};
 ghost use Rattle.line_tape.specs.Event.{checks, sends, NamesBelow};
 ghost use Rattle.line_tape.specs.History.{tape_at};
+ghost use Rattle.line_tape.specs.Survival.{is_damaged};
 ghost use Rattle.line_tape.specs.Views.{damaged_at};
 ghost use Rattle.line_vectors.specs.Reach.{reach_of};
 ghost use Rattle.line_catalogue.specs.Damage.{AreOnChecks};
@@ -70,23 +71,43 @@ fn rows_of_tape(alloc: Global, n: u32, tape: &Tape) -> Result<ProcessRows, Alloc
     Ok(process)
 }
 
-/// The rows of a tape with these damaged checks, and its vector.
-fn rows_of(alloc: Global, n: u32, tape: &Tape, damaged: &[u32]) -> Result<ProcessRows, AllocError>
+/// Notes that a check is damaged, where it has a mark.
+fn note_damage(process: &mut ProcessRows, marks: &Marks, p: ProcId, check: u32)
+    requires { check < length process.old.rows }
+    ensures rows { process.new.rows ≡ (if is_damaged marks.now p check
+        then with_damage process.old.rows check else process.old.rows) }
+    ensures present { process.new.present ≡ process.old.present }
+{
+    if marks.has(p, check) {
+        process.damage(check);
+    }
+}
+
+/// The rows of the tape of a process with its marks, and its vector. It asks once for a mark of
+/// each check.
+fn rows_of(
+    alloc: Global,
+    n: u32,
+    tape: &Tape,
+    marks: &Marks,
+    p: ProcId,
+) -> Result<ProcessRows, AllocError>
     requires few { n ≤ MOST_PROCESSES }
     requires named { All (NamesBelow n) tape.now.events }
-    requires marked { All (λ check. check ≤ checks tape.now.events) damaged.now }
-    ensures rows { IfOk result (λ process. AreRows n tape.now.events damaged.now process.rows) }
+    ensures rows { IfOk result (λ process.
+        AreRows n tape.now.events (damaged_at marks.now p) process.rows) }
     ensures present { IfOk result (λ process. process.present ≡ reach_of n tape.now.events) }
 {
     let mut process = rows_of_tape(alloc, n, tape)?;
-    for check in damaged {
-        process.damage(*check);
+    for check in 0..tape.checks() + 1 {
+        note_damage(&mut process, marks, p, check);
     }
     Ok(process)
 }
 
 impl RowTable {
-    /// The rows of a history and its marks. It looks once at each event and at each mark.
+    /// The rows of a history and its marks. It looks once at each event, and asks once for a mark of
+    /// each check.
     pub fn of(alloc: Global, history: &History, marks: &Marks) -> Result<RowTable, AllocError>
         requires marked { AreOnChecks history.now.processes marks.now }
         requires count { length marks.now.damaged ≡ length history.now.processes }
@@ -101,7 +122,7 @@ impl RowTable {
         let mut table = Vec::with_capacity(alloc, n as usize)?;
         for q in 0..n {
             let p = ProcId::try_new(q, n).unwrap();
-            let process = rows_of(alloc, n, history.tape(p), marks.checks(q as usize))?;
+            let process = rows_of(alloc, n, history.tape(p), marks, p)?;
             table.push(process)?;
         }
         Ok(RowTable { table })

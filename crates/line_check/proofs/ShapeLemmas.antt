@@ -1,5 +1,5 @@
 -- Marks of damage, mark by mark and process by process.
-use Rattle.std.proofs.Common.{◌≡◌, ℕ, ◌<◌, ◌==◌, true, List, [], length, get_or, slice_index_or, IsTrue, All, refl, ◌∙◌, subst, inl, inr}
+use Rattle.std.proofs.Common.{◌≡◌, ℕ, ◌<◌, ◌≤◌, ◌==◌, true, List, [], length, get_or, slice_index_or, IsTrue, All, refl, ◌∙◌, subst, inl, inr, arith}
 use Rattle.std.specs.List.{list_any}
 use Rattle.std.proofs.lemmas.Bool.{cases_lt, eqb-true, eq-eqb, false≢true}
 use Rattle.std.proofs.lemmas.List.{get_or_past}
@@ -10,10 +10,16 @@ use Rattle.line_tape.specs.Views.{MarksView}
 use Rattle.line_check.specs.Shape.{IsCheckOf}
 
 -- a number that is looked for and found in a list of which something holds
-All-found : (P : ℕ → Type 0) (xs : List ℕ) (c : ℕ) → All P xs → list_any (λ x. x == c) xs ≡ true → P c
+pub All-found : (P : ℕ → Type 0) (xs : List ℕ) (c : ℕ) → All P xs → list_any (λ x. x == c) xs ≡ true → P c
 All-found P xs c all found =
     let (k, x, within, at, same) = Any-from_list_any (λ x. x == c) xs found in
     subst P (at ∙ eqb-true x c same) (all k x within)
+
+-- where a process has a check, it has each one before it
+pub checks-before : (history : List Process) (p c : ℕ) (xs : List ℕ) → IsCheckOf history p c
+    → All (λ x. x ≤ c) xs → All (IsCheckOf history p) xs
+checks-before history p c xs is before =
+    λ k d l. record { process = is.process; check = omega (arith, is.check, before k d l) }
 
 module _ (history : List Process) (marks : MarksView) where
   -- what holds of the marks of each process holds of each mark

@@ -1,7 +1,8 @@
 //! Whether a claim names only what a history has.
-ghost use Rattle.std.specs.Prelude.{◌<◌, ◌↔◌, ℕ, IsTrue, All};
+ghost use Rattle.std.specs.Prelude.{◌<◌, ◌↔◌, ℕ, IsTrue, All, length};
 ghost use Rattle.line_tape.specs.Event.{checks};
 ghost use Rattle.line_tape.specs.Survival.{is_damaged};
+ghost use Rattle.line_tape.specs.Views.{damaged_at};
 ghost use Rattle.line_check.specs.Shape.{IsEntryOf, IsCheckOf, HasShape};
 
 use line_names::{Line, Passed, ProcId, ProcSet};
@@ -29,22 +30,27 @@ fn are_entries_of(history: &History, entries: &[Passed]) -> bool
     true
 }
 
-/// Whether these are checks of the process of that number.
-fn are_checks_of(history: &History, p: usize, damaged: &[u32]) -> bool
-    ensures { IsTrue result ↔ All (IsCheckOf history.now.processes p) damaged.now }
+/// Whether the history has the process of that number, and this check of it.
+fn is_check_of(history: &History, p: usize, check: u32) -> bool
+    ensures { IsTrue result ↔ IsCheckOf history.now.processes p check }
 {
     let n = history.n();
     if p >= n as usize {
-        return damaged.is_empty();
+        return false;
     }
     let at = ProcId::try_new(p as u32, n).unwrap();
-    let last = history.tape(at).checks();
-    for check in damaged {
-        if *check > last {
-            return false;
-        }
+    check <= history.tape(at).checks()
+}
+
+/// Whether the marks of the process of that number are on checks that there are: the latest tells.
+fn are_checks_of(history: &History, marks: &Marks, p: usize) -> bool
+    requires { p < length marks.now.damaged }
+    ensures { IsTrue result ↔ All (IsCheckOf history.now.processes p) (damaged_at marks.now p) }
+{
+    match marks.latest(p) {
+        Some(check) => is_check_of(history, p, check),
+        None => true,
     }
-    true
 }
 
 /// Whether each mark of damage is on a check that there is.
@@ -52,14 +58,15 @@ fn are_marks_of(history: &History, marks: &Marks) -> bool
     ensures { IsTrue result ↔ ((p c : ℕ) → IsTrue (is_damaged marks.now p c) → IsCheckOf history.now.processes p c) }
 {
     for p in 0..marks.processes() {
-        if !are_checks_of(history, p, marks.checks(p)) {
+        if !are_checks_of(history, marks, p) {
             return false;
         }
     }
     true
 }
 
-/// Whether the claim names only processes, choices and checks that the history has. It looks at each entry and each mark.
+/// Whether the claim names only processes, choices and checks that the history has. It looks at each
+/// entry, and at the latest mark of each process.
 pub(crate) fn has_shape(
     history: &History,
     marks: &Marks,

@@ -35,3 +35,4 @@ pub mod AheadLemmas
 pub mod SeatLemmas
 pub mod NotedLemmas
 pub mod FirstLemmas
+pub mod MarkedLemmas

@@ -19,3 +19,4 @@ pub mod Spent
 pub mod Copies
 pub mod Colours
 pub mod Turns
+pub mod Marked

@@ -1,6 +1,6 @@
 //! Events, and the states that checks store.
 ghost use Rattle.std.specs.Prelude.{◌≡◌, ◌↔◌, IsTrue, IfOk, MatchOption, Some, None};
-ghost use Rattle.line_tape.specs.Event.{is_check, state_of, NamesBelow};
+ghost use Rattle.line_tape.specs.Event.{is_check, state_of, HasLongState, IsShort, NamesBelow};
 
 use line_names::{Body, MsgName, ProcId};
 use std::alloc::{AllocError, Global};
@@ -76,6 +76,25 @@ impl Event {
             Event::Recv { message } => message.from.get() < n,
             Event::Check { .. } => true,
             Event::Mark { from, .. } => from.get() < n,
+        }
+    }
+
+    /// What has no long state is short, since no body is too long.
+    ///
+    /// The call does nothing: its contract is the law.
+    pub(crate) fn is_short_without_long_state(&self)
+        requires { HasLongState self.now → ⊥ }
+        ensures { IsShort self.now }
+    {
+        match self {
+            Event::Send { body, .. } => {
+                let _bytes = body.bytes();
+            }
+            Event::Recv { .. } => {}
+            Event::Check { state, .. } => {
+                let _bytes = state.bytes();
+            }
+            Event::Mark { .. } => {}
         }
     }
 

@@ -131,6 +131,23 @@ impl History {
         self.processes[p.get() as usize].tape.reserve(k)
     }
 
+    /// Adds an event at the end of the tape of a process, in room that was made for it: what `push`
+    /// does where it is not refused, for a caller that has made those tests. It takes no memory and
+    /// costs a constant.
+    pub fn append(&mut self, p: ProcId, event: Event)
+        requires process { p < length self.old.processes }
+        requires named { NamesBelow (length self.old.processes) event }
+        requires short { HasLongState event → ⊥ }
+        requires few { length (tape_at self.old.processes p) < MOST_EVENTS }
+        requires room { 0 < room_at self.old p }
+        ensures processes { self.new.processes ≡ with_event self.old.processes p event }
+        ensures spent { room_at self.old p ≤ room_at self.new p + 1 }
+        ensures others { (q : ℕ) → q ≢ p → room_at self.new q ≡ room_at self.old q }
+    {
+        event.is_short_without_long_state();
+        self.processes[p.get() as usize].tape.append(event);
+    }
+
     /// Adds an event at the end of the tape of a process.
     pub fn push(&mut self, p: ProcId, event: Event) -> Result<(), HistoryError>
         ensures ok { OnOk result (self.new.processes ≡ with_event self.old.processes p event) }

@@ -1,19 +1,25 @@
 //! Marks of damage.
-ghost use Rattle.std.specs.Prelude.{◌≡◌, ◌≢◌, ◌<◌, ◌≤◌, ◌↔◌, [], IsTrue, length, filter, replicate, slice_index_or, IfOk, OnOk, OnErr, IsErrOf};
+ghost use Rattle.std.specs.Prelude.{◌≡◌, ◌≢◌, ◌<◌, ◌≤◌, ◌↔◌, ◌-◌, ◌==◌, ℕ, false, [], ◌∷◌, ◌++◌, All, IsTrue, length, filter, replicate, slice_get, IfOk, IfSome, None, OnOk, OnErr, IsErrOf, Some};
+ghost use Rattle.std.specs.List.{list_any};
+ghost use Rattle.line_names.specs.declared.choices.Choice.TheVariants.{Check as AtCheck};
+ghost use Rattle.line_tape.specs.Marked.{checks_marked, AreNumbered};
 ghost use Rattle.line_tape.specs.Restart.{is_kept, restarted_marks};
 ghost use Rattle.line_tape.specs.Survival.{is_damaged};
-ghost use Rattle.line_tape.specs.Views.{with_mark};
+ghost use Rattle.line_tape.specs.Views.{damaged_at, with_mark};
 
 use line_names::{Choice, Line, ProcId};
 use std::alloc::{AllocError, Global};
+use std::collections::BTreeMap;
 use std::error::Error;
 use std::fmt;
 use std::marker::Model;
 
-/// The damaged checks of one process.
+/// The damaged checks of one process, each with the number of its mark: marks are numbered in the
+/// order in which they are made.
 #[derive(Drop)]
 struct Damaged {
-    checks: Vec<u32>,
+    numbers: BTreeMap<u32, u64>,
+    next: u64,
 }
 
 impl Model for Damaged {
@@ -21,18 +27,103 @@ impl Model for Damaged {
 
     ghost Value = { List ℕ };
 
-    ghost view = { λ d. d.checks.items };
+    ghost use Rattle.line_tape.specs.Marked.{checks_marked, AreNumbered};
+
+    ghost view = { λ d. checks_marked d.numbers.entries };
+
+    ghost invariant = { λ d. AreNumbered d.next d.numbers.entries };
+}
+
+/// The greatest check that has a mark.
+fn greatest(numbers: &BTreeMap<u32, u64>) -> Option<u32>
+    ensures none { (result ≡ None) ↔ (numbers.now.entries ≡ []) }
+    ensures last { IfSome result (λ check. (number : ℕ)
+        × (slice_get numbers.now.entries (length numbers.now.entries - 1) ≡ Some (check, number))) }
+    ensures greatest { IfSome result (λ check. All (λ mark. mark.0 ≤ check) numbers.now.entries) }
+{
+    match numbers.last_key_value() {
+        Some((check, _)) => Some(*check),
+        None => None,
+    }
+}
+
+/// Takes off the marks of the checks after this one. It takes no memory, and looks at the marks that
+/// it takes off and at one more.
+fn cut_after(numbers: &mut BTreeMap<u32, u64>, last: u32)
+    ensures kept { checks_marked numbers.new.entries
+        ≡ filter (is_kept (AtCheck last)) (checks_marked numbers.old.entries) }
+    ensures numbered { (next : ℕ) → AreNumbered next numbers.old.entries
+        → AreNumbered next numbers.new.entries }
+{
+    while let Some(check) = greatest(numbers) {
+        if check <= last {
+            return;
+        }
+        let _ = numbers.pop_last();
+    }
 }
 
 impl Damaged {
+    /// No marks yet.
+    fn new(alloc: Global) -> Damaged
+        ensures { result ≡ [] }
+    {
+        Damaged {
+            numbers: BTreeMap::new(alloc),
+            next: 0,
+        }
+    }
+
+    /// Whether a check carries a mark.
+    fn has(&self, check: u32) -> bool
+        ensures { result ≡ list_any (λ damaged. damaged == check) self.now }
+    {
+        self.numbers.contains_key(&check)
+    }
+
+    /// Marks a check that has no mark yet.
+    fn mark(&mut self, check: u32) -> Result<(), AllocError>
+        requires { list_any (λ damaged. damaged == check) self.old ≡ false }
+        ensures ok { OnOk result (self.new ≡ self.old ++ check ∷ []) }
+        ensures err { OnErr result (self.new ≡ self.old) }
+    {
+        let Some(next) = self.next.checked_add(1) else {
+            return Err(AllocError);
+        };
+        self.numbers.insert(check, self.next)?;
+        self.next = next;
+        Ok(())
+    }
+
     /// Takes the marks off the checks that come after a choice.
     fn restart(&mut self, choice: Choice)
         ensures { self.new ≡ filter (is_kept choice) self.old }
     {
         match choice {
-            Choice::Check(last) => self.checks.retain(|check| *check <= last),
+            Choice::Check(last) => cut_after(&mut self.numbers, last),
             Choice::Now => {}
         }
+    }
+
+    /// The latest damaged check.
+    fn latest(&self) -> Option<u32>
+        ensures none { (result ≡ None) ↔ (self.now ≡ []) }
+        ensures marked { IfSome result (λ check.
+            IsTrue (list_any (λ damaged. damaged == check) self.now)) }
+        ensures latest { IfSome result (λ check. All (λ damaged. damaged ≤ check) self.now) }
+    {
+        greatest(&self.numbers)
+    }
+
+    /// The same marks in memory of their own.
+    fn copy(&self) -> Result<Damaged, AllocError>
+        ensures { IfOk result (λ damaged. damaged ≡ self.now) }
+    {
+        let numbers = self.numbers.clone()?;
+        Ok(Damaged {
+            numbers,
+            next: self.next,
+        })
     }
 }
 
@@ -59,14 +150,12 @@ impl Marks {
     {
         let mut damaged = Vec::with_capacity(alloc, n as usize)?;
         for _p in 0..n {
-            damaged.push(Damaged {
-                checks: Vec::new(alloc),
-            })?;
+            damaged.push(Damaged::new(alloc))?;
         }
         Ok(Marks { damaged })
     }
 
-    /// Marks a check as damaged. It looks at each mark of the process.
+    /// Marks a check as damaged. It costs the logarithm of the marks of the process.
     pub fn mark(&mut self, p: ProcId, check: u32) -> Result<(), MarkError>
         requires { p < length self.old.damaged }
         ensures ok { OnOk result (self.new ≡ with_mark self.old p check) }
@@ -84,11 +173,12 @@ impl Marks {
             return Err(MarkError::AlreadyDamaged);
         }
         let damaged = &mut self.damaged[p.get() as usize];
-        damaged.checks.push(check).map_err(AllocError::from)?;
+        damaged.mark(check)?;
         Ok(())
     }
 
-    /// Takes the marks off the checks that a restart at a line cuts off. It takes no memory.
+    /// Takes the marks off the checks that a restart at a line cuts off. It takes no memory, and
+    /// looks at the marks that it takes off and at one more of each process.
     pub fn restart(&mut self, line: &Line)
         requires { length self.old.damaged ≤ length line.now }
         ensures { self.new ≡ restarted_marks self.old line.now }
@@ -99,12 +189,12 @@ impl Marks {
         }
     }
 
-    /// Whether a check carries a mark. It looks at each mark of the process.
+    /// Whether a check carries a mark. It costs the logarithm of the marks of the process.
     pub fn has(&self, p: ProcId, check: u32) -> bool
         ensures { result ≡ is_damaged self.now p check }
     {
         match self.damaged.get(p.get() as usize) {
-            Some(damaged) => damaged.checks.contains(&check),
+            Some(damaged) => damaged.has(check),
             None => false,
         }
     }
@@ -116,12 +206,16 @@ impl Marks {
         self.damaged.len()
     }
 
-    /// The damaged checks of the process of that number, in the order in which they were marked.
-    pub fn checks(&self, p: usize) -> &[u32]
+    /// The latest damaged check of the process of that number, if it has one. It costs the logarithm
+    /// of the marks of the process.
+    pub fn latest(&self, p: usize) -> Option<u32>
         requires { p < length self.now.damaged }
-        ensures { result.now ≡ slice_index_or self.now.damaged p [] }
+        ensures none { (result ≡ None) ↔ (damaged_at self.now p ≡ []) }
+        ensures marked { IfSome result (λ check. IsTrue (is_damaged self.now p check)) }
+        ensures latest { IfSome result (λ check.
+            All (λ damaged. damaged ≤ check) (damaged_at self.now p)) }
     {
-        self.damaged[p].checks.as_slice()
+        self.damaged[p].latest()
     }
 
     /// The same marks in memory of their own.
@@ -130,9 +224,7 @@ impl Marks {
     {
         let mut damaged = Vec::with_capacity(alloc, self.damaged.len())?;
         for process in &self.damaged {
-            damaged.push(Damaged {
-                checks: Vec::from_slice(alloc, process.checks.as_slice())?,
-            })?;
+            damaged.push(process.copy()?)?;
         }
         Ok(Marks { damaged })
     }

@@ -300,6 +300,7 @@ impl Tape {
         requires short { IsShort event }
         ensures events { self.new.events ≡ self.old.events ++ event ∷ [] }
         ensures room { self.old.room ≤ self.new.room + 1 }
+        ensures limits { IsTape self.new.events }
     {
         note_event(
             &event,

@@ -1,22 +1,41 @@
--- One mark more, and its row.
-use Rattle.std.proofs.Common.{◌≡◌, ◌+◌, ◌++◌, ◌∷◌, [], ◌≤◌, List, ℕ, take, get_or, sym, ◌∙◌, subst}
-use Rattle.std.proofs.lemmas.List.{take_more}
+-- One check more is told of, up to all of them.
+use Rattle.std.proofs.Common.{◌+◌, ◌≤◌, ◌<◌, ℕ, List, sym, ◌∙◌, subst, arith}
 use Rattle.line_tape.specs.declared.events.Event.{Event}
 use Rattle.line_tape.specs.Event.{checks}
-use Rattle.line_catalogue.specs.Rows.{AreRows}
-use Rattle.line_catalogue.proofs.CheckLemmas.{AreRows-damage}
+use Rattle.line_tape.specs.Views.{damaged_at}
+use Rattle.line_catalogue.specs.declared.rows.Row.{Row}
+use Rattle.line_catalogue.proofs.DamageLemmas.{AreTold, AreTold-none, AreTold-more, AreTold-all}
 use Rattle.line_catalogue.proofs.tables.rows_of.Goals as goal
+
+pub loop-check-init : goal.loop-check-init
+loop-check-init c = record {
+  rows = AreTold-none c.args.n c.args.tape.now.events (damaged_at c.args.marks.now c.args.p)
+      c.in_ok-process.process.rows c.in_ok-process.ensures.rows;
+  present = c.in_ok-process.ensures.present;
+}
 
 pub loop-check-preserved : goal.loop-check-preserved
 loop-check-preserved c =
     let n : ℕ = c.args.n in
     let tape : List Event = c.args.tape.now.events in
-    let damaged : List ℕ = c.args.damaged.now in
-    let i : ℕ = c.loop-check.check-index in
-    let check : ℕ = get_or damaged i 0 in
-    let more : take (i + 1) damaged ≡ take i damaged ++ check ∷ [] = take_more damaged i 0 c.loop-check-test.true in
-    let within : check ≤ checks tape = c.requires.marked i 0 c.loop-check-test.true in
+    let damaged : List ℕ = damaged_at c.args.marks.now c.args.p in
+    let check : ℕ = c.loop-check.check in
+    let rows : List Row = c.loop-check.process.rows in
+    let within : check ≤ checks tape =
+    omega (arith, c.loop-check-test.true, c.checks-check-end.ensures.value) in
     record {
-      rows = subst (λ (xs : List ℕ). AreRows n tape xs c.damage.new.self.rows) (sym more) (subst (AreRows n tape (take i damaged ++ check ∷ [])) (sym c.damage.ensures.rows) (AreRows-damage n tape (take i damaged) c.loop-check.process.rows check within c.loop-check.invariant.rows));
-      present = c.damage.ensures.present ∙ c.loop-check.invariant.present;
+      rows = subst (AreTold n tape damaged (check + 1)) (sym c.note_damage.ensures.rows)
+          (AreTold-more n tape damaged check rows within c.loop-check.invariant.rows);
+      present = c.note_damage.ensures.present ∙ c.loop-check.invariant.present;
+    }
+
+pub returns : goal.returns
+returns c =
+    let tape : List Event = c.args.tape.now.events in
+    let past : checks tape < c.loop-check.check =
+    omega (arith, c.loop-check-test.false, c.checks-check-end.ensures.value) in
+    record {
+      rows = AreTold-all c.args.n tape (damaged_at c.args.marks.now c.args.p) c.loop-check.check
+          c.loop-check.process.rows past c.loop-check.invariant.rows;
+      present = c.loop-check.invariant.present;
     }

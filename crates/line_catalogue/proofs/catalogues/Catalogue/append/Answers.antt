@@ -1,10 +1,7 @@
 -- The history takes the event, which agrees with it, and the rows tell of it.
-use Rattle.std.proofs.Common.{◌≡◌, ◌≢◌, ◌+◌, ◌<◌, ℕ, List, length, set, inl, inr, refl, sym, ap, ◌∙◌, subst, arith}
-use Rattle.std.specs.Prelude.{Result, Ok, Err, IsOk}
-use Rattle.std.proofs.lemmas.Result.{IfOk-at_ok}
+use Rattle.std.proofs.Common.{◌≡◌, ◌≢◌, ◌+◌, ◌<◌, ◌≤◌, ℕ, List, length, set, inl, inr, sym, ap, ◌∙◌, subst, arith}
+use Rattle.std.proofs.lemmas.Bool.{cases_lt}
 use Rattle.line_tape.specs.declared.events.Event.{Event}
-use Rattle.line_tape.specs.declared.histories.HistoryError.{HistoryError}
-use Rattle.line_tape.specs.declared.histories.HistoryError.TheVariants.{OutOfMemory, NoSuchProcess, StateTooLong, TapeFull}
 use Rattle.line_tape.specs.declared.limits.TheConstants.{MOST_EVENTS}
 use Rattle.line_tape.specs.Event.{sends, NamesBelow}
 use Rattle.line_tape.specs.Views.{HistoryView, MarksView}
@@ -17,27 +14,26 @@ use Rattle.line_catalogue.specs.Views.{CatalogueView, room_at}
 use Rattle.line_catalogue.proofs.CatalogueLemmas.{IsCatalogue-event, length-present, lesser_at}
 use Rattle.line_catalogue.proofs.catalogues.Catalogue.append.Goals as goal
 
--- what is refused for no reason is taken
-taken : (r : Result (Unit {0}) HistoryError) → (r ≡ Err OutOfMemory → ⊥) → (r ≡ Err NoSuchProcess → ⊥) → (r ≡ Err StateTooLong → ⊥) → (r ≡ Err TapeFull → ⊥) → IsOk r
-taken (Ok x) memory process long full = refl
-taken (Err OutOfMemory) memory process long full = absurd (memory refl)
-taken (Err NoSuchProcess) memory process long full = absurd (process refl)
-taken (Err StateTooLong) memory process long full = absurd (long refl)
-taken (Err TapeFull) memory process long full = absurd (full refl)
+pub append-requires-2-clause-process : goal.append-requires-2-clause-process
+append-requires-2-clause-process c = omega (arith, c.requires.process, ap (λ (v : CatalogueView). length v.processes) c.self.view_is)
 
-pub unwrap-requires : goal.unwrap-requires
-unwrap-requires c =
+pub append-requires-2-clause-named : goal.append-requires-2-clause-named
+append-requires-2-clause-named c = subst (λ (v : CatalogueView). NamesBelow (length v.processes) c.args.event) (sym c.self.view_is) c.requires.named
+
+pub append-requires-2-clause-few : goal.append-requires-2-clause-few
+append-requires-2-clause-few c =
     let history : List Process = c.self.inside.ledger.processes in
-    let seen : history ≡ c.args.self.now.processes = ap (λ (v : CatalogueView). v.processes) c.self.view_is in
-    let within : c.args.p < length history = omega (arith, c.requires.process, ap (λ (xs : List Process). length xs) seen) in
-    let named : NamesBelow (length history) c.args.event = subst (λ (xs : List Process). NamesBelow (length xs) c.args.event) (sym seen) c.requires.named in
-    let few : length (tape_at history c.args.p) ≢ MOST_EVENTS = subst (λ (xs : List Process). length (tape_at xs c.args.p) ≢ MOST_EVENTS) (sym seen) c.requires.few in
-    let room = lesser_at c.self.inside.ledger.rooms c.self.inside.rows.rooms c.args.p in
-    taken c.push.result
-    (c.push.ensures.room (omega (arith, c.requires.room, ap (λ (v : CatalogueView). room_at v c.args.p) c.self.view_is, room)))
-    (λ e. elim (c.push.ensures.process.0 e) [ inl past ↦ absurd (omega arith) | inr unnamed ↦ unnamed named ])
-    (λ e. c.requires.short (c.push.ensures.long.0 e).2)
-    (λ e. few (c.push.ensures.full.0 e).3)
+    let tape_is : c.tape-tape.result.now.events ≡ tape_at history c.args.p = c.tape-tape.ensures.events ∙ ap (λ (v : HistoryView). tape_at v.processes c.args.p) c.history.ensures in
+    let few : length (tape_at history c.args.p) ≢ MOST_EVENTS = subst (λ (v : CatalogueView). length (tape_at v.processes c.args.p) ≢ MOST_EVENTS) (sym c.self.view_is) c.requires.few in
+    let most : length (tape_at history c.args.p) ≤ MOST_EVENTS = subst (λ (es : List Event). length es ≤ MOST_EVENTS) tape_is c.len-place.ensures.limits.few in
+    elim (cases_lt (length (tape_at history c.args.p)) MOST_EVENTS) [
+      | inl less ↦ less
+      | inr past ↦ absurd (few (omega (arith, most, past)))
+    ]
+
+pub append-requires-2-clause-room : goal.append-requires-2-clause-room
+append-requires-2-clause-room c =
+    omega (arith, c.requires.room, ap (λ (v : CatalogueView). room_at v c.args.p) c.self.view_is, lesser_at c.self.inside.ledger.rooms c.self.inside.rows.rooms c.args.p)
 
 pub append-requires-clause-named : goal.append-requires-clause-named
 append-requires-clause-named c =
@@ -63,7 +59,7 @@ invariant_of-self c =
     let tape_is : c.tape-tape.result.now.events ≡ tape_at history p = c.tape-tape.ensures.events ∙ ap (λ (v : HistoryView). tape_at v.processes p) c.history.ensures in
     let place_is : place ≡ length (tape_at history p) + 1 = ap (λ k. k + 1) (c.len-place.ensures.value ∙ ap (λ (es : List Event). length es) tape_is) in
     let sent_is : c.sends-sends.result ≡ sends (tape_at history p) = c.sends-sends.ensures.value ∙ ap sends tape_is in
-    let grown : c.push.new.self.processes ≡ with_event history p event = IfOk-at_ok (λ x. c.push.new.self.processes ≡ with_event history p event) c.unwrap.ensures c.push.ensures.ok in
+    let grown : c.append-2.new.self.processes ≡ with_event history p event = c.append-2.ensures.processes in
     subst (λ (xs : List Process). IsCatalogue xs marks c.append.new.self.rows c.append.new.self.presents) (sym grown)
     (subst (λ (ys : List (List ℕ)). IsCatalogue (with_event history p event) marks c.append.new.self.rows ys) (sym c.append.ensures.presents)
     (subst (λ (xs : List (List Row)). IsCatalogue (with_event history p event) marks xs (set presents p (heard_more (present_at presents p) event))) (sym c.append.ensures.rows)

@@ -30,3 +30,12 @@ invariant_of-self c =
       received = c.note.ensures.names ∙ ap (λ (names : List MsgName). names ++ names_received (event ∷ [])) c.self.invariant.received ∙ sym (filter_map-append received_name items (event ∷ [])) ∙ ap names_received (sym pushed);
       unchanged = subst (λ (xs : List Event). AreSettled xs c.self.inside.settled) (sym pushed) (AreSettled-push items event c.self.inside.settled c.self.invariant.unchanged);
     }
+
+pub returns-clause-limits : goal.returns-clause-limits
+returns-clause-limits c =
+    let items : List Event = c.self.inside.events.items in
+    let event : Event = c.args.event in
+    let seen : items ≡ c.args.self.now.events = ap (λ (t : TapeView). t.events) c.self.view_is in
+    let few : length items < MOST_EVENTS = omega (arith, ap (λ (xs : List Event). length xs) seen, c.requires.few) in
+    let pushed : c.push.new.self.items ≡ items ++ event ∷ [] = search rules in
+    subst IsTape (sym pushed) (IsTape-push items event few c.requires.short c.self.invariant.tape)
