@@ -56,7 +56,7 @@ MayCome n me tape (Mark from r) = (from < n) × (from ≢ me) × (has_check_of r
 abbrev pub IsOpen : ℕ → ℕ → ℕ → List Recorded → Type 0
 IsOpen n me floor rounds =
     (floor < latest floor rounds)
-    × (IsOver (record { n = n; me = me; floor = floor; rounds = rounds; room = 0 })
+    × (IsOver (record { n = n; me = me; floor = floor; rounds = rounds; room = 0; round_room = 0 })
     (latest floor rounds) → ⊥)
 
 -- of the same process of the same computation

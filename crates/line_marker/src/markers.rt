@@ -52,6 +52,7 @@ impl Model for Marker {
       floor = m.floor;
       rounds = map (recorded_of (names_of m.logs)) m.rounds.items;
       room = min (room_of m.logs) (min (vec_capacity m.rounds - vec_len m.rounds) (vec_capacity m.row + 1 - length m.logs));
+      round_room = min (vec_capacity m.rounds - vec_len m.rounds) (vec_capacity m.row + 1 - length m.logs);
     } };
 
     ghost invariant = { λ m. (m.row.items ≡ []) × AreKept (names_of m.logs) m.floor m.rounds.items × ArePassed m.passed.items (length m.logs) m.rounds.items };
@@ -175,6 +176,7 @@ impl Marker {
         ensures err { OnErr result (self.new.rounds ≡ self.old.rounds) }
         ensures same { IsSameProcess self.old self.new }
         ensures room { 0 < self.old.room → IsOk result }
+        ensures round_room { 0 < self.old.round_room → IsOk result }
     {
         let n = self.logs.len();
         let place = self.rounds.len();
@@ -199,6 +201,7 @@ impl Marker {
         ensures same { IsSameProcess self.old self.new }
         ensures not_new { IsErrOf result BeginError.RoundNotNew ↔ (round ≤ latest self.old.floor self.old.rounds) }
         ensures room { 0 < self.old.room → result ≢ Err BeginError.OutOfMemory }
+        ensures round_room { 0 < self.old.round_room → result ≢ Err BeginError.OutOfMemory }
     {
         if round <= self.latest() {
             return Err(BeginError::RoundNotNew);
@@ -219,6 +222,7 @@ impl Marker {
         ensures same { IsSameProcess self.old self.new }
         ensures repeated { IsErrOf result MarkerError.MarkerRepeated ↔ IsRepeated self.old.rounds from round }
         ensures room { 0 < self.old.room → result ≢ Err MarkerError.OutOfMemory }
+        ensures round_room { 0 < self.old.round_room → result ≢ Err MarkerError.OutOfMemory }
     {
         match self.place(round) {
             Some(i) => {
@@ -286,6 +290,22 @@ impl Marker {
         }
     }
 
+    /// Makes room: the next call of `begin` or `on_marker` takes no memory. A further one may use it up.
+    ///
+    /// It looks at no log of messages: who notes none before the next round makes room by this call alone.
+    pub fn reserve_round(&mut self) -> Result<(), AllocError>
+        ensures rounds { self.new.rounds ≡ self.old.rounds }
+        ensures same { IsSameProcess self.old self.new }
+        ensures ok { OnOk result (0 < self.new.round_room) }
+        ensures succeeds { 0 < self.old.round_room → IsOk result }
+        ensures room { 0 < self.old.room → IsOk result }
+        ensures kept { (self.old.room ≤ self.new.room) × (self.old.round_room ≤ self.new.round_room) }
+    {
+        let processes = self.logs.len();
+        self.row.reserve(processes)?;
+        self.rounds.reserve(1)
+    }
+
     /// Makes room: the next call of `begin`, `on_marker` or `note` takes no memory. A further one may use it up.
     pub fn reserve(&mut self) -> Result<(), AllocError>
         ensures rounds { self.new.rounds ≡ self.old.rounds }
@@ -293,10 +313,9 @@ impl Marker {
         ensures ok { OnOk result (0 < self.new.room) }
         ensures succeeds { 0 < self.old.room → IsOk result }
         ensures room { self.old.room ≤ self.new.room }
+        ensures round_room { self.old.round_room ≤ self.new.round_room }
     {
-        let n = self.logs.len();
-        self.logs.reserve()?;
-        self.row.reserve(n)?;
-        self.rounds.reserve(1)
+        self.reserve_round()?;
+        self.logs.reserve()
     }
 }

@@ -1,5 +1,7 @@
 pub mod RoomLemmas
+pub mod CountLemmas
 pub mod LinkLemmas
+pub mod ListingLemmas
 pub mod FateLemmas
 pub mod RecordingLemmas
 pub mod OpeningLemmas

@@ -176,26 +176,26 @@ recorded_is history round is p q p_within q_within apart begun =
     ap (λ (o : Option Recorded). unwrap_or (messages_by o p) []) (recorded_there n q r (tape_at history q) (marker_at round.markers q).rounds one)
     ∙ ap (λ (c : Channel). c.messages) (one.channels p p_within apart)
 
--- the round that is completed, as it is listed
-pub completed_is : (history : List Process) (turning : TurningView) (markers : List MarkerView) → AreMarkers (length turning.checks) markers
+-- the round that is completed, as it is listed: with what was recorded, or with as much as has the same channels
+pub completed_is : (history : List Process) (turning : TurningView) (markers kept : List MarkerView) → AreMarkers (length turning.checks) markers
     → IsRecording history (record { number = turning.number; checks = turning.checks; markers = markers }) → is_completed_fifo history turning.number ≡ true
-    → (let round : Listed = record { number = turning.number; checks = turning.checks; channels = recorded_table markers turning.number } in round) ≡ listed Fifo history turning.number
-completed_is history turning markers are is completed =
+    → ((p q : ℕ) → p < length history → recorded_channel kept turning.number p q ≡ recorded_channel markers turning.number p q)
+    → (let round : Listed = record { number = turning.number; checks = turning.checks; channels = recorded_table (length turning.checks) kept turning.number } in round) ≡ listed Fifo history turning.number
+completed_is history turning markers kept are is completed same_channels =
     let n : ℕ = length history in
     let r : ℕ = turning.number in
     let round : OpenView = record { number = r; checks = turning.checks; markers = markers } in
-    let count : length markers ≡ n = are.count ∙ is.turning.count in
     let has : (q : ℕ) → q < n → has_check_of r (tape_at history q) ≡ true = λ q within. closed_has_check history r q completed within in
     let indices_are : turning.checks ≡ checks_of history r = IsTurning-checked history turning is.turning (completed_checked history r completed) in
-    let channels_are : recorded_table markers r ≡ channel_table n (channel Fifo history r) =
-    ap (λ (v : ℕ). channel_table v (recorded_channel markers r)) count
-    ∙ map_cells (λ p. map (λ q. cond (p == q) [] (recorded_channel markers r p q)) (range_with_len 0 n)) (λ p. map (λ q. cond (p == q) [] (channel_fifo history r p q)) (range_with_len 0 n)) 0 n (λ p p_low p_high.
-    map_cells (λ q. cond (p == q) [] (recorded_channel markers r p q)) (λ q. cond (p == q) [] (channel_fifo history r p q)) 0 n (λ q q_low q_high. elim (cases_eq p q) [
-      | inl same ↦ ap (λ b. cond b [] (recorded_channel markers r p q)) (eq-eqb p q same) ∙ sym (ap (λ b. cond b [] (channel_fifo history r p q)) (eq-eqb p q same))
-      | inr apart ↦ ap (λ (ms : List MsgName). cond (p == q) [] ms) (recorded_is history round is p q (omega (arith, p_high)) (omega (arith, q_high)) apart (has q (omega (arith, q_high))))
+    let channels_are : recorded_table (length turning.checks) kept r ≡ channel_table n (channel Fifo history r) =
+    ap (λ (v : ℕ). channel_table v (recorded_channel kept r)) is.turning.count
+    ∙ map_cells (λ p. map (λ q. cond (p == q) [] (recorded_channel kept r p q)) (range_with_len 0 n)) (λ p. map (λ q. cond (p == q) [] (channel_fifo history r p q)) (range_with_len 0 n)) 0 n (λ p p_low p_high.
+    map_cells (λ q. cond (p == q) [] (recorded_channel kept r p q)) (λ q. cond (p == q) [] (channel_fifo history r p q)) 0 n (λ q q_low q_high. elim (cases_eq p q) [
+      | inl same ↦ ap (λ b. cond b [] (recorded_channel kept r p q)) (eq-eqb p q same) ∙ sym (ap (λ b. cond b [] (channel_fifo history r p q)) (eq-eqb p q same))
+      | inr apart ↦ ap (λ (ms : List MsgName). cond (p == q) [] ms) (same_channels p q (omega (arith, p_high)) ∙ recorded_is history round is p q (omega (arith, p_high)) (omega (arith, q_high)) apart (has q (omega (arith, q_high))))
     ])) in
-    ap (λ (v : List ℕ). let l : Listed = record { number = r; checks = v; channels = recorded_table markers r } in l) indices_are
-    ∙ ap (λ (v : List (List (List MsgName))). let l : Listed = record { number = r; checks = checks_of history r; channels = v } in l) channels_are
+    ap (λ (v : List (List (List MsgName))). let l : Listed = record { number = r; checks = turning.checks; channels = v } in l) channels_are
+    ∙ ap (λ (v : List ℕ). let l : Listed = record { number = r; checks = v; channels = channel_table n (channel Fifo history r) } in l) indices_are
 
 -- the channels of a process are closed just where its tape is
 pub closed_is : (history : List Process) (turning : TurningView) (markers : List MarkerView) → AreMarkers (length turning.checks) markers

@@ -1,21 +1,13 @@
 -- What the queues from one process hold, and the room on each, as one of them changes.
-use Rattle.std.proofs.Common.{◌≡◌, ◌≢◌, ℕ, ◌+◌, ◌<◌, ◌≤◌, cond, List, [], ◌∷◌, ◌++◌, length, get_or, set, map, take, sym, ap, ◌∙◌, subst, arith, refl, inl, inr}
+use Rattle.std.proofs.Common.{◌≡◌, ◌≢◌, ℕ, ◌+◌, ◌<◌, ◌≤◌, cond, List, [], ◌∷◌, ◌++◌, length, get_or, set, map, replicate, drop, sym, ap, ◌∙◌, subst, arith, refl, inl, inr}
 use Rattle.std.specs.Prelude.{◌==◌, if◌then◌else◌, OnErr, Result, Ok, Err}
 use Rattle.std.specs.List.{All}
-use Rattle.std.proofs.lemmas.Bool.{cases_eq, eq-eqb, ne_eqb}
-use Rattle.std.proofs.lemmas.List.{append-nil, get_or-map, get_or-set_same, get_or-set_other, length-map, length-set, map-append, map-set, take_more}
+use Rattle.std.proofs.lemmas.Bool.{cases_eq, cases_lt, eq-eqb, ne_eqb}
+use Rattle.std.proofs.lemmas.List.{append-nil, get_or-map, get_or-set_same, get_or-set_other, length-map, length-set, map-set, set-get_or, get_or-replicate, get_or_past, length-replicate}
 use Rattle.std.proofs.lemmas.List.FromFn.{fill_by_all}
 use Rattle.line_tape.specs.declared.items.Item.{Item}
 use Rattle.line_moves.specs.Queues.{with_on_others}
-use Rattle.line_moves.specs.Rooms.{QueueView, items_of}
-
--- what is seen of a list, with one element more
-pub map-copied : {X Y : Type 0} (f : X → Y) (old xs : List X) (i : ℕ) (x y : X) → i < length old → y ≡ get_or old i y → f x ≡ f y → map f xs ≡ take i (map f old) → map f (xs ++ x ∷ []) ≡ take (i + 1) (map f old)
-map-copied f old xs i x y within at same before =
-    map-append f xs (x ∷ [])
-    ∙ ap (λ ys. ys ++ f x ∷ []) before
-    ∙ ap (λ v. take i (map f old) ++ v ∷ []) (same ∙ ap f at ∙ sym (get_or-map f old i y (f y) within))
-    ∙ sym (take_more (map f old) i (f y) (omega (arith, within, length-map old f)))
+use Rattle.line_moves.specs.Rooms.{no_queue, items_of, AreEmpty, QueueView}
 
 -- what is seen of a list once one element changes
 pub map-changed : {X Y : Type 0} (f : X → Y) (xs : List X) (i : ℕ) (d : Y) (old new : X) (g : Y → Y) → i < length xs → old ≡ get_or xs i old → f new ≡ g (f old) → map f (set xs i new) ≡ set (map f xs) i (g (get_or (map f xs) i d))
@@ -80,7 +72,7 @@ module _ (p : ℕ) (item : Item) (q : ℕ) (old row : List QueueView) (is : AreS
 pub AreSent-end : (p : ℕ) (item : Item) (q : ℕ) (old row : List QueueView) → AreSent p item q old row → length row ≤ q → items_of row ≡ with_on_others (items_of old) p item
 AreSent-end p item q old row is past =
     let held : QueueView → List Item = λ queue. queue.held in
-    let none : QueueView = record { held = []; room = 0 } in
+    let none : QueueView = no_queue in
     fill_by_all (λ k. get_or (items_of old) k [] ++ (if p == k then [] else item ∷ [])) (items_of row) (length (items_of old)) [] (length-map row held ∙ is.count ∙ sym (length-map old held))
     (λ k within. let below : k < length old = omega (arith, within, length-map old held) in items-at row k none (omega (arith, below, is.count)) ∙ is.sent k none (omega (arith, below, is.count, past)) below)
 
@@ -88,3 +80,20 @@ AreSent-end p item q old row is past =
 pub on_err : {T E P : Type 0} (r : Result T E) → P → OnErr r P
 on_err (Ok x) p = tt
 on_err (Err e) p = p
+
+-- nothing is on new queues
+pub AreEmpty-new : (row : List QueueView) (n : ℕ) → items_of row ≡ replicate n [] → AreEmpty row
+AreEmpty-new row n is q = ap (λ (xs : List (List Item)). get_or xs q []) is ∙ elim (cases_lt q n) [
+  | inl within ↦ get_or-replicate n q [] [] within
+  | inr past ↦ get_or_past (replicate n []) q [] (omega (arith, past, length-replicate n (let none : List Item = [] in none)))
+]
+
+-- nor is anything once the first item of one is taken off
+pub AreEmpty-off : (row new : List QueueView) (k : ℕ) → items_of new ≡ set (items_of row) k (drop 1 (get_or (items_of row) k [])) → AreEmpty row → AreEmpty new
+AreEmpty-off row new k is empty q =
+    let items : List (List Item) = items_of row in
+    ap (λ (xs : List (List Item)). get_or xs q []) (is
+    ∙ ap (λ (xs : List Item). set items k (drop 1 xs)) (empty k)
+    ∙ ap (λ (xs : List Item). set items k xs) (sym (empty k))
+    ∙ set-get_or items k [])
+    ∙ empty q

@@ -2,6 +2,7 @@ pub mod Modes
 pub mod Rooms
 pub mod Queues
 pub mod Listed
+pub mod Listings
 pub mod Openings
 pub mod Moves
 pub mod Fates

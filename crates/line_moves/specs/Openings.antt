@@ -1,6 +1,6 @@
 -- What is kept of the round that is open, and how it follows the tapes.
 use Rattle.std.specs.Option.{unwrap_or}
-use Rattle.std.specs.Prelude.{◌≡◌, ◌≢◌, ℕ, suc, ◌<◌, Bool, true, false, if◌then◌else◌, List, [], ◌∷◌, ◌++◌, length, slice_index_or, Option, Some, None}
+use Rattle.std.specs.Prelude.{◌≡◌, ◌≢◌, ℕ, suc, ◌<◌, Bool, true, false, if◌then◌else◌, List, [], ◌∷◌, ◌++◌, length, slice_index_or, Option, Some, None, All}
 use Rattle.line_marker.specs.Recording.{Channel, MarkerView, Recorded, channel_at, messages_by, round_of}
 use Rattle.line_names.specs.declared.messages.MsgName.{MsgName}
 use Rattle.line_tape.specs.declared.events.Event.{Event}
@@ -22,7 +22,7 @@ pub record OpenView : Type 0 where
 
 -- what a process has recorded where there is none
 abbrev pub no_marker : MarkerView
-no_marker = record { n = 0; me = 0; floor = 0; rounds = []; room = 0 }
+no_marker = record { n = 0; me = 0; floor = 0; rounds = []; room = 0; round_room = 0 }
 
 -- what process q has recorded
 abbrev pub marker_at : List MarkerView → ℕ → MarkerView
@@ -43,9 +43,9 @@ pub record IsFresh (floor : ℕ) (marker : MarkerView) : Type 0 where
 abbrev pub recorded_channel : List MarkerView → ℕ → ℕ → ℕ → List MsgName
 recorded_channel markers r p q = unwrap_or (messages_by (round_of (marker_at markers q).rounds r) p) []
 
--- and of all channels
-abbrev pub recorded_table : List MarkerView → ℕ → List (List (List MsgName))
-recorded_table markers r = channel_table (length markers) (recorded_channel markers r)
+-- and of all channels between n processes
+abbrev pub recorded_table : ℕ → List MarkerView → ℕ → List (List (List MsgName))
+recorded_table n markers r = channel_table n (recorded_channel markers r)
 
 -- what a tape has of the channel from process p in round r
 abbrev pub channel_of : ℕ → ℕ → List Event → Channel
@@ -155,12 +155,12 @@ opened Unordered running turning = opened_turning turning
 
 -- the channels of a round that is completed, between n processes: by the markers, or as they were counted
 abbrev pub channels_kept : Option (List (List (List MsgName))) → ℕ → List MarkerView → ℕ → List (List (List MsgName))
-channels_kept None n markers r = recorded_table markers r
+channels_kept None n markers r = recorded_table n markers r
 channels_kept (Some table) n markers r = channel_table n (between table)
 
--- they are there for each two of n processes
+-- they are there for each two of n processes; what was recorded is of n processes, and may be left out where nothing was
 abbrev pub AreChannels : Option (List (List (List MsgName))) → ℕ → List MarkerView → Type 0
-AreChannels None n markers = AreMarkers n markers
+AreChannels None n markers = All (λ (marker : MarkerView). marker.n ≡ n) markers
 AreChannels (Some table) n markers = IsTable n table
 
 -- what is in transit at the checks of a round of colours, if it is completed

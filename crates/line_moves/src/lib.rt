@@ -6,6 +6,7 @@
 mod counts;
 mod fates;
 mod links;
+mod listings;
 mod modes;
 mod moves;
 mod restarts;
@@ -14,10 +15,11 @@ mod rounds;
 
 pub use fates::{Fate, fate_of};
 pub use links::Links;
+pub use listings::Listing;
 pub use modes::Mode;
 pub use moves::{
     add_check, add_receipt, begin_round, put_message, take_marker, take_message, turn_round,
 };
-pub use restarts::restarted_links;
+pub use restarts::restart_links;
 pub use restores::{restarted_incarnations, restored_states};
-pub use rounds::{OpenRound, Round, is_forced, keep_rounds, still_open};
+pub use rounds::{OpenRound, Round, is_forced, still_open};

@@ -1,8 +1,8 @@
 //! The queues of all links.
-ghost use Rattle.std.specs.Prelude.{◌≡◌, ◌<◌, ◌++◌, ◌∷◌, [], All, length, map, replicate, drop, slice_index_or, slice_set, slice_get, IfOk, OnOk, OnErr};
+ghost use Rattle.std.specs.Prelude.{◌≡◌, ◌≢◌, ℕ, ◌+◌, ◌<◌, ◌≤◌, ◌++◌, ◌∷◌, [], All, length, map, replicate, drop, slice_index_or, slice_set, slice_get, IfOk, OnOk, OnErr};
 ghost use Rattle.line_moves.specs.Queues.{with_on_each, with_on_others};
 ghost use Rattle.line_turns.specs.Tables.{between, with_list};
-ghost use Rattle.line_moves.specs.Rooms.{QueueView, items_of};
+ghost use Rattle.line_moves.specs.Rooms.{queue_to, items_of, AreEmpty, IsCounted, QueueView};
 
 use line_names::ProcId;
 use line_tape::Item;
@@ -14,6 +14,8 @@ use std::marker::Model;
 #[derive(Drop)]
 struct Queue {
     items: VecDeque<Item>,
+    /// How many messages were counted that a restart is going to put at its end.
+    counted: usize,
 }
 
 impl Model for Queue {
@@ -23,36 +25,26 @@ impl Model for Queue {
 
     ghost Value = { QueueView };
 
-    ghost view = { λ q. record { held = q.items.items; room = deque_capacity q.items - deque_len q.items } };
-}
-
-impl Queue {
-    /// The same items in memory of their own.
-    fn copy(&self, alloc: Global) -> Result<Queue, AllocError>
-        ensures { IfOk result (λ queue. queue.held ≡ self.now.held) }
-    {
-        let (first, rest) = self.items.as_slices();
-        let mut items = Vec::from_slice(alloc, first)?;
-        items.extend_from_slice(rest)?;
-        Ok(Queue {
-            items: VecDeque::from_vec(items),
-        })
-    }
+    ghost view = { λ q. record { held = q.items.items; room = deque_capacity q.items - deque_len q.items; counted = q.counted } };
 }
 
 /// The links from one process.
 #[derive(Drop)]
-struct Row {
+pub(crate) struct Row {
     queues: Vec<Queue>,
+    /// False only where nothing was put on one of them since all were emptied.
+    used: bool,
 }
 
 impl Model for Row {
-    ghost use Rattle.std.specs.Prelude.{List};
-    ghost use Rattle.line_moves.specs.Rooms.{QueueView};
+    ghost use Rattle.std.specs.Prelude.{◌≡◌, false, List};
+    ghost use Rattle.line_moves.specs.Rooms.{AreEmpty, QueueView};
 
     ghost Value = { List QueueView };
 
     ghost view = { λ r. r.queues.items };
+
+    ghost invariant = { λ r. r.used ≡ false → AreEmpty r.queues.items };
 }
 
 impl Row {
@@ -64,20 +56,13 @@ impl Row {
         for _q in 0..n {
             queues.push(Queue {
                 items: VecDeque::new(alloc),
+                counted: 0,
             })?;
         }
-        Ok(Row { queues })
-    }
-
-    /// The same queues in memory of their own.
-    fn copy(&self, alloc: Global) -> Result<Row, AllocError>
-        ensures { IfOk result (λ row. items_of row ≡ items_of self.now) }
-    {
-        let mut queues = Vec::with_capacity(alloc, self.queues.len())?;
-        for queue in &self.queues {
-            queues.push(queue.copy(alloc)?)?;
-        }
-        Ok(Row { queues })
+        Ok(Row {
+            queues,
+            used: false,
+        })
     }
 
     /// Puts an item at the end of the link to a process.
@@ -86,6 +71,7 @@ impl Row {
         ensures ok { OnOk result (items_of self.new ≡ slice_set (items_of self.old) to (slice_index_or (items_of self.old) to [] ++ item ∷ [])) }
         ensures err { OnErr result (items_of self.new ≡ items_of self.old) }
     {
+        self.used = true;
         let queue = &mut self.queues[to.get() as usize];
         queue.items.push_back(item)?;
         Ok(())
@@ -96,6 +82,7 @@ impl Row {
         ensures same { items_of self.new ≡ items_of self.old }
         ensures ok { OnOk result (All (λ (queue : QueueView). 0 < queue.room) self.new) }
     {
+        self.used = true;
         for q in 0..self.queues.len() {
             let queue = &mut self.queues[q];
             queue.items.reserve(1)?;
@@ -114,6 +101,7 @@ impl Row {
                 queue.items.push_back_reserved(*item);
             }
         }
+        self.used = true;
     }
 
     /// Takes the first item off the link to a process, if it holds one.
@@ -124,12 +112,67 @@ impl Row {
         let queue = &mut self.queues[to.get() as usize];
         let _first = queue.items.pop_front();
     }
+
+    /// Has no message counted on the link to a process.
+    pub(crate) fn count_none(&mut self, to: ProcId)
+        requires { to < length self.old }
+        ensures same { items_of self.new ≡ items_of self.old }
+        ensures others { (q : ℕ) → q ≢ to → queue_to self.new q ≡ queue_to self.old q }
+        ensures none { (queue_to self.new to).counted ≡ 0 }
+    {
+        self.used = true;
+        let queue = &mut self.queues[to.get() as usize];
+        queue.counted = 0;
+    }
+
+    /// Counts a message more on the link to a process, and makes room for all that were counted there.
+    pub(crate) fn count(&mut self, to: ProcId, most: usize) -> Result<(), AllocError>
+        requires to { to < length self.old }
+        requires fewer { (queue_to self.old to).counted < most }
+        ensures same { items_of self.new ≡ items_of self.old }
+        ensures ok { OnOk result (IsCounted to self.old self.new) }
+    {
+        self.used = true;
+        let queue = &mut self.queues[to.get() as usize];
+        let counted = queue.counted + 1;
+        queue.items.reserve(counted)?;
+        queue.counted = counted;
+        Ok(())
+    }
+
+    /// Puts an item at the end of the link to a process, in room made for it.
+    pub(crate) fn push_reserved(&mut self, to: ProcId, item: Item)
+        requires to { to < length self.old }
+        requires room { 0 < (queue_to self.old to).room }
+        ensures items { items_of self.new ≡ slice_set (items_of self.old) to (slice_index_or (items_of self.old) to [] ++ item ∷ []) }
+        ensures others { (q : ℕ) → q ≢ to → queue_to self.new q ≡ queue_to self.old q }
+        ensures room { (queue_to self.new to).room + 1 ≡ (queue_to self.old to).room }
+    {
+        self.used = true;
+        let queue = &mut self.queues[to.get() as usize];
+        queue.items.push_back_reserved(item);
+    }
+
+    /// Takes all items off each link. It looks at none where nothing was put on one.
+    pub(crate) fn clear(&mut self)
+        ensures empty { AreEmpty self.new }
+        ensures count { length self.new ≡ length self.old }
+        ensures room { (q : ℕ) → (queue_to self.old q).room ≤ (queue_to self.new q).room }
+    {
+        if self.used {
+            for q in 0..self.queues.len() {
+                let queue = &mut self.queues[q];
+                queue.items.clear();
+            }
+            self.used = false;
+        }
+    }
 }
 
 /// The links from each process to each.
 #[derive(Drop)]
 pub struct Links {
-    rows: Vec<Row>,
+    pub(crate) rows: Vec<Row>,
 }
 
 impl Model for Links {
@@ -150,17 +193,6 @@ impl Links {
         let mut rows = Vec::with_capacity(alloc, n as usize)?;
         for _p in 0..n {
             rows.push(Row::new(alloc, n)?)?;
-        }
-        Ok(Links { rows })
-    }
-
-    /// The same links in memory of their own.
-    pub(crate) fn copy(&self, alloc: Global) -> Result<Links, AllocError>
-        ensures { IfOk result (λ links. links ≡ self.now) }
-    {
-        let mut rows = Vec::with_capacity(alloc, self.rows.len())?;
-        for row in &self.rows {
-            rows.push(row.copy(alloc)?)?;
         }
         Ok(Links { rows })
     }

@@ -23,12 +23,13 @@ ghost use Rattle.line_moves.specs.Worlds.{IsWorld};
 
 use crate::counts::count_channels;
 use crate::links::Links;
+use crate::listings::Listing;
 use crate::modes::Mode;
 use crate::rounds::{OpenRound, Round, hear, note, still_turning};
 use line_catalogue::Catalogue;
 use line_names::{Body, MsgName, ProcId};
 use line_tape::{Event, History, Item, LAST_ROUND, MOST_EVENTS, MOST_STATE, State};
-use line_turns::{Channels, Colours, Turning};
+use line_turns::{Colours, SharedChannels, Turning};
 use std::alloc::{AllocError, Global};
 
 /// Adds an event to a tape that has room for it.
@@ -43,7 +44,7 @@ fn add_event(catalogue: &mut Catalogue, p: ProcId, event: Event)
     ensures marks { catalogue.new.marks ≡ catalogue.old.marks }
     ensures spent { room_at catalogue.old p ≤ room_at catalogue.new p + 1 }
 {
-    catalogue.add(p, event).unwrap();
+    catalogue.append(p, event);
 }
 
 /// Sends a message, and tells its name: the event on the sender's tape, and the item at the end of the link.
@@ -314,10 +315,11 @@ fn take_turn(
     catalogue: &mut Catalogue,
     colours: &mut Colours,
     turning: &mut Turning,
+    rounds: &[Round],
     at: ProcId,
     state: &State,
     further: u32,
-) -> Result<(u32, Option<Channels>), AllocError>
+) -> Result<(u32, Option<SharedChannels>), AllocError>
     requires at { at < length catalogue.old.processes }
     requires short { length state.now ≤ MOST_STATE }
     requires few { length (tape_at catalogue.old.processes at) < MOST_EVENTS }
@@ -340,7 +342,7 @@ fn take_turn(
 {
     let state = state.copy(alloc)?;
     catalogue.reserve(at, 1 + further)?;
-    let channels = count_channels(alloc, catalogue, turning, at)?;
+    let channels = count_channels(alloc, catalogue, turning, rounds, at)?;
     let tape = catalogue.history().tape(at);
     let check = tape.checks() + 1;
     let sends = tape.sends();
@@ -360,7 +362,7 @@ pub fn turn_round(
     catalogue: &mut Catalogue,
     colours: &mut Colours,
     turning: &mut Option<Turning>,
-    rounds: &mut Vec<Round>,
+    rounds: &mut Listing,
     at: ProcId,
     state: &State,
     _round: u32,
@@ -385,9 +387,12 @@ pub fn turn_round(
     ensures kept { OnErr result (turning.new ≡ turning.old) }
     ensures unlisted { OnErr result (rounds.new.items ≡ rounds.old.items) }
 {
-    rounds.reserve(1)?;
+    rounds.reserve()?;
     let (check, channels) = match turning {
-        Some(round) => take_turn(alloc, catalogue, colours, round, at, state, further)?,
+        Some(round) => {
+            let listed = rounds.as_slice();
+            take_turn(alloc, catalogue, colours, round, listed, at, state, further)?
+        },
         None => unreachable!(),
     };
     if let Some(round) = turning.take() {

@@ -1,72 +1,117 @@
 //! What the links hold after a restart at a line.
-ghost use Rattle.std.specs.Prelude.{◌≡◌, ◌<◌, ◌++◌, ℕ, filter, map, length, OnOk, IfOk};
+ghost use Rattle.std.specs.Prelude.{◌≡◌, ◌<◌, ◌≤◌, ◌++◌, ℕ, [], List, filter, map, length, OnOk, OnErr};
 ghost use Rattle.line_tape.specs.declared.items.Item.TheVariants.{Message};
+ghost use Rattle.line_tape.specs.History.{Process};
 ghost use Rattle.line_tape.specs.Transit.{goes_between, in_transit, in_transit_between};
 ghost use Rattle.line_turns.specs.Tables.{between};
 ghost use Rattle.line_moves.specs.Modes.{copies_in};
+ghost use Rattle.line_moves.specs.Rooms.{items_of, queue_at, AreCounted, AreUncounted, HaveRoom};
 ghost use Rattle.line_moves.specs.Worlds.{AreQueues};
 
-use crate::links::Links;
+use crate::links::{Links, Row};
 use crate::modes::Mode;
 use line_names::{Line, MsgName};
 use line_tape::{History, Item};
-use std::alloc::{AllocError, Global};
+use std::alloc::AllocError;
 
-/// Puts each message at the end of the link to the process that its send names, in order.
-fn put_messages(
-    history: &History,
-    messages: &[MsgName],
-    links: &mut Links,
-) -> Result<(), AllocError>
-    requires queued { AreQueues history.now.processes links.old }
-    ensures queued { OnOk result (AreQueues history.now.processes links.new) }
-    ensures put { OnOk result ((p q : ℕ) → p < length history.now.processes → q < length history.now.processes → between links.new p q
-        ≡ between links.old p q ++ map (λ m. Message m) (filter (goes_between history.now.processes p q) messages.now)) }
+/// Has no message counted on the links that these go to.
+fn count_none(history: &History, messages: &[MsgName], rows: &mut Vec<Row>)
+    requires { AreQueues history.now.processes (map items_of rows.old.items) }
+    ensures same { map items_of rows.new.items ≡ map items_of rows.old.items }
+    ensures none { AreUncounted history.now.processes messages.now (length messages.now) rows.new.items }
 {
     let _n = history.n();
     for message in messages {
         if let Some(to) = history.addressee(message) {
-            links.push(message.from, to, Item::Message(*message))?;
+            let row = &mut rows[message.from.get() as usize];
+            row.count_none(to);
+        }
+    }
+}
+
+/// Counts the messages that go to each link, and makes room for them there.
+fn count_messages(
+    history: &History,
+    messages: &[MsgName],
+    rows: &mut Vec<Row>,
+) -> Result<(), AllocError>
+    requires queued { AreQueues history.now.processes (map items_of rows.old.items) }
+    requires none { AreUncounted history.now.processes messages.now (length messages.now) rows.old.items }
+    ensures same { map items_of rows.new.items ≡ map items_of rows.old.items }
+    ensures counted { OnOk result (AreCounted history.now.processes messages.now (length messages.now) rows.new.items) }
+{
+    let _n = history.n();
+    let most = messages.len();
+    for message in messages {
+        if let Some(to) = history.addressee(message) {
+            let row = &mut rows[message.from.get() as usize];
+            row.count(to, most)?;
         }
     }
     Ok(())
 }
 
-/// What stays on the links through a restart: the copies, and nothing where links keep their order.
-fn kept_links(
-    alloc: Global,
-    mode: Mode,
-    history: &History,
-    links: &Links,
-) -> Result<Links, AllocError>
-    requires { AreQueues history.now.processes links.now }
-    ensures queued { IfOk result (λ kept. AreQueues history.now.processes kept) }
-    ensures kept { IfOk result (λ kept. (p q : ℕ) → between kept p q ≡ between (copies_in mode links.now) p q) }
+/// Takes all items off each link.
+fn clear_rows(rows: &mut Vec<Row>)
+    ensures empty { (p q : ℕ) → between (map items_of rows.new.items) p q ≡ [] }
+    ensures queued { (history : List Process) → AreQueues history (map items_of rows.old.items) → AreQueues history (map items_of rows.new.items) }
+    ensures room { (p q : ℕ) → (queue_at rows.old.items p q).room ≤ (queue_at rows.new.items p q).room }
 {
-    match mode {
-        Mode::Fifo => Links::new(alloc, history.n()),
-        Mode::Unordered => links.copy(alloc),
+    for p in 0..rows.len() {
+        let row = &mut rows[p];
+        row.clear();
     }
 }
 
-/// What the links hold after a restart at a line: what is in transit there, and the copies that they held before, in memory of their own.
+/// Leaves on the links what stays there through a restart: the copies, and nothing where links keep their order.
+fn keep_copies(mode: Mode, rows: &mut Vec<Row>)
+    ensures kept { (p q : ℕ) → between (map items_of rows.new.items) p q ≡ between (copies_in mode (map items_of rows.old.items)) p q }
+    ensures queued { (history : List Process) → AreQueues history (map items_of rows.old.items) → AreQueues history (map items_of rows.new.items) }
+    ensures room { (p q : ℕ) → (queue_at rows.old.items p q).room ≤ (queue_at rows.new.items p q).room }
+{
+    match mode {
+        Mode::Fifo => clear_rows(rows),
+        Mode::Unordered => {}
+    }
+}
+
+/// Puts each message at the end of the link to the process that its send names, in order, in room made for it.
+fn put_messages(history: &History, messages: &[MsgName], rows: &mut Vec<Row>)
+    requires queued { AreQueues history.now.processes (map items_of rows.old.items) }
+    requires room { HaveRoom history.now.processes messages.now 0 rows.old.items }
+    ensures queued { AreQueues history.now.processes (map items_of rows.new.items) }
+    ensures put { (p q : ℕ) → p < length history.now.processes → q < length history.now.processes → between (map items_of rows.new.items) p q
+        ≡ between (map items_of rows.old.items) p q ++ map (λ m. Message m) (filter (goes_between history.now.processes p q) messages.now) }
+{
+    let _n = history.n();
+    for message in messages {
+        if let Some(to) = history.addressee(message) {
+            let row = &mut rows[message.from.get() as usize];
+            row.push_reserved(to, Item::Message(*message));
+        }
+    }
+}
+
+/// Has the links hold what is in transit at a line, beside the copies that they held before; or nothing else than before, where memory doesn't suffice.
 ///
-/// Given what is in transit, it looks once at each message there and at each copy.
-pub fn restarted_links(
-    alloc: Global,
+/// Given what is in transit, it looks three times at each message there, and no copy is moved. Links in order are emptied: those from the processes on whose links something was put since they were emptied before.
+pub fn restart_links(
     mode: Mode,
     history: &History,
-    links: &Links,
+    links: &mut Links,
     _line: &Line,
     messages: &[MsgName],
-) -> Result<Links, AllocError>
+) -> Result<(), AllocError>
     requires transit { messages.now ≡ in_transit history.now.processes _line.now }
-    requires queued { AreQueues history.now.processes links.now }
-    ensures queued { IfOk result (λ new. AreQueues history.now.processes new) }
-    ensures put { IfOk result (λ new. (p q : ℕ) → p < length history.now.processes → q < length history.now.processes → between new p q
-        ≡ between (copies_in mode links.now) p q ++ map (λ m. Message m) (in_transit_between history.now.processes _line.now p q)) }
+    requires queued { AreQueues history.now.processes links.old }
+    ensures queued { OnOk result (AreQueues history.now.processes links.new) }
+    ensures put { OnOk result ((p q : ℕ) → p < length history.now.processes → q < length history.now.processes → between links.new p q
+        ≡ between (copies_in mode links.old) p q ++ map (λ m. Message m) (in_transit_between history.now.processes _line.now p q)) }
+    ensures err { OnErr result (links.new ≡ links.old) }
 {
-    let mut new = kept_links(alloc, mode, history, links)?;
-    put_messages(history, messages, &mut new)?;
-    Ok(new)
+    count_none(history, messages, &mut links.rows);
+    count_messages(history, messages, &mut links.rows)?;
+    keep_copies(mode, &mut links.rows);
+    put_messages(history, messages, &mut links.rows);
+    Ok(())
 }

@@ -1,5 +1,5 @@
 //! Rounds of markers (Chandy and Lamport, ACM TOCS 3(1), 1985) and of colours (Lai and Yang, Information Processing Letters 25(3), 1987): the one that is open, and those that are completed.
-ghost use Rattle.std.specs.Prelude.{◌≡◌, ◌≢◌, ◌<◌, ◌≤◌, ◌+◌, ◌++◌, ℕ, [], List, filter, vec_len, vec_capacity, length, true, false, IfOk, OnOk, OnErr, Some};
+ghost use Rattle.std.specs.Prelude.{◌≡◌, ◌≢◌, ◌<◌, ◌≤◌, ◌+◌, ◌++◌, ℕ, [], List, length, true, false, IfOk, OnOk, OnErr, Some, All};
 ghost use Rattle.line_tape.specs.declared.events.Event.TheVariants.{Recv as RecvEvent, Check as CheckEvent, Mark as MarkEvent};
 ghost use Rattle.line_tape.specs.History.{Process, tape_at, with_event};
 ghost use Rattle.line_tape.specs.Restart.{is_kept};
@@ -9,13 +9,17 @@ ghost use Rattle.line_turns.specs.Channels.{channels_at};
 ghost use Rattle.line_turns.specs.Turning.{IsTurning};
 ghost use Rattle.line_moves.specs.declared.modes.Mode.TheVariants.{Fifo, Unordered};
 ghost use Rattle.line_moves.specs.Listed.{check_in, channel_in, listed, stays};
-ghost use Rattle.line_moves.specs.Openings.{completed_channels, left_open, marker_at, newly_closed, open_number, opened_by, opened_turning, AreMarkers, IsFresh, IsOpening, IsRecording};
+ghost use Rattle.line_moves.specs.Listings.{IsBelow};
+ghost use Rattle.line_marker.specs.Recording.{MarkerView, messages_by, round_of};
+ghost use Rattle.std.specs.Option.{unwrap_or};
+ghost use Rattle.line_moves.specs.Openings.{completed_channels, left_open, marker_at, newly_closed, open_number, opened_by, opened_turning, recorded_channel, AreMarkers, IsFresh, IsOpening, IsRecording};
 ghost use Rattle.line_moves.specs.Fates.{is_forced};
 
+use crate::listings::Listing;
 use line_marker::{Marker, MarkerError};
 use line_names::{Choice, Line, MOST_PROCESSES, MsgName, ProcId};
 use line_tape::{History, LAST_ROUND};
-use line_turns::{Channels, Turning};
+use line_turns::{SharedChannels, Turning};
 use std::alloc::{AllocError, Global};
 use std::marker::Model;
 
@@ -24,10 +28,10 @@ use std::marker::Model;
 pub struct Round {
     number: u32,
     checks: Vec<u32>,
-    /// What each process recorded until its last marker came; none where links keep no order.
+    /// What each process recorded until its last marker came; none where that is nothing at all, or links keep no order.
     markers: Vec<Marker>,
     /// What was in transit, where links keep no order.
-    counted: Option<Channels>,
+    counted: Option<SharedChannels>,
 }
 
 impl Model for Round {
@@ -73,10 +77,7 @@ impl Round {
     {
         match &self.counted {
             Some(channels) => channels.between(from, to),
-            None => match self.markers[to.get() as usize].channel(from, self.number) {
-                Some(names) => names,
-                None => &[],
-            },
+            None => recorded(&self.markers, self.number, from, to),
         }
     }
 
@@ -84,7 +85,7 @@ impl Round {
     pub(crate) fn of_turning(
         alloc: Global,
         turning: Turning,
-        channels: Channels,
+        channels: SharedChannels,
         _history: &History,
     ) -> Round
         requires turning { IsTurning _history.now.processes turning }
@@ -101,6 +102,11 @@ impl Round {
         }
     }
 
+    /// What was in transit, where links keep no order.
+    pub(crate) fn counted(&self) -> Option<&SharedChannels> {
+        self.counted.as_ref()
+    }
+
     /// Whether a restart at the line cuts none of its checks.
     pub(crate) fn stays(&self, line: &Line) -> bool
         ensures { result ≡ stays line.now self.now }
@@ -109,6 +115,22 @@ impl Round {
         'each: for q in 0..n {
             let p = ProcId::try_new(q, n).unwrap();
             if !is_kept(line.at(p), self.check_or_none(q)) {
+                return false;
+            }
+        }
+        true
+    }
+
+    /// Whether none of its checks is later than that of the same process in the other round.
+    pub(crate) fn is_below(&self, other: &Round) -> bool
+        ensures { result ≡ true → IsBelow self.now other.now }
+    {
+        let n = self.checks.len();
+        if n > other.checks.len() {
+            return false;
+        }
+        'each: for p in 0..n {
+            if self.checks[p] > other.checks[p] {
                 return false;
             }
         }
@@ -124,6 +146,69 @@ impl Round {
             None => 0,
         }
     }
+}
+
+/// What process `to` recorded of the channel from process `from` in a round; nothing where it is not
+/// among these.
+fn recorded(markers: &[Marker], round: u32, from: ProcId, to: ProcId) -> &[MsgName]
+    requires { All (λ (marker : MarkerView). from < marker.n) markers.now }
+    ensures { result.now ≡ recorded_channel markers.now round from to }
+{
+    match markers.get(to.get() as usize) {
+        Some(marker) => match marker.channel(from, round) {
+            Some(names) => names,
+            None => &[],
+        },
+        None => &[],
+    }
+}
+
+/// Whether nothing is on any channel of the round to a process. It looks at each of them.
+fn is_silent(marker: &Marker, n: u32, round: u32) -> bool
+    requires few { n ≤ MOST_PROCESSES }
+    requires n { marker.now.n ≡ n }
+    ensures { result ≡ true → (p : ℕ) → p < n
+        → unwrap_or (messages_by (round_of marker.now.rounds round) p) [] ≡ [] }
+{
+    'each: for p in 0..n {
+        let from = ProcId::try_new(p, n).unwrap();
+        if let Some(names) = marker.channel(from, round) {
+            if !names.is_empty() {
+                return false;
+            }
+        }
+    }
+    true
+}
+
+/// Whether nothing is on any channel of the round. It looks at each of them.
+fn are_silent(markers: &[Marker], n: u32, round: u32) -> bool
+    requires few { n ≤ MOST_PROCESSES }
+    requires n { All (λ (marker : MarkerView). marker.n ≡ n) markers.now }
+    ensures { result ≡ true → (p q : ℕ) → p < n → recorded_channel markers.now round p q ≡ [] }
+{
+    let count = markers.len();
+    'each: for q in 0..count {
+        if !is_silent(&markers[q], n, round) {
+            return false;
+        }
+    }
+    true
+}
+
+/// What was recorded of a round, or nothing where nothing is on any of its channels. It takes no
+/// memory.
+fn without_silence(alloc: Global, n: u32, markers: Vec<Marker>, round: u32) -> Vec<Marker>
+    requires few { n ≤ MOST_PROCESSES }
+    requires n { All (λ (marker : MarkerView). marker.n ≡ n) markers.items }
+    ensures n { All (λ (marker : MarkerView). marker.n ≡ n) result.items }
+    ensures same { (p q : ℕ) → p < n
+        → recorded_channel result.items round p q ≡ recorded_channel markers.items round p q }
+{
+    if are_silent(&markers, n, round) {
+        return Vec::new(alloc);
+    }
+    markers
 }
 
 /// Whether a restart at the choice keeps a check.
@@ -203,9 +288,9 @@ impl OpenRound {
         requires { p < length self.old.checks }
         ensures number { self.new.number ≡ self.old.number }
         ensures recording { (history : List Process) → IsRecording history self.old → IsRecording history self.new }
-        ensures ok { OnOk result (0 < (marker_at self.new.markers p).room) }
+        ensures ok { OnOk result (0 < (marker_at self.new.markers p).round_room) }
     {
-        self.markers[p.get() as usize].reserve()
+        self.markers[p.get() as usize].reserve_round()
     }
 
     /// Process `p` takes its check of the round before any marker has come.
@@ -213,7 +298,7 @@ impl OpenRound {
         requires p { p < length history.now.processes }
         requires recording { IsRecording history.now.processes self.old }
         requires first { has_check_of self.old.number (tape_at history.now.processes p) ≡ false }
-        requires room { 0 < (marker_at self.old.markers p).room }
+        requires room { 0 < (marker_at self.old.markers p).round_room }
         ensures number { self.new.number ≡ self.old.number }
         ensures recording { (state : List ℕ) → IsRecording (with_event history.now.processes p (CheckEvent state (Some self.old.number))) self.new }
     {
@@ -229,7 +314,7 @@ impl OpenRound {
         requires other { from ≢ p }
         requires recording { IsRecording history.now.processes self.old }
         requires first { has_check_of self.old.number (tape_at history.now.processes p) ≡ false }
-        requires room { 0 < (marker_at self.old.markers p).room }
+        requires room { 0 < (marker_at self.old.markers p).round_room }
         ensures number { self.new.number ≡ self.old.number }
         ensures recording { (state : List ℕ)
             → IsRecording (with_event (with_event history.now.processes p (CheckEvent state (Some self.old.number))) p (MarkEvent from self.old.number)) self.new }
@@ -248,7 +333,7 @@ impl OpenRound {
         requires other { from ≢ p }
         requires recording { IsRecording history.now.processes self.old }
         requires begun { has_check_of self.old.number (tape_at history.now.processes p) ≡ true }
-        requires room { 0 < (marker_at self.old.markers p).room }
+        requires room { 0 < (marker_at self.old.markers p).round_room }
         ensures number { self.new.number ≡ self.old.number }
         ensures recording { IsRecording (with_event history.now.processes p (MarkEvent from self.old.number)) self.new }
     {
@@ -296,17 +381,19 @@ impl OpenRound {
         true
     }
 
-    /// The round as it is listed once it is completed. It takes no memory.
-    pub(crate) fn completed(self, _history: &History) -> Round
-        requires recording { IsRecording _history.now.processes self }
-        requires completed { is_completed_fifo _history.now.processes self.number ≡ true }
-        ensures { result ≡ listed Fifo _history.now.processes self.number }
+    /// The round as it is listed once it is completed. It takes no memory, and looks at each channel.
+    pub(crate) fn completed(self, alloc: Global, history: &History) -> Round
+        requires recording { IsRecording history.now.processes self }
+        requires completed { is_completed_fifo history.now.processes self.number ≡ true }
+        ensures { result ≡ listed Fifo history.now.processes self.number }
     {
+        let n = history.n();
         let number = self.turning.number();
+        let markers = without_silence(alloc, n, self.markers, number);
         Round {
             number,
             checks: self.turning.into_checks(),
-            markers: self.markers,
+            markers,
             counted: None,
         }
     }
@@ -386,19 +473,20 @@ pub(crate) fn hear(
 ///
 /// It takes no memory, and looks at each channel of the processes up to the first that has not all its markers.
 pub fn still_open(
+    alloc: Global,
     running: Option<OpenRound>,
     history: &History,
-    rounds: &mut Vec<Round>,
+    rounds: &mut Listing,
 ) -> Option<OpenRound>
     requires opening { IsOpening Fifo history.now.processes running }
-    requires room { vec_len rounds.old < vec_capacity rounds.old }
+    requires room { 0 < rounds.old.room }
     ensures listed { rounds.new.items ≡ rounds.old.items ++ newly_closed Fifo history.now.processes running }
     ensures left { result ≡ left_open Fifo history.now.processes running }
 {
     match running {
         Some(round) => {
             if round.is_completed(history) {
-                rounds.push_reserved(round.completed(history));
+                rounds.push(round.completed(alloc, history));
                 None
             } else {
                 Some(round)
@@ -412,28 +500,21 @@ pub fn still_open(
 pub(crate) fn still_turning(
     alloc: Global,
     turning: Turning,
-    channels: Option<Channels>,
+    channels: Option<SharedChannels>,
     history: &History,
-    rounds: &mut Vec<Round>,
+    rounds: &mut Listing,
 ) -> Option<Turning>
     requires turning { IsTurning history.now.processes turning }
     requires channels { channels ≡ completed_channels history.now.processes turning }
-    requires room { vec_len rounds.old < vec_capacity rounds.old }
+    requires room { 0 < rounds.old.room }
     ensures listed { rounds.new.items ≡ rounds.old.items ++ newly_closed Unordered history.now.processes (Some (opened_by turning)) }
     ensures left { opened_turning result ≡ left_open Unordered history.now.processes (Some (opened_by turning)) }
 {
     match channels {
         Some(channels) => {
-            rounds.push_reserved(Round::of_turning(alloc, turning, channels, history));
+            rounds.push(Round::of_turning(alloc, turning, channels, history));
             None
         }
         None => Some(turning),
     }
-}
-
-/// Leaves the rounds of which a restart at the line cuts no check. It takes no memory, and looks at each check of each round.
-pub fn keep_rounds(rounds: &mut Vec<Round>, line: &Line)
-    ensures { rounds.new.items ≡ filter (stays line.now) rounds.old.items }
-{
-    rounds.retain(|round| round.stays(line));
 }

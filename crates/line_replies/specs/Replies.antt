@@ -105,7 +105,7 @@ reply_records (Checked at check) = checked at check ∷ []
 reply_records (Begun at check round) = begun at check round ∷ []
 reply_records (Turned at check round) = turned at check round ∷ []
 reply_records (Damaged at check) = damaged at check ∷ []
-reply_records (Recovered plan states incarnations) = recovery plan.sweeps plan.certificate.items plan.replays.items plan.line incarnations.items states.items
+reply_records (Recovered plan states incarnations) = recovery plan.value.sweeps plan.value.certificate.items plan.value.replays.items plan.value.line incarnations.items states.items
 
 -- the records of an answer
 abbrev pub answer_records : Answer → List Record

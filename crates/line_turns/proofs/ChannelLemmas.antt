@@ -1,10 +1,10 @@
 -- Messages in transit, as each is put behind the list to its addressee.
-use Rattle.std.proofs.Common.{◌≡◌, ℕ, zero, suc, ◌+◌, ◌<◌, ◌≤◌, Bool, true, false, cond, List, [], ◌∷◌, ◌++◌, length, take, get_or, map, filter, Option, Some, None, refl, sym, ap, ◌∙◌, subst, arith, inl, inr}
+use Rattle.std.proofs.Common.{◌≡◌, ℕ, zero, suc, ◌+◌, ◌<◌, Bool, true, false, cond, List, [], ◌∷◌, ◌++◌, length, take, get_or, map, filter, Option, Some, None, refl, sym, ap, ◌∙◌, subst, arith, inl, inr}
 use Rattle.std.specs.Prelude.{◌==◌, ◌&&◌, slice_get}
 use Rattle.std.specs.List.{All}
 use Rattle.std.specs.Option.{option_eq}
 use Rattle.std.proofs.lemmas.Bool.{cases_eq, cases_lt, eq-eqb, ne_eqb}
-use Rattle.std.proofs.lemmas.List.{append-nil, append_assoc, get_or_past, map-append, take_all}
+use Rattle.std.proofs.lemmas.List.{append-nil, append_assoc, get_or_past, map-append}
 use Rattle.std.proofs.lemmas.List.Elements.{All-head, All-tail, filter_more}
 use Rattle.line_names.specs.declared.choices.Choice.{Choice}
 use Rattle.line_names.specs.declared.messages.MsgName.{MsgName}
@@ -12,9 +12,8 @@ use Rattle.line_tape.specs.declared.events.Event.{Event}
 use Rattle.line_tape.specs.declared.events.Event.TheVariants.{Send, Recv, Check, Mark}
 use Rattle.line_tape.specs.Event.{NamesBelow}
 use Rattle.line_tape.specs.History.{Process, fresh, tape_at, IsHistory}
-use Rattle.line_tape.specs.Transit.{addressee, addressees, goes_between, in_transit, in_transit_between}
+use Rattle.line_tape.specs.Transit.{addressee, addressees, goes_between, in_transit_between}
 use Rattle.line_tape.proofs.HistoryLemmas.{IsHistory-at}
-use Rattle.line_tape.proofs.LetterLemmas.{open_are, parts}
 use Rattle.line_turns.specs.Channels.{channels_at}
 use Rattle.line_turns.specs.Tables.{between, with_list, IsTable}
 use Rattle.line_turns.proofs.TableLemmas.{between-of, between-other, between-same, IsTable-of, IsTable-written}
@@ -130,11 +129,3 @@ module _ {A : Type 0} (f : MsgName → A) (history : List Process) (old : List (
                 | inr p_other ↦ other (λ e. p_other e.0)
               ];
         })
-
-  -- past the last message
-  pub ArePut-end : (line : List Choice) (i : ℕ) (table : List (List (List A))) → messages ≡ in_transit history line → length messages ≤ i → ArePut f history old messages i table
-      → (p q : ℕ) → p < length history → q < length history → between table p q ≡ between old p q ++ map f (in_transit_between history line p q)
-  ArePut-end line i table is past all p q p_within q_within =
-      all.put p q p_within q_within
-      ∙ ap (λ (ms : List MsgName). between old p q ++ map f (filter (goes_between history p q) ms)) (take_all i messages past ∙ is)
-      ∙ ap (λ (ms : List MsgName). between old p q ++ map f ms) (parts history line history (open_are history line) p q)

@@ -3,3 +3,7 @@ pub mod TurningLemmas
 pub mod TableLemmas
 pub mod ChannelLemmas
 pub mod CompletedLemmas
+pub mod NameLemmas
+pub mod InboxLemmas
+pub mod GatherLemmas
+pub mod SameLemmas

@@ -2,3 +2,4 @@ pub mod Kept
 pub mod Turning
 pub mod Tables
 pub mod Channels
+pub mod Inboxes

@@ -1,109 +1,142 @@
 //! What is in transit at a line, from each process to each.
-ghost use Rattle.std.specs.Prelude.{◌≡◌, ◌<◌, ◌++◌, [], ◌∷◌, List, length, replicate, slice_index_or, slice_set, IfOk, OnOk, OnErr};
+ghost use Rattle.std.specs.Prelude.{◌≡◌, ◌<◌, ◌≤◌, ◌↔◌, [], List, All, AllPairs, length, replicate};
+ghost use Rattle.std.specs.Prelude.{slice_index_or, IfOk, IsTrue};
 ghost use Rattle.line_names.specs.declared.choices.Choice.{Choice};
 ghost use Rattle.line_tape.specs.Transit.{in_transit};
 ghost use Rattle.line_turns.specs.Channels.{channels_at};
-ghost use Rattle.line_turns.specs.Tables.{between, with_list, IsTable};
+ghost use Rattle.line_turns.specs.Inboxes.{held_for, sent_by, AreFrom, AreGathered, InboxView};
+ghost use Rattle.line_turns.specs.Tables.{between, table_of, IsTable};
 
-use line_names::{MsgName, ProcId};
+use crate::inboxes::Inbox;
+use line_names::{MOST_PROCESSES, MsgName, ProcId};
 use line_tape::History;
 use std::alloc::{AllocError, Global};
 use std::marker::Model;
 
-/// The messages from one process to another, by number.
-#[derive(Drop)]
-struct Channel {
-    messages: Vec<MsgName>,
-}
-
-impl Model for Channel {
-    ghost use Rattle.std.specs.Prelude.{List};
-    ghost use Rattle.line_names.specs.declared.messages.MsgName.{MsgName};
-
-    ghost Value = { List MsgName };
-
-    ghost view = { λ c. c.messages.items };
-}
-
-/// The channels from one process.
+/// The messages to one process, as they are gathered.
 #[derive(Drop)]
 struct Row {
-    channels: Vec<Channel>,
+    messages: Vec<MsgName>,
 }
 
 impl Model for Row {
     ghost use Rattle.std.specs.Prelude.{List};
     ghost use Rattle.line_names.specs.declared.messages.MsgName.{MsgName};
 
-    ghost Value = { List (List MsgName) };
+    ghost Value = { List MsgName };
 
-    ghost view = { λ r. r.channels.items };
+    ghost view = { λ r. r.messages.items };
 }
 
-impl Row {
-    /// So many channels with nothing on them.
-    fn new(alloc: Global, n: u32) -> Result<Row, AllocError>
-        ensures { IfOk result (λ row. row ≡ replicate n []) }
-    {
-        let mut channels = Vec::with_capacity(alloc, n as usize)?;
-        for _q in 0..n {
-            channels.push(Channel {
-                messages: Vec::new(alloc),
-            })?;
+/// So many rows with nothing in them.
+fn empty_rows(alloc: Global, n: u32) -> Result<Vec<Row>, AllocError>
+    ensures { IfOk result (λ rows. rows.items ≡ replicate n []) }
+{
+    let mut rows = Vec::with_capacity(alloc, n as usize)?;
+    for _q in 0..n {
+        rows.push(Row {
+            messages: Vec::new(alloc),
+        })?;
+    }
+    Ok(rows)
+}
+
+/// The messages by the process that the send of each names, in the order that they come in.
+fn gather(alloc: Global, history: &History, messages: &[MsgName]) -> Result<Vec<Row>, AllocError>
+    ensures { IfOk result (λ rows. AreGathered history.now.processes messages.now rows.items) }
+{
+    let mut rows = empty_rows(alloc, history.n())?;
+    for message in messages {
+        if let Some(to) = history.addressee(message) {
+            rows[to.get() as usize].messages.push(*message)?;
         }
-        Ok(Row { channels })
     }
+    Ok(rows)
+}
 
-    /// Puts a message at the end of the channel to a process.
-    fn push(&mut self, to: ProcId, message: MsgName) -> Result<(), AllocError>
-        requires { to < length self.old }
-        ensures ok { OnOk result (self.new ≡ slice_set self.old to (slice_index_or self.old to [] ++ message ∷ [])) }
-        ensures err { OnErr result (self.new ≡ self.old) }
-    {
-        self.channels[to.get() as usize].messages.push(message)?;
-        Ok(())
+/// What process `from` sent among what is in the inbox of process `to`.
+fn held(inboxes: &[Inbox], from: ProcId, to: ProcId) -> &[MsgName]
+    requires { AllPairs (λ (a b : InboxView). a.to < b.to) inboxes.now }
+    ensures { result.now ≡ sent_by from (held_for inboxes.now to) }
+{
+    let place = inboxes.partition_point(|inbox| inbox.to().get() < to.get());
+    match inboxes.get(place) {
+        Some(inbox) => {
+            if inbox.to().get() == to.get() {
+                inbox.from(from)
+            } else {
+                &[]
+            }
+        }
+        None => &[],
     }
 }
 
-/// What is in transit at a line, from each process to each, by number: what the channels of a round of colours hold at its line.
+/// Whether the inboxes are the same. It looks at no more than the shorter list has.
+fn are_same(one: &[Inbox], other: &[Inbox]) -> bool
+    ensures { IsTrue result ↔ (one.now ≡ other.now) }
+{
+    if one.len() != other.len() {
+        return false;
+    }
+    for (i, inbox) in one.iter().enumerate() {
+        if !inbox.is_same(&other[i]) {
+            return false;
+        }
+    }
+    true
+}
+
+/// What is in transit at a line, from each process to each, by number: what the channels of a round
+/// of colours hold at its line.
+///
+/// It takes 12 bytes for each message, and some 32 to 64 and a block for each process that one goes
+/// to. A channel that holds nothing takes no memory.
 #[derive(Drop)]
 pub struct Channels {
-    rows: Vec<Row>,
+    n: u32,
+    /// What is in transit to each process that something is in transit to, by process.
+    inboxes: Vec<Inbox>,
 }
 
 impl Model for Channels {
     ghost use Rattle.std.specs.Prelude.{List};
     ghost use Rattle.line_names.specs.declared.messages.MsgName.{MsgName};
+    ghost use Rattle.line_turns.specs.Inboxes.{table_held, AreInboxes};
 
     ghost Value = { List (List (List MsgName)) };
 
-    ghost view = { λ c. c.rows.items };
+    ghost view = { λ c. table_held c.n c.inboxes.items };
+
+    ghost invariant = { λ c. AreInboxes c.n c.inboxes.items };
 }
 
 impl Channels {
-    /// The channels between `n` processes, with nothing on them.
-    fn new(alloc: Global, n: u32) -> Result<Channels, AllocError>
-        ensures { IfOk result (λ channels. channels ≡ replicate n (replicate n [])) }
+    /// The channels between `n` processes that these messages are on, in one row for each process
+    /// that they go to.
+    fn keep(alloc: Global, n: u32, rows: &[Row]) -> Result<Channels, AllocError>
+        requires n { n ≤ MOST_PROCESSES }
+        requires rows { length rows.now ≡ n }
+        requires from { All (AreFrom n) rows.now }
+        ensures { IfOk result (λ channels. channels
+            ≡ table_of n (λ p q. sent_by p (slice_index_or rows.now q []))) }
     {
-        let mut rows = Vec::with_capacity(alloc, n as usize)?;
-        for _p in 0..n {
-            rows.push(Row::new(alloc, n)?)?;
+        let mut inboxes = Vec::new(alloc);
+        for q in 0..n {
+            let row = &rows[q as usize];
+            if !row.messages.is_empty() {
+                let to = ProcId::try_new(q, n).unwrap();
+                inboxes.push(Inbox::new(alloc, to, &row.messages)?)?;
+            }
         }
-        Ok(Channels { rows })
+        Ok(Channels { n, inboxes })
     }
 
-    /// Puts a message at the end of the channel from one process to another.
-    fn push(&mut self, from: ProcId, to: ProcId, message: MsgName) -> Result<(), AllocError>
-        requires from { from < length self.old }
-        requires to { to < length (slice_index_or self.old from []) }
-        ensures { OnOk result (self.new ≡ with_list self.old from to (between self.old from to ++ message ∷ [])) }
-    {
-        self.rows[from.get() as usize].push(to, message)
-    }
-
-    /// The channels that messages are on which are in transit at a line of a history: each on the one to the process that its send names.
+    /// The channels that messages are on which are in transit at a line of a history: each on the
+    /// one to the process that its send names.
     ///
-    /// It looks once at each of them, and takes memory for each two processes and for each message; it fails without.
+    /// It looks a few times at each of them and once at each process. It takes memory for each
+    /// message, and until it ends for each process too; it fails without.
     pub fn of(
         alloc: Global,
         history: &History,
@@ -113,24 +146,28 @@ impl Channels {
             → IfOk result (λ channels. channels ≡ channels_at history.now.processes line) }
         ensures table { IfOk result (λ channels. IsTable (length history.now.processes) channels) }
     {
-        let n = history.n();
-        let mut channels = Channels::new(alloc, n)?;
-        for message in messages {
-            if let Some(to) = history.addressee(message) {
-                channels.push(message.from, to, *message)?;
-            }
-        }
-        Ok(channels)
+        let rows = gather(alloc, history, messages)?;
+        Channels::keep(alloc, history.n(), &rows)
     }
 
-    /// The channel from one process to another, by number. It takes constant time.
+    /// The channel from one process to another, by number.
+    ///
+    /// It searches by halves: for the receiver among the processes that something is in transit
+    /// to, and for the sender among the messages to it.
     pub fn between(&self, from: ProcId, to: ProcId) -> &[MsgName]
         requires from { from < length self.now }
         requires to { to < length (slice_index_or self.now from []) }
         ensures { result.now ≡ between self.now from to }
     {
-        self.rows[from.get() as usize].channels[to.get() as usize]
-            .messages
-            .as_slice()
+        held(&self.inboxes, from, to)
+    }
+
+    /// Whether these hold the same.
+    ///
+    /// It looks at no more messages than the one holds that holds fewer.
+    pub fn is_same(&self, other: &Channels) -> bool
+        ensures { IsTrue result ↔ (self.now ≡ other.now) }
+    {
+        self.n == other.n && are_same(&self.inboxes, &other.inboxes)
     }
 }

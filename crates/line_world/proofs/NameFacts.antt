@@ -130,7 +130,7 @@ names-done old new (Damage at check) reply sends none does =
 names-done old new (Recover failed) reply sends none does = recovered reply does where
   recovered : (r : Reply) → RecoversWith old failed r new → KeepsNames old.history new.history × IsNamed old.history new.history (reply_name r)
   recovered (Recovered plan states incarnations) is =
-      let line : List Choice = plan.line in
+      let line : List Choice = plan.value.line in
       let size : length line ≡ length old.history = is.plan_is.latest.recoverable.length_is in
       let after : new.history ≡ restarted old.history line = ap (λ (m : Machine). m.history) is.new_is in (
         subst (KeepsNames old.history) (sym after) (record {

@@ -415,7 +415,7 @@ goes-done old new (Recover failed) reply stands none does = recovered reply does
   where
     recovered : (r : Reply) → RecoversWith old failed r new → Goes old new
     recovered (Recovered plan states incarnations) is =
-        subst (Goes old) (sym is.new_is) (goes_back old plan.line is.plan_is.latest.recoverable.length_is is.plan_is.latest.recoverable.consistent stands)
+        subst (Goes old) (sym is.new_is) (goes_back old plan.value.line is.plan_is.latest.recoverable.length_is is.plan_is.latest.recoverable.consistent stands)
     recovered (Sent message) is = absurd is
     recovered (Took message forced) is = absurd is
     recovered (Marked round forced) is = absurd is
@@ -440,8 +440,8 @@ reaches-taken old new (Turn at state) answer stands takes = tt
 reaches-taken old new (Damage at check) answer stands takes = tt
 reaches-taken old new (Recover failed) (Refused e) stands takes = tt
 reaches-taken old new (Recover failed) (Done (Recovered plan states incarnations)) stands takes =
-    All-weaker (IsSnapshotOf old.history) (IsReached old.history old.marks failed plan.line)
-    (λ round is surviving. latest_reached old.history old.marks failed plan.line round.checks (channel_in round) takes.1.plan_is.latest is surviving) old.rounds stands.are.snapshots
+    All-weaker (IsSnapshotOf old.history) (IsReached old.history old.marks failed plan.value.line)
+    (λ round is surviving. latest_reached old.history old.marks failed plan.value.line round.checks (channel_in round) takes.1.plan_is.latest is surviving) old.rounds stands.are.snapshots
 reaches-taken old new (Recover failed) (Done (Sent message)) stands takes = tt
 reaches-taken old new (Recover failed) (Done (Took message forced)) stands takes = tt
 reaches-taken old new (Recover failed) (Done (Marked round forced)) stands takes = tt

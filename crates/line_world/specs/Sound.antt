@@ -30,5 +30,5 @@ CompletesLast old new = (r : ℕ) → is_completed old.mode old.history r ≡ fa
 
 -- a recovery that is done goes on from a line that is, at each process, at least as late as every listed round whose checks survive
 abbrev pub ReachesRounds : Machine → Step → Answer → Type 0
-ReachesRounds old (Recover failed) (Done (Recovered plan states incarnations)) = All (IsReached old.history old.marks failed plan.line) old.rounds
+ReachesRounds old (Recover failed) (Done (Recovered plan states incarnations)) = All (IsReached old.history old.marks failed plan.value.line) old.rounds
 ReachesRounds old step answer = Unit {0}

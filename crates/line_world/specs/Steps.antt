@@ -96,7 +96,7 @@ pub record Recovers (old : Machine) (failed : List Bool) (plan : Plan) (states :
 
 -- a Recover replies Recovered
 abbrev pub RecoversWith : Machine → List Bool → Reply → Machine → Type 0
-RecoversWith old failed (Recovered plan states incarnations) new = Recovers old failed plan states.items incarnations.items new
+RecoversWith old failed (Recovered plan states incarnations) new = Recovers old failed plan.value states.items incarnations.items new
 RecoversWith old failed reply new = ⊥
 
 -- the step may be done with this reply, and leaves that state

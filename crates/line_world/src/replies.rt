@@ -59,7 +59,7 @@ pub enum Reply {
     },
     /// The plan; of each process the bytes that it goes on from, none where it stays where it stands; and its incarnation after the restart.
     Recovered {
-        plan: Plan,
+        plan: Box<Plan>,
         states: Vec<Option<State>>,
         incarnations: Vec<u16>,
     },

@@ -1,5 +1,5 @@
 //! The world: the machine that answers steps.
-ghost use Rattle.std.specs.Prelude.{◌≡◌, ◌≢◌, ◌<◌, ◌↔◌, ◌⊎◌, All, AllPairs, Some, None, length, take, slice_get, IfOk, IfErr, IsErrOf, IsTrue};
+ghost use Rattle.std.specs.Prelude.{◌≡◌, ◌≢◌, ◌<◌, ◌↔◌, ◌⊎◌, All, AllPairs, Some, None, length, take, slice_get, IfOk, IfErr, IsErrOf, IsTrue, false};
 ghost use Rattle.line_tape.specs.History.{incarnation_at};
 ghost use Rattle.line_world.specs.declared.replies.Answer.TheVariants.{Done, Refused};
 ghost use Rattle.line_world.specs.declared.steps.Step.TheVariants.{Send, Deliver, Check, Begin, Turn, Damage, Recover};
@@ -11,7 +11,7 @@ ghost use Rattle.line_moves.specs.Listed.{Listed, IsReached, IsSnapshotOf};
 ghost use Rattle.line_world.specs.Machine.{start, items_on, IsFit};
 ghost use Rattle.line_world.specs.Refusals.{first_cause, link_causes, refusal_of, has_stranger};
 ghost use Rattle.line_world.specs.Runs.{Takes, Run};
-ghost use Rattle.line_world.specs.Steps.{IsPlan};
+ghost use Rattle.line_world.specs.Steps.{IsPlan, Recovers};
 
 mod refusals;
 
@@ -19,15 +19,15 @@ use crate::replies::{Answer, Reply, RunStopped, StepError};
 use crate::steps::Step;
 use line_catalogue::Catalogue;
 use line_moves::{
-    Fate, Links, Mode, OpenRound, Round, add_check, add_receipt, begin_round, fate_of, is_forced,
-    keep_rounds, put_message, restarted_incarnations, restarted_links, restored_states, still_open,
+    Fate, Links, Listing, Mode, OpenRound, Round, add_check, add_receipt, begin_round, fate_of,
+    is_forced, put_message, restart_links, restarted_incarnations, restored_states, still_open,
     take_marker, take_message, turn_round,
 };
 use line_names::{Body, MOST_PROCESSES, MsgName, ProcId, ProcSet};
 use line_plan::Plan;
 use line_tape::{CountError, History, Item, Marks, State};
 use line_turns::{Colours, Turning};
-use std::alloc::Global;
+use std::alloc::{AllocError, Global};
 use std::marker::Model;
 
 /// Processes with a link from each to each.
@@ -46,7 +46,7 @@ pub struct World {
     turning: Option<Turning>,
     /// The colours of the processes, where links keep no order.
     colours: Colours,
-    rounds: Vec<Round>,
+    rounds: Listing,
 }
 
 impl Model for World {
@@ -91,7 +91,7 @@ impl World {
             running: None,
             turning: None,
             colours,
-            rounds: Vec::new(alloc),
+            rounds: Listing::new(alloc),
         })
     }
 
@@ -118,7 +118,7 @@ impl World {
         ensures snapshots { All (IsSnapshotOf self.now.history) self.now.rounds }
         ensures ascending { AllPairs (λ (a b : Listed). a.number < b.number) self.now.rounds }
     {
-        &self.rounds
+        self.rounds.as_slice()
     }
 
     /// The incarnation of a process.
@@ -325,7 +325,7 @@ impl World {
         if self.is_full(to, events) {
             return Err(StepError::TapeFull);
         }
-        self.rounds.reserve(1)?;
+        self.rounds.reserve()?;
         take_marker(
             alloc,
             &mut self.catalogue,
@@ -338,7 +338,7 @@ impl World {
             forced,
         )?;
         let running = self.running.take();
-        self.running = still_open(running, self.catalogue.history(), &mut self.rounds);
+        self.running = still_open(alloc, running, self.catalogue.history(), &mut self.rounds);
         Ok(Reply::Marked { round, forced })
     }
 
@@ -402,7 +402,7 @@ impl World {
         ensures memory { IsErrOf result StepError.OutOfMemory → self.new ≡ self.old }
         ensures unrefused { IsErrOf result StepError.OutOfMemory → refusal_of self.old (Begin at state.now) ≡ None }
     {
-        self.rounds.reserve(1)?;
+        self.rounds.reserve()?;
         let (begun, check) = begin_round(
             alloc,
             &mut self.catalogue,
@@ -412,7 +412,12 @@ impl World {
             self.last_round,
         )?;
         self.last_round += 1;
-        self.running = still_open(Some(begun), self.catalogue.history(), &mut self.rounds);
+        self.running = still_open(
+            alloc,
+            Some(begun),
+            self.catalogue.history(),
+            &mut self.rounds,
+        );
         Ok(Reply::Begun {
             at,
             check,
@@ -530,14 +535,31 @@ impl World {
         Ok(plan)
     }
 
-    /// Plans, and has all go on from the plan's line.
-    fn recover(&mut self, alloc: Global, failed: &ProcSet) -> Result<Reply, StepError>
-        ensures done { IfOk result (λ reply. Takes self.old (Recover failed.now) (Done reply) self.new) }
-        ensures refused { IfErr result (λ e. e ≢ StepError.OutOfMemory → Takes self.old (Recover failed.now) (Refused e) self.new) }
-        ensures memory { IsErrOf result StepError.OutOfMemory → self.new ≡ self.old }
-        ensures unrefused { IsErrOf result StepError.OutOfMemory → refusal_of self.old (Recover failed.now) ≡ None }
+    /// The plan for those of the set, in memory of its own: a plan has the room of a whole line, and what a step answers is moved often.
+    #[inline(never)]
+    fn boxed_plan_for(&self, alloc: Global, failed: &ProcSet) -> Result<Box<Plan>, StepError>
+        ensures plan { IfOk result (λ plan. IsPlan self.now failed.now plan.value) }
+        ensures stranger { IsErrOf result StepError.NoSuchProcess ↔ IsTrue (has_stranger self.now failed.now) }
+        ensures others { IfErr result (λ e. (e ≡ StepError.NoSuchProcess) ⊎ (e ≡ StepError.OutOfMemory)) }
     {
         let plan = self.plan_for(alloc, failed)?;
+        let plan = Box::new(alloc, plan).map_err(AllocError::from)?;
+        Ok(plan)
+    }
+
+    /// Has all go on from the line of the plan for those of the set, and tells of each process the bytes that it goes on from, and its incarnation then.
+    fn go_back(
+        &mut self,
+        alloc: Global,
+        _failed: &ProcSet,
+        plan: &Plan,
+    ) -> Result<(Vec<Option<State>>, Vec<u16>), StepError>
+        requires known { has_stranger self.old _failed.now ≡ false }
+        requires plan { IsPlan self.old _failed.now plan.now }
+        ensures done { IfOk result (λ told. Recovers self.old _failed.now plan.now told.0.items told.1.items self.new) }
+        ensures refused { IfErr result (λ e. e ≢ StepError.OutOfMemory → Takes self.old (Recover _failed.now) (Refused e) self.new) }
+        ensures memory { IsErrOf result StepError.OutOfMemory → self.new ≡ self.old }
+    {
         let history = self.catalogue.history();
         if !history.has_further(&plan.line) {
             return Err(StepError::NoMoreIncarnations);
@@ -545,20 +567,24 @@ impl World {
         let states = restored_states(alloc, history, &plan.line)?;
         let incarnations = restarted_incarnations(alloc, history, &plan.line)?;
         let left = Vec::from_slice(alloc, plan.replays.as_slice())?;
-        let links = restarted_links(
-            alloc,
-            self.mode,
-            history,
-            &self.links,
-            &plan.line,
-            &plan.replays,
-        )?;
+        restart_links(self.mode, history, &mut self.links, &plan.line, &left)?;
         self.catalogue.restart_with(&plan.line, left);
-        self.links = links;
         self.running = None;
         self.turning = None;
         self.colours.clear();
-        keep_rounds(&mut self.rounds, &plan.line);
+        self.rounds.keep(&plan.line);
+        Ok((states, incarnations))
+    }
+
+    /// Plans, and has all go on from the plan's line.
+    fn recover(&mut self, alloc: Global, failed: &ProcSet) -> Result<Reply, StepError>
+        ensures done { IfOk result (λ reply. Takes self.old (Recover failed.now) (Done reply) self.new) }
+        ensures refused { IfErr result (λ e. e ≢ StepError.OutOfMemory → Takes self.old (Recover failed.now) (Refused e) self.new) }
+        ensures memory { IsErrOf result StepError.OutOfMemory → self.new ≡ self.old }
+        ensures unrefused { IsErrOf result StepError.OutOfMemory → refusal_of self.old (Recover failed.now) ≡ None }
+    {
+        let plan = self.boxed_plan_for(alloc, failed)?;
+        let (states, incarnations) = self.go_back(alloc, failed, &plan)?;
         Ok(Reply::Recovered {
             plan,
             states,
@@ -568,7 +594,7 @@ impl World {
 
     /// Takes one step.
     ///
-    /// Sending, delivering a message and taking a check cost the same however much was done before; a message that forces a check searches its sender's checks of rounds by halves. A marker looks at its receiver's channels, and the last one of a process at all channels of the round. A check of a round, begun or forced by a marker, puts a marker on the link to each other process; the last one of a round of colours looks at what was in transit at the checks of the round or the line before, and at each send and receipt since. Recovering costs what a plan does; it looks at each event that it cuts or that came since the last recovery, and at each copy.
+    /// Sending, delivering a message and taking a check cost the same however much was done before; a message that forces a check searches its sender's checks of rounds by halves. A marker looks at its receiver's channels, and the last one of a process at all channels of the round. A check of a round, begun or forced by a marker, puts a marker on the link to each other process; the last one of a round of colours looks at what was in transit at the checks of the round or the line before, and at each send and receipt since. Recovering costs what a plan does; it looks at each event that it cuts or that came since the last recovery, and at each message in transit.
     pub fn step(&mut self, alloc: Global, step: &Step) -> Result<Reply, StepError>
         ensures done { IfOk result (λ reply. Takes self.old step.now (Done reply) self.new) }
         ensures refused { IfErr result (λ e. e ≢ StepError.OutOfMemory → Takes self.old step.now (Refused e) self.new) }

@@ -55,7 +55,7 @@ returns-clause-channels c = λ state.
     let others : (q : ℕ) → q < length history → q ≢ at → has_check_of r (tape_at history q) ≡ true = (c.is_last.ensures history c.requires.turning).0 c.if-not-is_last.false in
     let found : c.deref.result.now ≡ in_transit c.history.result.now.processes line =
     c.deref.ensures.value ∙ c.in_ok-messages.ensures ∙ ap (λ (h : List Process). in_transit h line) (sym c.history.ensures.processes) in
-    let held : c.in_ok-channels.channels ≡ channels_at new (round_line new r) =
-    c.in_ok-channels.ensures.transit line found ∙ ap (λ (h : List Process). channels_at h line) c.history.ensures.processes
+    let held : c.in_ok-held.held ≡ channels_at new (round_line new r) =
+    c.in_ok-held.ensures.transit line found ∙ ap (λ (h : List Process). channels_at h line) c.history.ensures.processes
     ∙ turn_channels history turning c.requires.turning at state c.requires.at c.requires.first line c.line-line.ensures others in
-    ap (λ (t : List (List (List MsgName))). Some t) held ∙ ap given (sym c.if-not-is_last.false ∙ completed)
+    ap (λ (t : List (List (List MsgName))). Some t) (c.in_ok-channels.ensures ∙ held) ∙ ap given (sym c.if-not-is_last.false ∙ completed)

@@ -11,7 +11,7 @@ returns-in_err-push_back-clause-err c =
     let row : List QueueView = c.self.inside.queues.items in
     let held : QueueView → List Item = λ queue. queue.held in
     let old : QueueView = c.index_mut-queue.result.now in
-    let new : QueueView = record { held = c.push_back.new.self.items; room = deque_capacity c.push_back.new.self - deque_len c.push_back.new.self } in
+    let new : QueueView = record { held = c.push_back.new.self.items; room = deque_capacity c.push_back.new.self - deque_len c.push_back.new.self; counted = c.queue.inside.counted } in
     on_err c.from_residual.result
     (map-set_same held row c.get.result new old (c.in_err-push_back.ensures.items ∙ ap held c.queue.view_is ∙ ap held c.index_mut-queue.ensures.value)
     ∙ ap (λ (xs : List QueueView). items_of xs) c.self.view_is)
@@ -21,7 +21,7 @@ returns-clause-ok c =
     let row : List QueueView = c.self.inside.queues.items in
     let held : QueueView → List Item = λ queue. queue.held in
     let old : QueueView = c.index_mut-queue.result.now in
-    let new : QueueView = record { held = c.push_back.new.self.items; room = deque_capacity c.push_back.new.self - deque_len c.push_back.new.self } in
+    let new : QueueView = record { held = c.push_back.new.self.items; room = deque_capacity c.push_back.new.self - deque_len c.push_back.new.self; counted = c.queue.inside.counted } in
     let at : c.get.result ≡ c.args.to = c.get.ensures.value in
     let seen : row ≡ c.args.self.now = c.self.view_is in
     let within : c.get.result < length row = omega (arith, c.requires, ap (λ (xs : List QueueView). length xs) seen) in

@@ -19,7 +19,7 @@ loop-q-preserved c =
     elim c.if-q-get.branch [
       | then-q-get w ↦
           let old : QueueView = w.index_mut-queue.result.now in
-          let new : QueueView = record { held = w.push_back_reserved.new.self.items; room = deque_capacity w.push_back_reserved.new.self - deque_len w.push_back_reserved.new.self } in
+          let new : QueueView = record { held = w.push_back_reserved.new.self.items; room = deque_capacity w.push_back_reserved.new.self - deque_len w.push_back_reserved.new.self; counted = w.queue.inside.counted } in
           rw w.self-inside-is
           (AreSent-put own item q before row is within old new (λ e. w.if-q-get.true (e ∙ sym c.get.ensures.value)) w.index_mut-queue.ensures.value (w.push_back_reserved.ensures.items ∙ ap (λ (queue : QueueView). queue.held ++ item ∷ []) w.queue.view_is))
       | else-q-get w ↦

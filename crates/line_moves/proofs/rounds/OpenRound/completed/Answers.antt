@@ -1,22 +1,43 @@
 -- What its checks and its markers say is what the tapes say.
-use Rattle.std.proofs.Common.{◌≡◌, ℕ, List, sym, subst, ap, ◌∙◌}
+use Rattle.std.proofs.Common.{◌≡◌, ◌<◌, ℕ, List, length, sym, subst, ap, ◌∙◌, arith}
+use Rattle.std.proofs.lemmas.List.{get_or_default}
+use Rattle.line_marker.specs.Recording.{MarkerView}
 use Rattle.line_tape.specs.History.{Process}
 use Rattle.line_tape.specs.Rounds.{is_completed_fifo}
 use Rattle.line_moves.specs.declared.modes.Mode.TheVariants.{Fifo}
 use Rattle.line_moves.specs.Listed.{Listed, listed}
-use Rattle.line_moves.specs.Openings.{OpenView, recorded_table, IsRecording}
+use Rattle.line_moves.specs.Openings.{OpenView, no_marker, recorded_channel, recorded_table, AreMarkers, IsRecording}
 use Rattle.line_moves.proofs.OpenFacts.{completed_is}
 use Rattle.line_moves.proofs.rounds.OpenRound.completed.Goals as goal
 
+pub without_silence-markers-requires-clause-n : goal.without_silence-markers-requires-clause-n
+without_silence-markers-requires-clause-n c = λ k d within.
+    let markers : List MarkerView = c.self.inside.markers.items in
+    let are : AreMarkers (length c.self.inside.turning.checks) markers = c.self.invariant in
+    let recording : IsRecording c.args.history.now.processes (record { number = c.self.inside.turning.number; checks = c.self.inside.turning.checks; markers = markers }) = subst (IsRecording c.args.history.now.processes) (sym c.self.view_is) c.requires.recording in
+    ap (λ (m : MarkerView). m.n) (get_or_default markers k d no_marker within) ∙ are.n_is k (omega (arith, within, are.count)) ∙ recording.turning.count ∙ sym c.n-n.ensures.value
+
 pub returns : goal.returns
 returns c =
-    let history : List Process = c.args._history.now.processes in
-    let number : c.self.inside.turning.number ≡ c.args.self.number = ap (λ (v : OpenView). v.number) c.self.view_is in
-    let round : Listed = record { number = c.self.inside.turning.number; checks = c.self.inside.turning.checks; channels = recorded_table c.self.inside.markers.items c.self.inside.turning.number } in
-    let told : (let it : Listed = record { number = c.number-number.result; checks = c.into_checks.result.items; channels = recorded_table c.self.inside.markers.items c.number-number.result } in it) ≡ round =
-    ap (λ (v : ℕ). let it : Listed = record { number = v; checks = c.into_checks.result.items; channels = recorded_table c.self.inside.markers.items v } in it) c.number-number.ensures
-    ∙ ap (λ (v : List ℕ). let it : Listed = record { number = c.self.inside.turning.number; checks = v; channels = recorded_table c.self.inside.markers.items c.self.inside.turning.number } in it) c.into_checks.ensures in
-    told ∙ completed_is history c.self.inside.turning c.self.inside.markers.items c.self.invariant
+    let history : List Process = c.args.history.now.processes in
+    let markers : List MarkerView = c.self.inside.markers.items in
+    let kept : List MarkerView = c.without_silence-markers.result.items in
+    let r : ℕ = c.self.inside.turning.number in
+    let indices : List ℕ = c.self.inside.turning.checks in
+    let number : r ≡ c.args.self.number = ap (λ (v : OpenView). v.number) c.self.view_is in
+    let told : (let it : Listed = record { number = c.number-number.result; checks = c.into_checks.result.items; channels = recorded_table (length c.into_checks.result.items) kept c.number-number.result } in it)
+    ≡ (let it : Listed = record { number = r; checks = indices; channels = recorded_table (length indices) kept r } in it) =
+    ap (λ (v : ℕ). let it : Listed = record { number = v; checks = c.into_checks.result.items; channels = recorded_table (length c.into_checks.result.items) kept v } in it) c.number-number.ensures
+    ∙ ap (λ (v : List ℕ). let it : Listed = record { number = r; checks = v; channels = recorded_table (length v) kept r } in it) c.into_checks.ensures in
+    let same : (p q : ℕ) → p < length history → recorded_channel kept r p q ≡ recorded_channel markers r p q = λ p q within.
+    subst (λ (v : ℕ). recorded_channel kept v p q ≡ recorded_channel markers v p q) c.number-number.ensures
+    (c.without_silence-markers.ensures.same p q (omega (arith, within, c.n-n.ensures.value))) in
+    told ∙ completed_is history c.self.inside.turning markers kept c.self.invariant
     (subst (IsRecording history) (sym c.self.view_is) c.requires.recording)
-    (ap (is_completed_fifo history) number ∙ c.requires.completed)
+    (ap (is_completed_fifo history) number ∙ c.requires.completed) same
     ∙ ap (listed Fifo history) number
+
+pub invariant_of-result : goal.invariant_of-result
+invariant_of-result c = λ k d within.
+    let recording : IsRecording c.args.history.now.processes (record { number = c.self.inside.turning.number; checks = c.self.inside.turning.checks; markers = c.self.inside.markers.items }) = subst (IsRecording c.args.history.now.processes) (sym c.self.view_is) c.requires.recording in
+    c.without_silence-markers.ensures.n k d within ∙ c.n-n.ensures.value ∙ sym recording.turning.count ∙ sym (ap (λ (v : List ℕ). length v) c.into_checks.ensures)

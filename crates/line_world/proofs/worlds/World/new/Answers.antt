@@ -24,7 +24,7 @@ returns-clause-ok c =
     let marks : MarksView = record { damaged = replicate n [] } in
     ap (λ (h : List Process). seen mode h c.in_ok-catalogue.catalogue.marks 0 rounds links) c.in_ok-catalogue.ensures.processes
     ∙ ap (λ (damaged : List (List ℕ)). let v : MarksView = record { damaged = damaged } in seen mode history v 0 rounds links) c.in_ok-catalogue.ensures.marks
-    ∙ ap (λ (ls : List Listed). seen mode history marks 0 ls links) c.new-4.ensures.items
+    ∙ ap (λ (ls : List Listed). seen mode history marks 0 ls links) c.new-4.ensures
     ∙ ap (λ (queues : List (List (List Item))). seen mode history marks 0 [] queues) c.in_ok-links.ensures
     ∙ ap (λ (copies : List (List (List MsgName))). let m : Machine = record { mode = mode; history = history; marks = marks; last_round = 0; rounds = []; copies = copies } in m) (copies-start n mode)
 
@@ -33,6 +33,6 @@ invariant_of-result c = (
   subst (λ (h : List Process). IsWorld c.args.mode h c.in_ok-links.links) (sym c.in_ok-catalogue.ensures.processes)
       (subst (λ (q : List (List (List Item))). IsWorld c.args.mode (replicate c.args.n fresh) q) (sym c.in_ok-links.ensures) (IsWorld-start c.args.n c.args.mode)),
   subst (λ (h : List Process). AreRounds c.args.mode h 0 (opened c.args.mode None None) c.new-4.result.items) (sym c.in_ok-catalogue.ensures.processes)
-      (subst (λ (rounds : List Listed). AreRounds c.args.mode (replicate c.args.n fresh) 0 (opened c.args.mode None None) rounds) (sym c.new-4.ensures.items) (AreRounds-start c.args.n c.args.mode)),
+      (subst (λ (rounds : List Listed). AreRounds c.args.mode (replicate c.args.n fresh) 0 (opened c.args.mode None None) rounds) (sym c.new-4.ensures) (AreRounds-start c.args.n c.args.mode)),
   subst (λ (h : List Process). ArePainted c.args.mode h c.in_ok-colours.colours) (sym c.in_ok-catalogue.ensures.processes) (ArePainted-start c.args.n c.args.mode c.in_ok-colours.colours c.in_ok-colours.ensures.turned),
 )

@@ -1,138 +1,24 @@
--- All go on from the latest line, or it takes back a process that has no further incarnation.
-use Rattle.std.proofs.Common.{◌≡◌, ◌<◌, ◌++◌, ℕ, List, length, map, Option, None, refl, sym, ap, ◌∙◌, subst}
-use Rattle.std.proofs.lemmas.Bool.{both_ways, false_from_ne_true}
-use Rattle.line_names.specs.declared.choices.Choice.{Choice}
-use Rattle.line_names.specs.declared.messages.MsgName.{MsgName}
-use Rattle.line_tape.specs.declared.items.Item.{Item}
-use Rattle.line_tape.specs.declared.items.Item.TheVariants.{Message}
-use Rattle.line_tape.specs.History.{Process}
-use Rattle.line_tape.specs.Line.{IsLine, IsConsistent}
-use Rattle.line_tape.specs.Restart.{HaveFurther, restarted, restarted_marks}
-use Rattle.line_tape.specs.Transit.{in_transit, in_transit_between}
-use Rattle.line_tape.specs.Views.{MarksView}
-use Rattle.line_world.specs.declared.replies.StepError.TheVariants.{NoMoreIncarnations}
-use Rattle.line_world.specs.declared.steps.Step.TheVariants.{Recover}
-use Rattle.line_moves.specs.declared.modes.Mode.{Mode}
-use Rattle.line_world.specs.Machine.{Machine}
-use Rattle.line_moves.specs.Modes.{copies_in}
-use Rattle.line_turns.specs.Tables.{between}
-use Rattle.line_world.specs.Refusals.{refusal_of, has_stranger, IsRefused}
-use Rattle.line_moves.specs.Restarts.{restored_states}
-use Rattle.line_world.specs.Steps.{restarted_machine}
-use Rattle.line_moves.specs.Openings.{OpenView, opened}
-use Rattle.line_world.proofs.PaintLemmas.{ArePainted-restart}
-use Rattle.line_world.proofs.StartLemmas.{none_opened}
-use Rattle.line_moves.specs.Worlds.{ArePainted, AreRounds, IsWorld, AreQueues}
-use Rattle.std.specs.List.{filter}
-use Rattle.line_moves.specs.Listed.{Listed, stays}
-use Rattle.line_moves.proofs.OpeningLemmas.{AreRounds-restarted}
-use Rattle.line_moves.proofs.LineFacts.{IsLine-latest}
+-- What was planned is what all go on from.
+use Rattle.std.proofs.Common.{◌≡◌, true, false, sym, subst}
+use Rattle.std.proofs.lemmas.Bool.{false_from_ne_true}
+use Rattle.line_plan.specs.declared.plans.Plan.{Plan}
+use Rattle.line_world.specs.Refusals.{has_stranger}
+use Rattle.line_world.specs.Steps.{IsPlan, Recovers}
 use Rattle.line_world.proofs.StepLemmas.{may_recover}
-use Rattle.line_moves.proofs.WorldLemmas.{IsWorld-restart, seen-restart}
-use Rattle.line_world.proofs.SeenLemmas.{seen}
 use Rattle.line_world.proofs.worlds.World.recover.Goals as goal
 
-pub returns-then-not-has_further-clause-refused : goal.returns-then-not-has_further-clause-refused
-returns-then-not-has_further-clause-refused c = λ other.
-    let same : c.history-history.result.now.processes ≡ c.args.self.now.history = c.history-history.ensures.processes ∙ ap (λ (m : Machine). m.history) c.self.view_is in
-    let none : refusal_of c.args.self.now (Recover c.args.failed.now) ≡ None =
-    may_recover c.args.self.now c.args.failed.now (false_from_ne_true (has_stranger c.args.self.now c.args.failed.now) (λ t. let wrong = c.in_ok-plan.ensures.stranger.1 t in absurd (cc))) in (
-      subst (IsRefused c.args.self.now (Recover c.args.failed.now) NoMoreIncarnations) (sym none) (record {
-        line = c.in_ok-plan.plan.line;
-        latest = c.in_ok-plan.ensures.plan.latest;
-        spent = λ further. both_ways c.has_further.result c.if-not-has_further.true
-            (c.has_further.ensures.1 (subst (λ (h : List Process). HaveFurther h c.in_ok-plan.plan.line) (sym same) further));
-      }),
-      refl,
-    )
+pub go_back-requires-clause-known : goal.go_back-requires-clause-known
+go_back-requires-clause-known c =
+    false_from_ne_true (has_stranger c.args.self.now c.args.failed.now) (λ t. let wrong = c.in_ok-plan.ensures.stranger.1 t in absurd (cc))
 
-pub restored_states-requires : goal.restored_states-requires
-restored_states-requires c =
-    let same : c.history-history.result.now.processes ≡ c.args.self.now.history = c.history-history.ensures.processes ∙ ap (λ (m : Machine). m.history) c.self.view_is in
-    subst (λ (h : List Process). IsLine h c.in_ok-plan.plan.line) (sym same)
-    (IsLine-latest c.args.self.now.history c.args.self.now.marks c.args.failed.now c.in_ok-plan.plan.line c.in_ok-plan.ensures.plan.latest)
-
-pub restarted_incarnations-requires-clause-line : goal.restarted_incarnations-requires-clause-line
-restarted_incarnations-requires-clause-line c =
-    c.in_ok-plan.ensures.plan.latest.recoverable.length_is ∙ ap (λ (m : Machine). length m.history) (sym c.self.view_is) ∙ ap (λ (h : List Process). length h) (sym c.history-history.ensures.processes)
-
-pub restarted_links-requires-clause-transit : goal.restarted_links-requires-clause-transit
-restarted_links-requires-clause-transit c =
-    let same : c.history-history.result.now.processes ≡ c.args.self.now.history = c.history-history.ensures.processes ∙ ap (λ (m : Machine). m.history) c.self.view_is in
-    c.deref.ensures.value
-    ∙ c.in_ok-plan.ensures.plan.replays
-    ∙ ap (λ (h : List Process). in_transit h c.in_ok-plan.plan.line) (sym same)
-
-pub restarted_links-requires-clause-queued : goal.restarted_links-requires-clause-queued
-restarted_links-requires-clause-queued c =
-    subst (λ (h : List Process). AreQueues h c.self.inside.links) (sym c.history-history.ensures.processes) c.self.invariant.0.queued
-
-pub restart_with-requires-clause-line : goal.restart_with-requires-clause-line
-restart_with-requires-clause-line c =
-    subst (λ (m : Machine). IsLine m.history c.in_ok-plan.plan.line) (sym c.self.view_is)
-    (IsLine-latest c.args.self.now.history c.args.self.now.marks c.args.failed.now c.in_ok-plan.plan.line c.in_ok-plan.ensures.plan.latest)
-
-pub restart_with-requires-clause-consistent : goal.restart_with-requires-clause-consistent
-restart_with-requires-clause-consistent c =
-    subst (λ (m : Machine). IsConsistent m.history c.in_ok-plan.plan.line) (sym c.self.view_is) c.in_ok-plan.ensures.plan.latest.recoverable.consistent
-
-pub restart_with-requires-clause-further : goal.restart_with-requires-clause-further
-restart_with-requires-clause-further c =
-    subst (λ (h : List Process). HaveFurther h c.in_ok-plan.plan.line) c.history-history.ensures.processes (c.has_further.ensures.0 c.if-not-has_further.false)
-
-pub restart_with-requires-clause-left : goal.restart_with-requires-clause-left
-restart_with-requires-clause-left c =
-    c.in_ok-left.ensures.items ∙ c.as_slice.ensures.value ∙ c.in_ok-plan.ensures.plan.replays ∙ ap (λ (m : Machine). in_transit m.history c.in_ok-plan.plan.line) (sym c.self.view_is)
-
-pub invariant_of-self : goal.invariant_of-self
-invariant_of-self c =
-    let mode : Mode = c.self.inside.mode in
-    let old : List Process = c.self.inside.catalogue.processes in
-    let links : List (List (List Item)) = c.self.inside.links in
-    let new : List (List (List Item)) = c.in_ok-links.links in
-    let line : List Choice = c.in_ok-plan.plan.line in
-    let size : length line ≡ length old = c.in_ok-plan.ensures.plan.latest.recoverable.length_is ∙ ap (λ (m : Machine). length m.history) (sym c.self.view_is) in
-    let consistent : IsConsistent old line = subst (λ (m : Machine). IsConsistent m.history line) (sym c.self.view_is) c.in_ok-plan.ensures.plan.latest.recoverable.consistent in
-    let queued : AreQueues old new = subst (λ (h : List Process). AreQueues h new) c.history-history.ensures.processes c.in_ok-links.ensures.queued in (
-      subst (λ (h : List Process). IsWorld mode h new) (sym c.restart_with.ensures.processes)
-          (IsWorld-restart old links new line size consistent queued mode c.self.invariant.0
-          (subst (λ (h : List Process). (p q : ℕ) → p < length h → q < length h → between new p q ≡ between (copies_in mode links) p q ++ map (λ m. Message m) (in_transit_between h line p q)) c.history-history.ensures.processes c.in_ok-links.ensures.put)),
-      subst (λ (h : List Process). AreRounds mode h c.self.inside.last_round (opened mode None None) c.keep_rounds.new.rounds.items) (sym c.restart_with.ensures.processes)
-          (subst (λ (rounds : List Listed). AreRounds mode (restarted old line) c.self.inside.last_round (opened mode None None) rounds) (sym c.keep_rounds.ensures)
-          (subst (λ (o : Option OpenView). AreRounds mode (restarted old line) c.self.inside.last_round o (filter (stays line) c.self.inside.rounds.items)) (sym (none_opened mode))
-          (AreRounds-restarted mode old line c.self.inside.last_round (opened mode c.self.inside.running c.self.inside.turning) c.self.inside.rounds.items size c.self.invariant.1))),
-      subst (λ (h : List Process). ArePainted mode h c.clear.new.self) (sym c.restart_with.ensures.processes)
-          (ArePainted-restart mode old line c.self.inside.colours c.clear.new.self size (c.clear.ensures.restart old line size) c.self.invariant.2),
-    )
+pub go_back-requires-clause-plan : goal.go_back-requires-clause-plan
+go_back-requires-clause-plan c = subst (λ (p : Plan). IsPlan c.args.self.now c.args.failed.now p) (sym c.deref.ensures) c.in_ok-plan.ensures.plan
 
 pub returns-clause-done : goal.returns-clause-done
 returns-clause-done c =
-    let mode : Mode = c.self.inside.mode in
-    let old : List Process = c.self.inside.catalogue.processes in
-    let marks : MarksView = c.self.inside.catalogue.marks in
-    let last : ℕ = c.self.inside.last_round in
-    let links : List (List (List Item)) = c.self.inside.links in
-    let new : List (List (List Item)) = c.in_ok-links.links in
-    let line : List Choice = c.in_ok-plan.plan.line in
-    let size : length line ≡ length old = c.in_ok-plan.ensures.plan.latest.recoverable.length_is ∙ ap (λ (m : Machine). length m.history) (sym c.self.view_is) in
-    let consistent : IsConsistent old line = subst (λ (m : Machine). IsConsistent m.history line) (sym c.self.view_is) c.in_ok-plan.ensures.plan.latest.recoverable.consistent in
-    let queued : AreQueues old new = subst (λ (h : List Process). AreQueues h new) c.history-history.ensures.processes c.in_ok-links.ensures.queued in
-    let same : c.history-history.result.now.processes ≡ c.args.self.now.history = c.history-history.ensures.processes ∙ ap (λ (m : Machine). m.history) c.self.view_is in
-    let none : refusal_of c.args.self.now (Recover c.args.failed.now) ≡ None =
-    may_recover c.args.self.now c.args.failed.now (false_from_ne_true (has_stranger c.args.self.now c.args.failed.now) (λ t. let wrong = c.in_ok-plan.ensures.stranger.1 t in absurd (cc))) in (
-      none,
-      record {
-        plan_is = c.in_ok-plan.ensures.plan;
-        further = subst (λ (h : List Process). HaveFurther h line) same (c.has_further.ensures.0 c.if-not-has_further.false);
-        states_are = c.in_ok-states.ensures ∙ ap (λ (h : List Process). restored_states h line) same;
-        incarnations_are = c.in_ok-incarnations.ensures ∙ ap (λ (h : List Process). map (λ (process : Process). process.incarnation) (restarted h line)) c.history-history.ensures.processes
-            ∙ ap (λ (h : List Process). map (λ (process : Process). process.incarnation) h) (sym c.restart_with.ensures.processes);
-        new_is = ap (λ (h : List Process). seen mode h c.restart_with.new.self.marks last c.keep_rounds.new.rounds.items new) c.restart_with.ensures.processes
-            ∙ ap (λ (v : MarksView). seen mode (restarted old line) v last c.keep_rounds.new.rounds.items new) c.restart_with.ensures.marks
-            ∙ ap (λ (rounds : List Listed). seen mode (restarted old line) (restarted_marks marks line) last rounds new) c.keep_rounds.ensures
-            ∙ ap (λ (copies : List (List (List MsgName))). let m : Machine = record { mode = mode; history = restarted old line; marks = restarted_marks marks line; last_round = last; rounds = filter (stays line) c.self.inside.rounds.items; copies = copies } in m)
-            (seen-restart old links new line size consistent queued mode
-            (subst (λ (h : List Process). (p q : ℕ) → p < length h → q < length h → between new p q ≡ between (copies_in mode links) p q ++ map (λ m. Message m) (in_transit_between h line p q)) c.history-history.ensures.processes c.in_ok-links.ensures.put))
-            ∙ ap (λ (m : Machine). restarted_machine m line) c.self.view_is;
-      },
+    let known : has_stranger c.args.self.now c.args.failed.now ≡ false =
+    false_from_ne_true (has_stranger c.args.self.now c.args.failed.now) (λ t. let wrong = c.in_ok-plan.ensures.stranger.1 t in absurd (cc)) in (
+      may_recover c.args.self.now c.args.failed.now known,
+      subst (λ (p : Plan). Recovers c.args.self.now c.args.failed.now p c.in_ok-states.states.items c.in_ok-states.incarnations.items c.go_back.new.self)
+          c.deref.ensures c.in_ok-states.ensures.done,
     )

@@ -1,0 +1,117 @@
+//! The list of the rounds that are completed.
+ghost use Rattle.std.specs.Prelude.{◌≡◌, ◌<◌, ◌≤◌, ◌-◌, ◌++◌, ◌∷◌, ℕ, [], true, false, filter, length, slice_index_or, OnOk};
+ghost use Rattle.line_moves.specs.Listed.{Listed, stays};
+ghost use Rattle.line_moves.specs.Listings.{Climb};
+
+use crate::rounds::Round;
+use line_names::Line;
+use std::alloc::{AllocError, Global};
+use std::marker::Model;
+
+/// How many rounds there are up to the last one of which a restart at the line cuts no check. It
+/// looks at that one, and at those behind it.
+fn staying(rounds: &[Round], line: &Line) -> usize
+    ensures within { result ≤ length rounds.now }
+    ensures last { (d : Listed) → 0 < result
+        → stays line.now (slice_index_or rounds.now (result - 1) d) ≡ true }
+    ensures cut { (i : ℕ) (d : Listed) → result ≤ i → i < length rounds.now
+        → stays line.now (slice_index_or rounds.now i d) ≡ false }
+{
+    let mut end = rounds.len();
+    'cut: while end > 0 {
+        if rounds[end - 1].stays(line) {
+            return end;
+        }
+        end -= 1;
+    }
+    0
+}
+
+/// Whether the rounds climb with a further one, where it is known whether they climb without it.
+fn climb_on(rounds: &[Round], climbs: bool, round: &Round) -> bool
+    requires { climbs ≡ true → Climb rounds.now }
+    ensures { result ≡ true → Climb (rounds.now ++ round.now ∷ []) }
+{
+    let n = rounds.len();
+    if n == 0 {
+        return true;
+    }
+    if !climbs {
+        return false;
+    }
+    rounds[n - 1].is_below(round)
+}
+
+/// The completed rounds whose checks no restart has cut, by number.
+///
+/// Where the checks of each process climb from round to round, as they do in a machine, a restart
+/// cuts checks of the last rounds alone, and looks at no earlier one.
+#[derive(Drop)]
+pub struct Listing {
+    rounds: Vec<Round>,
+    climbs: bool,
+}
+
+impl Model for Listing {
+    ghost use Rattle.std.specs.Prelude.{◌≡◌, ◌-◌, true, vec_len, vec_capacity};
+    ghost use Rattle.line_moves.specs.Listings.{ListingView, Climb};
+
+    ghost Value = { ListingView };
+
+    ghost view = { λ l. record {
+      items = l.rounds.items;
+      room = vec_capacity l.rounds - vec_len l.rounds;
+    } };
+
+    ghost invariant = { λ l. l.climbs ≡ true → Climb l.rounds.items };
+}
+
+impl Listing {
+    /// No round yet.
+    pub fn new(alloc: Global) -> Listing
+        ensures { result.items ≡ [] }
+    {
+        Listing {
+            rounds: Vec::new(alloc),
+            climbs: true,
+        }
+    }
+
+    /// The rounds, by number.
+    pub fn as_slice(&self) -> &[Round]
+        ensures { result.now ≡ self.now.items }
+    {
+        self.rounds.as_slice()
+    }
+
+    /// Makes room for a round more.
+    pub fn reserve(&mut self) -> Result<(), AllocError>
+        ensures items { self.new.items ≡ self.old.items }
+        ensures ok { OnOk result (0 < self.new.room) }
+    {
+        self.rounds.reserve(1)
+    }
+
+    /// Lists a round, in room that was made for it. It looks at each of its checks.
+    pub(crate) fn push(&mut self, round: Round)
+        requires { 0 < self.old.room }
+        ensures { self.new.items ≡ self.old.items ++ round ∷ [] }
+    {
+        let climbs = climb_on(&self.rounds, self.climbs, &round);
+        self.rounds.push_reserved(round);
+        self.climbs = climbs;
+    }
+
+    /// Leaves the rounds of which a restart at the line cuts no check. It takes no memory, and looks
+    /// at those that go and at one more, where checks climb, and else at each.
+    pub fn keep(&mut self, line: &Line)
+        ensures { self.new.items ≡ filter (stays line.now) self.old.items }
+    {
+        if !self.climbs {
+            self.rounds.retain(|round| round.stays(line));
+            return;
+        }
+        let end = staying(&self.rounds, line);
+        self.rounds.truncate(end);
+    }
+}
