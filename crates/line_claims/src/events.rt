@@ -7,14 +7,14 @@ ghost use Rattle.line_tape.specs.Event.{HasLongState, NamesBelow};
 ghost use Rattle.line_claims.specs.Events as spec;
 
 use crate::numbers::{incarnation, plain, process, round, round_or_none, want};
-use line_fields::{Fault, ReadError, Row, hex};
+use line_fields::{Fault, ReadError, Row, hex, hex_into};
 use line_names::{Body, MOST_PROCESSES, MsgName};
 use line_tape::{Event, MOST_STATE, State};
 use std::alloc::Global;
 
-/// The event of `send,TO,INC,HEX`.
+/// The event of `send,TO,INC,HEX`. What a list has gives way to the bytes of the message.
 #[tactic(auto, unfolding(crate::specs::Events::send_of))]
-pub(crate) fn send_of(alloc: Global, n: u32, row: &Row) -> Result<Event, ReadError>
+pub(crate) fn send_of(n: u32, row: &Row, bytes: &mut Vec<u8>) -> Result<Event, ReadError>
     requires { n ≤ MOST_PROCESSES }
     ensures exact { Gives (λ event. event) result (spec.send_of n row.now) }
     ensures named { IfOk result (NamesBelow n) }
@@ -22,7 +22,7 @@ pub(crate) fn send_of(alloc: Global, n: u32, row: &Row) -> Result<Event, ReadErr
 {
     let to = plain(row, 1)?;
     let inc = incarnation(row, 2)?;
-    let bytes = hex(alloc, row.field(3))?;
+    hex_into(bytes, row.field(3))?;
     let to = process(n, to)?;
     let Ok(body) = Body::try_new(bytes.as_slice()) else {
         return Err(ReadError::Fault(Fault::BodyTooLong));

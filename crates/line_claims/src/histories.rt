@@ -177,9 +177,9 @@ impl Tapes {
         }
     }
 
-    /// Reads one record more.
+    /// Reads one record more. What a list has gives way to the bytes of a message.
     #[tactic(auto, unfolding(crate::specs::Histories::step))]
-    pub fn step(&mut self, alloc: Global, row: &Row) -> Result<(), ReadError>
+    pub fn step(&mut self, alloc: Global, row: &Row, bytes: &mut Vec<u8>) -> Result<(), ReadError>
         ensures { Steps result (spec.step self.old row.now) self.new }
     {
         let n = self.history.n();
@@ -188,7 +188,7 @@ impl Tapes {
         want(has_width(kind, row.len()), Fault::BadRecord)?;
         let event = match kind {
             Kind::Tape => return self.begin(row),
-            Kind::Send => send_of(alloc, n, row)?,
+            Kind::Send => send_of(n, row, bytes)?,
             Kind::Recv => recv_of(n, row)?,
             Kind::Check => check_of(alloc, row)?,
             Kind::Mark => mark_of(n, row)?,

@@ -91,8 +91,11 @@ fn add_members(draft: &mut Draft, n: u32, set: &ProcSet) -> Result<(), AllocErro
     Ok(())
 }
 
-// Writes `failed,P,..`.
-fn put_failed(
+/// Writes `failed,P,..` behind the records that were written before: the processes of a set, of the
+/// first `n`, in order.
+///
+/// Where a growth is refused, the text stays as it was.
+pub fn put_failed(
     writer: &mut RecordWriter,
     draft: &mut Draft,
     n: u32,
@@ -128,8 +131,10 @@ fn add_choices(draft: &mut Draft, choices: &[Choice]) -> Result<(), AllocError>
     Ok(())
 }
 
-// Writes `line,CHOICE,..`.
-fn put_line(writer: &mut RecordWriter, draft: &mut Draft, line: &Line) -> Result<(), AllocError>
+/// Writes `line,CHOICE,..` behind the records that were written before.
+///
+/// Where a growth is refused, the text stays as it was.
+pub fn put_line(writer: &mut RecordWriter, draft: &mut Draft, line: &Line) -> Result<(), AllocError>
     ensures ok { OnOk result (writer.new ≡ writer.old ++ record_text (spec.line_record line.now)) }
     ensures err { OnErr result (writer.new ≡ writer.old) }
 {
@@ -173,8 +178,10 @@ fn put_passes(
     Ok(())
 }
 
-// Writes `end`.
-fn put_end(writer: &mut RecordWriter, draft: &mut Draft) -> Result<(), AllocError>
+/// Writes `end`, the last record of a claim, behind those that were written before.
+///
+/// Where a growth is refused, the text stays as it was.
+pub fn put_end(writer: &mut RecordWriter, draft: &mut Draft) -> Result<(), AllocError>
     ensures ok { OnOk result (writer.new ≡ writer.old ++ record_text spec.end_record) }
     ensures err { OnErr result (writer.new ≡ writer.old) }
 {
@@ -251,8 +258,8 @@ fn put_claim(
 /// Writes a check text behind the records that were written before: a history, and the claim on it that
 /// these of its checks are damaged, these processes failed, and this is the line with its certificate.
 ///
-/// Where a growth is refused, a front of them may be written. It looks at each mark of a process once for
-/// each of its checks. The draft is room for one record at a time, and what it held is lost.
+/// Where a growth is refused, a front of them may be written. It asks once for a mark of each check.
+/// The draft is room for one record at a time, and what it held is lost.
 pub fn put_check_text(
     writer: &mut RecordWriter,
     draft: &mut Draft,

@@ -19,8 +19,10 @@ mod writers;
 pub use claims::Claim;
 pub use entries::failed_of;
 pub use faults::{TextError, TextFault, error_at, fault_at, name_of, told};
-pub use judgements::{put_check_text, put_damage, put_judged, put_pass};
+pub use judgements::{
+    put_check_text, put_damage, put_end, put_failed, put_judged, put_line, put_pass,
+};
 pub use laws::{claims_are_read_again, histories_are_read_again};
 pub use numbers::{plain, want};
 pub use texts::{CheckText, read_certificate, read_check_text, read_history};
-pub use writers::{put_history, write_history};
+pub use writers::{put_event, put_history, put_history_head, put_tape_head, write_history};

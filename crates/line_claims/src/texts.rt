@@ -55,8 +55,9 @@ fn read_tapes(alloc: Global, n: u32, cursor: &mut Cursor<'_>) -> Result<History,
     ensures { Leaves result (front_from (no_tapes n) cursor.old.number cursor.old.left) cursor.new }
 {
     let mut tapes = Tapes::new(alloc, n)?;
+    let mut bytes = Vec::new(alloc);
     'records: while let Some(row) = history_row(cursor) {
-        if let Err(error) = tapes.step(alloc, row) {
+        if let Err(error) = tapes.step(alloc, row, &mut bytes) {
             return Err(error_at(cursor.number(), error));
         }
         cursor.advance()?;
@@ -150,9 +151,9 @@ pub fn read_history(alloc: Global, text: &[u8]) -> Result<History, TextFault>
 /// It asks nothing of a history: a mark or a choice may be of a check that isn't there, and the line may
 /// have any number of choices that a line can have.
 ///
-/// Refused as a history is; a missing end is a fault of the record that would follow the last. It takes
-/// time and memory in proportion to the text, but that each mark of damage is compared with those before
-/// it of its process.
+/// Refused as a history is; a missing end is a fault of the record that would follow the last. It
+/// takes time and memory in proportion to the text, and for a mark of damage the logarithm of those
+/// before it of its process.
 pub fn read_certificate(alloc: Global, text: &[u8], n: u32) -> Result<Claim, TextFault>
     requires { n ≤ MOST_PROCESSES }
     ensures exact { Reads claims.seen result (spec.certificate_of_text n text.now) }

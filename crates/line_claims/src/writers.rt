@@ -100,8 +100,16 @@ fn put_mark(
     writer.put(draft)
 }
 
-// Writes the record of an event.
-fn put_event(writer: &mut RecordWriter, draft: &mut Draft, event: &Event) -> Result<(), AllocError>
+/// Writes the record of an event behind those that were written before: `send,TO,INC,HEX`,
+/// `recv,FROM,INC,NUMBER`, `check,HEX,ROUND` or `mark,FROM,ROUND`.
+///
+/// Where a growth is refused, the text stays as it was. It is for a history that is taken away in
+/// pieces while it is written. `put_history` writes a whole one.
+pub fn put_event(
+    writer: &mut RecordWriter,
+    draft: &mut Draft,
+    event: &Event,
+) -> Result<(), AllocError>
     ensures ok { OnOk result (writer.new ≡ writer.old ++ record_text (spec.event_record event.now)) }
     ensures err { OnErr result (writer.new ≡ writer.old) }
     ensures fits { OnOk result (FitsWords event.now) }
@@ -130,8 +138,11 @@ fn put_events(
     Ok(())
 }
 
-// Writes `tape,P,INC`.
-fn put_tape_head(
+/// Writes `tape,P,INC`, which the events of process P follow, behind the records that were written
+/// before.
+///
+/// Where a growth is refused, the text stays as it was.
+pub fn put_tape_head(
     writer: &mut RecordWriter,
     draft: &mut Draft,
     p: ProcId,
@@ -180,8 +191,15 @@ fn put_tape_of(
     put_tape(writer, draft, p, inc, events)
 }
 
-// Writes `history,1,N`.
-fn put_count(writer: &mut RecordWriter, draft: &mut Draft, n: u32) -> Result<(), AllocError>
+/// Writes `history,1,N`, which the tapes of N processes follow, behind the records that were written
+/// before.
+///
+/// Where a growth is refused, the text stays as it was.
+pub fn put_history_head(
+    writer: &mut RecordWriter,
+    draft: &mut Draft,
+    n: u32,
+) -> Result<(), AllocError>
     ensures ok { OnOk result (writer.new ≡ writer.old ++ record_text (spec.history_record n)) }
     ensures err { OnErr result (writer.new ≡ writer.old) }
 {
@@ -208,7 +226,7 @@ pub fn put_history(
     ensures range { OnOk result (AreRoundsInRange history.now.processes → IsHistoryInRange history.now.processes) }
 {
     let n = history.n();
-    put_count(writer, draft, n)?;
+    put_history_head(writer, draft, n)?;
     for p in 0..n {
         let Ok(p) = ProcId::try_new(p, n) else {
             unreachable!()

@@ -1,3 +1,4 @@
+pub mod DigitLemmas
 pub mod FieldLemmas
 pub mod HexLemmas
 pub mod MachineLemmas

@@ -1,10 +1,11 @@
 -- The bytes of an input text, place by place, and how many records a text has.
-use Rattle.std.proofs.Common.{◌≡◌, [], ◌∷◌, ℕ, List, true, not, ◌==◌, ◌&&◌, ◌<◌, ◌≤◌, ◌+◌, ◌-◌, length, take, drop, get_or, refl, ap, inl, inr, arith}
-use Rattle.std.specs.Prelude.{filter}
+use Rattle.std.proofs.Common.{◌≡◌, [], ◌∷◌, ℕ, List, Bool, true, false, not, ◌==◌, ◌&&◌, ◌||◌, ◌<◌, ◌≤◌, ◌+◌, ◌-◌, length, take, drop, get_or, refl, ap, inl, inr, arith}
+use Rattle.std.specs.Prelude.{filter, nat_le}
 use Rattle.std.proofs.lemmas.List.{drop_all, drop_more, take_all, length-drop, length-map}
 use Rattle.std.proofs.lemmas.List.Filters.{length-filter_both}
-use Rattle.std.proofs.lemmas.Bool.{cases_Bool}
-use Rattle.line_fields.specs.Bytes.{is_allowed, is_input_text}
+use Rattle.std.proofs.lemmas.Bool.{and_parts, cases_Bool}
+use Rattle.std.specs.List.{list_all}
+use Rattle.line_fields.specs.Bytes.{begins_with_feed, is_allowed, is_common, is_input_text}
 use Rattle.line_fields.specs.Records.{without, cut, parts, is_line, records_of_text}
 
 -- a slice from a place on is all that follows that place
@@ -20,6 +21,26 @@ plain_at xs i lt = ap is_input_text (drop_more xs i 0 lt)
 pub plain_end : (xs : List ℕ) (i : ℕ) → length xs ≤ i → is_input_text (drop i xs) ≡ true
 unfolding is_input_text
 plain_end xs i le = ap is_input_text (drop_all i xs le)
+
+-- a third way in which a test may hold takes nothing from the first two
+or_more : (a b c : Bool) → (a || b) ≡ true → (a || b || c) ≡ true
+or_more true b c h = refl
+or_more false true c h = refl
+or_more false false c h = cc h
+
+-- a byte that may stand anywhere may stand before these
+common_is_allowed : (byte : ℕ) (rest : List ℕ) → is_common byte ≡ true → is_allowed byte rest ≡ true
+common_is_allowed byte rest h =
+    or_more (nat_le 32 byte && nat_le byte 126 && not (byte == 34)) (byte == 10)
+    ((byte == 13) && begins_with_feed rest) h
+
+-- a text of such bytes alone is plain
+pub common_is_input : (xs : List ℕ) → list_all is_common xs ≡ true → is_input_text xs ≡ true
+unfolding is_input_text
+common_is_input [] h = refl
+common_is_input (byte ∷ rest) h =
+    let p = and_parts (is_common byte) (list_all is_common rest) h in
+    rw (common_is_allowed byte rest p.0, common_is_input rest p.1) refl
 
 -- fewer bytes stay without a mark
 length-without : (mark : ℕ) (xs : List ℕ) → length (without mark xs) ≤ length xs

@@ -10,6 +10,10 @@ begins_with_feed (byte ∷ rest) = byte == 10
 abbrev pub is_allowed : ℕ → List ℕ → Bool
 is_allowed byte rest = (nat_le 32 byte && nat_le byte 126 && not (byte == 34)) || (byte == 10) || ((byte == 13) && begins_with_feed rest)
 
+-- a byte that may stand anywhere: 32 to 126 but the double quote, or a line feed
+abbrev pub is_common : ℕ → Bool
+is_common byte = (nat_le 32 byte && nat_le byte 126 && not (byte == 34)) || (byte == 10)
+
 -- each byte is allowed where it stands
 unfoldable pub is_input_text : List ℕ → Bool
 is_input_text [] = true

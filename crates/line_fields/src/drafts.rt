@@ -6,8 +6,8 @@ ghost use Rattle.csv.specs.Records.{fields_of, partial_of};
 ghost use Rattle.line_fields.specs.Texts.{hex_digit, hex_text, is_plain_field};
 
 use csv::ByteRecord;
+use itoa::Buffer;
 use std::alloc::{AllocError, Global};
-use std::fmt::Write;
 use std::marker::Model;
 
 /// A record that is put together to be written. Its fields need no quotes.
@@ -18,7 +18,7 @@ use std::marker::Model;
 pub struct Draft {
     pub(crate) record: ByteRecord,
     digits: Vec<u8>,
-    decimal: String,
+    decimal: Buffer,
 }
 
 impl Model for Draft {
@@ -53,16 +53,15 @@ fn push(row: &mut ByteRecord, field: &[u8]) -> Result<(), AllocError>
     }
 }
 
+// The hexadecimal digits, of lower case.
+static DIGITS: [u8; 16] = *b"0123456789abcdef";
+
 // The digit, of lower case, that stands for a value below 16.
 fn hex_digit(value: u8) -> u8
     requires { value < 16 }
     ensures { result ≡ hex_digit value }
 {
-    if value < 10 {
-        b'0' + value
-    } else {
-        b'a' - 10 + value
-    }
+    DIGITS[usize::from(value)]
 }
 
 // Writes bytes in hexadecimal.
@@ -85,7 +84,7 @@ impl Draft {
         Draft {
             record: ByteRecord::new(alloc),
             digits: Vec::new(alloc),
-            decimal: String::new(alloc),
+            decimal: Buffer::new(),
         }
     }
 
@@ -110,14 +109,7 @@ impl Draft {
         ensures ok { OnOk result (self.new ≡ self.old ++ decimal value ∷ []) }
         ensures err { OnErr result (self.new ≡ []) }
     {
-        self.decimal.clear();
-        match write!(self.decimal, "{value}") {
-            Ok(()) => push(&mut self.record, self.decimal.as_bytes()),
-            Err(refused) => {
-                self.clear();
-                Err(refused)
-            }
-        }
+        push(&mut self.record, self.decimal.format(value).as_bytes())
     }
 
     /// Adds bytes, as two hexadecimal digits of lower case each.

@@ -7,6 +7,27 @@ ghost use Rattle.line_fields.specs.Fields as spec;
 use crate::{Fault, ReadError};
 use std::alloc::Global;
 
+// What stands in `VALUES` for a byte that is no digit.
+const NO_DIGIT: u8 = 255;
+
+// What each byte stands for as a hexadecimal digit of either case.
+static VALUES: [u8; 256] = [
+    255, 255, 255, 255, 255, 255, 255, 255, 255, 255, 255, 255, 255, 255, 255, 255, 255, 255, 255,
+    255, 255, 255, 255, 255, 255, 255, 255, 255, 255, 255, 255, 255, 255, 255, 255, 255, 255, 255,
+    255, 255, 255, 255, 255, 255, 255, 255, 255, 255, 0, 1, 2, 3, 4, 5, 6, 7, 8, 9, 255, 255, 255,
+    255, 255, 255, 255, 10, 11, 12, 13, 14, 15, 255, 255, 255, 255, 255, 255, 255, 255, 255, 255,
+    255, 255, 255, 255, 255, 255, 255, 255, 255, 255, 255, 255, 255, 255, 255, 255, 10, 11, 12, 13,
+    14, 15, 255, 255, 255, 255, 255, 255, 255, 255, 255, 255, 255, 255, 255, 255, 255, 255, 255,
+    255, 255, 255, 255, 255, 255, 255, 255, 255, 255, 255, 255, 255, 255, 255, 255, 255, 255, 255,
+    255, 255, 255, 255, 255, 255, 255, 255, 255, 255, 255, 255, 255, 255, 255, 255, 255, 255, 255,
+    255, 255, 255, 255, 255, 255, 255, 255, 255, 255, 255, 255, 255, 255, 255, 255, 255, 255, 255,
+    255, 255, 255, 255, 255, 255, 255, 255, 255, 255, 255, 255, 255, 255, 255, 255, 255, 255, 255,
+    255, 255, 255, 255, 255, 255, 255, 255, 255, 255, 255, 255, 255, 255, 255, 255, 255, 255, 255,
+    255, 255, 255, 255, 255, 255, 255, 255, 255, 255, 255, 255, 255, 255, 255, 255, 255, 255, 255,
+    255, 255, 255, 255, 255, 255, 255, 255, 255, 255, 255, 255, 255, 255, 255, 255, 255, 255, 255,
+    255, 255, 255,
+];
+
 /// The number that the digits of a field spell, leading zeros among them, in a range.
 ///
 /// Refused as `BadNumber`: a field that is empty, has a byte that is no digit, or spells a number below
@@ -16,17 +37,22 @@ pub fn number(text: &[u8], least: u64, most: u64) -> Result<u64, Fault>
     ensures exact { result ≡ num least most text.now }
     ensures within { IfOk result (λ n. (least ≤ n) × (n ≤ most)) }
 {
+    let most_tens = most / 10;
     let mut value = 0u64;
     let mut rest = text;
     while let [digit, others @ ..] = rest {
         if !digit.is_ascii_digit() {
             return Err(Fault::BadNumber);
         }
-        let more = u128::from(value) * 10 + u128::from(*digit - b'0');
-        if more > u128::from(most) {
+        if value > most_tens {
             return Err(Fault::BadNumber);
         }
-        value = more as u64;
+        let tens = value * 10;
+        let units = u64::from(*digit - b'0');
+        if units > most - tens {
+            return Err(Fault::BadNumber);
+        }
+        value = tens + units;
         rest = others;
     }
     if text.is_empty() || value < least {
@@ -39,12 +65,35 @@ pub fn number(text: &[u8], least: u64, most: u64) -> Result<u64, Fault>
 fn digit(byte: u8) -> Result<u8, Fault>
     ensures { result ≡ digit byte }
 {
-    match byte {
-        b'0'..=b'9' => Ok(byte - b'0'),
-        b'A'..=b'F' => Ok(byte - b'A' + 10),
-        b'a'..=b'f' => Ok(byte - b'a' + 10),
-        _ => Err(Fault::BadNumber),
+    let value = VALUES[byte as usize];
+    if value == NO_DIGIT {
+        return Err(Fault::BadNumber);
     }
+    Ok(value)
+}
+
+/// Puts the bytes that the hexadecimal digits of a field spell, two digits of either case for each
+/// byte, in place of what a list has.
+///
+/// Refused as `BadNumber`: a field with an odd number of bytes, or with one that is no digit. An
+/// empty field spells no bytes. The list grows at most once, where it has no room for as many bytes
+/// as the field spells. After a refusal it has some of them.
+pub fn hex_into(bytes: &mut Vec<u8>, text: &[u8]) -> Result<(), ReadError>
+    ensures { Gives (λ _. bytes.new.items) result (spec.hex text.now) }
+{
+    bytes.clear();
+    bytes.reserve(text.len() / 2)?;
+    let mut rest = text;
+    while let [high, low, others @ ..] = rest {
+        let high = digit(*high)?;
+        let low = digit(*low)?;
+        bytes.push_reserved(16 * high + low);
+        rest = others;
+    }
+    if !rest.is_empty() {
+        return Err(ReadError::Fault(Fault::BadNumber));
+    }
+    Ok(())
 }
 
 /// The bytes that the hexadecimal digits of a field spell, two digits of either case for each byte.
@@ -55,15 +104,6 @@ pub fn hex(alloc: Global, text: &[u8]) -> Result<Vec<u8>, ReadError>
     ensures { Gives (λ v. v.items) result (spec.hex text.now) }
 {
     let mut bytes = Vec::with_capacity(alloc, text.len() / 2)?;
-    let mut rest = text;
-    while let [high, low, others @ ..] = rest {
-        let high = digit(*high)?;
-        let low = digit(*low)?;
-        bytes.push(16 * high + low)?;
-        rest = others;
-    }
-    if !rest.is_empty() {
-        return Err(ReadError::Fault(Fault::BadNumber));
-    }
+    hex_into(&mut bytes, text)?;
     Ok(bytes)
 }

@@ -13,7 +13,7 @@ mod writers;
 pub use bytes::is_plain;
 pub use drafts::Draft;
 pub use faults::{Fault, ReadError};
-pub use fields::{hex, number};
+pub use fields::{hex, hex_into, number};
 pub use laws::{
     bytes_are_read_again, numbers_are_read_again, records_are_few, records_are_read_again,
 };

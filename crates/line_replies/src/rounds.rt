@@ -1,9 +1,7 @@
-//! The records that are written for rounds that were completed.
+//! The records that are written for rounds that were completed, one at a time.
 
-ghost use Rattle.std.specs.Prelude.{◌≡◌, ◌<◌, ◌≤◌, ◌++◌, Some, All, OnErr, OnOk, length, map};
-ghost use Rattle.std.specs.List.{flat_map};
-ghost use Rattle.line_devices.specs.Devices.{PutsFront};
-ghost use Rattle.line_fields.specs.Texts.{record_text, records_text};
+ghost use Rattle.std.specs.Prelude.{◌≡◌, ◌≤◌, ◌++◌, OnErr, OnOk, length};
+ghost use Rattle.line_fields.specs.Texts.{record_text};
 ghost use Rattle.line_names.specs.declared.limits.TheConstants.{MOST_PROCESSES};
 ghost use Rattle.line_replies.specs.Rounds as spec;
 
@@ -30,8 +28,11 @@ fn add_round(draft: &mut Draft, n: u32, round: &Round) -> Result<(), AllocError>
     Ok(())
 }
 
-// Writes `round,R,C0,C1,..`.
-fn put_round_record(
+/// Writes `round,R,C0,C1,..` behind the records that were written before: a round among `n` processes,
+/// with its check of each.
+///
+/// Where a growth is refused, the text stays as it was. The messages on its channels follow.
+pub fn put_round(
     writer: &mut RecordWriter,
     draft: &mut Draft,
     n: u32,
@@ -46,8 +47,11 @@ fn put_round_record(
     writer.put(draft)
 }
 
-// Writes `channel,R,FROM,TO,INC,NUMBER`.
-fn put_message(
+/// Writes `channel,R,FROM,TO,INC,NUMBER` behind the records that were written before: a message that was
+/// on a channel as that round was completed.
+///
+/// Where a growth is refused, the text stays as it was.
+pub fn put_message(
     writer: &mut RecordWriter,
     draft: &mut Draft,
     round: u32,
@@ -68,131 +72,14 @@ fn put_message(
     writer.put(draft)
 }
 
-// Writes the messages of a channel, or a front of them where a growth is refused.
-fn put_messages(
+/// Writes `rounds,COUNT` behind the records that were written before: how many rounds follow.
+///
+/// Where a growth is refused, the text stays as it was.
+pub fn put_rounds_head(
     writer: &mut RecordWriter,
     draft: &mut Draft,
-    round: u32,
-    from: ProcId,
-    to: ProcId,
-    messages: &[MsgName],
+    count: usize,
 ) -> Result<(), AllocError>
-    ensures ok { OnOk result (writer.new ≡ writer.old ++ records_text (map (spec.channel_record round from to) messages.now)) }
-    ensures err { OnErr result (PutsFront (Some writer.old) (Some writer.new) (records_text (map (spec.channel_record round from to) messages.now))) }
-{
-    for i in 0..messages.len() {
-        put_message(writer, draft, round, from, to, messages[i])?;
-    }
-    Ok(())
-}
-
-// Writes the channel from one process to another, if they are two, or a front of it where a growth is
-// refused.
-fn put_channel(
-    writer: &mut RecordWriter,
-    draft: &mut Draft,
-    round: &Round,
-    from: ProcId,
-    to: ProcId,
-) -> Result<(), AllocError>
-    requires from { from < length round.now.checks }
-    requires to { to < length round.now.checks }
-    ensures ok { OnOk result (writer.new ≡ writer.old ++ records_text (spec.channel_records round.now from to)) }
-    ensures err { OnErr result (PutsFront (Some writer.old) (Some writer.new) (records_text (spec.channel_records round.now from to))) }
-{
-    if from.get() == to.get() {
-        return Ok(());
-    }
-    put_messages(
-        writer,
-        draft,
-        round.number(),
-        from,
-        to,
-        round.channel(from, to),
-    )
-}
-
-// Writes the channels from one process, or a front of them where a growth is refused.
-fn put_channels_from(
-    writer: &mut RecordWriter,
-    draft: &mut Draft,
-    n: u32,
-    round: &Round,
-    from: ProcId,
-) -> Result<(), AllocError>
-    requires few { n ≤ MOST_PROCESSES }
-    requires checks { length round.now.checks ≡ n }
-    requires from { from < n }
-    ensures ok { OnOk result (writer.new ≡ writer.old ++ records_text (spec.channels_from n round.now from)) }
-    ensures err { OnErr result (PutsFront (Some writer.old) (Some writer.new) (records_text (spec.channels_from n round.now from))) }
-{
-    for value in 0..n {
-        let Ok(to) = ProcId::try_new(value, n) else {
-            unreachable!()
-        };
-        put_channel(writer, draft, round, from, to)?;
-    }
-    Ok(())
-}
-
-// Writes the channels of a round, or a front of them where a growth is refused.
-fn put_channels(
-    writer: &mut RecordWriter,
-    draft: &mut Draft,
-    n: u32,
-    round: &Round,
-) -> Result<(), AllocError>
-    requires few { n ≤ MOST_PROCESSES }
-    requires checks { length round.now.checks ≡ n }
-    ensures ok { OnOk result (writer.new ≡ writer.old ++ records_text (spec.channels_of n round.now)) }
-    ensures err { OnErr result (PutsFront (Some writer.old) (Some writer.new) (records_text (spec.channels_of n round.now))) }
-{
-    for value in 0..n {
-        let Ok(from) = ProcId::try_new(value, n) else {
-            unreachable!()
-        };
-        put_channels_from(writer, draft, n, round, from)?;
-    }
-    Ok(())
-}
-
-// Writes a round and its channels, or a front of them where a growth is refused.
-fn put_round(
-    writer: &mut RecordWriter,
-    draft: &mut Draft,
-    n: u32,
-    round: &Round,
-) -> Result<(), AllocError>
-    requires few { n ≤ MOST_PROCESSES }
-    requires checks { length round.now.checks ≡ n }
-    ensures ok { OnOk result (writer.new ≡ writer.old ++ records_text (spec.round_records n round.now)) }
-    ensures err { OnErr result (PutsFront (Some writer.old) (Some writer.new) (records_text (spec.round_records n round.now))) }
-{
-    put_round_record(writer, draft, n, round)?;
-    put_channels(writer, draft, n, round)
-}
-
-// Writes rounds one after another, or a front of them where a growth is refused.
-fn put_each(
-    writer: &mut RecordWriter,
-    draft: &mut Draft,
-    n: u32,
-    rounds: &[Round],
-) -> Result<(), AllocError>
-    requires few { n ≤ MOST_PROCESSES }
-    requires checks { All (λ round. length round.checks ≡ n) rounds.now }
-    ensures ok { OnOk result (writer.new ≡ writer.old ++ records_text (flat_map (spec.round_records n) rounds.now)) }
-    ensures err { OnErr result (PutsFront (Some writer.old) (Some writer.new) (records_text (flat_map (spec.round_records n) rounds.now))) }
-{
-    for i in 0..rounds.len() {
-        put_round(writer, draft, n, &rounds[i])?;
-    }
-    Ok(())
-}
-
-// Writes `rounds,COUNT`.
-fn put_count(writer: &mut RecordWriter, draft: &mut Draft, count: usize) -> Result<(), AllocError>
     ensures ok { OnOk result (writer.new ≡ writer.old ++ record_text (spec.rounds_record count)) }
     ensures err { OnErr result (writer.new ≡ writer.old) }
 {
@@ -200,24 +87,4 @@ fn put_count(writer: &mut RecordWriter, draft: &mut Draft, count: usize) -> Resu
     draft.word(b"rounds")?;
     draft.number(count as u64)?;
     writer.put(draft)
-}
-
-/// Writes the rounds among `n` processes behind the records that were written before: how many there are,
-/// and then of each its checks and the messages on its channels, by sender and receiver.
-///
-/// Where a growth is refused, a front of them may be written. The draft is room for one record at a time,
-/// and what it held is lost.
-pub fn put_rounds(
-    writer: &mut RecordWriter,
-    draft: &mut Draft,
-    n: u32,
-    rounds: &[Round],
-) -> Result<(), AllocError>
-    requires few { n ≤ MOST_PROCESSES }
-    requires checks { All (λ round. length round.checks ≡ n) rounds.now }
-    ensures ok { OnOk result (writer.new ≡ writer.old ++ records_text (spec.rounds_records n rounds.now)) }
-    ensures err { OnErr result (PutsFront (Some writer.old) (Some writer.new) (records_text (spec.rounds_records n rounds.now))) }
-{
-    put_count(writer, draft, rounds.len())?;
-    put_each(writer, draft, n, rounds)
 }

@@ -6,7 +6,7 @@ ghost use Rattle.line_fields.specs.Fields.{Gives};
 ghost use Rattle.line_scripts.specs.Scripts as spec;
 
 use line_claims::{failed_of, plain, want};
-use line_fields::{Fault, ReadError, Row, hex, number};
+use line_fields::{Fault, ReadError, Row, hex, hex_into, number};
 use line_names::{Body, MOST_PROCESSES, ProcId, ProcSet};
 use line_tape::State;
 use line_world::{Mode, Step};
@@ -131,13 +131,13 @@ fn has_width(kind: Kind, width: usize) -> bool
 }
 
 #[tactic(auto, unfolding(crate::specs::Scripts::send_of))]
-fn send_of(alloc: Global, n: u32, row: &Row) -> Result<Command, ReadError>
+fn send_of(n: u32, row: &Row, bytes: &mut Vec<u8>) -> Result<Command, ReadError>
     requires { n ≤ MOST_PROCESSES }
     ensures { Gives (λ command. command) result (spec.send_of n row.now) }
 {
     let from = plain(row, 1)?;
     let to = plain(row, 2)?;
-    let bytes = hex(alloc, row.field(3))?;
+    hex_into(bytes, row.field(3))?;
     let Ok(from) = ProcId::try_new(from, n) else {
         return Ok(refused(Fault::NoSuchProcess));
     };
@@ -261,16 +261,22 @@ fn bundle_of(n: u32, row: &Row) -> Result<Command, Fault>
     }
 }
 
-/// The command that a record after the first spells, or its first fault.
+/// The command that a record after the first spells, or its first fault. What a list has gives way
+/// to the bytes of a message.
 #[tactic(auto, unfolding(crate::specs::Scripts::command_of))]
-pub(crate) fn command_of(alloc: Global, n: u32, row: &Row) -> Result<Command, ReadError>
+pub(crate) fn command_of(
+    alloc: Global,
+    n: u32,
+    row: &Row,
+    bytes: &mut Vec<u8>,
+) -> Result<Command, ReadError>
     requires { n ≤ MOST_PROCESSES }
     ensures { Gives (λ command. command) result (spec.command_of n row.now) }
 {
     let kind = kind_named(row.field(0))?;
     want(has_width(kind, row.len()), Fault::BadRecord)?;
     match kind {
-        Kind::Send => send_of(alloc, n, row),
+        Kind::Send => send_of(n, row, bytes),
         Kind::Deliver => deliver_of(alloc, n, row),
         Kind::Check => check_of(alloc, n, row),
         Kind::Begin => begin_of(alloc, n, row),

@@ -36,11 +36,17 @@ fn world_at(row: &Row) -> Result<World, TextError>
 }
 
 // What the record with that number asks for.
-fn command_at(alloc: Global, n: u32, record_number: u64, row: &Row) -> Result<Command, TextError>
+fn command_at(
+    alloc: Global,
+    n: u32,
+    record_number: u64,
+    row: &Row,
+    bytes: &mut Vec<u8>,
+) -> Result<Command, TextError>
     requires { n ≤ MOST_PROCESSES }
     ensures { Yields (λ command. command) result (reads.numbered record_number (spec.command_of n row.now)) }
 {
-    match command_of(alloc, n, row) {
+    match command_of(alloc, n, row, bytes) {
         Ok(command) => Ok(command),
         Err(error) => Err(error_at(record_number, error)),
     }
@@ -62,6 +68,7 @@ fn read(alloc: Global, text: &[u8]) -> Result<Script, TextError>
     }
     let world = world_at(&row)?;
     let mut commands = Vec::new(alloc);
+    let mut bytes = Vec::new(alloc);
     let mut record_number = 2u64;
     'records: loop {
         if !records.next_row(&mut row)? {
@@ -71,7 +78,7 @@ fn read(alloc: Global, text: &[u8]) -> Result<Script, TextError>
                 commands,
             });
         }
-        let command = command_at(alloc, world.n, record_number, &row)?;
+        let command = command_at(alloc, world.n, record_number, &row, &mut bytes)?;
         commands.push(command)?;
         record_number += 1;
     }

@@ -1,2 +1,4 @@
 pub mod JudgeLemmas
+pub mod ListingLemmas
+pub mod PieceLemmas
 pub mod RunLemmas

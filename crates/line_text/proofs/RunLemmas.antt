@@ -27,7 +27,11 @@ use Rattle.line_world.specs.Runs.{Takes}
 use Rattle.line_world.specs.Codes.{refusal_code}
 use Rattle.line_replies.specs.Replies.{reply_records, refused as refused_record}
 use Rattle.line_replies.specs.Rounds.{rounds_records}
-use Rattle.line_text.specs.Runs.{Told, Answered, Refused, Listing, Shown, Claimed, IsClaimFor, told_records, is_refused, Tells, TellsAll, text_of, refusals, IsRunTo, PutsButEnd, Runs, RunsFront, RunsText, RunsTextFront, StopsAt, StopsText, Writes, WritesFront, first_of}
+use Rattle.line_text.specs.Runs.{Told, Answered, Refused, Listing, Shown, Claimed, IsClaimFor, told_records, is_refused, Tells, TellsAll, text_of, refusals, IsRunTo, Runs, RunsFront, RunsText, RunsTextFront, StopsAt, StopsText, Writes, WritesFront, Does, HaltsAt, first_of}
+use Rattle.line_text.specs.Pieces.{Halts, PutsButEnd}
+use Rattle.line_text.specs.declared.pieces.Halt.{Halt}
+use Rattle.line_text.specs.declared.pieces.Halt.TheVariants as halts
+use Rattle.line_text.proofs.PieceLemmas.{holds_all, holds_more, puts_front_of_held, puts_of_held}
 use Rattle.line_scripts.specs.Scripts.{Script, script_of_text}
 use Rattle.line_devices.proofs.PutLemmas.{puts_both, front_then}
 use Rattle.line_claims.proofs.PartLemmas.{one_record}
@@ -98,15 +102,9 @@ told_written old code text later refused count (written, counted) = record { tol
 pub rounds_written : (old : Machine) (text later : List ℕ) (refused : ℕ) → later ≡ text ++ records_text (rounds_records (length old.history) old.rounds) → Writes old commands.Rounds old text refused later refused
 rounds_written old text later refused written = record { told = Listing (length old.history) old.rounds; tells = (refl, refl, refl); written = written; counted = omega arith }
 
-pub rounds_front : (old : Machine) (text later : List ℕ) → PutsFront (Some text) (Some later) (records_text (rounds_records (length old.history) old.rounds)) → WritesFront old commands.Rounds text later
-rounds_front old text later front = tells_front old old commands.Rounds (Listing (length old.history) old.rounds) text later (refl, refl, refl) front
-
 -- a history that was written
 pub shown_written : (old : Machine) (text later : List ℕ) (refused : ℕ) → later ≡ text ++ records_text (history_records old.history) → Writes old commands.History old text refused later refused
 shown_written old text later refused written = record { told = Shown old.history; tells = (refl, refl); written = written; counted = omega arith }
-
-pub shown_front : (old : Machine) (text later : List ℕ) → PutsFront (Some text) (Some later) (records_text (history_records old.history)) → WritesFront old commands.History text later
-shown_front old text later front = tells_front old old commands.History (Shown old.history) text later (refl, refl) front
 
 -- the claim of a plan
 abbrev pub claim_of : Machine → List Bool → Plan → Claim
@@ -121,43 +119,62 @@ pub claim_written : (old : Machine) (failed : List Bool) (plan : Plan) (text lat
 claim_written old failed plan text later refused there planned written =
     record { told = Claimed old.history (claim_of old failed plan); tells = (refl, claim_for old failed plan there planned, refl); written = written; counted = omega arith }
 
-pub claim_front : (old : Machine) (failed : List Bool) (plan : Plan) (text later : List ℕ) → (IsTrue (has_stranger old failed) → ⊥) → IsPlan old failed plan
-    → PutsFront (Some text) (Some later) (records_text (check_records old.history (claim_of old failed plan))) → WritesFront old (commands.Bundle failed) text later
-claim_front old failed plan text later there planned front =
-    tells_front old old (commands.Bundle failed) (Claimed old.history (claim_of old failed plan)) text later (refl, claim_for old failed plan there planned, refl) front
-
 -- a claim that was refused
 pub stranger_written : (old : Machine) (failed : List Bool) (code : ℕ) (text later : List ℕ) (refused count : ℕ) → IsTrue (has_stranger old failed) → code ≡ code_of NoSuchProcess
     → (later ≡ text ++ record_text (refused_record code)) × (count ≡ refused + 1) → Writes old (commands.Bundle failed) old text refused later count
 stranger_written old failed code text later refused count stranger same (written, counted) =
     record { told = Refused code; tells = (stranger, same, refl); written = one_record text later (refused_record code) written; counted = counted }
 
--- where nothing was put, all is held
-pub holds_all : (taken : Option (List ℕ)) (held : List ℕ) → PutsButEnd taken taken held held
-holds_all None held = record { front = []; put = tt; parts = refl }
-holds_all (Some xs) held = record { front = []; put = sym (append-nil xs); parts = refl }
+-- a command that was told something, of which nothing was put yet
+pub does_held : (old new : Machine) (command : Command) (taken : Option (List ℕ)) (held : List ℕ) (refused : ℕ) (later : List ℕ) (count : ℕ) → Writes old command new held refused later count
+    → Does old command new taken taken held refused later count
+does_held old new command taken held refused later count writes = record { text = later; writes = writes; put = holds_all taken later }
 
--- more is held
-pub holds_more : (old new : Option (List ℕ)) (held text more : List ℕ) → PutsButEnd old new held text → PutsButEnd old new (held ++ more) (text ++ more)
-holds_more old new held text more h = record {
-  front = h.front;
+-- memory did not suffice for it
+pub halts_held : (old : Machine) (command : Command) (taken : Option (List ℕ)) (held later : List ℕ) → WritesFront old command held later → HaltsAt halts.Memory old command taken taken held later
+halts_held old command taken held later writes = record { text = later; writes = writes; put = holds_all taken later }
+
+-- what was written of it halted
+halts_at : (halt : Halt) (old new : Machine) (command : Command) (one : Told) (taken now : Option (List ℕ)) (held later : List ℕ) → Tells old command one new → Halts halt taken now held later (records_text (told_records one))
+    → HaltsAt halt old command taken now held later
+halts_at halt old new command one taken now held later tells h = record {
+  text = held ++ h.own;
+  writes = tells_front old new command one held (held ++ h.own) tells (h.own, h.rest, h.parts, refl);
   put = h.put;
-  parts = ap (λ (t : List ℕ). t ++ more) h.parts ∙ append_assoc h.front held more;
 }
 
--- more was put of what was held
-pub puts_of_held : (old mid new : Option (List ℕ)) (held later text : List ℕ) → PutsButEnd old mid held text → PutsButEnd mid new later held → PutsButEnd old new later text
-puts_of_held old mid new held later text h k = record {
-  front = h.front ++ k.front;
-  put = puts_both old mid new h.front k.front h.put k.put;
-  parts = h.parts ∙ ap (λ (t : List ℕ). h.front ++ t) k.parts ∙ sym (append_assoc h.front k.front later);
-}
+-- rounds that were put in pieces
+pub rounds_passed : (old : Machine) (taken now : Option (List ℕ)) (held later : List ℕ) (refused : ℕ) → PutsButEnd taken now later (held ++ records_text (rounds_records (length old.history) old.rounds))
+    → Does old commands.Rounds old taken now held refused later refused
+rounds_passed old taken now held later refused put =
+    let text : List ℕ = held ++ records_text (rounds_records (length old.history) old.rounds) in
+    record { text = text; writes = rounds_written old held text refused refl; put = put }
 
--- a front of what was held was put
-pub puts_front_of_held : (old mid new : Option (List ℕ)) (held text : List ℕ) → PutsButEnd old mid held text → PutsFront mid new held → PutsFront old new text
-puts_front_of_held old mid new held text h put =
-    let parts : h.front ++ (held ++ []) ≡ text = ap (λ (t : List ℕ). h.front ++ t) (append-nil held) ∙ sym h.parts in
-    subst (λ (t : List ℕ). PutsFront old new t) parts (front_then old mid new h.front held [] h.put put)
+pub rounds_halts : (halt : Halt) (old : Machine) (taken now : Option (List ℕ)) (held later : List ℕ) → Halts halt taken now held later (records_text (rounds_records (length old.history) old.rounds))
+    → HaltsAt halt old commands.Rounds taken now held later
+rounds_halts halt old taken now held later h = halts_at halt old old commands.Rounds (Listing (length old.history) old.rounds) taken now held later (refl, refl, refl) h
+
+-- a history that was put in pieces
+pub shown_passed : (old : Machine) (taken now : Option (List ℕ)) (held later : List ℕ) (refused : ℕ) → PutsButEnd taken now later (held ++ records_text (history_records old.history))
+    → Does old commands.History old taken now held refused later refused
+shown_passed old taken now held later refused put =
+    let text : List ℕ = held ++ records_text (history_records old.history) in
+    record { text = text; writes = shown_written old held text refused refl; put = put }
+
+pub shown_halts : (halt : Halt) (old : Machine) (taken now : Option (List ℕ)) (held later : List ℕ) → Halts halt taken now held later (records_text (history_records old.history)) → HaltsAt halt old commands.History taken now held later
+shown_halts halt old taken now held later h = halts_at halt old old commands.History (Shown old.history) taken now held later (refl, refl) h
+
+-- a claim that was put in pieces
+pub claim_passed : (old : Machine) (failed : List Bool) (plan : Plan) (taken now : Option (List ℕ)) (held later : List ℕ) (refused : ℕ) → (IsTrue (has_stranger old failed) → ⊥) → IsPlan old failed plan
+    → PutsButEnd taken now later (held ++ records_text (check_records old.history (claim_of old failed plan))) → Does old (commands.Bundle failed) old taken now held refused later refused
+claim_passed old failed plan taken now held later refused there planned put =
+    let text : List ℕ = held ++ records_text (check_records old.history (claim_of old failed plan)) in
+    record { text = text; writes = claim_written old failed plan held text refused there planned refl; put = put }
+
+pub claim_halts : (halt : Halt) (old : Machine) (failed : List Bool) (plan : Plan) (taken now : Option (List ℕ)) (held later : List ℕ) → (IsTrue (has_stranger old failed) → ⊥) → IsPlan old failed plan
+    → Halts halt taken now held later (records_text (check_records old.history (claim_of old failed plan))) → HaltsAt halt old (commands.Bundle failed) taken now held later
+claim_halts halt old failed plan taken now held later there planned h =
+    halts_at halt old old (commands.Bundle failed) (Claimed old.history (claim_of old failed plan)) taken now held later (refl, claim_for old failed plan there planned, refl) h
 
 -- a front of a front
 pub front_of_front : (old new : Option (List ℕ)) (bytes rest : List ℕ) → PutsFront old new bytes → PutsFront old new (bytes ++ rest)
@@ -245,6 +262,33 @@ stops_at first mid commands i command refused old now held written lt is before 
       next = record { told = next.told; end = next.end; rest = next.rest; one = next.one; run = subst (λ (cs : List Command). TellsAll mid cs next.told next.end) (sym same) next.run; text = next.text };
       text = subst (λ (t : List ℕ). PutsButEnd old now t (text_of before.told ++ wrote.own)) (sym wrote.written) (holds_more old now held (text_of before.told) wrote.own before.text);
     }
+
+-- one command more was done, and more was put
+pub does_on : (first mid later : Machine) (commands : List Command) (i : ℕ) (command : Command) (refused count : ℕ) (old now more new : Option (List ℕ)) (held kept last : List ℕ) → i < length commands → command ≡ get_or commands i command
+    → IsRunTo first commands i mid refused old now held → Does mid command later now more held refused kept count → PutsButEnd more new last kept → IsRunTo first commands (i + 1) later count old new last
+does_on first mid later commands i command refused count old now more new held kept last lt is before does put =
+    goes_on first mid later commands i command refused count old now new held does.text last lt is before does.writes (puts_of_held now more new kept last does.text does.put put)
+
+-- one command more was done, and then the sink failed
+pub front_behind : (first mid later : Machine) (commands : List Command) (i : ℕ) (command : Command) (refused count : ℕ) (old now more new : Option (List ℕ)) (held kept : List ℕ) → i < length commands → command ≡ get_or commands i command
+    → IsRunTo first commands i mid refused old now held → Does mid command later now more held refused kept count → PutsFront more new kept → RunsFront first commands old new
+front_behind first mid later commands i command refused count old now more new held kept lt is before does put =
+    front_at first mid later commands i command refused count old now new held does.text lt is before does.writes (puts_front_of_held now more new kept does.text does.put put)
+
+-- memory did not suffice for a command, of which a part may be put
+pub stops_in : (first mid : Machine) (commands : List Command) (i : ℕ) (command : Command) (refused : ℕ) (old now new : Option (List ℕ)) (held later : List ℕ) → i < length commands → command ≡ get_or commands i command
+    → IsRunTo first commands i mid refused old now held → HaltsAt halts.Memory mid command now new held later → StopsAt first commands (i + 2) (λ text. PutsButEnd old new later text)
+stops_in first mid commands i command refused old now new held later lt is before halt =
+    stops_with first commands (i + 2) (λ text. PutsButEnd old now halt.text text) (λ text. PutsButEnd old new later text) (λ text put. puts_of_held old now new halt.text later text put halt.put)
+    (stops_at first mid commands i command refused old now held halt.text lt is before halt.writes)
+
+-- the sink failed at a command
+pub front_in : (first mid : Machine) (commands : List Command) (i : ℕ) (command : Command) (refused : ℕ) (old now new : Option (List ℕ)) (held later : List ℕ) → i < length commands → command ≡ get_or commands i command
+    → IsRunTo first commands i mid refused old now held → HaltsAt halts.Write mid command now new held later → RunsFront first commands old new
+front_in first mid commands i command refused old now new held later lt is before halt =
+    stops_front first commands (i + 2) old new
+    (stops_with first commands (i + 2) (λ text. PutsButEnd old now halt.text text) (λ text. PutsFront old new text) (λ text put. puts_front_of_held old now new halt.text text put halt.put)
+    (stops_at first mid commands i command refused old now held halt.text lt is before halt.writes))
 
 -- commands that are those of a script, on the machine that it begins with
 pub runs_text : (text : List ℕ) (script : Script) (first : Machine) (commands : List Command) (refused : ℕ) (old new : Option (List ℕ)) → script_of_text text ≡ Ok script → first ≡ first_of script → commands ≡ script.commands

@@ -1,3 +1,4 @@
 pub mod Inputs
 pub mod Judgings
+pub mod Pieces
 pub mod Runs

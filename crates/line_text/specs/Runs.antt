@@ -18,6 +18,8 @@ use Rattle.line_world.specs.Runs.{Takes}
 use Rattle.line_world.specs.Steps.{IsPlan}
 use Rattle.line_scripts.specs.declared.commands.Command.{Command}
 use Rattle.line_scripts.specs.declared.commands.Command.TheVariants as commands
+use Rattle.line_text.specs.Pieces.{Leaves, PutsButEnd}
+use Rattle.line_text.specs.declared.pieces.Halt.{Halt}
 use Rattle.line_text.specs.declared.engines.Stop.{Stop}
 use Rattle.line_text.specs.declared.engines.Stop.TheVariants as stops
 use Rattle.line_world.specs.declared.replies.Answer.{Answer}
@@ -154,11 +156,17 @@ pub record WritesFront (old : Machine) (command : Command) (text later : List �
   pub next : BeginsReply old (command ∷ []) own
   pub written : later ≡ text ++ own
 
--- a text was put but for its end, which is held
-pub record PutsButEnd (old new : Option (List ℕ)) (held text : List ℕ) : Type 0 where
-  pub front : List ℕ
-  pub put : Puts old new front
-  pub parts : text ≡ front ++ held
+-- a command was told something, and what was held and the text of that was put but for its end, which is held
+pub record Does (old : Machine) (command : Command) (new : Machine) (taken now : Option (List ℕ)) (held : List ℕ) (refused : ℕ) (later : List ℕ) (count : ℕ) : Type 0 where
+  pub text : List ℕ
+  pub writes : Writes old command new held refused text count
+  pub put : PutsButEnd taken now later text
+
+-- behind what was held a front of what a command was told was written, or nothing, and became this
+pub record HaltsAt (halt : Halt) (old : Machine) (command : Command) (taken now : Option (List ℕ)) (held later : List ℕ) : Type 0 where
+  pub text : List ℕ
+  pub writes : WritesFront old command held text
+  pub put : Leaves halt taken now later text
 
 -- the first commands were done, so many of them refused, and the text of what they were told is put but for what is held
 pub record IsRunTo (first : Machine) (commands : List Command) (done : ℕ) (now : Machine) (refused : ℕ) (old new : Option (List ℕ)) (held : List ℕ) : Type 0 where

@@ -11,18 +11,21 @@ ghost use Rattle.line_text.specs.declared.ends.TheConstants.{READ_FAULT, WRITE_F
 ghost use Rattle.line_scripts.specs.Reads.{seen};
 ghost use Rattle.line_replies.specs.Replies.{refused as refused_record};
 ghost use Rattle.line_text.specs.Inputs.{HearsEnd};
+ghost use Rattle.line_text.specs.Pieces.{Halts, IsBlamed, PutsButEnd};
 ghost use Rattle.line_text.specs.Runs as spec;
 ghost use Rattle.line_scripts.specs.Scripts.{script_of_text};
 
 use crate::ends::{WRITE_FAULT, fault_of, put, read_input};
-use line_claims::{TextFault, put_check_text, put_history};
-use line_devices::{DeviceFault, Sink, Source, put_all};
+use crate::listings::pass_rounds;
+use crate::pieces::{Halt, pass_check_text, pass_history, put_long};
+use line_claims::TextFault;
+use line_devices::{Sink, Source};
 use line_fields::{Draft, Fault, RecordWriter};
 use line_names::ProcSet;
-use line_replies::{put_refusal, put_reply, put_rounds, refusal_code};
+use line_replies::{put_refusal, put_reply, refusal_code};
 use line_scripts::{Command, Script, read_script};
 use line_tape::CountError;
-use line_world::World;
+use line_world::{Step, World};
 use std::alloc::{AllocError, Global};
 
 // Why commands were not done to their end.
@@ -41,9 +44,6 @@ pub struct Done {
     pub refused: u64,
 }
 
-// Where so many bytes of replies are gathered, they are put.
-const BATCH: usize = 65536;
-
 // Writes a refusal, and counts it.
 fn refuse(
     writer: &mut RecordWriter,
@@ -60,22 +60,26 @@ fn refuse(
     Ok(())
 }
 
-// Writes the check text of the machine's history and damage, with the plan for these failed processes, or
-// a front of it where memory does not suffice.
-fn bundle(
+// Writes the check text of the machine's history and damage, with the plan for these failed processes, and
+// puts it in pieces.
+fn bundle<K: Sink>(
     alloc: Global,
     world: &World,
+    sink: &mut K,
     writer: &mut RecordWriter,
     draft: &mut Draft,
     refused: &mut u64,
     failed: &ProcSet,
-) -> Result<(), AllocError>
+) -> Result<(), Halt>
     requires { refused.old < 18446744073709551615 }
-    ensures ok { OnOk result (spec.Writes world.now (Command.Bundle failed.now) world.now writer.old refused.old writer.new refused.new) }
-    ensures err { OnErr result (spec.WritesFront world.now (Command.Bundle failed.now) writer.old writer.new) }
+    ensures ok { OnOk result (spec.Does world.now (Command.Bundle failed.now) world.now (K.taken sink.old) (K.taken sink.new) writer.old refused.old writer.new refused.new) }
+    ensures err { IfErr result (λ halt. spec.HaltsAt halt world.now (Command.Bundle failed.now) (K.taken sink.old) (K.taken sink.new) writer.old writer.new) }
+    ensures sound { OnOk result (K.faults sink.new ≡ K.faults sink.old) }
+    ensures blamed { IfErr result (λ halt. IsBlamed halt (K.faults sink.old) (K.faults sink.new)) }
 {
     match world.plan_for(alloc, failed) {
-        Ok(plan) => put_check_text(
+        Ok(plan) => pass_check_text(
+            sink,
             writer,
             draft,
             world.history(),
@@ -86,69 +90,83 @@ fn bundle(
         ),
         Err(error) => {
             if error.is_out_of_memory() {
-                return Err(AllocError);
+                return Err(Halt::Memory);
             }
-            refuse(writer, draft, refused, Fault::NoSuchProcess.code())
+            refuse(writer, draft, refused, Fault::NoSuchProcess.code())?;
+            Ok(())
         }
     }
 }
 
-// Writes the rounds that the machine has completed, or a front of them where memory does not suffice.
-fn list_rounds(
+// Writes the rounds that the machine has completed, and puts them in pieces.
+fn list_rounds<K: Sink>(
     world: &World,
+    sink: &mut K,
     writer: &mut RecordWriter,
     draft: &mut Draft,
-) -> Result<(), AllocError>
-    ensures ok { OnOk result (writer.new ≡ writer.old ++ records_text (rounds_records (length world.now.history) world.now.rounds)) }
-    ensures err { OnErr result (PutsFront (Some writer.old) (Some writer.new) (records_text (rounds_records (length world.now.history) world.now.rounds))) }
+) -> Result<(), Halt>
+    ensures ok { OnOk result (PutsButEnd (K.taken sink.old) (K.taken sink.new) writer.new (writer.old ++ records_text (rounds_records (length world.now.history) world.now.rounds))) }
+    ensures err { IfErr result (λ halt. Halts halt (K.taken sink.old) (K.taken sink.new) writer.old writer.new (records_text (rounds_records (length world.now.history) world.now.rounds))) }
+    ensures sound { OnOk result (K.faults sink.new ≡ K.faults sink.old) }
+    ensures blamed { IfErr result (λ halt. IsBlamed halt (K.faults sink.old) (K.faults sink.new)) }
 {
     let n = world.history().n();
-    put_rounds(writer, draft, n, world.rounds())
+    pass_rounds(sink, writer, draft, n, world.rounds())
 }
 
-// Does a command, and writes what it is told, or a front of it where memory does not suffice.
-fn do_command(
+// Takes a step, and writes what it is told, or a front of it where memory does not suffice.
+fn do_step(
     alloc: Global,
     world: &mut World,
     writer: &mut RecordWriter,
     draft: &mut Draft,
     refused: &mut u64,
-    command: &Command,
+    step: &Step,
 ) -> Result<(), AllocError>
     requires { refused.old < 18446744073709551615 }
-    ensures ok { OnOk result (spec.Writes world.old command.now world.new writer.old refused.old writer.new refused.new) }
-    ensures err { OnErr result (spec.WritesFront world.old command.now writer.old writer.new) }
+    ensures ok { OnOk result (spec.Writes world.old (Command.Do step.now) world.new writer.old refused.old writer.new refused.new) }
+    ensures err { OnErr result (spec.WritesFront world.old (Command.Do step.now) writer.old writer.new) }
 {
-    match command {
-        Command::Refused(code) => refuse(writer, draft, refused, *code),
-        Command::Rounds => list_rounds(world, writer, draft),
-        Command::History => put_history(writer, draft, world.history()),
-        Command::Bundle(failed) => bundle(alloc, world, writer, draft, refused, failed),
-        Command::Do(step) => match world.step(alloc, step) {
-            Ok(reply) => put_reply(writer, draft, &reply),
-            Err(error) => {
-                if error.is_out_of_memory() {
-                    return Err(AllocError);
-                }
-                refuse(writer, draft, refused, refusal_code(error))
+    match world.step(alloc, step) {
+        Ok(reply) => put_reply(writer, draft, &reply),
+        Err(error) => {
+            if error.is_out_of_memory() {
+                return Err(AllocError);
             }
-        },
+            refuse(writer, draft, refused, refusal_code(error))
+        }
     }
 }
 
-// Puts the replies that were gathered, where they are many.
-fn put_long<K: Sink>(sink: &mut K, writer: &mut RecordWriter) -> Result<(), DeviceFault>
-    ensures ok { OnOk result (spec.PutsButEnd (K.taken sink.old) (K.taken sink.new) writer.new writer.old) }
-    ensures err { OnErr result (PutsFront (K.taken sink.old) (K.taken sink.new) writer.old) }
+// Does a command, and writes what it is told. A long reply is put in pieces.
+fn do_command<K: Sink>(
+    alloc: Global,
+    world: &mut World,
+    sink: &mut K,
+    writer: &mut RecordWriter,
+    draft: &mut Draft,
+    refused: &mut u64,
+    command: &Command,
+) -> Result<(), Halt>
+    requires { refused.old < 18446744073709551615 }
+    ensures ok { OnOk result (spec.Does world.old command.now world.new (K.taken sink.old) (K.taken sink.new) writer.old refused.old writer.new refused.new) }
+    ensures err { IfErr result (λ halt. spec.HaltsAt halt world.old command.now (K.taken sink.old) (K.taken sink.new) writer.old writer.new) }
     ensures sound { OnOk result (K.faults sink.new ≡ K.faults sink.old) }
-    ensures failed { OnErr result (K.faults sink.new ≡ one_more (K.faults sink.old)) }
+    ensures blamed { IfErr result (λ halt. IsBlamed halt (K.faults sink.old) (K.faults sink.new)) }
 {
-    if writer.text().len() < BATCH {
-        return Ok(());
+    match command {
+        Command::Refused(code) => {
+            refuse(writer, draft, refused, *code)?;
+            Ok(())
+        }
+        Command::Rounds => list_rounds(world, sink, writer, draft),
+        Command::History => pass_history(sink, writer, draft, world.history()),
+        Command::Bundle(failed) => bundle(alloc, world, sink, writer, draft, refused, failed),
+        Command::Do(step) => {
+            do_step(alloc, world, writer, draft, refused, step)?;
+            Ok(())
+        }
     }
-    put_all(sink, writer.text())?;
-    writer.clear();
-    Ok(())
 }
 
 // Does the commands one after another, and puts the text of what they are told but for an end, which it
@@ -163,16 +181,25 @@ fn do_commands<K: Sink>(
     requires empty { writer.old ≡ [] }
     requires few { length commands.now + 2 < 2 ^ 64 }
     ensures ok { IfOk result (λ refused. spec.IsRunTo world.old commands.now (length commands.now) world.new refused (K.taken sink.old) (K.taken sink.new) writer.new) }
-    ensures err { IfErr result (λ stop. spec.Stops stop world.old commands.now (K.taken sink.old) (K.taken sink.new) (spec.PutsButEnd (K.taken sink.old) (K.taken sink.new) writer.new)) }
+    ensures err { IfErr result (λ stop. spec.Stops stop world.old commands.now (K.taken sink.old) (K.taken sink.new) (PutsButEnd (K.taken sink.old) (K.taken sink.new) writer.new)) }
     ensures sound { OnOk result (K.faults sink.new ≡ K.faults sink.old) }
     ensures blamed { IfErr result (λ stop. spec.Blames stop (K.faults sink.old) (K.faults sink.new)) }
 {
     let mut draft = Draft::new(alloc);
     let mut refused = 0u64;
     for (i, command) in commands.iter().enumerate() {
-        match do_command(alloc, world, writer, &mut draft, &mut refused, command) {
+        match do_command(
+            alloc,
+            world,
+            sink,
+            writer,
+            &mut draft,
+            &mut refused,
+            command,
+        ) {
             Ok(()) => {}
-            Err(_) => return Err(Stop::Memory(i as u64 + 2)),
+            Err(Halt::Memory) => return Err(Stop::Memory(i as u64 + 2)),
+            Err(Halt::Write) => return Err(Stop::Write),
         }
         match put_long(sink, writer) {
             Ok(()) => {}
@@ -235,7 +262,8 @@ fn world_of(alloc: Global, script: &Script) -> Result<World, TextFault>
 /// text is the first one, with the number of its record. `ReadFault` says that the source failed or
 /// that the input is too long, and `WriteFault` that the sink failed, both of record 0. Where memory
 /// does not suffice for a command, the fault 0 has the number of its record; elsewhere it is of record
-/// 0. It takes memory in proportion to the input, and puts the replies in pieces of some 64 KiB.
+/// 0. It takes memory in proportion to the input. It puts the replies in pieces of some 64 KiB, also
+/// within a history, a bundle or listed rounds, and holds no more of them than such a piece and a record.
 pub fn run_text<S: Source, K: Sink>(
     alloc: Global,
     source: &mut S,

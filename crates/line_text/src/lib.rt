@@ -4,6 +4,8 @@
 mod ends;
 mod engines;
 mod judgings;
+mod listings;
+mod pieces;
 
 pub use engines::{Done, run_text};
 pub use judgings::check_text;

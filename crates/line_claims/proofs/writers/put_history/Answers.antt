@@ -8,7 +8,7 @@ use Rattle.line_claims.proofs.PartLemmas.{next_tape, no_tape, part_all, part_fro
 use Rattle.line_claims.proofs.writers.put_history.Goals as goal
 
 pub loop-p-init : goal.loop-p-init
-loop-p-init c = record { part = part_more _ _ _ _ _ _ (part_none _ _) (rw c.n-n.ensures.value at c.in_ok-put_count.ensures.ok); fits = tt }
+loop-p-init c = record { part = part_more _ _ _ _ _ _ (part_none _ _) (rw c.n-n.ensures.value at c.in_ok-put_history_head.ensures.ok); fits = tt }
 
 pub loop-p-preserved : goal.loop-p-preserved
 loop-p-preserved c =

@@ -10,8 +10,15 @@ returns-then-not-is_ascii_digit-clause-exact c =
     let stops = no_digit_at _ _ _ _ c.in-len1-up.len_at_least (sym c.is_ascii_digit.ensures.value ∙ c.if-not-is_ascii_digit.true) in
     sym (num_bad _ _ _ (sym c.loop-rest.invariant.same ∙ stops))
 
-pub returns-then-more-from-clause-exact : goal.returns-then-more-from-clause-exact
-returns-then-more-from-clause-exact c =
+pub returns-then-value-most_tens-clause-exact : goal.returns-then-value-most_tens-clause-exact
+returns-then-value-most_tens-clause-exact c =
+    let xs = c.loop-rest.rest.now in
+    let more = more_at c.args.least c.args.most c.loop-rest.value xs c.in-len1-up.len_at_least (sym c.is_ascii_digit.ensures.value ∙ c.if-not-is_ascii_digit.false) in
+    let over : c.args.most < c.loop-rest.value * 10 + (get_or xs 0 0 - 48) = omega arith in
+    sym (num_bad _ _ _ (sym c.loop-rest.invariant.same ∙ more ∙ num_large c.args.least c.args.most (c.loop-rest.value * 10 + (get_or xs 0 0 - 48)) (take (length xs - 1) (drop 1 xs)) over))
+
+pub returns-then-units-most-clause-exact : goal.returns-then-units-most-clause-exact
+returns-then-units-most-clause-exact c =
     let xs = c.loop-rest.rest.now in
     let more = more_at c.args.least c.args.most c.loop-rest.value xs c.in-len1-up.len_at_least (sym c.is_ascii_digit.ensures.value ∙ c.if-not-is_ascii_digit.false) in
     let over : c.args.most < c.loop-rest.value * 10 + (get_or xs 0 0 - 48) = omega arith in

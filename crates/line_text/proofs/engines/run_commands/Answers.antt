@@ -1,7 +1,8 @@
 -- Memory did not suffice for a command, and then the sink failed: a front of what was told is put.
 use Rattle.std.proofs.Common.{refl, ap, ◌∙◌}
 use Rattle.line_devices.specs.Devices.{one_more}
-use Rattle.line_text.proofs.RunLemmas.{puts_front_of_held, stops_front, stops_with}
+use Rattle.line_text.proofs.RunLemmas.{stops_front, stops_with}
+use Rattle.line_text.proofs.PieceLemmas.{puts_front_of_held}
 use Rattle.line_text.proofs.engines.run_commands.Goals as goal
 
 pub returns-in-Err-Memory-clause-write : goal.returns-in-Err-Memory-clause-write

@@ -2,5 +2,4 @@ use Rattle.line_fields.proofs.PlainLemmas.{plain_decimal}
 use Rattle.line_fields.proofs.drafts.Draft.number.Goals as goal
 
 pub push-requires-clause-plain_field : goal.push-requires-clause-plain_field
-push-requires-clause-plain_field c =
-    rw (c.as_bytes.ensures.value, c.in-Ok.ensures.bytes, c.clear.ensures.bytes) (plain_decimal c.args.value c.ranges.value.fits)
+push-requires-clause-plain_field c = rw (c.as_bytes.ensures.value, c.format.ensures.text) (plain_decimal c.args.value c.ranges.value.fits)

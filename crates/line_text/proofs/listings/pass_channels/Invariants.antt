@@ -1,0 +1,12 @@
+use Rattle.std.proofs.Common.{◌≡◌, drop}
+use Rattle.std.specs.List.{flat_map, range_with_len}
+use Rattle.line_fields.specs.Texts.{records_text}
+use Rattle.line_replies.specs.Rounds.{channels_from, channels_of}
+use Rattle.line_text.proofs.PieceLemmas.{IsPassed}
+use Rattle.line_text.proofs.listings.pass_channels.Given as goal
+
+abbrev pub invariant-loop-value : goal.invariant-loop-value
+invariant-loop-value g l = record {
+  part : IsPassed (g.K.Sink.taken l.fn.sink) (g.K.Sink.taken l.sink) l.fn.writer l.writer (records_text (channels_of l.n l.round)) (records_text (flat_map (channels_from l.n l.round) (drop l.value (range_with_len 0 l.n))));
+  sound : g.K.Sink.faults l.sink ≡ g.K.Sink.faults l.fn.sink;
+}

@@ -1,0 +1,13 @@
+use Rattle.std.proofs.Common.{◌≡◌}
+use Rattle.std.specs.Prelude.{map}
+use Rattle.line_fields.specs.Texts.{records_text}
+use Rattle.line_claims.specs.Records.{damage_record, damaged_checks}
+use Rattle.line_claims.proofs.PartLemmas.{damages_behind}
+use Rattle.line_text.proofs.PieceLemmas.{IsPassed}
+use Rattle.line_text.proofs.pieces.pass_damages_of.Given as goal
+
+abbrev pub invariant-loop-before : goal.invariant-loop-before
+invariant-loop-before g l = record {
+  part : IsPassed (g.K.Sink.taken l.fn.sink) (g.K.Sink.taken l.sink) l.fn.writer l.writer (records_text (map (damage_record l.p) (damaged_checks l.marks l.p l.last))) (damages_behind l.marks l.p l.last l.before);
+  sound : g.K.Sink.faults l.sink ≡ g.K.Sink.faults l.fn.sink;
+}

@@ -1,0 +1,45 @@
+use Rattle.std.proofs.Common.{◌<◌, ◌≤◌, length, ap, ◌∙◌, arith, refl}
+use Rattle.std.proofs.lemmas.Result.{err_from_is_err_and}
+use Rattle.line_devices.specs.Devices.{one_more}
+use Rattle.line_claims.specs.Records.{pass_record}
+use Rattle.line_text.proofs.PieceLemmas.{halts_behind, halts_here, item_left, no_item_left, passed_all, passed_left, passed_none, passed_then}
+use Rattle.line_text.proofs.pieces.pass_passes.Goals as goal
+
+pub loop-entry-init : goal.loop-entry-init
+loop-entry-init g c = record { part = passed_none _ _ _; sound = refl }
+
+pub loop-entry-preserved : goal.loop-entry-preserved
+loop-entry-preserved g c =
+    let lt : c.loop-entry.entry-index < length c.args.entries.now = omega arith in
+    let next = passed_left _ _ _ _ _ _ _ (item_left pass_record c.args.entries.now c.loop-entry.entry-index _ lt c.entry-item.is) c.loop-entry.invariant.part in
+    record {
+      part = passed_then _ _ _ _ _ _ _ _ _ _ next c.in_ok-put_pass.ensures.ok c.in_ok-put_long.ensures.ok;
+      sound = c.in_ok-put_long.ensures.sound ∙ c.loop-entry.invariant.sound;
+    }
+
+pub returns-in_err-put_pass-clause-err : goal.returns-in_err-put_pass-clause-err
+returns-in_err-put_pass-clause-err g c =
+    let passed_on = err_from_is_err_and c.from_residual.result c.from_residual.ensures.1 in
+    rw (passed_on.1, passed_on.2) (halts_here _ _ _ _ _ _ _ c.loop-entry.invariant.part c.in_err-put_pass.ensures.err)
+
+pub returns-in_err-put_pass-clause-blamed : goal.returns-in_err-put_pass-clause-blamed
+returns-in_err-put_pass-clause-blamed g c =
+    let passed_on = err_from_is_err_and c.from_residual.result c.from_residual.ensures.1 in
+    rw (passed_on.1, passed_on.2) c.loop-entry.invariant.sound
+
+pub returns-in_err-put_long-clause-err : goal.returns-in_err-put_long-clause-err
+returns-in_err-put_long-clause-err g c =
+    let lt : c.loop-entry.entry-index < length c.args.entries.now = omega arith in
+    let next = passed_left _ _ _ _ _ _ _ (item_left pass_record c.args.entries.now c.loop-entry.entry-index _ lt c.entry-item.is) c.loop-entry.invariant.part in
+    let passed_on = err_from_is_err_and c.from_residual-in_err-put_long.result c.from_residual-in_err-put_long.ensures.1 in
+    rw (passed_on.1, passed_on.2) (halts_behind _ _ _ _ _ _ _ _ _ _ next c.in_ok-put_pass.ensures.ok c.in_err-put_long.ensures.err)
+
+pub returns-in_err-put_long-clause-blamed : goal.returns-in_err-put_long-clause-blamed
+returns-in_err-put_long-clause-blamed g c =
+    let passed_on = err_from_is_err_and c.from_residual-in_err-put_long.result c.from_residual-in_err-put_long.ensures.1 in
+    rw (passed_on.1, passed_on.2) (c.in_err-put_long.ensures.failed ∙ ap one_more c.loop-entry.invariant.sound)
+
+pub returns-clause-ok : goal.returns-clause-ok
+returns-clause-ok g c =
+    let le : length c.args.entries.now ≤ c.loop-entry.entry-index = omega arith in
+    passed_all _ _ _ _ _ _ c.loop-entry.invariant.part (no_item_left pass_record c.args.entries.now c.loop-entry.entry-index le)
