@@ -53,8 +53,12 @@ static int is_refused(void) {
 
 void *malloc(size_t size) { return is_refused() ? NULL : __libc_malloc(size); }
 void *calloc(size_t count, size_t size) { return is_refused() ? NULL : __libc_calloc(count, size); }
-void *realloc(void *block, size_t size) { return is_refused() ? NULL : __libc_realloc(block, size); }
-void *memalign(size_t align, size_t size) { return is_refused() ? NULL : __libc_memalign(align, size); }
+void *realloc(void *block, size_t size) {
+    return is_refused() ? NULL : __libc_realloc(block, size);
+}
+void *memalign(size_t align, size_t size) {
+    return is_refused() ? NULL : __libc_memalign(align, size);
+}
 void *aligned_alloc(size_t align, size_t size) { return memalign(align, size); }
 
 int posix_memalign(void **block, size_t align, size_t size) {
@@ -75,12 +79,14 @@ static size_t bounded(size_t size) { return size < most ? size : most; }
 
 ssize_t read(int fd, void *into, size_t size) {
     if (fd != 0) return syscall(SYS_read, fd, into, size);
-    return is_failing(&counts->reads, failing_read) ? -1 : syscall(SYS_read, fd, into, bounded(size));
+    if (is_failing(&counts->reads, failing_read)) return -1;
+    return syscall(SYS_read, fd, into, bounded(size));
 }
 
 ssize_t write(int fd, const void *from, size_t size) {
     if (fd != 1) return syscall(SYS_write, fd, from, size);
-    return is_failing(&counts->writes, failing_write) ? -1 : syscall(SYS_write, fd, from, bounded(size));
+    if (is_failing(&counts->writes, failing_write)) return -1;
+    return syscall(SYS_write, fd, from, bounded(size));
 }
 
 ssize_t __write(int fd, const void *from, size_t size) { return write(fd, from, size); }

@@ -10,6 +10,11 @@ from worker_records import Difference, Generation, Plan, name_of
 INITIAL_DAMAGE, NO_SUCH_CHECK, ALREADY_DAMAGED, MARKED = 7, 4, 8, 100
 
 
+def is_kept(check: int, choice: int | None) -> bool:
+    """Whether a check stays where its process goes on from this choice; None is where it stands."""
+    return choice is None or check <= choice
+
+
 def data(field: str) -> bytes:
     """Bytes as a worker puts them down: their length and themselves."""
     return struct.pack(">Q", len(field) // 2) + bytes.fromhex(field)
@@ -95,8 +100,7 @@ class Judge:
         self.opening = rules.cut(own, self.lengths, plan.line)
         for p, it in enumerate(plan.line):
             self.incarnations[p] += it is not None
-        line = plan.line
-        self.damaged = {(p, k) for p, k in self.damaged if line[p] is None or k <= line[p]}
+        self.damaged = {(p, k) for p, k in self.damaged if is_kept(k, plan.line[p])}
         self.counts["restarts"] += 1
 
     def judge_opening(self, now: Generation, own: rules.History) -> None:

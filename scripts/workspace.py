@@ -1,8 +1,8 @@
 """The crates of the repository, and rooms in which one of them is proved beside others.
 
-`rt` lets one run at a time work in a crate and in the crates below it. So whoever proves several crates
-that stand on the same ones, side by side, gives each run a room: a folder with the crate and what it
-stands on, its files linked and not copied where the file system allows that.
+`rt` lets one run at a time work in a crate and in the crates below it. So whoever proves several
+crates that stand on the same ones, side by side, gives each run a room: a folder with the crate and
+what it stands on, its files linked and not copied where the file system allows that.
 """
 
 import os
@@ -10,6 +10,7 @@ import pathlib
 import re
 import shutil
 import subprocess
+import sys
 import tempfile
 from collections.abc import Iterable, Sequence
 
@@ -50,20 +51,27 @@ def needed(tops: Iterable[str], below: Below) -> list[str]:
 def weight(name: str) -> int:
     """A measure of what proving a crate takes: its lines of code, definitions and proofs."""
     folder = ROOT / "crates" / name
-    files = [it for part in ("src", "specs", "proofs") for it in (folder / part).rglob("*") if it.is_file()]
+    files = [
+        it
+        for part in ("src", "specs", "proofs")
+        for it in (folder / part).rglob("*")
+        if it.is_file()
+    ]
     return sum(it.read_bytes().count(b"\n") for it in files)
 
 
 def chains(order: Sequence[str], below: Below) -> dict[str, int]:
-    """Of each crate the weight of the heaviest chain of crates that begins with it and waits for it."""
+    """Of each crate the weight of the heaviest chain that begins with it and waits for it."""
     found: dict[str, int] = {}
     for name in reversed(order):
-        found[name] = weight(name) + max((found[it] for it in order if name in below[it]), default=0)
+        found[name] = weight(name) + max(
+            (found[it] for it in order if name in below[it]), default=0
+        )
     return found
 
 
 def lanes() -> int:
-    """How many checks may run at once: one for each processor, and as many as there is memory for."""
+    """How many checks may run at once: one for each processor, where there is memory for it."""
     free = re.search(r"MemAvailable:\s+(\d+)", pathlib.Path("/proc/meminfo").read_text())
     room = int(free[1]) * 1024 // BYTES_A_CHECK if free else 1
     return max(1, min(len(os.sched_getaffinity(0)), room))
@@ -98,7 +106,9 @@ def make_room(room: Path, top: Path, name: str, below: Below) -> pathlib.Path:
     crates = needed([name], below)
     lines = (top / "crates.txt").read_text().splitlines()
     (room / "crates").mkdir()
-    (room / "crates.txt").write_text("".join(f"{it}\n" for it in lines if it.partition(":")[0].strip() in crates))
+    (room / "crates.txt").write_text(
+        "".join(f"{it}\n" for it in lines if it.partition(":")[0].strip() in crates)
+    )
     for it in crates:
         for part in ("src", "specs", "proofs"):
             link_folder(top / "crates" / it / part, room / "crates" / it / part)
@@ -107,7 +117,10 @@ def make_room(room: Path, top: Path, name: str, below: Below) -> pathlib.Path:
     for part in ("stdin", "stdout", "args", "status"):
         if (top / "crates" / name / part).is_file():
             link(top / "crates" / name / part, room / "crates" / name / part)
-    link_folder(top / "crates" / name / "out" / "incremental", room / "crates" / name / "out" / "incremental")
+    link_folder(
+        top / "crates" / name / "out" / "incremental",
+        room / "crates" / name / "out" / "incremental",
+    )
     return room / "crates" / name
 
 
@@ -115,8 +128,12 @@ def run(words: Sequence[Path], folder: Path, log: Path) -> int:
     """Runs a command in a folder, what it says goes to the file `log`; answers its status."""
     with open(log, "wb") as out:
         return subprocess.run(
-            words, cwd=folder, check=False,
-            stdin=subprocess.DEVNULL, stdout=out, stderr=subprocess.STDOUT,
+            words,
+            cwd=folder,
+            check=False,
+            stdin=subprocess.DEVNULL,
+            stdout=out,
+            stderr=subprocess.STDOUT,
         ).returncode
 
 
@@ -135,8 +152,45 @@ def build(top: Path, name: str, jobs: int, below: Below, log: Path) -> bool:
     with new_folder("recline-room-") as room:
         crate = make_room(room, top, name, below)
         is_program = (crate / "src" / "main.rt").is_file()
-        words = ["rt", "run", "--jobs", str(jobs), "--", "--help"] if is_program else ["rt", "lib", "--jobs", str(jobs)]
+        words = (
+            ["rt", "run", "--jobs", str(jobs), "--", "--help"]
+            if is_program
+            else ["rt", "lib", "--jobs", str(jobs)]
+        )
         if run(words, crate, log):
             return False
         put_out(crate / "out", pathlib.Path(top) / "crates" / name / "out")
     return True
+
+
+def copy_text(source: pathlib.Path, target: pathlib.Path) -> None:
+    """Writes a file with the text of another."""
+    target.parent.mkdir(parents=True, exist_ok=True)
+    target.write_text(source.read_text(encoding="utf-8"), encoding="utf-8")
+
+
+def build_bench(
+    room: pathlib.Path, name: str, low: list[str], words: Sequence[str]
+) -> pathlib.Path:
+    """Makes a program of `bench` a crate of a room over the crates `low`; proves and builds it.
+
+    Its files have the ends .rattle and .proof, since it is no crate of the repository. It is run
+    with these words, and answered is where it was built. One that is not proved ends all.
+    """
+    top = ROOT / "bench" / name
+    crate = make_room(room, ROOT, name, {**stands_on(), name: low})
+    with (room / "crates.txt").open("a", encoding="utf-8") as crates:
+        crates.write(f"{name}: {' '.join(low)} anyhow\n")
+    copy_text(ROOT / "HANDLES", room / "HANDLES")
+    for file in top.rglob("*.rattle"):
+        copy_text(file, crate / "src" / file.relative_to(top).with_suffix(".rt"))
+    for file in (top / "proofs").rglob("*.proof"):
+        copy_text(file, crate / file.relative_to(top).with_suffix(".antt"))
+    for part in ("specs", "proofs"):
+        (crate / part).mkdir(parents=True, exist_ok=True)
+        if not (crate / part / "Lib.antt").exists():
+            (crate / part / "Lib.antt").write_text("", encoding="utf-8")
+    log = room / "log"
+    if run(["rt", "run", "--", *words], crate, log):
+        sys.exit(log.read_text(errors="replace")[-4000:])
+    return crate / "out" / name

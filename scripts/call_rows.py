@@ -1,0 +1,233 @@
+"""Rows of calls of the library, as words for bench/refused, and what is to be held against a run.
+
+A row is a list of calls on one subject: a history with marks, what a process has recorded of
+rounds, a catalogue, a world, or a fleet of workers with their collector.
+"""
+
+import random
+from collections.abc import Iterator
+from typing import NamedTuple
+
+from slow_model.made_scripts import some_script
+
+# The subjects, by the numbers that the program knows them by.
+SUBJECTS = {"tapes": 0, "marker": 1, "catalogue": 2, "world": 3, "run": 4, "fleet": 5}
+FIFO, UNORDERED = 0, 1
+# Of each call its number, and what its fields are: a, b, c and d are numbers, x is bytes of which
+# the first goes into d, l is a choice of a line, and s a set of processes.
+CALLS = {
+    "send": (0, "abx"),
+    "deliver": (1, "abcx"),
+    "receive": (1, "abx"),
+    "hear": (1, "bc"),
+    "check": (2, "ax"),
+    "begin": (3, "ax"),
+    "checked": (3, "acx"),
+    "begun": (3, "c"),
+    "turn": (4, "ax"),
+    "damage": (5, "ab"),
+    "recover": (6, "s"),
+    "plan": (7, "s"),
+    "report": (8, "a"),
+    "take": (9, "c"),
+    "live": (10, ""),
+    "gather": (11, "s"),
+    "recv": (12, "abcd"),
+    "mark": (13, "abc"),
+    "reserve": (14, "ac"),
+    "copy": (15, ""),
+    "transit": (16, "lll"),
+    "of": (17, ""),
+    "copy_marks": (18, ""),
+    "copy_tape": (19, "a"),
+    "restart": (20, "s"),
+    "keep": (20, "s"),
+    "note": (21, "bcd"),
+}
+# How many bits each of the four numbers has, and where they lie in a word.
+ROOM = {"a": (8, 48), "b": (8, 40), "c": (20, 20), "d": (20, 0)}
+MOST_PROCESSES = 8
+
+
+class Row(NamedTuple):
+    """Calls on a subject of so many processes, with the mode of its links or the capacity."""
+
+    name: str
+    subject: str
+    n: int
+    kind: int
+    calls: list[str]
+
+    def words(self) -> list[str]:
+        """The words for the program."""
+        first = [SUBJECTS[self.subject], self.n, self.kind]
+        return [str(it) for it in first + [word_of(it) for it in self.calls]]
+
+
+def number_of(field: str) -> int:
+    """A choice as a number: 0 is where a process stands, and k its check k - 1."""
+    return 0 if field == "now" else int(field) + 1
+
+
+def word_of(call: str) -> int:
+    """A call as a word of 64 bits."""
+    name, *fields = call.split(",")
+    number, form = CALLS[name]
+    values = dict.fromkeys("abcd", 0)
+    if form == "s":
+        values["a"] = sum(1 << int(it) for it in set(fields))
+        values["b"] = int(name == "keep")
+    elif form == "lll":
+        values.update(zip("abc", map(number_of, fields)))
+    else:
+        for slot, field in zip(form, fields, strict=True):
+            if slot == "x":
+                values["d"] = int(field[:2] or "0", 16)
+            else:
+                values[slot] = int(field)
+    word = number << 56
+    for slot, (bits, place) in ROOM.items():
+        word |= min(values[slot], (1 << bits) - 1) << place
+    return word
+
+
+def row(name: str, subject: str, n: int, kind: int, text: str) -> Row:
+    """A row of calls that slashes part."""
+    return Row(name, subject, n, kind, [it.strip() for it in text.split("/")])
+
+
+DOMINO = (
+    "send,0,1,61 / recv,1,0,0,0 / check,1,b1 / send,1,0,62 / recv,0,1,0,0 / check,0,a1"
+    " / send,0,1,63 / recv,1,0,0,1 / check,1,b2"
+)
+SNAPSHOT = (
+    "begin,0,a1 / deliver,0,1,0,b1 / deliver,1,0,0, / send,0,1,61 / deliver,0,1,0, / check,1,b2"
+    " / send,1,0,62 / deliver,1,0,0, / check,0,a2 / send,0,1,63 / deliver,0,1,0, / check,1,b3"
+)
+
+ROWS = [
+    row("a history is made, asked and copied", "tapes", 2, 0,
+        f"{DOMINO} / transit,now,now / transit,0,1 / copy / copy_tape,0 / copy_tape,1"
+        " / reserve,0,9 / reserve,1,1 / copy / checked,0,1,a2 / mark,1,0,1 / copy"),
+    row("marks are made and copied", "tapes", 3, 0,
+        "check,0,a1 / damage,0,1 / damage,1,4 / copy_marks / damage,0,2 / damage,0,3"
+        " / damage,0,1 / damage,2,0 / damage,0,4 / damage,0,5 / copy_marks"),
+    row("receipts in no order", "tapes", 2, 0,
+        "recv,0,1,0,5 / recv,0,1,0,2 / recv,0,1,3,9 / recv,0,1,0,0 / recv,0,1,2,7 / copy_tape,0"),
+    row("a process records rounds", "marker", 3, 0,
+        "reserve,0,0 / begun,1 / note,1,0,0 / hear,1,1 / note,1,0,1 / note,2,0,0 / hear,1,1"
+        " / hear,2,1 / hear,2,3 / hear,1,2 / note,1,0,2 / note,1,0,3 / hear,1,3 / begun,3"
+        " / begun,4 / note,2,0,1 / reserve,0,0 / begun,5 / note,1,0,4"),
+    row("a process records rounds, and no room is made", "marker", 3, 0,
+        "begun,1 / note,1,0,0 / note,2,0,0 / note,1,0,1 / hear,2,1 / note,1,0,2 / hear,1,2"
+        " / note,2,0,1 / note,1,0,3 / note,1,0,4 / hear,1,1 / hear,2,2 / note,1,0,5 / begun,9"),
+    row("a catalogue is fed, and made of a history", "catalogue", 2, 0,
+        f"{DOMINO} / plan,0 / of / transit,now,now / transit,0,1 / plan,1 / damage,1,2 / plan,1"
+        " / of / reserve,0,3 / send,0,1,64 / send,0,1,65 / check,0,a3 / of / plan"),
+    row("a catalogue goes on from its line", "catalogue", 2, 0,
+        f"{DOMINO} / damage,0,1 / restart,1 / send,0,1,61 / of / plan,0,1 / keep,0"
+        " / send,0,1,62 / check,1,b4 / of / transit,now,0 / keep / plan,1 / of"),
+    row("marks of rounds in a catalogue", "catalogue", 3, 0,
+        "checked,0,1,a1 / mark,1,0,1 / checked,1,1,b1 / mark,2,0,1 / checked,2,1, / of / plan,2"),
+    row("a round, dominoes and a recovery", "world", 2, FIFO,
+        f"{SNAPSHOT} / plan,0 / recover,0 / send,0,1,64 / deliver,0,1,0,"),
+    row("the same, and a damaged check", "world", 2, FIFO, f"{SNAPSHOT} / damage,1,1 / recover,0"),
+    row("the same, by colours", "world", 2, UNORDERED,
+        "begin,0,a1 / send,0,1,61 / deliver,0,1,0,b1 / check,1,b2 / send,1,0,62 / deliver,1,0,0,"
+        " / check,0,a2 / begin,1,b3 / turn,0,a3 / plan,0,1 / recover,0 / deliver,0,1,0,"),
+    row("a message in transit is sent again", "world", 2, UNORDERED,
+        "send,0,1,61 / check,0,a1 / recover,0,1 / deliver,0,1,1, / deliver,0,1,0,"),
+    row("an unfinished round is given up", "world", 2, FIFO,
+        "begin,0,a1 / recover,0 / begin,0,a2 / deliver,0,1,0,b1"),
+    row("a round of colours is given up", "world", 2, UNORDERED,
+        "begin,0,a1 / send,0,1,61 / recover,1 / deliver,0,1,0,b1"),
+    row("a copy that is stale, and one that is repeated", "world", 2, UNORDERED,
+        "send,0,1,61 / recover,0 / send,0,1,62 / deliver,0,1,0, / deliver,0,1,1, / deliver,0,1,1,"),
+    row("three processes, and messages in the channels", "world", 3, FIFO,
+        "send,1,0,78 / send,2,1,79 / begin,0,a1 / deliver,1,0,0, / deliver,0,1,0,b1"
+        " / deliver,0,2,0,c1 / deliver,1,0,0, / deliver,2,1,0, / deliver,2,1,0, / deliver,1,2,0,"
+        " / deliver,2,0,0, / plan,1 / recover,1,2 / begin,2,c2 / send,0,2,80 / recover,0,2"),
+    row("refusals in a world", "world", 2, UNORDERED,
+        "send,0,0,61 / send,2,0,61 / deliver,0,1,0, / send,0,1,61 / deliver,0,1,1, / turn,0,"
+        " / begin,0, / begin,1, / damage,0,0 / damage,0,1 / damage,0,1 / damage,0,2"),
+    row("a fleet from its opening to the next generation", "fleet", 2, 4,
+        "check,0,01 / report,0 / take,9 / live / send,0,1,61 / receive,1,0, / check,1,02"
+        " / gather,0 / plan / restart / send,0,1,62 / receive,1,0, / report,0 / report,1"
+        " / take,9 / live / gather / plan"),
+    row("rings of one slot", "fleet", 2, 1,
+        "send,0,1,61 / send,0,1,62 / check,0,07 / report,0 / take,10 / live / report,0 / take,10"
+        " / live / receive,1,0, / receive,1,0, / gather / plan"),
+    row("a message that is received again", "fleet", 2, 2,
+        "send,0,1,61 / report,0 / check,0,01 / gather / damage,0,1 / plan / restart"
+        " / receive,1,0, / receive,1,0, / send,1,0,62 / receive,0,1, / report,0 / take,9"
+        " / gather,1 / plan"),
+    row("a round of workers", "fleet", 2, 2,
+        "begin,0,01 / begin,0,02 / begin,1,01 / receive,1,0,02 / receive,0,1, / report,0"
+        " / report,1 / take,1 / take,9 / live / gather,0,1 / damage,1,1 / plan / restart"
+        " / begin,0,04 / receive,1,0,05 / gather / plan"),
+    row("three workers and many reports", "fleet", 3, 4,
+        "send,0,1,61 / send,1,2,62 / send,2,0,63 / receive,0,2, / receive,1,0, / receive,2,1,"
+        " / check,0,01 / check,1,02 / check,2,03 / report,0 / report,1 / report,2 / take,20"
+        " / live / send,0,2,64 / report,0 / gather,1 / plan / restart / receive,2,0,"
+        " / gather,2 / plan"),
+]
+
+
+def runs_of(rows: list[Row]) -> Iterator[Row]:
+    """Of each world's row that its steps make, one that takes them in one run."""
+    for it in rows:
+        if it.subject == "world":
+            steps = [call for call in it.calls if not call.startswith("plan")]
+            yield it._replace(name=f"{it.name}, in one run", subject="run", calls=steps)
+
+
+def is_call(record: str, n: int) -> bool:
+    """Whether a record of a script is a call whose numbers fit in a word."""
+    name, *fields = record.split(",")
+    if name not in ("send", "deliver", "check", "begin", "turn", "damage", "recover"):
+        return False
+    form = CALLS[name][1]
+    if form == "s":
+        return all(int(it) < n for it in fields)
+    whole = [it for slot, it in zip(form, fields) if slot != "x"]
+    return len(form) == len(fields) and all(it.isdigit() and int(it) < 64 for it in whole)
+
+
+def made_worlds(cases: int, seed: int) -> Iterator[Row]:
+    """Made scripts of a few processes, the same for the same seed."""
+    for case in range(cases):
+        chance = random.Random(f"calls {seed} {case}")
+        first, *records = some_script(chance).decode("latin-1").split() or [""]
+        fields = first.split(",")
+        if len(fields) != 4 or not fields[2].isdigit() or not 0 < int(fields[2]) <= MOST_PROCESSES:
+            continue
+        n = int(fields[2])
+        calls = [it for it in records if is_call(it, n)]
+        kind = UNORDERED if fields[3] == "unordered" else FIFO
+        yield Row(f"made script {case}", "world", n, kind, calls)
+
+
+def some_work(chance: random.Random, n: int) -> str:
+    """A call of a worker or of the collector."""
+    p, q, byte = chance.randrange(n), chance.randrange(n), chance.randrange(256)
+    kind = chance.choices(
+        ["send", "receive", "check", "begin", "report", "take", "live"], [30, 40, 8, 6, 8, 6, 2]
+    )[0]
+    if kind in ("send", "receive"):
+        return f"{kind},{p},{(p + 1 + q % max(n - 1, 1)) % n},{byte:02x}"
+    if kind in ("check", "begin"):
+        return f"{kind},{p if kind == 'check' else 0},{byte:02x}"
+    return {"report": f"report,{p}", "take": f"take,{chance.randrange(12)}", "live": "live"}[kind]
+
+
+def made_fleets(cases: int, seed: int) -> Iterator[Row]:
+    """Made calls of two generations of workers, the same for the same seed."""
+    for case in range(cases):
+        chance = random.Random(f"fleets {seed} {case}")
+        n, calls = chance.choice([2, 2, 3, 4]), []
+        for is_last in (False, True):
+            calls += [some_work(chance, n) for _ in range(chance.randrange(5, 40))]
+            failed = [p for p in range(n) if chance.randrange(3) == 0]
+            calls += [",".join(["gather", *map(str, failed)]), f"damage,{chance.randrange(n)},1"]
+            calls += ["plan"] if is_last else ["plan", "restart"]
+        yield Row(f"made fleet {case}", "fleet", n, chance.choice([1, 2, 3, 8]), calls)

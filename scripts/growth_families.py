@@ -1,0 +1,275 @@
+"""The families of texts of `measure_growth`: each has a size, and is read by a subcommand."""
+
+from collections.abc import Callable, Iterator
+from typing import NamedTuple
+
+MOST_PROCESSES = 64
+
+
+class Family(NamedTuple):
+    """Texts of a kind: the subcommand that reads them, the greatest size, and the records."""
+
+    command: str
+    most: int
+    records: Callable[[int], Iterator[str]]
+
+
+# The families. Each takes its size m and gives the records.
+
+
+def undelivered(m: int) -> Iterator[str]:
+    """Messages that nobody takes, and as many recoveries of nobody, which send them again."""
+    yield "world,1,2,unordered"
+    yield from ["send,0,1,"] * m
+    yield from ["recover"] * m
+
+
+def undelivered_in_order(m: int) -> Iterator[str]:
+    """The same on links in order."""
+    yield "world,1,2,fifo"
+    yield from ["send,0,1,"] * m
+    yield from ["recover"] * m
+
+
+def rounds(m: int) -> Iterator[str]:
+    """Rounds of colours between two processes, and as many recoveries of nobody."""
+    yield "world,1,2,unordered"
+    for _ in range(m):
+        yield from ["begin,0,", "turn,1,"]
+    yield from ["recover"] * m
+
+
+def rounds_cut(m: int) -> Iterator[str]:
+    """Rounds of colours, and as many recoveries of a process, each behind a check of it."""
+    yield "world,1,2,unordered"
+    for _ in range(m):
+        yield from ["begin,0,", "turn,1,"]
+    for _ in range(m):
+        yield from ["check,0,", "recover,0"]
+
+
+def rounds_in_transit(m: int) -> Iterator[str]:
+    """Messages that nobody takes, and half as many rounds of colours, which all have them."""
+    yield "world,1,2,unordered"
+    yield from ["send,0,1,"] * m
+    for _ in range(m // 2):
+        yield from ["begin,0,", "turn,1,"]
+
+
+def rounds_of_many(m: int) -> Iterator[str]:
+    """Rounds of colours among 64 processes, without a message."""
+    yield f"world,1,{MOST_PROCESSES},unordered"
+    for _ in range(m):
+        yield "begin,0,"
+        for p in range(1, MOST_PROCESSES):
+            yield f"turn,{p},"
+
+
+def markers_of_many(m: int) -> Iterator[str]:
+    """Rounds of markers among 64 processes, without a message."""
+    yield f"world,1,{MOST_PROCESSES},fifo"
+    for _ in range(m):
+        yield "begin,0,"
+        for p in range(1, MOST_PROCESSES):
+            yield f"deliver,0,{p},0,"
+        for p in range(1, MOST_PROCESSES):
+            for q in range(MOST_PROCESSES):
+                if p != q:
+                    yield f"deliver,{p},{q},0,"
+
+
+def checks(m: int) -> Iterator[str]:
+    """Checks of one process, and as many recoveries of nobody."""
+    yield "world,1,2,fifo"
+    yield from ["check,0,"] * m
+    yield from ["recover"] * m
+
+
+def checks_failed(m: int) -> Iterator[str]:
+    """Checks of one process, and as many recoveries of it."""
+    yield "world,1,2,fifo"
+    yield from ["check,0,"] * m
+    yield from ["recover,0"] * m
+
+
+def delivered(m: int) -> Iterator[str]:
+    """Messages that are taken, and as many recoveries of nobody."""
+    yield "world,1,2,fifo"
+    for _ in range(m):
+        yield from ["send,0,1,", "deliver,0,1,0,"]
+    yield from ["recover"] * m
+
+
+def marks(m: int) -> Iterator[str]:
+    """Checks that are all damaged, and as many recoveries of nobody."""
+    yield "world,1,2,fifo"
+    yield from ["check,0,"] * m
+    for check in range(1, m + 1):
+        yield f"damage,0,{check}"
+    yield from ["recover"] * m
+
+
+def rounds_begun(m: int) -> Iterator[str]:
+    """Rounds of markers that are begun among 64 processes, each given up by a recovery."""
+    yield f"world,1,{MOST_PROCESSES},fifo"
+    for _ in range(m):
+        yield from ["begin,0,", "recover"]
+
+
+def work_of_many(mode: str, events: int) -> Iterator[str]:
+    """So many events of 64 processes in a ring: messages, and checks after each eighth turn."""
+    n = MOST_PROCESSES
+    yield f"world,1,{n},{mode}"
+    turns = events * 8 // (n * 17)
+    for turn in range(turns):
+        for p in range(n):
+            yield f"send,{p},{(p + 1) % n},00"
+        for p in range(n):
+            yield f"deliver,{p},{(p + 1) % n},{turn if mode == 'unordered' else 0},"
+        if turn % 8 == 7:
+            yield from (f"check,{p},00" for p in range(n))
+
+
+def idle(mode: str, events: int) -> Callable[[int], Iterator[str]]:
+    """Recoveries of nobody among 64 processes, behind so many events."""
+
+    def records(m: int) -> Iterator[str]:
+        yield from work_of_many(mode, events)
+        yield from ["recover"] * m
+
+    return records
+
+
+def recoveries(m: int) -> Iterator[str]:
+    """Recoveries of 64 processes that do nothing else, on links in order."""
+    yield f"world,1,{MOST_PROCESSES},fifo"
+    yield from ["recover"] * m
+
+
+def recoveries_unordered(m: int) -> Iterator[str]:
+    """The same on links without an order."""
+    yield f"world,1,{MOST_PROCESSES},unordered"
+    yield from ["recover"] * m
+
+
+def domino(m: int) -> Iterator[str]:
+    """Two processes answer each other, and one failure takes both to their initial states."""
+    yield "world,1,2,fifo"
+    for _ in range(m):
+        yield from ["send,0,1,", "deliver,0,1,0,", "check,1,"]
+        yield from ["send,1,0,", "deliver,1,0,0,", "check,0,"]
+    yield from ["send,0,1,", "deliver,0,1,0,", "recover,0"]
+
+
+def damaged(m: int) -> Iterator[str]:
+    """Checks of one process, all damaged from the last to the first."""
+    yield "world,1,1,fifo"
+    yield from ["check,0,"] * m
+    for check in range(m, 0, -1):
+        yield f"damage,0,{check}"
+
+
+def marked(m: int) -> Iterator[str]:
+    """A check text of one process with as many damaged checks, told from the last to the first."""
+    yield from ["history,1,1", "tape,0,0"]
+    yield from ["check,,-"] * m
+    for check in range(m, 0, -1):
+        yield f"damage,0,{check}"
+    yield from ["failed", "line,now", "end"]
+
+
+def names_apart(m: int) -> Iterator[int]:
+    """Numbers of messages, one after another."""
+    return iter(range(m))
+
+
+def names_low(m: int) -> Iterator[int]:
+    """Numbers that share their low 20 bits; they repeat after 4,096, under other incarnations."""
+    return ((k % 4_096) << 20 for k in range(m))
+
+
+def names_high(m: int) -> Iterator[int]:
+    """Numbers that share their high 20 bits; they repeat after 4,096, under other incarnations."""
+    return (k % 4_096 for k in range(m))
+
+
+def receipts(numbers: Callable[[int], Iterator[int]]) -> Callable[[int], Iterator[str]]:
+    """Check texts of receipts of messages with these numbers, no two with one name."""
+
+    def records(m: int) -> Iterator[str]:
+        yield from ["history,1,2", "tape,0,0"]
+        for at, number in enumerate(numbers(m)):
+            inc = 0 if numbers is names_apart else at // 4_096
+            yield f"recv,1,{inc},{number}"
+        yield from ["tape,1,0", "failed", "line,now,now", "end"]
+
+    return records
+
+
+def receipts_of_incarnations(m: int) -> Iterator[str]:
+    """A check text of receipts that differ in sender and incarnation alone."""
+    yield from [f"history,1,{MOST_PROCESSES}", "tape,0,0"]
+    for k in range(m):
+        yield f"recv,{k % MOST_PROCESSES},{k // MOST_PROCESSES},0"
+    for p in range(1, MOST_PROCESSES):
+        yield f"tape,{p},0"
+    yield from ["failed", "line" + ",now" * MOST_PROCESSES, "end"]
+
+
+def received_low_bits(m: int) -> Iterator[str]:
+    """A thousand sends for each delivery, so that the numbers taken share their low bits."""
+    yield "world,1,2,unordered"
+    step = 1_024
+    for k in range(m // step):
+        yield from ["send,0,1,"] * step
+        yield f"deliver,0,1,{k * step},"
+
+
+def work(mode: str) -> Callable[[int], Iterator[str]]:
+    """Messages and checks in a ring of 8, with a recovery behind each fifty records."""
+
+    def records(m: int) -> Iterator[str]:
+        n, sends, place = 8, 16, [0] * 8
+        yield f"world,1,{n},{mode}"
+        for turn in range(m // 50):
+            for k in range(sends):
+                yield f"send,{k % n},{(k + 1) % n},00"
+            for k in range(sends):
+                p = k % n
+                pick = place[p] if mode == "unordered" else 0
+                yield f"deliver,{p},{(p + 1) % n},{pick},"
+                place[p] += 1
+            for k in range(17):
+                yield f"check,{k % n},00"
+            # The last event of each is a check, so the one that fails loses nothing.
+            yield f"recover,{turn % n}"
+
+    return records
+
+
+FAMILIES: dict[str, Family] = {
+    "undelivered": Family("run", 2_000, undelivered),
+    "undelivered_in_order": Family("run", 2_000, undelivered_in_order),
+    "rounds": Family("run", 30_000, rounds),
+    "rounds_cut": Family("run", 30_000, rounds_cut),
+    "rounds_in_transit": Family("run", 17_000, rounds_in_transit),
+    "rounds_of_many": Family("run", 8_000, rounds_of_many),
+    "markers_of_many": Family("run", 200, markers_of_many),
+    "checks": Family("run", 64_000, checks),
+    "checks_failed": Family("run", 64_000, checks_failed),
+    "delivered": Family("run", 50_000, delivered),
+    "marks": Family("run", 20_000, marks),
+    "rounds_begun": Family("run", 60_000, rounds_begun),
+    "recoveries": Family("run", 50_000, recoveries),
+    "recoveries_unordered": Family("run", 50_000, recoveries_unordered),
+    "domino": Family("run", 20_000, domino),
+    "damaged": Family("run", 800_000, damaged),
+    "marked": Family("check", 800_000, marked),
+    "receipts": Family("check", 800_000, receipts(names_apart)),
+    "receipts_low_bits": Family("check", 800_000, receipts(names_low)),
+    "receipts_high_bits": Family("check", 800_000, receipts(names_high)),
+    "receipts_of_incarnations": Family("check", 800_000, receipts_of_incarnations),
+    "received_low_bits": Family("run", 900_000, received_low_bits),
+    "work_in_order": Family("run", 1_000_000, work("fifo")),
+    "work_unordered": Family("run", 1_000_000, work("unordered")),
+}
