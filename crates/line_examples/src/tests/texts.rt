@@ -138,6 +138,57 @@ fn puts_long_replies_in_pieces(rt: HostRuntime) -> Result<(), Fail> {
     Ok(())
 }
 
+/// Adds a record that carries the longest body, behind its first fields.
+fn add_long(text: &mut Vec<u8>, fields: &[u8]) -> Result<(), AllocError> {
+    text.extend_from_slice(fields)?;
+    for _ in 0..64 {
+        text.extend_from_slice(b"61")?;
+    }
+    text.extend_from_slice(b"\n")
+}
+
+/// A history and a check text, each of some 138,000 bytes, are put in pieces while they are written: each
+/// piece is full as soon as a record brings it to 65,536 bytes.
+#[test]
+fn puts_a_long_history_in_pieces(rt: HostRuntime) -> Result<(), Fail> {
+    let mut text = Vec::from_slice(rt.alloc(), b"world,1,2,fifo\n")?;
+    let mut want = Vec::new(rt.alloc());
+    for _ in 0..1000 {
+        add_long(&mut text, b"send,0,1,")?;
+    }
+    for _ in 0..2 {
+        want.extend_from_slice(b"history,1,2\ntape,0,0\n")?;
+        for _ in 0..1000 {
+            add_long(&mut want, b"send,1,0,")?;
+        }
+        want.extend_from_slice(b"tape,1,0\n")?;
+    }
+    text.extend_from_slice(b"history\nbundle,0\n")?;
+    want.extend_from_slice(b"failed,0\nline,0,now\nend\n")?;
+    let whole = run(rt.alloc(), &text, 100_000, None, None)?;
+    assert_eq!(rt; whole.answer, Ok(Done { refused: 0 }));
+    assert_eq!(rt; whole.put.len(), 288_974);
+    assert!(rt; whole.put.as_slice().ends_with(&want));
+    // The replies to the sends are 12,890 bytes, and each of the other records but a few is 138.
+    for (fail_at, taken) in [
+        (1u64, 0usize),
+        (2, 65_627),
+        (3, 131_177),
+        (4, 196_757),
+        (5, 262_307),
+        (6, 288_974),
+    ] {
+        let ran = run(rt.alloc(), &text, 100_000, None, Some(fail_at))?;
+        assert_eq!(rt; ran.write_failures, 1, "at call {fail_at}");
+        assert_eq!(rt; ran.put.len(), taken, "at call {fail_at}");
+        assert!(rt;
+            whole.put.as_slice().starts_with(&ran.put),
+            "at call {fail_at}"
+        );
+    }
+    Ok(())
+}
+
 /// What a judgement came to.
 #[derive(Drop)]
 struct Judged {
