@@ -1,33 +1,28 @@
 //! The world: the machine that answers steps.
-ghost use Rattle.std.specs.Prelude.{◌≡◌, ◌≢◌, ◌<◌, ◌↔◌, ◌⊎◌, All, AllPairs, Some, None, length, take, slice_get, IfOk, IfErr, IsErrOf, IsTrue, false};
+ghost use Rattle.std.specs.Prelude.{◌≡◌, ◌≢◌, ◌<◌, ◌↔◌, ◌⊎◌, All, AllPairs, None, length, take, slice_get, IfOk, IfErr, IsErrOf, IsTrue};
 ghost use Rattle.line_tape.specs.History.{incarnation_at};
 ghost use Rattle.line_world.specs.declared.replies.Answer.TheVariants.{Done, Refused};
-ghost use Rattle.line_world.specs.declared.steps.Step.TheVariants.{Send, Deliver, Check, Begin, Turn, Damage, Recover};
-ghost use Rattle.line_tape.specs.declared.items.Item.TheVariants.{Message, Marker};
-ghost use Rattle.line_moves.specs.declared.fates.Fate.TheVariants.{Taken as IsTaken};
-ghost use Rattle.line_moves.specs.declared.modes.Mode.TheVariants.{Fifo, Unordered};
-ghost use Rattle.line_moves.specs.Fates.{fate_of, forced_round};
+ghost use Rattle.line_world.specs.declared.steps.Step.TheVariants.{Send, Check, Damage};
 ghost use Rattle.line_moves.specs.Listed.{Listed, IsReached, IsSnapshotOf};
 ghost use Rattle.line_world.specs.Machine.{start, items_on, IsFit};
-ghost use Rattle.line_world.specs.Refusals.{first_cause, link_causes, refusal_of, has_stranger};
+ghost use Rattle.line_world.specs.Refusals.{refusal_of, has_stranger};
 ghost use Rattle.line_world.specs.Runs.{Takes, Run};
-ghost use Rattle.line_world.specs.Steps.{IsPlan, Recovers};
+ghost use Rattle.line_world.specs.Steps.{IsPlan};
 
+mod deliveries;
+mod recoveries;
 mod refusals;
+mod rounds;
 
 use crate::replies::{Answer, Reply, RunStopped, StepError};
 use crate::steps::Step;
 use line_catalogue::Catalogue;
-use line_moves::{
-    Fate, Links, Listing, Mode, OpenRound, Round, add_check, add_receipt, begin_round, fate_of,
-    is_forced, put_message, restart_links, restarted_incarnations, restored_states, still_open,
-    take_marker, take_message, turn_round,
-};
-use line_names::{Body, MOST_PROCESSES, MsgName, ProcId, ProcSet};
+use line_moves::{Links, Listing, Mode, OpenRound, Round, add_check, put_message};
+use line_names::{Body, MOST_PROCESSES, ProcId, ProcSet};
 use line_plan::Plan;
 use line_tape::{CountError, History, Item, Marks, State};
 use line_turns::{Colours, Turning};
-use std::alloc::{AllocError, Global};
+use std::alloc::Global;
 use std::marker::Model;
 
 /// Processes with a link from each to each.
@@ -149,20 +144,6 @@ impl World {
         self.links.item(from, to, i)
     }
 
-    /// The item at a place of a link.
-    fn item_at(&self, from: ProcId, to: ProcId, pick: u64) -> Item
-        requires from { from < length self.now.history }
-        requires to { to < length self.now.history }
-        requires other { from ≢ to }
-        requires pick { pick < length (items_on self.now from to) }
-        ensures { slice_get (items_on self.now from to) pick ≡ Some result }
-    {
-        match self.links.item(from, to, pick as usize) {
-            Some(item) => item,
-            None => unreachable!(),
-        }
-    }
-
     /// Sends a message.
     fn send(&mut self, from: ProcId, to: ProcId, body: &Body) -> Result<Reply, StepError>
         ensures done { IfOk result (λ reply. Takes self.old (Send from to body.now) (Done reply) self.new) }
@@ -175,202 +156,6 @@ impl World {
         }
         let message = put_message(&mut self.catalogue, &mut self.links, from, to, body)?;
         Ok(Reply::Sent { message })
-    }
-
-    /// The round of the check that a message has its receiver take first.
-    fn forced_round(&self, to: ProcId, message: &MsgName) -> Option<u32>
-        requires from { message.now.from < length self.now.history }
-        requires to { to < length self.now.history }
-        requires taken { fate_of self.now.mode self.now.history to message.now ≡ IsTaken }
-        ensures { result ≡ forced_round self.now.mode self.now.history to message.now }
-    {
-        match self.mode {
-            Mode::Fifo => None,
-            Mode::Unordered => self.colours.before_receive(to, message),
-        }
-    }
-
-    /// Takes a message that forces no check.
-    fn take(
-        &mut self,
-        from: ProcId,
-        to: ProcId,
-        pick: u64,
-        _state: &State,
-        message: &MsgName,
-    ) -> Result<Reply, StepError>
-        requires passed { first_cause (link_causes self.old from to pick _state.now) ≡ None }
-        requires picked { slice_get (items_on self.old from to) pick ≡ Some (Message message.now) }
-        requires taken { fate_of self.old.mode self.old.history to message.now ≡ IsTaken }
-        requires unforced { forced_round self.old.mode self.old.history to message.now ≡ None }
-        ensures done { IfOk result (λ reply. Takes self.old (Deliver from to pick _state.now) (Done reply) self.new) }
-        ensures refused { IfErr result (λ e. e ≢ StepError.OutOfMemory
-            → Takes self.old (Deliver from to pick _state.now) (Refused e) self.new) }
-        ensures memory { IsErrOf result StepError.OutOfMemory → self.new ≡ self.old }
-        ensures unrefused { IsErrOf result StepError.OutOfMemory → refusal_of self.old (Deliver from to pick _state.now) ≡ None }
-    {
-        let _history = self.catalogue.history();
-        if self.is_full(to, 1) {
-            return Err(StepError::TapeFull);
-        }
-        take_message(
-            self.mode,
-            &mut self.catalogue,
-            &mut self.links,
-            &mut self.running,
-            from,
-            to,
-            message,
-        )?;
-        Ok(Reply::Took {
-            message: *message,
-            forced: None,
-        })
-    }
-
-    /// Takes a copy of a message of a greater colour, after the check that it forces.
-    fn take_forced(
-        &mut self,
-        alloc: Global,
-        from: ProcId,
-        to: ProcId,
-        pick: u64,
-        state: &State,
-        message: &MsgName,
-        round: u32,
-    ) -> Result<Reply, StepError>
-        requires mode { self.old.mode ≡ Unordered }
-        requires passed { first_cause (link_causes self.old from to pick state.now) ≡ None }
-        requires picked { slice_get (items_on self.old from to) pick ≡ Some (Message message.now) }
-        requires taken { fate_of self.old.mode self.old.history to message.now ≡ IsTaken }
-        requires forced { forced_round self.old.mode self.old.history to message.now ≡ Some round }
-        ensures done { IfOk result (λ reply. Takes self.old (Deliver from to pick state.now) (Done reply) self.new) }
-        ensures refused { IfErr result (λ e. e ≢ StepError.OutOfMemory
-            → Takes self.old (Deliver from to pick state.now) (Refused e) self.new) }
-        ensures memory { IsErrOf result StepError.OutOfMemory → self.new ≡ self.old }
-        ensures unrefused { IsErrOf result StepError.OutOfMemory → refusal_of self.old (Deliver from to pick state.now) ≡ None }
-    {
-        let _history = self.catalogue.history();
-        if self.is_full(to, 2) {
-            return Err(StepError::TapeFull);
-        }
-        turn_round(
-            alloc,
-            &mut self.catalogue,
-            &mut self.colours,
-            &mut self.turning,
-            &mut self.rounds,
-            to,
-            state,
-            self.last_round,
-            1,
-        )?;
-        add_receipt(&mut self.catalogue, to, message);
-        Ok(Reply::Took {
-            message: *message,
-            forced: Some(round),
-        })
-    }
-
-    /// Takes the message that stands at a place of a link, or finds its copy stale or repeated.
-    fn deliver_message(
-        &mut self,
-        alloc: Global,
-        from: ProcId,
-        to: ProcId,
-        pick: u64,
-        state: &State,
-        message: &MsgName,
-    ) -> Result<Reply, StepError>
-        requires passed { first_cause (link_causes self.old from to pick state.now) ≡ None }
-        requires picked { slice_get (items_on self.old from to) pick ≡ Some (Message message.now) }
-        ensures done { IfOk result (λ reply. Takes self.old (Deliver from to pick state.now) (Done reply) self.new) }
-        ensures refused { IfErr result (λ e. e ≢ StepError.OutOfMemory
-            → Takes self.old (Deliver from to pick state.now) (Refused e) self.new) }
-        ensures memory { IsErrOf result StepError.OutOfMemory → self.new ≡ self.old }
-        ensures unrefused { IsErrOf result StepError.OutOfMemory → refusal_of self.old (Deliver from to pick state.now) ≡ None }
-    {
-        let _n = self.catalogue.n();
-        match fate_of(self.mode, self.catalogue.history(), to, message) {
-            Fate::Taken => match self.forced_round(to, message) {
-                Some(round) => self.take_forced(alloc, from, to, pick, state, message, round),
-                None => self.take(from, to, pick, state, message),
-            },
-            Fate::Stale => Ok(Reply::Stale { message: *message }),
-            Fate::Repeated => Ok(Reply::Repeated { message: *message }),
-        }
-    }
-
-    /// Takes the marker that is first on a link, after the check of its round where the process has none.
-    fn deliver_marker(
-        &mut self,
-        alloc: Global,
-        from: ProcId,
-        to: ProcId,
-        state: &State,
-        round: u32,
-    ) -> Result<Reply, StepError>
-        requires mode { self.old.mode ≡ Fifo }
-        requires passed { first_cause (link_causes self.old from to 0 state.now) ≡ None }
-        requires picked { slice_get (items_on self.old from to) 0 ≡ Some (Marker round) }
-        ensures done { IfOk result (λ reply. Takes self.old (Deliver from to 0 state.now) (Done reply) self.new) }
-        ensures refused { IfErr result (λ e. e ≢ StepError.OutOfMemory
-            → Takes self.old (Deliver from to 0 state.now) (Refused e) self.new) }
-        ensures memory { IsErrOf result StepError.OutOfMemory → self.new ≡ self.old }
-        ensures unrefused { IsErrOf result StepError.OutOfMemory → refusal_of self.old (Deliver from to 0 state.now) ≡ None }
-    {
-        let _n = self.catalogue.n();
-        let forced = is_forced(&self.running, self.catalogue.history(), from, to, round);
-        let events = if forced { 2 } else { 1 };
-        if self.is_full(to, events) {
-            return Err(StepError::TapeFull);
-        }
-        self.rounds.reserve()?;
-        take_marker(
-            alloc,
-            &mut self.catalogue,
-            &mut self.links,
-            &mut self.running,
-            from,
-            to,
-            round,
-            state,
-            forced,
-        )?;
-        let running = self.running.take();
-        self.running = still_open(alloc, running, self.catalogue.history(), &mut self.rounds);
-        Ok(Reply::Marked { round, forced })
-    }
-
-    /// Takes or looks at the item that is picked.
-    fn deliver(
-        &mut self,
-        alloc: Global,
-        from: ProcId,
-        to: ProcId,
-        pick: u64,
-        state: &State,
-    ) -> Result<Reply, StepError>
-        ensures done { IfOk result (λ reply. Takes self.old (Deliver from to pick state.now) (Done reply) self.new) }
-        ensures refused { IfErr result (λ e. e ≢ StepError.OutOfMemory
-            → Takes self.old (Deliver from to pick state.now) (Refused e) self.new) }
-        ensures memory { IsErrOf result StepError.OutOfMemory → self.new ≡ self.old }
-        ensures unrefused { IsErrOf result StepError.OutOfMemory → refusal_of self.old (Deliver from to pick state.now) ≡ None }
-    {
-        if let Some(e) = self.link_refusal(from, to, pick, state) {
-            return Err(e);
-        }
-        let _n = self.catalogue.n();
-        let item = self.item_at(from, to, pick);
-        match item {
-            Item::Message(message) => {
-                self.deliver_message(alloc, from, to, pick, state, &message)
-            }
-            Item::Marker(round) => match self.mode {
-                Mode::Fifo => self.deliver_marker(alloc, from, to, state, round),
-                Mode::Unordered => unreachable!(),
-            },
-        }
     }
 
     /// Takes a check.
@@ -386,120 +171,6 @@ impl World {
         let state = state.copy(alloc)?;
         let check = add_check(&mut self.catalogue, at, state)?;
         Ok(Reply::Checked { at, check })
-    }
-
-    /// Begins a round of markers.
-    fn begin_markers(
-        &mut self,
-        alloc: Global,
-        at: ProcId,
-        state: &State,
-    ) -> Result<Reply, StepError>
-        requires mode { self.old.mode ≡ Fifo }
-        requires passed { refusal_of self.old (Begin at state.now) ≡ None }
-        ensures done { IfOk result (λ reply. Takes self.old (Begin at state.now) (Done reply) self.new) }
-        ensures refused { IfErr result (λ e. e ≢ StepError.OutOfMemory → Takes self.old (Begin at state.now) (Refused e) self.new) }
-        ensures memory { IsErrOf result StepError.OutOfMemory → self.new ≡ self.old }
-        ensures unrefused { IsErrOf result StepError.OutOfMemory → refusal_of self.old (Begin at state.now) ≡ None }
-    {
-        self.rounds.reserve()?;
-        let (begun, check) = begin_round(
-            alloc,
-            &mut self.catalogue,
-            &mut self.links,
-            at,
-            state,
-            self.last_round,
-        )?;
-        self.last_round += 1;
-        self.running = still_open(
-            alloc,
-            Some(begun),
-            self.catalogue.history(),
-            &mut self.rounds,
-        );
-        Ok(Reply::Begun {
-            at,
-            check,
-            round: self.last_round,
-        })
-    }
-
-    /// Begins a round of colours.
-    fn begin_colours(
-        &mut self,
-        alloc: Global,
-        at: ProcId,
-        state: &State,
-    ) -> Result<Reply, StepError>
-        requires mode { self.old.mode ≡ Unordered }
-        requires passed { refusal_of self.old (Begin at state.now) ≡ None }
-        ensures done { IfOk result (λ reply. Takes self.old (Begin at state.now) (Done reply) self.new) }
-        ensures refused { IfErr result (λ e. e ≢ StepError.OutOfMemory → Takes self.old (Begin at state.now) (Refused e) self.new) }
-        ensures memory { IsErrOf result StepError.OutOfMemory → self.new ≡ self.old }
-        ensures unrefused { IsErrOf result StepError.OutOfMemory → refusal_of self.old (Begin at state.now) ≡ None }
-    {
-        let n = self.catalogue.n();
-        let round = self.last_round + 1;
-        let mut turning = Some(Turning::new(alloc, n, round)?);
-        let check = turn_round(
-            alloc,
-            &mut self.catalogue,
-            &mut self.colours,
-            &mut turning,
-            &mut self.rounds,
-            at,
-            state,
-            round,
-            0,
-        )?;
-        self.last_round = round;
-        self.turning = turning;
-        Ok(Reply::Begun { at, check, round })
-    }
-
-    /// Begins a round.
-    fn begin(&mut self, alloc: Global, at: ProcId, state: &State) -> Result<Reply, StepError>
-        ensures done { IfOk result (λ reply. Takes self.old (Begin at state.now) (Done reply) self.new) }
-        ensures refused { IfErr result (λ e. e ≢ StepError.OutOfMemory → Takes self.old (Begin at state.now) (Refused e) self.new) }
-        ensures memory { IsErrOf result StepError.OutOfMemory → self.new ≡ self.old }
-        ensures unrefused { IsErrOf result StepError.OutOfMemory → refusal_of self.old (Begin at state.now) ≡ None }
-    {
-        if let Some(e) = self.begin_refusal(at, state) {
-            return Err(e);
-        }
-        match self.mode {
-            Mode::Fifo => self.begin_markers(alloc, at, state),
-            Mode::Unordered => self.begin_colours(alloc, at, state),
-        }
-    }
-
-    /// Turns to the round of colours that is open.
-    fn turn(&mut self, alloc: Global, at: ProcId, state: &State) -> Result<Reply, StepError>
-        ensures done { IfOk result (λ reply. Takes self.old (Turn at state.now) (Done reply) self.new) }
-        ensures refused { IfErr result (λ e. e ≢ StepError.OutOfMemory → Takes self.old (Turn at state.now) (Refused e) self.new) }
-        ensures memory { IsErrOf result StepError.OutOfMemory → self.new ≡ self.old }
-        ensures unrefused { IsErrOf result StepError.OutOfMemory → refusal_of self.old (Turn at state.now) ≡ None }
-    {
-        if let Some(e) = self.turn_refusal(at, state) {
-            return Err(e);
-        }
-        let check = turn_round(
-            alloc,
-            &mut self.catalogue,
-            &mut self.colours,
-            &mut self.turning,
-            &mut self.rounds,
-            at,
-            state,
-            self.last_round,
-            0,
-        )?;
-        Ok(Reply::Turned {
-            at,
-            check,
-            round: self.last_round,
-        })
     }
 
     /// Marks a check as damaged.
@@ -533,63 +204,6 @@ impl World {
         }
         let plan = line_plan::plan(alloc, &self.catalogue, failed)?;
         Ok(plan)
-    }
-
-    /// The plan for those of the set, in memory of its own: a plan has the room of a whole line, and what a step answers is moved often.
-    #[inline(never)]
-    fn boxed_plan_for(&self, alloc: Global, failed: &ProcSet) -> Result<Box<Plan>, StepError>
-        ensures plan { IfOk result (λ plan. IsPlan self.now failed.now plan.value) }
-        ensures stranger { IsErrOf result StepError.NoSuchProcess ↔ IsTrue (has_stranger self.now failed.now) }
-        ensures others { IfErr result (λ e. (e ≡ StepError.NoSuchProcess) ⊎ (e ≡ StepError.OutOfMemory)) }
-    {
-        let plan = self.plan_for(alloc, failed)?;
-        let plan = Box::new(alloc, plan).map_err(AllocError::from)?;
-        Ok(plan)
-    }
-
-    /// Has all go on from the line of the plan for those of the set, and tells of each process the bytes that it goes on from, and its incarnation then.
-    fn go_back(
-        &mut self,
-        alloc: Global,
-        _failed: &ProcSet,
-        plan: &Plan,
-    ) -> Result<(Vec<Option<State>>, Vec<u16>), StepError>
-        requires known { has_stranger self.old _failed.now ≡ false }
-        requires plan { IsPlan self.old _failed.now plan.now }
-        ensures done { IfOk result (λ told. Recovers self.old _failed.now plan.now told.0.items told.1.items self.new) }
-        ensures refused { IfErr result (λ e. e ≢ StepError.OutOfMemory → Takes self.old (Recover _failed.now) (Refused e) self.new) }
-        ensures memory { IsErrOf result StepError.OutOfMemory → self.new ≡ self.old }
-    {
-        let history = self.catalogue.history();
-        if !history.has_further(&plan.line) {
-            return Err(StepError::NoMoreIncarnations);
-        }
-        let states = restored_states(alloc, history, &plan.line)?;
-        let incarnations = restarted_incarnations(alloc, history, &plan.line)?;
-        let left = Vec::from_slice(alloc, plan.replays.as_slice())?;
-        restart_links(self.mode, history, &mut self.links, &plan.line, &left)?;
-        self.catalogue.restart_with(&plan.line, left);
-        self.running = None;
-        self.turning = None;
-        self.colours.clear();
-        self.rounds.keep(&plan.line);
-        Ok((states, incarnations))
-    }
-
-    /// Plans, and has all go on from the plan's line.
-    fn recover(&mut self, alloc: Global, failed: &ProcSet) -> Result<Reply, StepError>
-        ensures done { IfOk result (λ reply. Takes self.old (Recover failed.now) (Done reply) self.new) }
-        ensures refused { IfErr result (λ e. e ≢ StepError.OutOfMemory → Takes self.old (Recover failed.now) (Refused e) self.new) }
-        ensures memory { IsErrOf result StepError.OutOfMemory → self.new ≡ self.old }
-        ensures unrefused { IsErrOf result StepError.OutOfMemory → refusal_of self.old (Recover failed.now) ≡ None }
-    {
-        let plan = self.boxed_plan_for(alloc, failed)?;
-        let (states, incarnations) = self.go_back(alloc, failed, &plan)?;
-        Ok(Reply::Recovered {
-            plan,
-            states,
-            incarnations,
-        })
     }
 
     /// Takes one step.

@@ -16,7 +16,7 @@ use Rattle.line_moves.specs.declared.modes.Mode.{Mode}
 use Rattle.line_world.specs.Machine.{Machine}
 use Rattle.line_moves.specs.Modes.{copies_in}
 use Rattle.line_turns.specs.Tables.{between}
-use Rattle.line_world.specs.Refusals.{refusal_of, has_stranger, IsRefused}
+use Rattle.line_world.specs.Refusals.{refusal_of, IsRefused}
 use Rattle.line_moves.specs.Restarts.{restored_states}
 use Rattle.line_world.specs.Steps.{restarted_machine}
 use Rattle.line_moves.specs.Openings.{OpenView, opened}

@@ -1,5 +1,5 @@
 -- What was planned is what all go on from.
-use Rattle.std.proofs.Common.{◌≡◌, true, false, sym, subst}
+use Rattle.std.proofs.Common.{◌≡◌, false, sym, subst}
 use Rattle.std.proofs.lemmas.Bool.{false_from_ne_true}
 use Rattle.line_plan.specs.declared.plans.Plan.{Plan}
 use Rattle.line_world.specs.Refusals.{has_stranger}

@@ -1,0 +1,141 @@
+//! How a world begins a round, and how a process turns to it.
+ghost use Rattle.std.specs.Prelude.{◌≡◌, ◌≢◌, None, IfOk, IfErr, IsErrOf};
+ghost use Rattle.line_world.specs.declared.replies.Answer.TheVariants.{Done, Refused};
+ghost use Rattle.line_world.specs.declared.steps.Step.TheVariants.{Begin, Turn};
+ghost use Rattle.line_moves.specs.declared.modes.Mode.TheVariants.{Fifo, Unordered};
+ghost use Rattle.line_world.specs.Refusals.{refusal_of};
+ghost use Rattle.line_world.specs.Runs.{Takes};
+
+use super::World;
+use crate::replies::{Reply, StepError};
+use line_moves::{Mode, begin_round, still_open, turn_round};
+use line_names::ProcId;
+use line_tape::State;
+use line_turns::Turning;
+use std::alloc::Global;
+
+impl World {
+    /// Begins a round of markers.
+    fn begin_markers(
+        &mut self,
+        alloc: Global,
+        at: ProcId,
+        state: &State,
+    ) -> Result<Reply, StepError>
+        requires mode { self.old.mode ≡ Fifo }
+        requires passed { refusal_of self.old (Begin at state.now) ≡ None }
+        ensures done { IfOk result (λ reply. Takes self.old (Begin at state.now) (Done reply) self.new) }
+        ensures refused { IfErr result (λ e. e ≢ StepError.OutOfMemory → Takes self.old (Begin at state.now) (Refused e) self.new) }
+        ensures memory { IsErrOf result StepError.OutOfMemory → self.new ≡ self.old }
+        ensures unrefused { IsErrOf result StepError.OutOfMemory → refusal_of self.old (Begin at state.now) ≡ None }
+    {
+        self.rounds.reserve()?;
+        let (begun, check) = begin_round(
+            alloc,
+            &mut self.catalogue,
+            &mut self.links,
+            at,
+            state,
+            self.last_round,
+        )?;
+        self.last_round += 1;
+        self.running = still_open(
+            alloc,
+            Some(begun),
+            self.catalogue.history(),
+            &mut self.rounds,
+        );
+        Ok(Reply::Begun {
+            at,
+            check,
+            round: self.last_round,
+        })
+    }
+
+    /// Begins a round of colours.
+    fn begin_colours(
+        &mut self,
+        alloc: Global,
+        at: ProcId,
+        state: &State,
+    ) -> Result<Reply, StepError>
+        requires mode { self.old.mode ≡ Unordered }
+        requires passed { refusal_of self.old (Begin at state.now) ≡ None }
+        ensures done { IfOk result (λ reply. Takes self.old (Begin at state.now) (Done reply) self.new) }
+        ensures refused { IfErr result (λ e. e ≢ StepError.OutOfMemory → Takes self.old (Begin at state.now) (Refused e) self.new) }
+        ensures memory { IsErrOf result StepError.OutOfMemory → self.new ≡ self.old }
+        ensures unrefused { IsErrOf result StepError.OutOfMemory → refusal_of self.old (Begin at state.now) ≡ None }
+    {
+        let n = self.catalogue.n();
+        let round = self.last_round + 1;
+        let mut turning = Some(Turning::new(alloc, n, round)?);
+        let check = turn_round(
+            alloc,
+            &mut self.catalogue,
+            &mut self.colours,
+            &mut turning,
+            &mut self.rounds,
+            at,
+            state,
+            round,
+            0,
+        )?;
+        self.last_round = round;
+        self.turning = turning;
+        Ok(Reply::Begun { at, check, round })
+    }
+
+    /// Begins a round.
+    pub(super) fn begin(
+        &mut self,
+        alloc: Global,
+        at: ProcId,
+        state: &State,
+    ) -> Result<Reply, StepError>
+        ensures done { IfOk result (λ reply. Takes self.old (Begin at state.now) (Done reply) self.new) }
+        ensures refused { IfErr result (λ e. e ≢ StepError.OutOfMemory → Takes self.old (Begin at state.now) (Refused e) self.new) }
+        ensures memory { IsErrOf result StepError.OutOfMemory → self.new ≡ self.old }
+        ensures unrefused { IsErrOf result StepError.OutOfMemory → refusal_of self.old (Begin at state.now) ≡ None }
+    {
+        if let Some(e) = self.begin_refusal(at, state) {
+            return Err(e);
+        }
+        match self.mode {
+            Mode::Fifo => self.begin_markers(alloc, at, state),
+            Mode::Unordered => self.begin_colours(alloc, at, state),
+        }
+    }
+
+    /// Turns to the round of colours that is open.
+    pub(super) fn turn(
+        &mut self,
+        alloc: Global,
+        at: ProcId,
+        state: &State,
+    ) -> Result<Reply, StepError>
+        ensures done { IfOk result (λ reply. Takes self.old (Turn at state.now) (Done reply) self.new) }
+        ensures refused { IfErr result (λ e. e ≢ StepError.OutOfMemory → Takes self.old (Turn at state.now) (Refused e) self.new) }
+        ensures memory { IsErrOf result StepError.OutOfMemory → self.new ≡ self.old }
+        ensures unrefused { IsErrOf result StepError.OutOfMemory → refusal_of self.old (Turn at state.now) ≡ None }
+    {
+        if let Some(e) = self.turn_refusal(at, state) {
+            return Err(e);
+        }
+        let check = turn_round(
+            alloc,
+            &mut self.catalogue,
+            &mut self.colours,
+            &mut self.turning,
+            &mut self.rounds,
+            at,
+            state,
+            self.last_round,
+            0,
+        )?;
+        Ok(Reply::Turned {
+            at,
+            check,
+            round: self.last_round,
+        })
+    }
+}
