@@ -1,7 +1,7 @@
 use Rattle.std.proofs.lemmas.Result.{err_from_is_err_and, on_err_weaker, on_ok_weaker}
 use Rattle.line_replies.specs.Replies.{passes, replays_of}
 use Rattle.line_claims.proofs.PartLemmas.{front_of_first, front_of_second, two_parts}
-use Rattle.line_replies.proofs.replies.put_rest.Goals as goal
+use Rattle.line_replies.proofs.replies.recoveries.put_rest.Goals as goal
 
 pub returns-in_err-put_passes-clause-err : goal.returns-in_err-put_passes-clause-err
 returns-in_err-put_passes-clause-err c =

@@ -3,7 +3,7 @@ use Rattle.std.proofs.Common.{◌++◌}
 use Rattle.std.proofs.lemmas.Result.{err_from_is_err_and, on_err_weaker, on_ok_weaker}
 use Rattle.line_replies.specs.Replies.{lines, passes, recovered, replays_of}
 use Rattle.line_claims.proofs.PartLemmas.{front_behind, front_of_first, front_of_second, record_behind, two_parts}
-use Rattle.line_replies.proofs.replies.put_recovery.Goals as goal
+use Rattle.line_replies.proofs.replies.recoveries.put_recovery.Goals as goal
 
 pub returns-in_err-put_lines-clause-err : goal.returns-in_err-put_lines-clause-err
 returns-in_err-put_lines-clause-err c =

@@ -2,7 +2,7 @@ use Rattle.std.proofs.Common.{arith}
 use Rattle.std.proofs.lemmas.Result.{err_from_is_err_and}
 use Rattle.line_claims.specs.Records.{pass_record}
 use Rattle.line_claims.proofs.PartLemmas.{items_front, one_item_more}
-use Rattle.line_replies.proofs.replies.put_passes.Goals as goal
+use Rattle.line_replies.proofs.replies.recoveries.put_passes.Goals as goal
 
 pub loop-i-preserved : goal.loop-i-preserved
 loop-i-preserved c = one_item_more pass_record _ _ _ c.args.entries.now c.loop-i.i _ (omega arith) c.index-entries-i.is c.loop-i.invariant c.in_ok-put_pass.ensures.ok

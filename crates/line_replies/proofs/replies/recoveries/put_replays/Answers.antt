@@ -2,7 +2,7 @@ use Rattle.std.proofs.Common.{arith}
 use Rattle.std.proofs.lemmas.Result.{err_from_is_err_and}
 use Rattle.line_replies.specs.Replies.{replay}
 use Rattle.line_claims.proofs.PartLemmas.{items_front, one_item_more}
-use Rattle.line_replies.proofs.replies.put_replays.Goals as goal
+use Rattle.line_replies.proofs.replies.recoveries.put_replays.Goals as goal
 
 pub loop-i-preserved : goal.loop-i-preserved
 loop-i-preserved c = one_item_more replay _ _ _ c.args.replays.now c.loop-i.i _ (omega arith) c.index-replays-i.is c.loop-i.invariant c.in_ok-put_replay.ensures.ok

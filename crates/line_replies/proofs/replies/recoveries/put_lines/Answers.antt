@@ -2,7 +2,7 @@ use Rattle.std.proofs.Common.{arith}
 use Rattle.std.proofs.lemmas.Result.{err_from_is_err_and}
 use Rattle.line_replies.specs.Replies.{line_of}
 use Rattle.line_replies.proofs.ReplyLemmas.{lines_front, one_line_more}
-use Rattle.line_replies.proofs.replies.put_lines.Goals as goal
+use Rattle.line_replies.proofs.replies.recoveries.put_lines.Goals as goal
 
 pub loop-p-preserved : goal.loop-p-preserved
 loop-p-preserved c = one_line_more _ _ _ (line_of c.args.choices.now c.args.incarnations.now c.args.states.now) _ c.loop-p.invariant c.in_ok-put_line.ensures.ok
