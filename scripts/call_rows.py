@@ -96,6 +96,16 @@ def row(name: str, subject: str, n: int, kind: int, text: str) -> Row:
     return Row(name, subject, n, kind, [it.strip() for it in text.split("/")])
 
 
+def fleet(name: str, n: int, capacity: int, text: str) -> Row:
+    """A row of calls of so many workers, whose rings hold so many items."""
+    return row(name, "fleet", n, capacity, text)
+
+
+def marker(name: str, text: str) -> Row:
+    """A row of calls of one of three processes on what it has recorded of rounds."""
+    return row(name, "marker", 3, 0, text)
+
+
 DOMINO = (
     "send,0,1,61 / recv,1,0,0,0 / check,1,b1 / send,1,0,62 / recv,0,1,0,0 / check,0,a1"
     " / send,0,1,63 / recv,1,0,0,1 / check,1,b2"
@@ -114,11 +124,11 @@ ROWS = [
         " / damage,0,1 / damage,2,0 / damage,0,4 / damage,0,5 / copy_marks"),
     row("receipts in no order", "tapes", 2, 0,
         "recv,0,1,0,5 / recv,0,1,0,2 / recv,0,1,3,9 / recv,0,1,0,0 / recv,0,1,2,7 / copy_tape,0"),
-    row("a process records rounds", "marker", 3, 0,
+    marker("a process records rounds",
         "reserve,0,0 / begun,1 / note,1,0,0 / hear,1,1 / note,1,0,1 / note,2,0,0 / hear,1,1"
         " / hear,2,1 / hear,2,3 / hear,1,2 / note,1,0,2 / note,1,0,3 / hear,1,3 / begun,3"
         " / begun,4 / note,2,0,1 / reserve,0,0 / begun,5 / note,1,0,4"),
-    row("a process records rounds, and no room is made", "marker", 3, 0,
+    marker("a process records rounds, and no room is made",
         "begun,1 / note,1,0,0 / note,2,0,0 / note,1,0,1 / hear,2,1 / note,1,0,2 / hear,1,2"
         " / note,2,0,1 / note,1,0,3 / note,1,0,4 / hear,1,1 / hear,2,2 / note,1,0,5 / begun,9"),
     row("a catalogue is fed, and made of a history", "catalogue", 2, 0,
@@ -150,22 +160,22 @@ ROWS = [
     row("refusals in a world", "world", 2, UNORDERED,
         "send,0,0,61 / send,2,0,61 / deliver,0,1,0, / send,0,1,61 / deliver,0,1,1, / turn,0,"
         " / begin,0, / begin,1, / damage,0,0 / damage,0,1 / damage,0,1 / damage,0,2"),
-    row("a fleet from its opening to the next generation", "fleet", 2, 4,
+    fleet("a fleet from its opening to the next generation", 2, 4,
         "check,0,01 / report,0 / take,9 / live / send,0,1,61 / receive,1,0, / check,1,02"
         " / gather,0 / plan / restart / send,0,1,62 / receive,1,0, / report,0 / report,1"
         " / take,9 / live / gather / plan"),
-    row("rings of one slot", "fleet", 2, 1,
+    fleet("rings of one slot", 2, 1,
         "send,0,1,61 / send,0,1,62 / check,0,07 / report,0 / take,10 / live / report,0 / take,10"
         " / live / receive,1,0, / receive,1,0, / gather / plan"),
-    row("a message that is received again", "fleet", 2, 2,
+    fleet("a message that is received again", 2, 2,
         "send,0,1,61 / report,0 / check,0,01 / gather / damage,0,1 / plan / restart"
         " / receive,1,0, / receive,1,0, / send,1,0,62 / receive,0,1, / report,0 / take,9"
         " / gather,1 / plan"),
-    row("a round of workers", "fleet", 2, 2,
+    fleet("a round of workers", 2, 2,
         "begin,0,01 / begin,0,02 / begin,1,01 / receive,1,0,02 / receive,0,1, / report,0"
         " / report,1 / take,1 / take,9 / live / gather,0,1 / damage,1,1 / plan / restart"
         " / begin,0,04 / receive,1,0,05 / gather / plan"),
-    row("three workers and many reports", "fleet", 3, 4,
+    fleet("three workers and many reports", 3, 4,
         "send,0,1,61 / send,1,2,62 / send,2,0,63 / receive,0,2, / receive,1,0, / receive,2,1,"
         " / check,0,01 / check,1,02 / check,2,03 / report,0 / report,1 / report,2 / take,20"
         " / live / send,0,2,64 / report,0 / gather,1 / plan / restart / receive,2,0,"

@@ -17,35 +17,15 @@ class Family(NamedTuple):
 # The families. Each takes its size m and gives the records.
 
 
-def undelivered(m: int) -> Iterator[str]:
-    """Messages that nobody takes, and as many recoveries of nobody, which send them again."""
-    yield "world,1,2,unordered"
-    yield from ["send,0,1,"] * m
-    yield from ["recover"] * m
+def repeated(first: str, part: list[str], last: list[str]) -> Callable[[int], Iterator[str]]:
+    """A first record, then m times the records of a part, then m times those of the last."""
 
+    def records(m: int) -> Iterator[str]:
+        yield first
+        yield from part * m
+        yield from last * m
 
-def undelivered_in_order(m: int) -> Iterator[str]:
-    """The same on links in order."""
-    yield "world,1,2,fifo"
-    yield from ["send,0,1,"] * m
-    yield from ["recover"] * m
-
-
-def rounds(m: int) -> Iterator[str]:
-    """Rounds of colours between two processes, and as many recoveries of nobody."""
-    yield "world,1,2,unordered"
-    for _ in range(m):
-        yield from ["begin,0,", "turn,1,"]
-    yield from ["recover"] * m
-
-
-def rounds_cut(m: int) -> Iterator[str]:
-    """Rounds of colours, and as many recoveries of a process, each behind a check of it."""
-    yield "world,1,2,unordered"
-    for _ in range(m):
-        yield from ["begin,0,", "turn,1,"]
-    for _ in range(m):
-        yield from ["check,0,", "recover,0"]
+    return records
 
 
 def rounds_in_transit(m: int) -> Iterator[str]:
@@ -78,28 +58,6 @@ def markers_of_many(m: int) -> Iterator[str]:
                     yield f"deliver,{p},{q},0,"
 
 
-def checks(m: int) -> Iterator[str]:
-    """Checks of one process, and as many recoveries of nobody."""
-    yield "world,1,2,fifo"
-    yield from ["check,0,"] * m
-    yield from ["recover"] * m
-
-
-def checks_failed(m: int) -> Iterator[str]:
-    """Checks of one process, and as many recoveries of it."""
-    yield "world,1,2,fifo"
-    yield from ["check,0,"] * m
-    yield from ["recover,0"] * m
-
-
-def delivered(m: int) -> Iterator[str]:
-    """Messages that are taken, and as many recoveries of nobody."""
-    yield "world,1,2,fifo"
-    for _ in range(m):
-        yield from ["send,0,1,", "deliver,0,1,0,"]
-    yield from ["recover"] * m
-
-
 def marks(m: int) -> Iterator[str]:
     """Checks that are all damaged, and as many recoveries of nobody."""
     yield "world,1,2,fifo"
@@ -107,13 +65,6 @@ def marks(m: int) -> Iterator[str]:
     for check in range(1, m + 1):
         yield f"damage,0,{check}"
     yield from ["recover"] * m
-
-
-def rounds_begun(m: int) -> Iterator[str]:
-    """Rounds of markers that are begun among 64 processes, each given up by a recovery."""
-    yield f"world,1,{MOST_PROCESSES},fifo"
-    for _ in range(m):
-        yield from ["begin,0,", "recover"]
 
 
 def work_of_many(mode: str, events: int) -> Iterator[str]:
@@ -138,18 +89,6 @@ def idle(mode: str, events: int) -> Callable[[int], Iterator[str]]:
         yield from ["recover"] * m
 
     return records
-
-
-def recoveries(m: int) -> Iterator[str]:
-    """Recoveries of 64 processes that do nothing else, on links in order."""
-    yield f"world,1,{MOST_PROCESSES},fifo"
-    yield from ["recover"] * m
-
-
-def recoveries_unordered(m: int) -> Iterator[str]:
-    """The same on links without an order."""
-    yield f"world,1,{MOST_PROCESSES},unordered"
-    yield from ["recover"] * m
 
 
 def domino(m: int) -> Iterator[str]:
@@ -246,6 +185,27 @@ def work(mode: str) -> Callable[[int], Iterator[str]]:
 
     return records
 
+
+# Messages that nobody takes, and as many recoveries of nobody, which send them again.
+undelivered = repeated("world,1,2,unordered", ["send,0,1,"], ["recover"])
+# The same on links in order.
+undelivered_in_order = repeated("world,1,2,fifo", ["send,0,1,"], ["recover"])
+# Rounds of colours between two processes, and as many recoveries of nobody.
+rounds = repeated("world,1,2,unordered", ["begin,0,", "turn,1,"], ["recover"])
+# Rounds of colours, and as many recoveries of a process, each behind a check of it.
+rounds_cut = repeated("world,1,2,unordered", ["begin,0,", "turn,1,"], ["check,0,", "recover,0"])
+# Checks of one process, and as many recoveries of nobody.
+checks = repeated("world,1,2,fifo", ["check,0,"], ["recover"])
+# Checks of one process, and as many recoveries of it.
+checks_failed = repeated("world,1,2,fifo", ["check,0,"], ["recover,0"])
+# Messages that are taken, and as many recoveries of nobody.
+delivered = repeated("world,1,2,fifo", ["send,0,1,", "deliver,0,1,0,"], ["recover"])
+# Rounds of markers that are begun among 64 processes, each given up by a recovery.
+rounds_begun = repeated(f"world,1,{MOST_PROCESSES},fifo", ["begin,0,", "recover"], [])
+# Recoveries of 64 processes that do nothing else, on links in order.
+recoveries = repeated(f"world,1,{MOST_PROCESSES},fifo", [], ["recover"])
+# The same on links without an order.
+recoveries_unordered = repeated(f"world,1,{MOST_PROCESSES},unordered", [], ["recover"])
 
 FAMILIES: dict[str, Family] = {
     "undelivered": Family("run", 2_000, undelivered),
