@@ -1,20 +1,21 @@
 //! The tape of one process.
-ghost use Rattle.std.specs.Prelude.{◌≡◌, ◌≢◌, ◌<◌, ◌≤◌, ◌+◌, ◌↔◌, [], ◌∷◌, ◌++◌, length, OnOk, OnErr, IfOk, IsErrOf, IsOk, IsTrue, Contains, slice_get, vec_len, vec_capacity, Some, ℕ, true, false};
+ghost use Rattle.std.specs.Prelude.{◌≡◌, ◌≢◌, ◌<◌, ◌≤◌, ◌+◌, ◌↔◌, [], ◌∷◌, ◌++◌, length, OnOk, OnErr, IfOk, IsErrOf, IsOk, IsTrue, Contains, slice_get, Some, false};
 ghost use Rattle.std.specs.Option.{SomeIff};
 ghost use Rattle.line_tape.specs.declared.events.Event.TheVariants.{Recv};
 ghost use Rattle.line_tape.specs.declared.tapes.TapeError.TheVariants.{StateTooLong, TapeFull, OutOfMemory};
-ghost use Rattle.line_tape.specs.Event.{is_check, incarnation_of, incarnations_sent, checks, sends, stored_state, Holds, HasLongState, IsShort};
+ghost use Rattle.line_tape.specs.Event.{incarnations_sent, checks, sends, stored_state, Holds, HasLongState, IsShort};
 ghost use Rattle.line_tape.specs.Front.{place, front, HasChoice};
 ghost use Rattle.line_tape.specs.History.{IsTape};
-ghost use Rattle.line_tape.specs.Kept.{AreRows};
 ghost use Rattle.line_tape.specs.Transit.{addressees, names_received};
 
 mod cuts;
+mod rows;
 
 use crate::events::Event;
 use crate::limits::{MOST_EVENTS, MOST_STATE};
 use crate::receipts::Receipts;
 use line_names::{Choice, MOST_BODY, MsgName, ProcId};
+use rows::note_event;
 use std::alloc::{AllocError, Global};
 use std::error::Error;
 use std::fmt;
@@ -69,45 +70,6 @@ fn is_too_long(event: &Event) -> bool
         Event::Recv { .. } => false,
         Event::Check { state, .. } => state.bytes().len() > MOST_STATE,
         Event::Mark { .. } => false,
-    }
-}
-
-#[tactic(auto, using(crate::proofs::RowLemmas::sends_le))]
-/// Keeps the rows, the incarnations and the addressees right for an event that is added, where there is room for it.
-fn note_event(
-    event: &Event,
-    events: &[Event],
-    receipts: u32,
-    checks: &mut Vec<CheckRow>,
-    incarnations: &mut Vec<u16>,
-    addressees: &mut Vec<ProcId>,
-)
-    requires rows { AreRows events.now checks.old.items incarnations.old.items addressees.old.items }
-    requires few { length events.now < MOST_EVENTS }
-    requires receipts { receipts ≡ length (names_received events.now) }
-    requires checks_room { is_check event.now ≡ true → vec_len checks.old < vec_capacity checks.old }
-    requires sends_room { (inc : ℕ) → incarnation_of event.now ≡ Some inc
-        → (vec_len incarnations.old < vec_capacity incarnations.old) × (vec_len addressees.old < vec_capacity addressees.old) }
-    ensures rows { AreRows (events.now ++ event.now ∷ []) checks.new.items incarnations.new.items addressees.new.items }
-    ensures checks_room { (vec_capacity checks.old ≤ vec_capacity checks.new) × (vec_len checks.new ≤ vec_len checks.old + 1) }
-    ensures sends_room { (vec_capacity incarnations.old ≤ vec_capacity incarnations.new) × (vec_len incarnations.new ≤ vec_len incarnations.old + 1) }
-    ensures addressees_room { (vec_capacity addressees.old ≤ vec_capacity addressees.new) × (vec_len addressees.new ≤ vec_len addressees.old + 1) }
-{
-    match event {
-        Event::Send { to, inc, .. } => {
-            incarnations.push(*inc).unwrap();
-            addressees.push(*to).unwrap();
-        }
-        Event::Check { .. } => {
-            let row = CheckRow {
-                place: events.len() as u32 + 1,
-                sends: incarnations.len() as u32,
-                receipts,
-            };
-            checks.push(row).unwrap();
-        }
-        Event::Recv { .. } => {}
-        Event::Mark { .. } => {}
     }
 }
 

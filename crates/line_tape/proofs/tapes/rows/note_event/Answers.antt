@@ -4,7 +4,7 @@ use Rattle.line_tape.specs.Event.{is_check, incarnation_of}
 use Rattle.line_tape.specs.Transit.{addressee_of, received_name}
 use Rattle.line_tape.specs.declared.tapes.CheckRow.{CheckRow}
 use Rattle.line_tape.proofs.RowLemmas.{AreRows-other, AreRows-send, AreRows-check}
-use Rattle.line_tape.proofs.tapes.note_event.Goals as goal
+use Rattle.line_tape.proofs.tapes.rows.note_event.Goals as goal
 
 pub returns-in-Send-clause-rows : goal.returns-in-Send-clause-rows
 returns-in-Send-clause-rows c =
