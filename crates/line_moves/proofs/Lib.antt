@@ -9,4 +9,5 @@ pub mod OpenFacts
 pub mod TurnFacts
 pub mod WorldLemmas
 pub mod AgreeLemmas
+pub mod StillLemmas
 pub mod LineFacts

@@ -3,33 +3,35 @@ use Rattle.std.proofs.Common.{◌≡◌, ◌≢◌, ℕ, ◌<◌, Bool, true, fa
 use Rattle.std.specs.Prelude.{◌==◌, ◌&&◌, ◌↔◌, IsTrue, not}
 use Rattle.std.specs.List.{range_with_len}
 use Rattle.std.proofs.lemmas.Bool.{cases_eq, eq-eqb}
+use Rattle.std.proofs.lemmas.List.{length-map}
 use Rattle.line_names.specs.declared.choices.Choice.{Choice}
+use Rattle.line_names.specs.declared.choices.Choice.TheVariants.{Check as AtCheck}
 use Rattle.line_names.specs.declared.messages.MsgName.{MsgName}
 use Rattle.line_tape.specs.declared.events.Event.{Event}
 use Rattle.line_tape.specs.declared.events.Event.TheVariants.{Check}
 use Rattle.line_tape.specs.Colours.{is_completed_unordered}
 use Rattle.line_tape.specs.History.{Process, tape_at, with_event}
-use Rattle.line_tape.specs.Rounds.{has_check_of, checks_of, round_line}
+use Rattle.line_tape.specs.Rounds.{check_line, checks_of, has_check_of, round_line, IsSnapshot}
 use Rattle.line_tape.specs.Transit.{in_transit_between}
 use Rattle.line_tape.proofs.CompletionLemmas.{checked_from}
 use Rattle.line_tape.proofs.NextLemmas.{tape_same, tape_other}
 use Rattle.line_tape.proofs.RoundLines.{checked_has}
 use Rattle.line_tape.proofs.RoundTransit.{round_transit}
-use Rattle.line_turns.proofs.ChannelLemmas.{channel-at}
+use Rattle.line_turns.proofs.ChannelLemmas.{channel-at, IsTable-at}
 use Rattle.line_turns.proofs.CompletedLemmas.{line_choice}
 use Rattle.line_turns.proofs.TurningLemmas.{IsTurning-checked}
 use Rattle.line_turns.specs.Channels.{channels_at}
-use Rattle.line_turns.specs.Tables.{between}
+use Rattle.line_turns.specs.Tables.{between, IsTable}
 use Rattle.line_turns.specs.Turning.{TurningView, IsLastLine, IsTurning}
 use Rattle.line_moves.specs.declared.modes.Mode.{Mode}
 use Rattle.line_moves.specs.declared.modes.Mode.TheVariants.{Unordered}
 use Rattle.line_moves.specs.Listed.{Listed, channel, channel_table, is_begun, is_completed, listed}
-use Rattle.line_moves.specs.Openings.{OpenView, opened, opened_by, opened_turning, IsOpenTurning}
+use Rattle.line_moves.specs.Openings.{OpenView, opened, opened_by, opened_turning, AreInTransit, IsOpenTurning}
 use Rattle.line_moves.specs.Worlds.{AreRounds}
 use Rattle.line_moves.proofs.FateLemmas.{same_test}
 use Rattle.line_moves.proofs.LinkLemmas.{length-with_event}
 use Rattle.line_moves.proofs.OpenFacts.{map_cells}
-use Rattle.line_moves.proofs.OpeningLemmas.{is_checked_now, open_told}
+use Rattle.line_moves.proofs.OpeningLemmas.{is_checked_now, open_told, table_cell}
 
 -- where links keep no order, the round of colours is the one that is kept as open
 pub turned_rounds : (mode : Mode) (history : List Process) (last : ℕ) (running : Option OpenView) (turning : Option TurningView) (rounds : List Listed) → mode ≡ Unordered
@@ -90,33 +92,52 @@ module _ (history : List Process) (turning : TurningView) (is : IsTurning histor
 
   module _ (line : List Choice) (stands : IsLastLine turning at line) (others : (q : ℕ) → q < length history → q ≢ at → has_check_of r (tape_at history q) ≡ true) where
     -- what is in transit there is what is in transit at the round's line after the last check
-    pub turn_channels : channels_at history line ≡ channels_at new (round_line new r)
-    turn_channels =
-        let n : ℕ = length history in
-        let after : List Choice = round_line new r in
-        map_cells (λ p. map (λ q. in_transit_between history line p q) (range_with_len 0 n)) (λ p. map (λ q. in_transit_between new after p q) (range_with_len 0 n)) 0 n (λ p p_low p_high.
-        map_cells (λ q. in_transit_between history line p q) (λ q. in_transit_between new after p q) 0 n (λ q q_low q_high.
-        sym (round_transit history at state r line within none stands.now (line_choice history turning at line within is stands others) p q (omega (arith, p_high)) (omega (arith, q_high)))))
-        ∙ ap (λ (v : ℕ). map (λ p. map (λ q. in_transit_between new after p q) (range_with_len 0 v)) (range_with_len 0 v)) (sym (length-with_event history at event))
+    pub turn_counted : (table : List (List (List MsgName))) → AreInTransit history line table → AreInTransit new (round_line new r) table
+    turn_counted table found =
+        let size : length new ≡ length history = length-with_event history at event in
+        record {
+          shape = subst (λ (v : ℕ). IsTable v table) (sym size) found.shape;
+          each = λ p q p_within q_within apart.
+              let p_in : p < length history = omega (arith, p_within, size) in
+              let q_in : q < length history = omega (arith, q_within, size) in
+              found.each p q p_in q_in apart
+              ∙ sym (round_transit history at state r line within none stands.now (line_choice history turning at line within is stands others) p q p_in q_in);
+        }
+
+-- what is in transit at a line, as it is counted
+pub channels_found : (history : List Process) (line : List Choice) → AreInTransit history line (channels_at history line)
+channels_found history line = record { shape = IsTable-at history line; each = λ p q p_within q_within apart. channel-at history line p q p_within q_within }
+
+-- what is in transit at the checks of a listed round, as its channels are kept
+pub kept_found : (history : List Process) (indices : List ℕ) (table : List (List (List MsgName))) → IsTable (length indices) table → IsSnapshot history indices (between (channel_table (length indices) (between table)))
+    → AreInTransit history (check_line indices) table
+kept_found history indices table shape snapshot =
+    let size : length indices ≡ length history = sym (length-map indices (λ c. AtCheck c)) ∙ snapshot.line.length_is in
+    record {
+      shape = subst (λ (v : ℕ). IsTable v table) size shape;
+      each = λ p q p_within q_within apart.
+          sym (table_cell (length indices) (between table) p q (omega (arith, p_within, size)) (omega (arith, q_within, size)) apart)
+          ∙ snapshot.transit p q p_within q_within apart;
+    }
 
 -- the round of colours that is completed, as it is listed
 pub counted_is : (history : List Process) (turning : TurningView) → IsTurning history turning → is_completed_unordered history turning.number ≡ true → (indices : List ℕ) (table : List (List (List MsgName))) (number : ℕ)
-    → indices ≡ turning.checks → number ≡ turning.number → table ≡ channels_at history (round_line history turning.number)
+    → indices ≡ turning.checks → number ≡ turning.number → AreInTransit history (round_line history turning.number) table
     → (let round : Listed = record { number = number; checks = indices; channels = channel_table (length indices) (between table) } in round) ≡ listed Unordered history turning.number
 counted_is history turning is completed indices table number indices_are number_is table_is =
     let n : ℕ = length history in
     let r : ℕ = turning.number in
-    let line : List Choice = round_line history r in
     let checks_are : indices ≡ checks_of history r = indices_are ∙ IsTurning-checked history turning is completed in
     let count : length indices ≡ n = ap (λ (v : List ℕ). length v) indices_are ∙ is.count in
-    let f : ℕ → ℕ → List MsgName = between (channels_at history line) in
+    let f : ℕ → ℕ → List MsgName = between table in
     let g : ℕ → ℕ → List MsgName = channel Unordered history r in
     let same_channels : channel_table (length indices) (between table) ≡ channel_table n g =
     ap (λ (v : ℕ). channel_table v (between table)) count
-    ∙ ap (λ (t : List (List (List MsgName))). channel_table n (between t)) table_is
     ∙ map_cells (λ p. map (λ q. cond (p == q) [] (f p q)) (range_with_len 0 n)) (λ p. map (λ q. cond (p == q) [] (g p q)) (range_with_len 0 n)) 0 n (λ p p_low p_high.
-    map_cells (λ q. cond (p == q) [] (f p q)) (λ q. cond (p == q) [] (g p q)) 0 n (λ q q_low q_high.
-    ap (λ (ms : List MsgName). cond (p == q) [] ms) (channel-at history line p q (omega (arith, p_high)) (omega (arith, q_high))))) in
+    map_cells (λ q. cond (p == q) [] (f p q)) (λ q. cond (p == q) [] (g p q)) 0 n (λ q q_low q_high. elim (cases_eq p q) [
+      | inl same ↦ ap (λ b. cond b [] (f p q)) (eq-eqb p q same) ∙ sym (ap (λ b. cond b [] (g p q)) (eq-eqb p q same))
+      | inr apart ↦ ap (λ (ms : List MsgName). cond (p == q) [] ms) (table_is.each p q (omega (arith, p_high)) (omega (arith, q_high)) apart)
+    ])) in
     ap (λ (v : ℕ). let l : Listed = record { number = v; checks = indices; channels = channel_table (length indices) (between table) } in l) number_is
     ∙ ap (λ (v : List ℕ). let l : Listed = record { number = r; checks = v; channels = channel_table (length indices) (between table) } in l) checks_are
     ∙ ap (λ (v : List (List (List MsgName))). let l : Listed = record { number = r; checks = checks_of history r; channels = v } in l) same_channels

@@ -2,12 +2,13 @@
 use Rattle.std.specs.Option.{unwrap_or}
 use Rattle.std.specs.Prelude.{◌≡◌, ◌≢◌, ℕ, suc, ◌<◌, Bool, true, false, if◌then◌else◌, List, [], ◌∷◌, ◌++◌, length, slice_index_or, Option, Some, None, All}
 use Rattle.line_marker.specs.Recording.{Channel, MarkerView, Recorded, channel_at, messages_by, round_of}
+use Rattle.line_names.specs.declared.choices.Choice.{Choice}
 use Rattle.line_names.specs.declared.messages.MsgName.{MsgName}
 use Rattle.line_tape.specs.declared.events.Event.{Event}
 use Rattle.line_tape.specs.History.{Process, tape_at}
 use Rattle.line_tape.specs.Colours.{is_completed_unordered}
 use Rattle.line_tape.specs.Rounds.{has_check_of, has_mark_of, channel_on, round_line}
-use Rattle.line_turns.specs.Channels.{channels_at}
+use Rattle.line_tape.specs.Transit.{in_transit_between}
 use Rattle.line_turns.specs.Tables.{between, IsTable}
 use Rattle.line_turns.specs.Turning.{TurningView, IsTurning}
 use Rattle.line_moves.specs.declared.modes.Mode.{Mode}
@@ -163,7 +164,17 @@ abbrev pub AreChannels : Option (List (List (List MsgName))) → ℕ → List Ma
 AreChannels None n markers = All (λ (marker : MarkerView). marker.n ≡ n) markers
 AreChannels (Some table) n markers = IsTable n table
 
--- what is in transit at the checks of a round of colours, if it is completed
-abbrev pub completed_channels : List Process → TurningView → Option (List (List (List MsgName)))
-completed_channels history turning =
-    if is_completed_unordered history turning.number then Some (channels_at history (round_line history turning.number)) else None
+-- a table of channels has, from each process to each other, what is in transit at a line
+pub record AreInTransit (history : List Process) (line : List Choice) (table : List (List (List MsgName))) : Type 0 where
+  pub shape : IsTable (length history) table
+  pub each : (p q : ℕ) → p < length history → q < length history → p ≢ q → between table p q ≡ in_transit_between history line p q
+
+-- where there are channels, they have what is in transit at a line
+abbrev pub AreFoundAt : List Process → List Choice → Option (List (List (List MsgName))) → Type 0
+AreFoundAt history line None = Unit {0}
+AreFoundAt history line (Some table) = AreInTransit history line table
+
+-- what was counted for round r of colours: where it is completed what is in transit at its checks, and else nothing
+abbrev pub IsCounted : List Process → ℕ → Option (List (List (List MsgName))) → Type 0
+IsCounted history r None = is_completed_unordered history r ≡ false
+IsCounted history r (Some table) = (is_completed_unordered history r ≡ true) × AreInTransit history (round_line history r) table

@@ -1,17 +1,89 @@
 //! What is in transit where a round of colours is completed (Lai and Yang, Information Processing
 //! Letters 25(3), 1987).
-ghost use Rattle.std.specs.Prelude.{◌≡◌, ◌<◌, ℕ, List, false, length, IfOk, Some};
+ghost use Rattle.std.specs.Prelude.{◌≡◌, ◌<◌, ◌≤◌, ℕ, List, All, true, false, length, IfOk, Some};
+ghost use Rattle.line_names.specs.declared.choices.Choice.TheVariants.{Check as AtCheck};
 ghost use Rattle.line_tape.specs.declared.events.Event.TheVariants.{Check};
+ghost use Rattle.line_tape.specs.Event.{checks};
+ghost use Rattle.line_tape.specs.Front.{front, HasChoice};
 ghost use Rattle.line_tape.specs.History.{tape_at, with_event};
-ghost use Rattle.line_tape.specs.Rounds.{has_check_of};
+ghost use Rattle.line_tape.specs.Line.{IsLine};
+ghost use Rattle.line_tape.specs.Rounds.{check_line, has_check_of};
+ghost use Rattle.line_tape.specs.Transit.{in_transit_between, letters, names_received};
 ghost use Rattle.line_turns.specs.Turning.{IsTurning};
-ghost use Rattle.line_moves.specs.Openings.{completed_channels};
+ghost use Rattle.line_moves.specs.Listed.{IsSnapshotOf};
+ghost use Rattle.line_moves.specs.Openings.{AreFoundAt, AreInTransit, IsCounted};
 
 use crate::rounds::Round;
 use line_catalogue::Catalogue;
-use line_names::ProcId;
+use line_names::{Choice, Line, ProcId};
+use line_tape::{History, Tape};
 use line_turns::{Channels, SharedChannels, Turning};
 use std::alloc::{AllocError, Global};
+
+/// How many checks stand before a choice.
+fn checks_before(tape: &Tape, choice: Choice) -> u32
+    requires { HasChoice tape.now.events choice }
+    ensures { result ≡ checks (front tape.now.events choice) }
+{
+    match choice {
+        Choice::Check(check) => check,
+        Choice::Now => tape.checks(),
+    }
+}
+
+/// Whether a choice is no earlier than a check, and only checks stand between the two. It takes
+/// constant time.
+fn are_checks_between(tape: &Tape, check: u32, choice: Choice) -> bool
+    requires check { HasChoice tape.now.events (AtCheck check) }
+    requires choice { HasChoice tape.now.events choice }
+    ensures sent { result ≡ true → (p : ℕ) → letters p 0 (front tape.now.events (AtCheck check))
+        ≡ letters p 0 (front tape.now.events choice) }
+    ensures received { result ≡ true → names_received (front tape.now.events (AtCheck check))
+        ≡ names_received (front tape.now.events choice) }
+{
+    let before = tape.front(Choice::Check(check)).len();
+    let after = tape.front(choice).len();
+    let checks = checks_before(tape, choice);
+    before <= after && after + check as usize == before + checks as usize
+}
+
+/// Whether the line is no earlier than the checks of the round, and only checks stand between. It
+/// takes one step for each process.
+fn is_still_at(history: &History, round: &Round, line: &Line) -> bool
+    requires round { IsLine history.now.processes (check_line round.now.checks) }
+    requires line { IsLine history.now.processes line.now }
+    ensures { result ≡ true → (p q : ℕ)
+        → in_transit_between history.now.processes (check_line round.now.checks) p q
+        ≡ in_transit_between history.now.processes line.now p q }
+{
+    let n = history.n();
+    'each: for q in 0..n {
+        let p = ProcId::try_new(q, n).unwrap();
+        if !are_checks_between(history.tape(p), round.check(p), line.at(p)) {
+            return false;
+        }
+    }
+    true
+}
+
+/// The channels of the last of the rounds, where nothing was sent or received between its checks
+/// and the line. It takes one step for each process, and no memory.
+fn channels_still(
+    history: &History,
+    rounds: &[Round],
+    line: &Line,
+) -> Result<Option<SharedChannels>, AllocError>
+    requires rounds { All (IsSnapshotOf history.now.processes) rounds.now }
+    requires line { IsLine history.now.processes line.now }
+    ensures { IfOk result (AreFoundAt history.now.processes line.now) }
+{
+    if let Some(round) = rounds.last() {
+        if is_still_at(history, round, line) {
+            return round.share();
+        }
+    }
+    Ok(None)
+}
 
 /// These channels, in one place with those of the last of the rounds where that has the same.
 ///
@@ -29,11 +101,33 @@ fn shared(alloc: Global, rounds: &[Round], channels: Channels) -> Result<SharedC
     SharedChannels::new(alloc, channels)
 }
 
-/// What is in transit at the checks of the open round, if a check of this process completes it now.
+/// What is in transit at a line.
 ///
 /// Where the last of the rounds has the same in transit, both hold it in one place. The catalogue
-/// keeps it, so that the next count looks at no other message that was sent before
-/// these checks.
+/// keeps it, so that the next count looks at no other message that was sent before this line.
+fn count_anew(
+    alloc: Global,
+    catalogue: &mut Catalogue,
+    rounds: &[Round],
+    line: &Line,
+) -> Result<SharedChannels, AllocError>
+    requires { IsLine catalogue.old.processes line.now }
+    ensures channels { IfOk result (AreInTransit catalogue.old.processes line.now) }
+    ensures processes { catalogue.new.processes ≡ catalogue.old.processes }
+    ensures marks { catalogue.new.marks ≡ catalogue.old.marks }
+    ensures rooms { catalogue.new.rooms ≡ catalogue.old.rooms }
+{
+    let messages = catalogue.transit(alloc, line)?;
+    let held = Channels::of(alloc, catalogue.history(), &messages)?;
+    let channels = shared(alloc, rounds, held)?;
+    catalogue.keep_transit(line, messages);
+    Ok(channels)
+}
+
+/// What is in transit at the checks of the open round, if a check of this process completes it now.
+///
+/// Where nothing was sent or received since the checks of the last of the rounds, that is what it
+/// has in transit, and costs a step for each process.
 pub fn count_channels(
     alloc: Global,
     catalogue: &mut Catalogue,
@@ -44,10 +138,10 @@ pub fn count_channels(
     requires at { at < length catalogue.old.processes }
     requires first { has_check_of turning.now.number (tape_at catalogue.old.processes at) ≡ false }
     requires turning { IsTurning catalogue.old.processes turning.now }
-    ensures channels { IfOk result (λ channels. (state : List ℕ)
-        → channels ≡ completed_channels
+    requires rounds { All (IsSnapshotOf catalogue.old.processes) rounds.now }
+    ensures channels { IfOk result (λ channels. (state : List ℕ) → IsCounted
         (with_event catalogue.old.processes at (Check state (Some turning.now.number)))
-        turning.now) }
+        turning.now.number channels) }
     ensures processes { catalogue.new.processes ≡ catalogue.old.processes }
     ensures marks { catalogue.new.marks ≡ catalogue.old.marks }
     ensures rooms { catalogue.new.rooms ≡ catalogue.old.rooms }
@@ -56,9 +150,8 @@ pub fn count_channels(
         return Ok(None);
     }
     let line = turning.line(at);
-    let messages = catalogue.transit(alloc, &line)?;
-    let held = Channels::of(alloc, catalogue.history(), &messages)?;
-    let channels = shared(alloc, rounds, held)?;
-    catalogue.keep_transit(&line, messages);
-    Ok(Some(channels))
+    if let Some(channels) = channels_still(catalogue.history(), rounds, &line)? {
+        return Ok(Some(channels));
+    }
+    Ok(Some(count_anew(alloc, catalogue, rounds, &line)?))
 }

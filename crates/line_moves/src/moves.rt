@@ -1,7 +1,7 @@
 //! What each kind of step does to the tapes, the links and the open round.
 //!
 //! All room is made first, so that where memory does not suffice the tapes and the marks are as they were, and the links hold what they held.
-ghost use Rattle.std.specs.Prelude.{◌≡◌, ◌≢◌, ◌<◌, ◌≤◌, ◌+◌, ◌++◌, ℕ, ◌∷◌, [], length, true, false, slice_get, slice_index_or, IfOk, OnOk, OnErr, Option, Some, None};
+ghost use Rattle.std.specs.Prelude.{◌≡◌, ◌≢◌, ◌<◌, ◌≤◌, ◌+◌, ◌++◌, ℕ, ◌∷◌, [], length, true, false, slice_get, slice_index_or, All, IfOk, OnOk, OnErr, Option, Some, None};
 ghost use Rattle.line_tape.specs.declared.events.Event.TheVariants.{Send as SendEvent, Recv as RecvEvent, Check as CheckEvent, Mark as MarkEvent};
 ghost use Rattle.line_tape.specs.declared.items.Item.TheVariants.{Message, Marker};
 ghost use Rattle.line_tape.specs.Event.{NamesBelow, HasLongState, Holds};
@@ -15,8 +15,9 @@ ghost use Rattle.line_turns.specs.Kept.{AreTurned};
 ghost use Rattle.line_turns.specs.Turning.{TurningView, IsTurning};
 ghost use Rattle.line_moves.specs.declared.modes.Mode.TheVariants.{Fifo};
 ghost use Rattle.line_moves.specs.Fates.{is_forced, marker_events};
+ghost use Rattle.line_moves.specs.Listed.{IsSnapshotOf};
 ghost use Rattle.line_moves.specs.Moves.{with_events, next_check};
-ghost use Rattle.line_moves.specs.Openings.{completed_channels, open_number, opened, IsOpening, IsOpenTurning, IsRecording, IsSettled};
+ghost use Rattle.line_moves.specs.Openings.{open_number, opened, IsCounted, IsOpening, IsOpenTurning, IsRecording, IsSettled};
 ghost use Rattle.line_moves.specs.Queues.{taken_off};
 ghost use Rattle.line_turns.specs.Tables.{between, with_list, IsTable};
 ghost use Rattle.line_moves.specs.Worlds.{IsWorld};
@@ -328,8 +329,9 @@ fn take_turn(
     requires greater { colour (tape_at catalogue.old.processes at) < turning.old.number }
     requires turned { AreTurned catalogue.old.processes colours.old }
     requires turning { IsTurning catalogue.old.processes turning.old }
+    requires rounds { All (IsSnapshotOf catalogue.old.processes) rounds.now }
     ensures check { IfOk result (λ turned. turned.0 ≡ next_check catalogue.old.processes at) }
-    ensures channels { IfOk result (λ turned. turned.1 ≡ completed_channels catalogue.new.processes turning.new) }
+    ensures channels { IfOk result (λ turned. IsCounted catalogue.new.processes turning.new.number turned.1) }
     ensures checked { OnOk result (catalogue.new.processes ≡ with_event catalogue.old.processes at (CheckEvent state.now (Some turning.old.number))) }
     ensures turned { OnOk result (AreTurned catalogue.new.processes colours.new) }
     ensures turning { OnOk result (IsTurning catalogue.new.processes turning.new) }
@@ -356,7 +358,7 @@ fn take_turn(
 
 /// A process takes its check of the round of colours that is open, which has number `_round` (Lai and Yang, Information Processing Letters 25(3), 1987), and the index of the check is told. The round is listed if this was the last of its checks. There is room for `further` events of the process then.
 ///
-/// The last check of a round looks once at each event before the round's checks; another costs a push.
+/// The last check of a round looks at what was sent and received since the channels of a round were counted before, and once at each message that is in transit at its checks; or once at each process, where nothing was sent or received since the checks of the round before. Another check costs a push.
 pub fn turn_round(
     alloc: Global,
     catalogue: &mut Catalogue,
@@ -376,6 +378,7 @@ pub fn turn_round(
     requires greater { colour (tape_at catalogue.old.processes at) < _round }
     requires turned { AreTurned catalogue.old.processes colours.old }
     requires kept { IsOpenTurning catalogue.old.processes _round turning.old }
+    requires rounds { All (IsSnapshotOf catalogue.old.processes) rounds.old.items }
     ensures check { IfOk result (λ check. check ≡ next_check catalogue.old.processes at) }
     ensures checked { OnOk result (catalogue.new.processes ≡ with_event catalogue.old.processes at (CheckEvent state.now (Some _round))) }
     ensures turned { OnOk result (AreTurned catalogue.new.processes colours.new) }

@@ -4,15 +4,14 @@ ghost use Rattle.line_tape.specs.declared.events.Event.TheVariants.{Recv as Recv
 ghost use Rattle.line_tape.specs.History.{Process, tape_at, with_event};
 ghost use Rattle.line_tape.specs.Restart.{is_kept};
 ghost use Rattle.line_tape.specs.Colours.{is_completed_unordered};
-ghost use Rattle.line_tape.specs.Rounds.{has_check_of, is_completed_fifo, round_line};
-ghost use Rattle.line_turns.specs.Channels.{channels_at};
+ghost use Rattle.line_tape.specs.Rounds.{check_line, has_check_of, is_completed_fifo, round_line};
 ghost use Rattle.line_turns.specs.Turning.{IsTurning};
 ghost use Rattle.line_moves.specs.declared.modes.Mode.TheVariants.{Fifo, Unordered};
-ghost use Rattle.line_moves.specs.Listed.{check_in, channel_in, listed, stays};
+ghost use Rattle.line_moves.specs.Listed.{check_in, channel_in, listed, stays, IsSnapshotOf};
 ghost use Rattle.line_moves.specs.Listings.{IsBelow};
 ghost use Rattle.line_marker.specs.Recording.{MarkerView, messages_by, round_of};
 ghost use Rattle.std.specs.Option.{unwrap_or};
-ghost use Rattle.line_moves.specs.Openings.{completed_channels, left_open, marker_at, newly_closed, open_number, opened_by, opened_turning, recorded_channel, AreMarkers, IsFresh, IsOpening, IsRecording};
+ghost use Rattle.line_moves.specs.Openings.{left_open, marker_at, newly_closed, open_number, opened_by, opened_turning, recorded_channel, AreFoundAt, AreInTransit, AreMarkers, IsCounted, IsFresh, IsOpening, IsRecording};
 ghost use Rattle.line_moves.specs.Fates.{is_forced};
 
 use crate::listings::Listing;
@@ -90,7 +89,7 @@ impl Round {
     ) -> Round
         requires turning { IsTurning _history.now.processes turning }
         requires completed { is_completed_unordered _history.now.processes turning.number ≡ true }
-        requires channels { channels ≡ channels_at _history.now.processes (round_line _history.now.processes turning.number) }
+        requires channels { AreInTransit _history.now.processes (round_line _history.now.processes turning.number) channels }
         ensures { result ≡ listed Unordered _history.now.processes turning.number }
     {
         let number = turning.number();
@@ -99,6 +98,17 @@ impl Round {
             checks: turning.into_checks(),
             markers: Vec::new(alloc),
             counted: Some(channels),
+        }
+    }
+
+    /// Its channels, which one more holds then, where links keep no order.
+    pub(crate) fn share(&self) -> Result<Option<SharedChannels>, AllocError>
+        ensures { (history : List Process) → IsSnapshotOf history self.now
+            → IfOk result (AreFoundAt history (check_line self.now.checks)) }
+    {
+        match &self.counted {
+            Some(channels) => Ok(Some(channels.share()?)),
+            None => Ok(None),
         }
     }
 
@@ -505,7 +515,7 @@ pub(crate) fn still_turning(
     rounds: &mut Listing,
 ) -> Option<Turning>
     requires turning { IsTurning history.now.processes turning }
-    requires channels { channels ≡ completed_channels history.now.processes turning }
+    requires channels { IsCounted history.now.processes turning.number channels }
     requires room { 0 < rounds.old.room }
     ensures listed { rounds.new.items ≡ rounds.old.items ++ newly_closed Unordered history.now.processes (Some (opened_by turning)) }
     ensures left { opened_turning result ≡ left_open Unordered history.now.processes (Some (opened_by turning)) }

@@ -1,13 +1,14 @@
 -- The check agrees, and what was counted before it is what is in transit at the round's checks with it.
-use Rattle.std.proofs.Common.{◌≡◌, ℕ, cond, false, List, length, Option, Some, None, sym, ap, ◌∙◌, subst, arith}
+use Rattle.std.proofs.Common.{◌≡◌, ℕ, false, List, length, Option, Some, sym, ap, ◌∙◌, subst, arith}
+use Rattle.std.specs.Prelude.{All}
 use Rattle.line_names.specs.declared.messages.MsgName.{MsgName}
+use Rattle.line_tape.specs.declared.events.Event.{Event}
 use Rattle.line_tape.specs.declared.events.Event.TheVariants.{Check}
-use Rattle.line_tape.specs.Colours.{is_completed_unordered}
 use Rattle.line_tape.specs.History.{Process, tape_at, with_event}
-use Rattle.line_tape.specs.Rounds.{has_check_of, round_line}
-use Rattle.line_turns.specs.Channels.{channels_at}
+use Rattle.line_tape.specs.Rounds.{has_check_of}
 use Rattle.line_turns.specs.Turning.{TurningView, IsTurning}
-use Rattle.line_moves.specs.Openings.{completed_channels}
+use Rattle.line_moves.specs.Listed.{IsSnapshotOf}
+use Rattle.line_moves.specs.Openings.{IsCounted}
 use Rattle.line_moves.proofs.AgreeLemmas.{AgreesNext-check}
 use Rattle.line_moves.proofs.moves.take_turn.Goals as goal
 
@@ -26,19 +27,21 @@ add_event-requires-clause-agrees c =
     let kept : c.count_channels.new.catalogue.processes ≡ c.args.catalogue.now.processes = c.in_ok-channels.ensures.processes ∙ c.in_ok-reserve.ensures.processes in
     AgreesNext-check c.count_channels.new.catalogue.processes c.history.ensures.agrees c.args.at (omega (arith, c.requires.at, ap (λ (h : List Process). length h) kept)) c.in_ok-state.state (Some c.number-number.result)
 
+pub count_channels-requires-clause-rounds : goal.count_channels-requires-clause-rounds
+count_channels-requires-clause-rounds c = subst (λ (h : List Process). All (IsSnapshotOf h) c.args.rounds.now) (sym c.in_ok-reserve.ensures.processes) c.requires.rounds
+
 pub returns-clause-channels : goal.returns-clause-channels
 returns-clause-channels c =
     let history : List Process = c.args.catalogue.now.processes in
-    let turning : TurningView = c.args.turning.now in
     let at : ℕ = c.args.at in
     let state : List ℕ = c.in_ok-state.state in
-    let r : ℕ = turning.number in
-    let new : List Process = with_event history at (Check state (Some r)) in
+    let r : ℕ = c.args.turning.now.number in
+    let e : Event = Check state (Some r) in
+    let told : Option (List (List (List MsgName))) = c.in_ok-channels.channels in
     let kept : c.count_channels.new.catalogue.processes ≡ history = c.in_ok-channels.ensures.processes ∙ c.in_ok-reserve.ensures.processes in
-    let done : c.add_event.new.catalogue.processes ≡ new =
+    let done : c.add_event.new.catalogue.processes ≡ with_event history at e =
     c.add_event.ensures.processes ∙ ap (λ (h : List Process). with_event h at (Check state (Some c.number-number.result))) kept
     ∙ ap (λ (v : ℕ). with_event history at (Check state (Some v))) c.number-number.ensures in
-    let told : List Process → ℕ → Option (List (List (List MsgName))) = λ h v. cond (is_completed_unordered h v) (Some (channels_at h (round_line h v))) None in
-    let same : told new r ≡ told c.add_event.new.catalogue.processes c.check.new.self.number =
-    ap (λ (h : List Process). told h r) (sym done) ∙ ap (λ (v : ℕ). told c.add_event.new.catalogue.processes v) (sym c.check.ensures.number) in
-    c.in_ok-channels.ensures.channels state ∙ ap (λ (h : List Process). completed_channels (with_event h at (Check state (Some r))) turning) c.in_ok-reserve.ensures.processes ∙ same
+    subst (λ (v : ℕ). IsCounted c.add_event.new.catalogue.processes v told) (sym c.check.ensures.number)
+    (subst (λ (h : List Process). IsCounted h r told) (sym done)
+    (subst (λ (h : List Process). IsCounted (with_event h at e) r told) c.in_ok-reserve.ensures.processes (c.in_ok-channels.ensures.channels state)))

@@ -1,11 +1,11 @@
 -- The round that is kept as open is the one that is turned to.
-use Rattle.std.proofs.Common.{◌≡◌, ◌++◌, ℕ, List, Some, sym, ap, ◌∙◌, arith}
+use Rattle.std.proofs.Common.{◌≡◌, ◌++◌, ℕ, List, Some, sym, ap, ◌∙◌, subst, arith}
 use Rattle.line_tape.specs.History.{Process, tape_at}
 use Rattle.line_tape.specs.Rounds.{has_check_of}
 use Rattle.line_turns.specs.Turning.{TurningView}
 use Rattle.line_moves.specs.declared.modes.Mode.TheVariants.{Unordered}
 use Rattle.line_moves.specs.Listed.{Listed}
-use Rattle.line_moves.specs.Openings.{completed_channels, left_open, newly_closed, opened_by}
+use Rattle.line_moves.specs.Openings.{left_open, newly_closed, opened_by, IsCounted}
 use Rattle.line_moves.proofs.TurnFacts.{open_round, same_round}
 use Rattle.line_moves.proofs.moves.turn_round.Goals as goal
 
@@ -27,9 +27,8 @@ pub still_turning-requires-clause-channels : goal.still_turning-requires-clause-
 still_turning-requires-clause-channels c =
     let new : TurningView = c.take_turn.new.turning in
     let same : new ≡ c.in-Some-take.round = same_round c.take.result new c.in-Some-take.round c.take.ensures.value c.in-Some-take.is in
-    c.in_ok-check-in-Some.ensures.channels
-    ∙ ap (λ (h : List Process). completed_channels h new) (sym c.history.ensures.processes)
-    ∙ ap (completed_channels c.history.result.now.processes) same
+    subst (λ (h : List Process). IsCounted h c.in-Some-take.round.number c.in_ok-check-in-Some.channels) (sym c.history.ensures.processes)
+    (subst (λ (t : TurningView). IsCounted c.take_turn.new.catalogue.processes t.number c.in_ok-check-in-Some.channels) same c.in_ok-check-in-Some.ensures.channels)
 
 pub returns-in-Some-take-clause-settled : goal.returns-in-Some-take-clause-settled
 returns-in-Some-take-clause-settled c =

@@ -1,19 +1,12 @@
 -- The channels that were counted are those of the round.
 use Rattle.std.proofs.Common.{ℕ, List, length, ap, ◌∙◌, sym, subst}
-use Rattle.line_names.specs.declared.choices.Choice.{Choice}
-use Rattle.line_tape.specs.History.{Process}
-use Rattle.line_tape.specs.Rounds.{round_line}
 use Rattle.line_turns.specs.Tables.{IsTable}
-use Rattle.line_turns.proofs.ChannelLemmas.{IsTable-at}
 use Rattle.line_moves.proofs.TurnFacts.{counted_is}
 use Rattle.line_moves.proofs.rounds.Round.of_turning.Goals as goal
 
 pub invariant_of-result : goal.invariant_of-result
 invariant_of-result c =
-    let history : List Process = c.args._history.now.processes in
-    let line : List Choice = round_line history c.args.turning.number in
-    subst (λ (n : ℕ). IsTable n c.args.channels) (sym (ap (λ (v : List ℕ). length v) c.into_checks.ensures ∙ c.requires.turning.count))
-    (subst (IsTable (length history)) (sym c.requires.channels) (IsTable-at history line))
+    subst (λ (n : ℕ). IsTable n c.args.channels) (sym (ap (λ (v : List ℕ). length v) c.into_checks.ensures ∙ c.requires.turning.count)) c.requires.channels.shape
 
 pub returns : goal.returns
 returns c =

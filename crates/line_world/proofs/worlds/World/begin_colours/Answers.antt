@@ -30,6 +30,10 @@ turn_round-requires-clause-greater c =
     let is : IsColoured w = is_coloured w c.args.self.now c.self.view_is c.self.invariant c.requires.mode in
     less_than_next w.catalogue.processes w.links w.colours w.last_round is.world is.painted w.turning w.rounds.items is.are c.args.at
 
+pub turn_round-requires-clause-rounds : goal.turn_round-requires-clause-rounds
+turn_round-requires-clause-rounds c =
+    (is_coloured c.self.inside c.args.self.now c.self.view_is c.self.invariant c.requires.mode).are.snapshots
+
 pub turn_round-requires-clause-kept : goal.turn_round-requires-clause-kept
 turn_round-requires-clause-kept c =
     let w : Inside = c.self.inside in

@@ -41,6 +41,10 @@ turn_round-requires-clause-greater c =
     let may : MayCatch w to = is.catch in
     less_than_last w.catalogue.processes w.links w.colours w.last_round may.coloured.world may.coloured.painted may.kept.round w.rounds.items may.are to may.within may.lacks
 
+pub turn_round-requires-clause-rounds : goal.turn_round-requires-clause-rounds
+turn_round-requires-clause-rounds c =
+    (is_catch c.self.inside c.args.self.now c.self.view_is c.self.invariant c.args.from c.args.to c.args.pick c.args.state.now c.requires.passed c.args.message.now c.args.round c.requires.picked c.requires.mode c.requires.taken c.requires.forced).catch.coloured.are.snapshots
+
 pub turn_round-requires-clause-kept : goal.turn_round-requires-clause-kept
 turn_round-requires-clause-kept c =
     (is_catch c.self.inside c.args.self.now c.self.view_is c.self.invariant c.args.from c.args.to c.args.pick c.args.state.now c.requires.passed c.args.message.now c.args.round c.requires.picked c.requires.mode c.requires.taken c.requires.forced).catch.kept

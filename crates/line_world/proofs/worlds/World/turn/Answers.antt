@@ -31,6 +31,10 @@ turn_round-requires-clause-greater c =
     let may : MayCatch w at = may_turn_now w c.args.self.now c.self.view_is c.self.invariant at c.args.state.now (sym c.turn_refusal.ensures ∙ c.in_default.is) in
     less_than_last w.catalogue.processes w.links w.colours w.last_round may.coloured.world may.coloured.painted may.kept.round w.rounds.items may.are at may.within may.lacks
 
+pub turn_round-requires-clause-rounds : goal.turn_round-requires-clause-rounds
+turn_round-requires-clause-rounds c =
+    (may_turn_now c.self.inside c.args.self.now c.self.view_is c.self.invariant c.args.at c.args.state.now (sym c.turn_refusal.ensures ∙ c.in_default.is)).coloured.are.snapshots
+
 pub turn_round-requires-clause-kept : goal.turn_round-requires-clause-kept
 turn_round-requires-clause-kept c =
     (may_turn_now c.self.inside c.args.self.now c.self.view_is c.self.invariant c.args.at c.args.state.now (sym c.turn_refusal.ensures ∙ c.in_default.is)).kept

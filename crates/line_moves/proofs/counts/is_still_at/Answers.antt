@@ -1,0 +1,45 @@
+-- What each process that is passed sent and received is the same before both lines.
+use Rattle.std.proofs.Common.{◌≡◌, ℕ, List, get_or, sym, ap, ◌∙◌, subst, arith, inl, inr}
+use Rattle.std.proofs.lemmas.Bool.{cases_lt}
+use Rattle.line_names.specs.declared.choices.Choice.TheVariants.{Check as AtCheck}
+use Rattle.line_names.specs.Lines.{choice_at}
+use Rattle.line_tape.specs.declared.events.Event.{Event}
+use Rattle.line_tape.specs.Front.{HasChoice}
+use Rattle.line_tape.specs.History.{Process, tape_at}
+use Rattle.line_tape.specs.Rounds.{check_line}
+use Rattle.line_tape.proofs.StayLemmas.{choice_of_checks}
+use Rattle.line_moves.proofs.StillLemmas.{still_as, still_transit, IsStill}
+use Rattle.line_moves.proofs.counts.is_still_at.Goals as goal
+
+pub are_checks_between-requires-clause-check : goal.are_checks_between-requires-clause-check
+are_checks_between-requires-clause-check c =
+    let history : List Process = c.args.history.now.processes in
+    let indices : List ℕ = c.args.round.now.checks in
+    let p : ℕ = c.unwrap-p.result in
+    subst (λ (t : List Event). HasChoice t (AtCheck c.check.result)) (sym c.tape.ensures.events)
+    (subst (λ (k : ℕ). HasChoice (tape_at history p) (AtCheck k)) (sym c.check.ensures)
+    (subst (HasChoice (tape_at history p)) (choice_of_checks indices p) (c.requires.round.exist p)))
+
+pub each-preserved : goal.each-preserved
+each-preserved c = λ v within.
+    let history : List Process = c.args.history.now.processes in
+    let indices : List ℕ = c.args.round.now.checks in
+    let q : ℕ = c.each.q in
+    let at : c.unwrap-p.result ≡ q = (rw c.unwrap-p.ensures at c.try_new.ensures).1 in
+    elim (cases_lt v q) [
+      | inl below ↦ c.each.invariant v below
+      | inr past ↦
+          let same : c.unwrap-p.result ≡ v = at ∙ omega (arith, within, past) in
+          let base : IsStill c.tape.result.now.events (AtCheck c.check.result) c.at.result =
+          record { sent = c.are_checks_between.ensures.sent c.if-not-are_checks_between.false; received = c.are_checks_between.ensures.received c.if-not-are_checks_between.false } in
+          still_as c.tape.result.now.events (tape_at history v) (AtCheck c.check.result) (choice_at (check_line indices) v) c.at.result (choice_at c.args.line.now v)
+          (c.tape.ensures.events ∙ ap (tape_at history) same)
+          (ap (λ k. AtCheck k) (c.check.ensures ∙ ap (λ k. get_or indices k 0) same) ∙ sym (choice_of_checks indices v))
+          (c.at.ensures ∙ ap (choice_at c.args.line.now) same)
+          base
+    ]
+
+pub returns : goal.returns
+returns c = λ t.
+    still_transit c.args.history.now.processes (check_line c.args.round.now.checks) c.args.line.now
+    (λ q within. c.each.invariant q (omega (arith, within, c.each-test.false, c.n-n.ensures.value)))
