@@ -74,6 +74,10 @@ pub record IsMarkerOf (n q r : ℕ) (tape : List Event) (marker : MarkerView) : 
 abbrev pub turning_of : OpenView → TurningView
 turning_of round = record { number = round.number; checks = round.checks }
 
+-- and back: the open round, of what is kept of it
+abbrev pub recording_of : TurningView → List MarkerView → OpenView
+recording_of turning markers = record { number = turning.number; checks = turning.checks; markers = markers }
+
 -- what is kept of the open round follows the tapes: its checks, and what each process has recorded
 pub record IsRecording (history : List Process) (round : OpenView) : Type 0 where
   pub turning : IsTurning history (turning_of round)

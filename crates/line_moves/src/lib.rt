@@ -9,17 +9,19 @@ mod links;
 mod listings;
 mod modes;
 mod moves;
+mod openings;
 mod restarts;
 mod restores;
+mod round_moves;
 mod rounds;
 
 pub use fates::{Fate, fate_of};
 pub use links::Links;
 pub use listings::Listing;
 pub use modes::Mode;
-pub use moves::{
-    add_check, add_receipt, begin_round, put_message, take_marker, take_message, turn_round,
-};
+pub use moves::{add_check, add_receipt, put_message, take_message};
+pub use openings::{OpenRound, is_forced, still_open};
 pub use restarts::restart_links;
 pub use restores::{restarted_incarnations, restored_states};
-pub use rounds::{OpenRound, Round, is_forced, still_open};
+pub use round_moves::{begin_round, take_marker, turn_round};
+pub use rounds::Round;

@@ -1,40 +1,31 @@
-//! What each kind of step does to the tapes, the links and the open round.
+//! What steps with messages, and checks without a round, do to the tapes, the links and the open round.
 //!
 //! All room is made first, so that where memory does not suffice the tapes and the marks are as they were, and the links hold what they held.
-ghost use Rattle.std.specs.Prelude.{◌≡◌, ◌≢◌, ◌<◌, ◌≤◌, ◌+◌, ◌++◌, ℕ, ◌∷◌, [], length, true, false, slice_get, slice_index_or, All, IfOk, OnOk, OnErr, Option, Some, None};
-ghost use Rattle.line_tape.specs.declared.events.Event.TheVariants.{Send as SendEvent, Recv as RecvEvent, Check as CheckEvent, Mark as MarkEvent};
-ghost use Rattle.line_tape.specs.declared.items.Item.TheVariants.{Message, Marker};
+ghost use Rattle.std.specs.Prelude.{◌≡◌, ◌≢◌, ◌<◌, ◌≤◌, ◌+◌, ◌++◌, ◌∷◌, [], length, slice_index_or, IfOk, OnOk, OnErr, Option, None};
+ghost use Rattle.line_tape.specs.declared.events.Event.TheVariants.{Send as SendEvent, Recv as RecvEvent, Check as CheckEvent};
+ghost use Rattle.line_tape.specs.declared.items.Item.TheVariants.{Message};
 ghost use Rattle.line_tape.specs.Event.{NamesBelow, HasLongState, Holds};
 ghost use Rattle.line_tape.specs.History.{tape_at, incarnation_at, with_event};
 ghost use Rattle.line_tape.specs.Spent.{next_name};
 ghost use Rattle.line_catalogue.specs.Agreement.{AgreesNext};
 ghost use Rattle.line_catalogue.specs.Views.{room_at};
-ghost use Rattle.line_tape.specs.Colours.{colour};
-ghost use Rattle.line_tape.specs.Rounds.{has_check_of};
-ghost use Rattle.line_turns.specs.Kept.{AreTurned};
-ghost use Rattle.line_turns.specs.Turning.{TurningView, IsTurning};
+ghost use Rattle.line_turns.specs.Turning.{TurningView};
 ghost use Rattle.line_moves.specs.declared.modes.Mode.TheVariants.{Fifo};
-ghost use Rattle.line_moves.specs.Fates.{is_forced, marker_events};
-ghost use Rattle.line_moves.specs.Listed.{IsSnapshotOf};
-ghost use Rattle.line_moves.specs.Moves.{with_events, next_check};
-ghost use Rattle.line_moves.specs.Openings.{open_number, opened, IsCounted, IsOpening, IsOpenTurning, IsRecording, IsSettled};
+ghost use Rattle.line_moves.specs.Moves.{next_check};
+ghost use Rattle.line_moves.specs.Openings.{open_number, opened, IsOpening};
 ghost use Rattle.line_moves.specs.Queues.{taken_off};
 ghost use Rattle.line_turns.specs.Tables.{between, with_list, IsTable};
-ghost use Rattle.line_moves.specs.Worlds.{IsWorld};
 
-use crate::counts::count_channels;
 use crate::links::Links;
-use crate::listings::Listing;
 use crate::modes::Mode;
-use crate::rounds::{OpenRound, Round, hear, note, still_turning};
+use crate::openings::{OpenRound, note};
 use line_catalogue::Catalogue;
 use line_names::{Body, MsgName, ProcId};
-use line_tape::{Event, History, Item, LAST_ROUND, MOST_EVENTS, MOST_STATE, State};
-use line_turns::{Colours, SharedChannels, Turning};
-use std::alloc::{AllocError, Global};
+use line_tape::{Event, History, Item, MOST_EVENTS, MOST_STATE, State};
+use std::alloc::AllocError;
 
 /// Adds an event to a tape that has room for it.
-fn add_event(catalogue: &mut Catalogue, p: ProcId, event: Event)
+pub(crate) fn add_event(catalogue: &mut Catalogue, p: ProcId, event: Event)
     requires process { p < length catalogue.old.processes }
     requires named { NamesBelow (length catalogue.old.processes) event }
     requires short { HasLongState event → ⊥ }
@@ -157,251 +148,6 @@ pub fn take_message(
     take_off(mode, links, from, to);
     add_receipt(catalogue, to, message);
     Ok(())
-}
-
-/// Begins the round of markers after the last one: the check on the tape of a process, and a marker on each link from it to another. It tells the round, which is open now, and the index of the check.
-///
-/// It makes what each process records of the round (Chandy and Lamport, ACM TOCS 3(1), 1985).
-pub fn begin_round(
-    alloc: Global,
-    catalogue: &mut Catalogue,
-    links: &mut Links,
-    at: ProcId,
-    state: &State,
-    last: u32,
-) -> Result<(OpenRound, u32), AllocError>
-    requires at { at < length catalogue.old.processes }
-    requires short { length state.now ≤ MOST_STATE }
-    requires few { length (tape_at catalogue.old.processes at) < MOST_EVENTS }
-    requires numbers { last < LAST_ROUND }
-    requires fresh { (q : ℕ) → has_check_of (last + 1) (tape_at catalogue.old.processes q) ≡ false }
-    requires world { IsWorld Fifo catalogue.old.processes links.old }
-    ensures check { IfOk result (λ begun. begun.1 ≡ next_check catalogue.old.processes at) }
-    ensures number { IfOk result (λ begun. begun.0.number ≡ last + 1) }
-    ensures recording { IfOk result (λ begun. IsRecording catalogue.new.processes begun.0) }
-    ensures checked { OnOk result (catalogue.new.processes ≡ with_event catalogue.old.processes at (CheckEvent state.now (Some (last + 1)))) }
-    ensures world { OnOk result (IsWorld Fifo catalogue.new.processes links.new) }
-    ensures err { OnErr result (catalogue.new.processes ≡ catalogue.old.processes) }
-    ensures marks { catalogue.new.marks ≡ catalogue.old.marks }
-    ensures kept { OnErr result (links.new ≡ links.old) }
-{
-    let state = state.copy(alloc)?;
-    catalogue.reserve(at, 1)?;
-    let mut running = OpenRound::new(alloc, catalogue.history(), last)?;
-    running.reserve(at)?;
-    links.push_each(at, Item::Marker(last + 1))?;
-    let check = catalogue.history().tape(at).checks() + 1;
-    running.begin(catalogue.history(), at);
-    let round = Some(last + 1);
-    add_event(catalogue, at, Event::Check { state, round });
-    Ok((running, check))
-}
-
-/// The marker of the open round has a process take its check: the check and the mark on its tape, a marker on each link from it to another, and the marker that came off its link.
-fn force_round(
-    alloc: Global,
-    catalogue: &mut Catalogue,
-    links: &mut Links,
-    running: &mut OpenRound,
-    from: ProcId,
-    to: ProcId,
-    state: &State,
-) -> Result<(), AllocError>
-    requires from { from < length catalogue.old.processes }
-    requires to { to < length catalogue.old.processes }
-    requires other { from ≢ to }
-    requires short { length state.now ≤ MOST_STATE }
-    requires few { length (tape_at catalogue.old.processes to) + 1 < MOST_EVENTS }
-    requires first { has_check_of running.old.number (tape_at catalogue.old.processes to) ≡ false }
-    requires marker { slice_get (between links.old from to) 0 ≡ Some (Marker running.old.number) }
-    requires world { IsWorld Fifo catalogue.old.processes links.old }
-    requires recording { IsRecording catalogue.old.processes running.old }
-    ensures taken { OnOk result (catalogue.new.processes
-        ≡ with_events catalogue.old.processes to (CheckEvent state.now (Some running.old.number) ∷ MarkEvent from running.old.number ∷ [])) }
-    ensures world { IsWorld Fifo catalogue.new.processes links.new }
-    ensures recording { IsRecording catalogue.new.processes running.new }
-    ensures number { running.new.number ≡ running.old.number }
-    ensures err { OnErr result (catalogue.new.processes ≡ catalogue.old.processes) }
-    ensures marks { catalogue.new.marks ≡ catalogue.old.marks }
-{
-    let number = running.number();
-    let state = state.copy(alloc)?;
-    catalogue.reserve(to, 2)?;
-    running.reserve(to)?;
-    links.push_each(to, Item::Marker(number))?;
-    links.drop_first(from, to);
-    running.force(catalogue.history(), from, to);
-    let round = Some(number);
-    add_event(catalogue, to, Event::Check { state, round });
-    let round = number;
-    add_event(catalogue, to, Event::Mark { from, round });
-    Ok(())
-}
-
-/// The marker of a round has come to a process that has its check of it: the mark on its tape, and the marker off its link.
-fn hear_round(
-    catalogue: &mut Catalogue,
-    links: &mut Links,
-    running: &mut Option<OpenRound>,
-    from: ProcId,
-    to: ProcId,
-    round: u32,
-) -> Result<(), AllocError>
-    requires from { from < length catalogue.old.processes }
-    requires to { to < length catalogue.old.processes }
-    requires other { from ≢ to }
-    requires few { length (tape_at catalogue.old.processes to) < MOST_EVENTS }
-    requires begun { has_check_of round (tape_at catalogue.old.processes to) ≡ true }
-    requires marker { slice_get (between links.old from to) 0 ≡ Some (Marker round) }
-    requires world { IsWorld Fifo catalogue.old.processes links.old }
-    requires opening { IsOpening Fifo catalogue.old.processes running.old }
-    ensures taken { OnOk result (catalogue.new.processes ≡ with_event catalogue.old.processes to (MarkEvent from round)) }
-    ensures world { IsWorld Fifo catalogue.new.processes links.new }
-    ensures opening { IsOpening Fifo catalogue.new.processes running.new }
-    ensures number { open_number running.new ≡ open_number running.old }
-    ensures err { OnErr result (catalogue.new.processes ≡ catalogue.old.processes) }
-    ensures marks { catalogue.new.marks ≡ catalogue.old.marks }
-{
-    catalogue.reserve(to, 1)?;
-    hear(running, catalogue.history(), from, to, round)?;
-    links.drop_first(from, to);
-    add_event(catalogue, to, Event::Mark { from, round });
-    Ok(())
-}
-
-/// Takes the marker that is first on a link, after the check of its round where the process has none: `forced` is what `is_forced` says.
-///
-/// A forced check puts a marker on each link from the process to another; else it costs a look at the channels of the process.
-pub fn take_marker(
-    alloc: Global,
-    catalogue: &mut Catalogue,
-    links: &mut Links,
-    running: &mut Option<OpenRound>,
-    from: ProcId,
-    to: ProcId,
-    round: u32,
-    state: &State,
-    forced: bool,
-) -> Result<(), AllocError>
-    requires from { from < length catalogue.old.processes }
-    requires to { to < length catalogue.old.processes }
-    requires other { from ≢ to }
-    requires short { length state.now ≤ MOST_STATE }
-    requires forced { forced ≡ is_forced catalogue.old.processes to round }
-    requires few { length (tape_at catalogue.old.processes to) + length (marker_events (is_forced catalogue.old.processes to round) from state.now round) ≤ MOST_EVENTS }
-    requires marker { slice_get (between links.old from to) 0 ≡ Some (Marker round) }
-    requires world { IsWorld Fifo catalogue.old.processes links.old }
-    requires opening { IsOpening Fifo catalogue.old.processes running.old }
-    ensures taken { OnOk result (catalogue.new.processes
-        ≡ with_events catalogue.old.processes to (marker_events (is_forced catalogue.old.processes to round) from state.now round)) }
-    ensures world { IsWorld Fifo catalogue.new.processes links.new }
-    ensures opening { IsOpening Fifo catalogue.new.processes running.new }
-    ensures number { open_number running.new ≡ open_number running.old }
-    ensures err { OnErr result (catalogue.new.processes ≡ catalogue.old.processes) }
-    ensures marks { catalogue.new.marks ≡ catalogue.old.marks }
-{
-    if forced {
-        match running {
-            Some(kept) => force_round(alloc, catalogue, links, kept, from, to, state),
-            None => unreachable!(),
-        }
-    } else {
-        hear_round(catalogue, links, running, from, to, round)
-    }
-}
-
-/// A process takes its check of the round of colours that is open: the check on its tape, its new colour, and what is in transit at the round's checks if this was the last of them. There is room for some further events of the process then.
-fn take_turn(
-    alloc: Global,
-    catalogue: &mut Catalogue,
-    colours: &mut Colours,
-    turning: &mut Turning,
-    rounds: &[Round],
-    at: ProcId,
-    state: &State,
-    further: u32,
-) -> Result<(u32, Option<SharedChannels>), AllocError>
-    requires at { at < length catalogue.old.processes }
-    requires short { length state.now ≤ MOST_STATE }
-    requires few { length (tape_at catalogue.old.processes at) < MOST_EVENTS }
-    requires further { further ≤ 1 }
-    requires first { has_check_of turning.old.number (tape_at catalogue.old.processes at) ≡ false }
-    requires greater { colour (tape_at catalogue.old.processes at) < turning.old.number }
-    requires turned { AreTurned catalogue.old.processes colours.old }
-    requires turning { IsTurning catalogue.old.processes turning.old }
-    requires rounds { All (IsSnapshotOf catalogue.old.processes) rounds.now }
-    ensures check { IfOk result (λ turned. turned.0 ≡ next_check catalogue.old.processes at) }
-    ensures channels { IfOk result (λ turned. IsCounted catalogue.new.processes turning.new.number turned.1) }
-    ensures checked { OnOk result (catalogue.new.processes ≡ with_event catalogue.old.processes at (CheckEvent state.now (Some turning.old.number))) }
-    ensures turned { OnOk result (AreTurned catalogue.new.processes colours.new) }
-    ensures turning { OnOk result (IsTurning catalogue.new.processes turning.new) }
-    ensures number { turning.new.number ≡ turning.old.number }
-    ensures room { OnOk result (further ≤ room_at catalogue.new at) }
-    ensures err { OnErr result (catalogue.new.processes ≡ catalogue.old.processes) }
-    ensures marks { catalogue.new.marks ≡ catalogue.old.marks }
-    ensures colours { OnErr result (colours.new ≡ colours.old) }
-    ensures kept { OnErr result (turning.new ≡ turning.old) }
-{
-    let state = state.copy(alloc)?;
-    catalogue.reserve(at, 1 + further)?;
-    let channels = count_channels(alloc, catalogue, turning, rounds, at)?;
-    let tape = catalogue.history().tape(at);
-    let check = tape.checks() + 1;
-    let sends = tape.sends();
-    let number = turning.number();
-    colours.turn(at, number, sends)?;
-    turning.check(at, check);
-    let round = Some(number);
-    add_event(catalogue, at, Event::Check { state, round });
-    Ok((check, channels))
-}
-
-/// A process takes its check of the round of colours that is open, which has number `_round` (Lai and Yang, Information Processing Letters 25(3), 1987), and the index of the check is told. The round is listed if this was the last of its checks. There is room for `further` events of the process then.
-///
-/// The last check of a round looks at what was sent and received since the channels of a round were counted before, and once at each message that is in transit at its checks; or once at each process, where nothing was sent or received since the checks of the round before. Another check costs a push.
-pub fn turn_round(
-    alloc: Global,
-    catalogue: &mut Catalogue,
-    colours: &mut Colours,
-    turning: &mut Option<Turning>,
-    rounds: &mut Listing,
-    at: ProcId,
-    state: &State,
-    _round: u32,
-    further: u32,
-) -> Result<u32, AllocError>
-    requires at { at < length catalogue.old.processes }
-    requires short { length state.now ≤ MOST_STATE }
-    requires few { length (tape_at catalogue.old.processes at) < MOST_EVENTS }
-    requires further { further ≤ 1 }
-    requires first { has_check_of _round (tape_at catalogue.old.processes at) ≡ false }
-    requires greater { colour (tape_at catalogue.old.processes at) < _round }
-    requires turned { AreTurned catalogue.old.processes colours.old }
-    requires kept { IsOpenTurning catalogue.old.processes _round turning.old }
-    requires rounds { All (IsSnapshotOf catalogue.old.processes) rounds.old.items }
-    ensures check { IfOk result (λ check. check ≡ next_check catalogue.old.processes at) }
-    ensures checked { OnOk result (catalogue.new.processes ≡ with_event catalogue.old.processes at (CheckEvent state.now (Some _round))) }
-    ensures turned { OnOk result (AreTurned catalogue.new.processes colours.new) }
-    ensures settled { OnOk result (IsSettled catalogue.new.processes _round rounds.old.items turning.new rounds.new.items) }
-    ensures room { OnOk result (further ≤ room_at catalogue.new at) }
-    ensures err { OnErr result (catalogue.new.processes ≡ catalogue.old.processes) }
-    ensures marks { catalogue.new.marks ≡ catalogue.old.marks }
-    ensures colours { OnErr result (colours.new ≡ colours.old) }
-    ensures kept { OnErr result (turning.new ≡ turning.old) }
-    ensures unlisted { OnErr result (rounds.new.items ≡ rounds.old.items) }
-{
-    rounds.reserve()?;
-    let (check, channels) = match turning {
-        Some(round) => {
-            let listed = rounds.as_slice();
-            take_turn(alloc, catalogue, colours, round, listed, at, state, further)?
-        },
-        None => unreachable!(),
-    };
-    if let Some(round) = turning.take() {
-        *turning = still_turning(alloc, round, channels, catalogue.history(), rounds);
-    }
-    Ok(check)
 }
 
 /// Adds the receipt of a message to a tape that has room for it. It takes no memory.

@@ -1,0 +1,50 @@
+-- The check and the mark agree, its marker is on each link, and the one that came is off its link.
+use Rattle.std.proofs.Common.{◌≡◌, ◌<◌, ℕ, List, Some, length, drop, ap, ◌∙◌, subst, sym, arith}
+use Rattle.line_tape.specs.declared.events.Event.{Event}
+use Rattle.line_tape.specs.declared.events.Event.TheVariants.{Check, Mark}
+use Rattle.line_tape.specs.declared.items.Item.{Item}
+use Rattle.line_tape.specs.declared.items.Item.TheVariants.{Marker}
+use Rattle.line_tape.specs.History.{Process, tape_at, with_event}
+use Rattle.line_tape.specs.Rounds.{has_check_of}
+use Rattle.line_catalogue.specs.Agreement.{Agrees}
+use Rattle.line_moves.specs.declared.modes.Mode.TheVariants.{Fifo}
+use Rattle.line_moves.specs.Queues.{with_on_each}
+use Rattle.line_turns.specs.Tables.{between, with_list}
+use Rattle.line_moves.specs.Worlds.{IsWorld}
+use Rattle.line_moves.proofs.AgreeLemmas.{AgreesNext-check, AgreesNext-mark}
+use Rattle.line_moves.proofs.LinkLemmas.{length-with_event}
+use Rattle.line_moves.proofs.WorldLemmas.{IsWorld-forced}
+use Rattle.line_moves.proofs.round_moves.force_round.Goals as goal
+
+pub add_event-requires-clause-agrees : goal.add_event-requires-clause-agrees
+add_event-requires-clause-agrees c =
+    AgreesNext-check c.reserve.new.self.processes c.history.ensures.agrees c.args.to (omega (arith, c.requires.to, ap (λ (h : List Process). length h) c.in_ok-reserve.ensures.processes)) c.in_ok-state.state (Some c.number-number.result)
+
+pub add_event-requires-2-clause-agrees : goal.add_event-requires-2-clause-agrees
+add_event-requires-2-clause-agrees c =
+    let old : List Process = c.reserve.new.self.processes in
+    let e : Event = Check c.in_ok-state.state (Some c.number-number.result) in
+    let within : c.args.to < length old = omega (arith, c.requires.to, ap (λ (h : List Process). length h) c.in_ok-reserve.ensures.processes) in
+    let agrees : Agrees c.add_event.new.catalogue.processes =
+    subst Agrees (sym c.add_event.ensures.processes) (AgreesNext-check old c.history.ensures.agrees c.args.to within c.in_ok-state.state (Some c.number-number.result)).agrees in
+    AgreesNext-mark c.add_event.new.catalogue.processes agrees c.args.to
+    (omega (arith, within, ap (λ (h : List Process). length h) c.add_event.ensures.processes, length-with_event old c.args.to e)) c.args.from c.number-number.result
+
+pub returns-clause-world : goal.returns-clause-world
+returns-clause-world c =
+    let history : List Process = c.args.catalogue.now.processes in
+    let links : List (List (List Item)) = c.args.links.now in
+    let to : ℕ = c.args.to in
+    let from : ℕ = c.args.from in
+    let r : ℕ = c.number-number.result in
+    let e : Event = Check c.in_ok-state.state (Some r) in
+    let f : Event = Mark from r in
+    let number : r ≡ c.args.running.now.number = c.number-number.ensures in
+    let after : c.add_event-2.new.catalogue.processes ≡ with_event (with_event history to e) to f =
+    c.add_event-2.ensures.processes ∙ ap (λ (h : List Process). with_event h to f) (c.add_event.ensures.processes ∙ ap (λ (h : List Process). with_event h to e) c.in_ok-reserve.ensures.processes) in
+    let queues : c.drop_first.new.self ≡ with_list (with_on_each links to (Marker r)) from to (drop 1 (between (with_on_each links to (Marker r)) from to)) =
+    c.drop_first.ensures ∙ ap (λ (q : List (List (List Item))). with_list q from to (drop 1 (between q from to))) c.in_ok-push_each.ensures.ok in
+    subst (λ (h : List Process). IsWorld Fifo h c.drop_first.new.self) (sym after)
+    (subst (λ (q : List (List (List Item))). IsWorld Fifo (with_event (with_event history to e) to f) q) (sym queues)
+    (IsWorld-forced history links c.requires.world from to r c.in_ok-state.state c.requires.from c.requires.to c.requires.other
+    (ap (λ (v : ℕ). has_check_of v (tape_at history to)) number ∙ c.requires.first) (c.requires.marker ∙ ap (λ (v : ℕ). Some (Marker v)) (sym number))))

@@ -1,5 +1,0 @@
-use Rattle.line_moves.proofs.OpenFacts.{AreFresh}
-use Rattle.line_moves.proofs.rounds.fresh_markers.Given as goal
-
-abbrev pub invariant-loop-q : goal.invariant-loop-q
-invariant-loop-q l = AreFresh l.n l.floor l.q l.markers.items

@@ -1,0 +1,310 @@
+//! The round that is open, and what closes it: of markers (Chandy and Lamport, ACM TOCS 3(1), 1985)
+//! or of colours (Lai and Yang, Information Processing Letters 25(3), 1987).
+ghost use Rattle.std.specs.Prelude.{◌≡◌, ◌≢◌, ◌<◌, ◌≤◌, ◌+◌, ◌++◌, ℕ, List, length, true, false, IfOk, OnOk, OnErr, Some};
+ghost use Rattle.line_tape.specs.declared.events.Event.TheVariants.{Recv as RecvEvent, Check as CheckEvent, Mark as MarkEvent};
+ghost use Rattle.line_tape.specs.History.{Process, tape_at, with_event};
+ghost use Rattle.line_tape.specs.Rounds.{has_check_of, is_completed_fifo};
+ghost use Rattle.line_turns.specs.Turning.{IsTurning};
+ghost use Rattle.line_moves.specs.declared.modes.Mode.TheVariants.{Fifo, Unordered};
+ghost use Rattle.line_moves.specs.Listed.{listed};
+ghost use Rattle.line_moves.specs.Openings.{left_open, marker_at, newly_closed, open_number, opened_by, opened_turning, AreMarkers, IsCounted, IsFresh, IsOpening, IsRecording};
+ghost use Rattle.line_moves.specs.Fates.{is_forced};
+
+use crate::listings::Listing;
+use crate::rounds::Round;
+use line_marker::{Marker, MarkerError};
+use line_names::{MOST_PROCESSES, MsgName, ProcId};
+use line_tape::{History, LAST_ROUND};
+use line_turns::{SharedChannels, Turning};
+use std::alloc::{AllocError, Global};
+use std::marker::Model;
+
+/// A round of markers that was begun and isn't completed yet: its checks so far, and what each process has recorded.
+#[derive(Drop)]
+pub struct OpenRound {
+    turning: Turning,
+    markers: Vec<Marker>,
+}
+
+impl Model for OpenRound {
+    ghost use Rattle.std.specs.Prelude.{length};
+    ghost use Rattle.line_moves.specs.Openings.{OpenView, AreMarkers};
+
+    ghost Value = { OpenView };
+
+    ghost view = { λ r. record { number = r.turning.number; checks = r.turning.checks; markers = r.markers.items } };
+
+    ghost invariant = { λ r. AreMarkers (length r.turning.checks) r.markers.items };
+}
+
+/// What each of `n` processes has recorded before it has done anything; rounds up to `floor` are old.
+fn fresh_markers(alloc: Global, n: u32, floor: u32) -> Result<Vec<Marker>, AllocError>
+    requires { n ≤ MOST_PROCESSES }
+    ensures markers { IfOk result (λ markers. AreMarkers n markers.items) }
+    ensures fresh { IfOk result (λ markers. (q : ℕ) → q < n → IsFresh floor (marker_at markers.items q)) }
+{
+    let mut markers = Vec::with_capacity(alloc, n as usize)?;
+    for q in 0..n {
+        let me = ProcId::try_new(q, n).unwrap();
+        markers.push(Marker::new(alloc, n, me, floor)?)?;
+    }
+    Ok(markers)
+}
+
+impl OpenRound {
+    /// The next round after the last one, of which no process has its check yet.
+    pub(crate) fn new(alloc: Global, history: &History, last: u32) -> Result<OpenRound, AllocError>
+        requires numbers { last < LAST_ROUND }
+        requires fresh { (q : ℕ) → has_check_of (last + 1) (tape_at history.now.processes q) ≡ false }
+        ensures number { IfOk result (λ round. round.number ≡ last + 1) }
+        ensures recording { IfOk result (λ round. IsRecording history.now.processes round) }
+    {
+        let n = history.n();
+        let turning = Turning::new(alloc, n, last + 1)?;
+        let markers = fresh_markers(alloc, n, last)?;
+        Ok(OpenRound { turning, markers })
+    }
+
+    /// Its number.
+    pub(crate) fn number(&self) -> u32
+        ensures { result ≡ self.now.number }
+    {
+        self.turning.number()
+    }
+
+    /// Whether a process has its check of the round.
+    pub(crate) fn has_check(&self, history: &History, p: ProcId) -> bool
+        requires p { p < length history.now.processes }
+        requires recording { IsRecording history.now.processes self.now }
+        ensures { result ≡ has_check_of self.now.number (tape_at history.now.processes p) }
+    {
+        self.turning.has_check(p)
+    }
+
+    /// Makes room: what process `p` records next takes no memory.
+    pub(crate) fn reserve(&mut self, p: ProcId) -> Result<(), AllocError>
+        requires { p < length self.old.checks }
+        ensures number { self.new.number ≡ self.old.number }
+        ensures recording { (history : List Process) → IsRecording history self.old → IsRecording history self.new }
+        ensures ok { OnOk result (0 < (marker_at self.new.markers p).round_room) }
+    {
+        self.markers[p.get() as usize].reserve_round()
+    }
+
+    /// Process `p` takes its check of the round before any marker has come.
+    pub(crate) fn begin(&mut self, history: &History, p: ProcId)
+        requires p { p < length history.now.processes }
+        requires recording { IsRecording history.now.processes self.old }
+        requires first { has_check_of self.old.number (tape_at history.now.processes p) ≡ false }
+        requires room { 0 < (marker_at self.old.markers p).round_room }
+        ensures number { self.new.number ≡ self.old.number }
+        ensures recording { (state : List ℕ) → IsRecording (with_event history.now.processes p (CheckEvent state (Some self.old.number))) self.new }
+    {
+        self.turning.check(p, history.tape(p).checks() + 1);
+        let number = self.turning.number();
+        self.markers[p.get() as usize].begin(number).unwrap();
+    }
+
+    /// The marker from process `from` has process `p` take its check of the round.
+    pub(crate) fn force(&mut self, history: &History, from: ProcId, p: ProcId)
+        requires from { from < length history.now.processes }
+        requires p { p < length history.now.processes }
+        requires other { from ≢ p }
+        requires recording { IsRecording history.now.processes self.old }
+        requires first { has_check_of self.old.number (tape_at history.now.processes p) ≡ false }
+        requires room { 0 < (marker_at self.old.markers p).round_room }
+        ensures number { self.new.number ≡ self.old.number }
+        ensures recording { (state : List ℕ)
+            → IsRecording (with_event (with_event history.now.processes p (CheckEvent state (Some self.old.number))) p (MarkEvent from self.old.number)) self.new }
+    {
+        self.turning.check(p, history.tape(p).checks() + 1);
+        let number = self.turning.number();
+        let _effect = self.markers[p.get() as usize]
+            .on_marker(from, number)
+            .unwrap();
+    }
+
+    /// The marker from process `from` has come to process `p`, which has its check of the round.
+    pub(crate) fn hear(&mut self, history: &History, from: ProcId, p: ProcId)
+        requires from { from < length history.now.processes }
+        requires p { p < length history.now.processes }
+        requires other { from ≢ p }
+        requires recording { IsRecording history.now.processes self.old }
+        requires begun { has_check_of self.old.number (tape_at history.now.processes p) ≡ true }
+        requires room { 0 < (marker_at self.old.markers p).round_room }
+        ensures number { self.new.number ≡ self.old.number }
+        ensures recording { IsRecording (with_event history.now.processes p (MarkEvent from self.old.number)) self.new }
+    {
+        let number = self.turning.number();
+        match self.markers[p.get() as usize].on_marker(from, number) {
+            Ok(_effect) => {}
+            Err(MarkerError::OutOfMemory) => unreachable!(),
+            // It has come before.
+            Err(MarkerError::MarkerRepeated) => {}
+        }
+    }
+
+    /// A message has come to process `p`. Its cost is one push.
+    pub(crate) fn note(
+        &mut self,
+        history: &History,
+        p: ProcId,
+        message: &MsgName,
+    ) -> Result<(), AllocError>
+        requires from { message.now.from < length history.now.processes }
+        requires p { p < length history.now.processes }
+        requires other { message.now.from ≢ p }
+        requires recording { IsRecording history.now.processes self.old }
+        ensures number { self.new.number ≡ self.old.number }
+        ensures ok { OnOk result (IsRecording (with_event history.now.processes p (RecvEvent message.now)) self.new) }
+        ensures err { OnErr result (IsRecording history.now.processes self.new) }
+    {
+        self.markers[p.get() as usize].note(*message)
+    }
+
+    /// Whether each process has its check of the round, and a marker of it from each other process.
+    ///
+    /// It looks at each channel of the processes up to the first for which that isn't so.
+    pub(crate) fn is_completed(&self, history: &History) -> bool
+        requires { IsRecording history.now.processes self.now }
+        ensures { result ≡ is_completed_fifo history.now.processes self.now.number }
+    {
+        let n = history.n();
+        let number = self.turning.number();
+        'each: for q in 0..n {
+            if !self.markers[q as usize].is_closed(number) {
+                return false;
+            }
+        }
+        true
+    }
+
+    /// The round as it is listed once it is completed. It takes no memory, and looks at each channel.
+    pub(crate) fn completed(self, alloc: Global, history: &History) -> Round
+        requires recording { IsRecording history.now.processes self }
+        requires completed { is_completed_fifo history.now.processes self.number ≡ true }
+        ensures { result ≡ listed Fifo history.now.processes self.number }
+    {
+        Round::of_markers(alloc, self.turning, self.markers, history)
+    }
+}
+
+/// Whether the marker of a round has a process take its check of it. It looks at no event.
+pub fn is_forced(
+    running: &Option<OpenRound>,
+    history: &History,
+    from: ProcId,
+    to: ProcId,
+    round: u32,
+) -> bool
+    requires from { from < length history.now.processes }
+    requires to { to < length history.now.processes }
+    requires opening { IsOpening Fifo history.now.processes running.now }
+    requires sent { has_check_of round (tape_at history.now.processes from) ≡ true }
+    ensures { result ≡ is_forced history.now.processes to round }
+{
+    match running {
+        Some(running) => running.number() == round && !running.has_check(history, to),
+        None => false,
+    }
+}
+
+/// A message has come to process `to`.
+pub(crate) fn note(
+    running: &mut Option<OpenRound>,
+    history: &History,
+    to: ProcId,
+    message: &MsgName,
+) -> Result<(), AllocError>
+    requires from { message.now.from < length history.now.processes }
+    requires to { to < length history.now.processes }
+    requires other { message.now.from ≢ to }
+    requires opening { IsOpening Fifo history.now.processes running.old }
+    ensures number { open_number running.new ≡ open_number running.old }
+    ensures ok { OnOk result (IsOpening Fifo (with_event history.now.processes to (RecvEvent message.now)) running.new) }
+    ensures err { OnErr result (IsOpening Fifo history.now.processes running.new) }
+{
+    match running {
+        Some(running) => running.note(history, to, message),
+        None => Ok(()),
+    }
+}
+
+/// The marker of a round has come to a process that has its check of that round.
+pub(crate) fn hear(
+    running: &mut Option<OpenRound>,
+    history: &History,
+    from: ProcId,
+    to: ProcId,
+    round: u32,
+) -> Result<(), AllocError>
+    requires from { from < length history.now.processes }
+    requires to { to < length history.now.processes }
+    requires other { from ≢ to }
+    requires begun { has_check_of round (tape_at history.now.processes to) ≡ true }
+    requires opening { IsOpening Fifo history.now.processes running.old }
+    ensures number { open_number running.new ≡ open_number running.old }
+    ensures ok { OnOk result (IsOpening Fifo (with_event history.now.processes to (MarkEvent from round)) running.new) }
+    ensures err { OnErr result (IsOpening Fifo history.now.processes running.new) }
+{
+    match running {
+        Some(running) => {
+            if running.number() == round {
+                running.reserve(to)?;
+                running.hear(history, from, to);
+            }
+        }
+        None => {}
+    }
+    Ok(())
+}
+
+/// Lists the round of markers if it is completed, and else gives it back.
+///
+/// It takes no memory, and looks at each channel of the processes up to the first that has not all its markers.
+pub fn still_open(
+    alloc: Global,
+    running: Option<OpenRound>,
+    history: &History,
+    rounds: &mut Listing,
+) -> Option<OpenRound>
+    requires opening { IsOpening Fifo history.now.processes running }
+    requires room { 0 < rounds.old.room }
+    ensures listed { rounds.new.items ≡ rounds.old.items ++ newly_closed Fifo history.now.processes running }
+    ensures left { result ≡ left_open Fifo history.now.processes running }
+{
+    match running {
+        Some(round) => {
+            if round.is_completed(history) {
+                rounds.push(round.completed(alloc, history));
+                None
+            } else {
+                Some(round)
+            }
+        }
+        None => None,
+    }
+}
+
+/// Lists the round of colours if it is completed, and what is in transit at its checks is therefore given; and else gives it back.
+pub(crate) fn still_turning(
+    alloc: Global,
+    turning: Turning,
+    channels: Option<SharedChannels>,
+    history: &History,
+    rounds: &mut Listing,
+) -> Option<Turning>
+    requires turning { IsTurning history.now.processes turning }
+    requires channels { IsCounted history.now.processes turning.number channels }
+    requires room { 0 < rounds.old.room }
+    ensures listed { rounds.new.items ≡ rounds.old.items ++ newly_closed Unordered history.now.processes (Some (opened_by turning)) }
+    ensures left { opened_turning result ≡ left_open Unordered history.now.processes (Some (opened_by turning)) }
+{
+    match channels {
+        Some(channels) => {
+            rounds.push(Round::of_turning(alloc, turning, channels, history));
+            None
+        }
+        None => Some(turning),
+    }
+}
