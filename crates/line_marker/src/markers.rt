@@ -111,6 +111,13 @@ impl Marker {
         })
     }
 
+    /// The process.
+    pub fn me(&self) -> ProcId
+        ensures { result ≡ self.now.me }
+    {
+        self.me
+    }
+
     /// The greatest recorded round, or the floor where none is recorded.
     pub fn latest(&self) -> u32
         ensures { result ≡ latest self.now.floor self.now.rounds }

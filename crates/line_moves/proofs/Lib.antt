@@ -10,4 +10,5 @@ pub mod TurnFacts
 pub mod WorldLemmas
 pub mod AgreeLemmas
 pub mod StillLemmas
+pub mod KeptMarkers
 pub mod LineFacts

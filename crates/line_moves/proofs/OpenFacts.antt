@@ -8,7 +8,6 @@ use Rattle.line_marker.specs.Recording.{Channel, MarkerView, Recorded, messages_
 use Rattle.line_names.specs.declared.messages.MsgName.{MsgName}
 use Rattle.line_tape.specs.declared.events.Event.{Event}
 use Rattle.line_tape.specs.declared.events.Event.TheVariants.{Recv, Check, Mark}
-use Rattle.line_tape.specs.Event.{checks}
 use Rattle.line_tape.specs.History.{Process, tape_at, with_event}
 use Rattle.line_tape.specs.Rounds.{has_check_of, is_check_of, checks_of, channel_fifo, is_closed_at, is_completed_fifo}
 use Rattle.line_tape.proofs.CompletionLemmas.{closed_from, closed_parts}
@@ -19,7 +18,7 @@ use Rattle.line_moves.specs.declared.modes.Mode.TheVariants.{Fifo}
 use Rattle.line_moves.specs.Listed.{Listed, channel, channel_table, listed}
 use Rattle.line_turns.specs.Turning.{TurningView, IsTurning}
 use Rattle.line_turns.proofs.TurningLemmas.{IsTurning-checked, IsTurning-kept}
-use Rattle.line_moves.specs.Openings.{OpenView, recorded_channel, recorded_table, marker_at, no_marker, AreMarkers, IsFresh, IsMarkerOf, IsRecording, IsRoundOrNone}
+use Rattle.line_moves.specs.Openings.{OpenView, kept_channel, recorded_channel, recorded_table, marker_at, no_marker, AreMarkers, IsFresh, IsMarkerOf, IsRecording, IsRoundOrNone}
 use Rattle.line_moves.proofs.LinkLemmas.{length-with_event}
 use Rattle.line_moves.proofs.OpeningLemmas.{is_checked_now, markers_written}
 use Rattle.line_moves.proofs.RecordingLemmas.{recorded_round, recorded_there, closed_over, over_closed, IsMarkerOf-begun, IsMarkerOf-marked, IsMarkerOf-noted, IsMarkerOf-repeated}
@@ -179,7 +178,7 @@ recorded_is history round is p q p_within q_within apart begun =
 -- the round that is completed, as it is listed: with what was recorded, or with as much as has the same channels
 pub completed_is : (history : List Process) (turning : TurningView) (markers kept : List MarkerView) → AreMarkers (length turning.checks) markers
     → IsRecording history (record { number = turning.number; checks = turning.checks; markers = markers }) → is_completed_fifo history turning.number ≡ true
-    → ((p q : ℕ) → p < length history → recorded_channel kept turning.number p q ≡ recorded_channel markers turning.number p q)
+    → ((p q : ℕ) → p < length history → q < length history → kept_channel kept turning.number p q ≡ recorded_channel markers turning.number p q)
     → (let round : Listed = record { number = turning.number; checks = turning.checks; channels = recorded_table (length turning.checks) kept turning.number } in round) ≡ listed Fifo history turning.number
 completed_is history turning markers kept are is completed same_channels =
     let n : ℕ = length history in
@@ -188,11 +187,11 @@ completed_is history turning markers kept are is completed same_channels =
     let has : (q : ℕ) → q < n → has_check_of r (tape_at history q) ≡ true = λ q within. closed_has_check history r q completed within in
     let indices_are : turning.checks ≡ checks_of history r = IsTurning-checked history turning is.turning (completed_checked history r completed) in
     let channels_are : recorded_table (length turning.checks) kept r ≡ channel_table n (channel Fifo history r) =
-    ap (λ (v : ℕ). channel_table v (recorded_channel kept r)) is.turning.count
-    ∙ map_cells (λ p. map (λ q. cond (p == q) [] (recorded_channel kept r p q)) (range_with_len 0 n)) (λ p. map (λ q. cond (p == q) [] (channel_fifo history r p q)) (range_with_len 0 n)) 0 n (λ p p_low p_high.
-    map_cells (λ q. cond (p == q) [] (recorded_channel kept r p q)) (λ q. cond (p == q) [] (channel_fifo history r p q)) 0 n (λ q q_low q_high. elim (cases_eq p q) [
-      | inl same ↦ ap (λ b. cond b [] (recorded_channel kept r p q)) (eq-eqb p q same) ∙ sym (ap (λ b. cond b [] (channel_fifo history r p q)) (eq-eqb p q same))
-      | inr apart ↦ ap (λ (ms : List MsgName). cond (p == q) [] ms) (same_channels p q (omega (arith, p_high)) ∙ recorded_is history round is p q (omega (arith, p_high)) (omega (arith, q_high)) apart (has q (omega (arith, q_high))))
+    ap (λ (v : ℕ). channel_table v (kept_channel kept r)) is.turning.count
+    ∙ map_cells (λ p. map (λ q. cond (p == q) [] (kept_channel kept r p q)) (range_with_len 0 n)) (λ p. map (λ q. cond (p == q) [] (channel_fifo history r p q)) (range_with_len 0 n)) 0 n (λ p p_low p_high.
+    map_cells (λ q. cond (p == q) [] (kept_channel kept r p q)) (λ q. cond (p == q) [] (channel_fifo history r p q)) 0 n (λ q q_low q_high. elim (cases_eq p q) [
+      | inl same ↦ ap (λ b. cond b [] (kept_channel kept r p q)) (eq-eqb p q same) ∙ sym (ap (λ b. cond b [] (channel_fifo history r p q)) (eq-eqb p q same))
+      | inr apart ↦ ap (λ (ms : List MsgName). cond (p == q) [] ms) (same_channels p q (omega (arith, p_high)) (omega (arith, q_high)) ∙ recorded_is history round is p q (omega (arith, p_high)) (omega (arith, q_high)) apart (has q (omega (arith, q_high))))
     ])) in
     ap (λ (v : List (List (List MsgName))). let l : Listed = record { number = r; checks = turning.checks; channels = v } in l) channels_are
     ∙ ap (λ (v : List ℕ). let l : Listed = record { number = r; checks = v; channels = channel_table n (channel Fifo history r) } in l) indices_are

@@ -14,7 +14,6 @@ use Rattle.line_marker.specs.Recording.{MarkerView}
 use Rattle.line_names.specs.declared.messages.MsgName.{MsgName}
 use Rattle.line_tape.specs.declared.events.Event.{Event}
 use Rattle.line_tape.specs.declared.events.Event.TheVariants.{Check, Mark}
-use Rattle.line_tape.specs.Event.{checks}
 use Rattle.line_tape.specs.History.{Process, tape_at, with_event}
 use Rattle.line_tape.specs.Rounds.{has_check_of, is_check_of, is_mark_of, names_from}
 use Rattle.line_tape.specs.Colours.{AreColoured}

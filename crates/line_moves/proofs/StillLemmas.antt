@@ -3,20 +3,18 @@ use Rattle.std.proofs.Common.{◌≡◌, ℕ, zero, suc, ◌+◌, ◌<◌, ◌�
 use Rattle.std.specs.Prelude.{◌==◌}
 use Rattle.std.specs.List.{filter, list_any}
 use Rattle.std.proofs.lemmas.Bool.{cases_lt}
-use Rattle.std.proofs.lemmas.List.{take_all}
 use Rattle.std.proofs.lemmas.List.Elements.{filter_agree}
 use Rattle.line_names.specs.declared.choices.Choice.{Choice}
-use Rattle.line_names.specs.declared.choices.Choice.TheVariants.{Check as AtCheck, Now}
 use Rattle.line_names.specs.declared.messages.MsgName.{MsgName}
 use Rattle.line_names.specs.Lines.{choice_at}
 use Rattle.line_names.specs.Names.{is_name}
 use Rattle.line_tape.specs.declared.events.Event.{Event}
 use Rattle.line_tape.specs.declared.events.Event.TheVariants.{Send, Recv, Check, Mark}
 use Rattle.line_tape.specs.Event.{checks}
-use Rattle.line_tape.specs.Front.{place, front}
+use Rattle.line_tape.specs.Front.{front}
 use Rattle.line_tape.specs.History.{Process, tape_at}
 use Rattle.line_tape.specs.Line.{events_before}
-use Rattle.line_tape.specs.Transit.{Letter, has_received, in_transit_between, is_open, letters, names_received, open_letters}
+use Rattle.line_tape.specs.Transit.{Letter, in_transit_between, is_open, letters, names_received, open_letters}
 use Rattle.line_tape.proofs.LineLemmas.{tape_at-past, front-empty}
 use Rattle.line_tape.proofs.RowLemmas.{checks_le}
 

@@ -12,7 +12,6 @@ use Rattle.line_tape.specs.declared.events.Event.TheVariants.{Check}
 use Rattle.line_tape.specs.Colours.{is_completed_unordered}
 use Rattle.line_tape.specs.History.{Process, tape_at, with_event}
 use Rattle.line_tape.specs.Rounds.{check_line, checks_of, has_check_of, round_line, IsSnapshot}
-use Rattle.line_tape.specs.Transit.{in_transit_between}
 use Rattle.line_tape.proofs.CompletionLemmas.{checked_from}
 use Rattle.line_tape.proofs.NextLemmas.{tape_same, tape_other}
 use Rattle.line_tape.proofs.RoundLines.{checked_has}

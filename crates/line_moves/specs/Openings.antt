@@ -1,6 +1,6 @@
 -- What is kept of the round that is open, and how it follows the tapes.
 use Rattle.std.specs.Option.{unwrap_or}
-use Rattle.std.specs.Prelude.{◌≡◌, ◌≢◌, ℕ, suc, ◌<◌, Bool, true, false, if◌then◌else◌, List, [], ◌∷◌, ◌++◌, length, slice_index_or, Option, Some, None, All}
+use Rattle.std.specs.Prelude.{◌≡◌, ◌≢◌, ◌==◌, ℕ, suc, ◌<◌, Bool, true, false, if◌then◌else◌, List, [], ◌∷◌, ◌++◌, length, slice_index_or, Option, Some, None, All}
 use Rattle.line_marker.specs.Recording.{Channel, MarkerView, Recorded, channel_at, messages_by, round_of}
 use Rattle.line_names.specs.declared.choices.Choice.{Choice}
 use Rattle.line_names.specs.declared.messages.MsgName.{MsgName}
@@ -44,9 +44,18 @@ pub record IsFresh (floor : ℕ) (marker : MarkerView) : Type 0 where
 abbrev pub recorded_channel : List MarkerView → ℕ → ℕ → ℕ → List MsgName
 recorded_channel markers r p q = unwrap_or (messages_by (round_of (marker_at markers q).rounds r) p) []
 
+-- what process q has recorded, where some processes have: nothing if it is none of them
+abbrev pub marker_of : List MarkerView → ℕ → MarkerView
+marker_of [] q = no_marker
+marker_of (marker ∷ rest) q = if marker.me == q then marker else marker_of rest q
+
+-- what these recorded of the channel from process p to q in round r
+abbrev pub kept_channel : List MarkerView → ℕ → ℕ → ℕ → List MsgName
+kept_channel markers r p q = unwrap_or (messages_by (round_of (marker_of markers q).rounds r) p) []
+
 -- and of all channels between n processes
 abbrev pub recorded_table : ℕ → List MarkerView → ℕ → List (List (List MsgName))
-recorded_table n markers r = channel_table n (recorded_channel markers r)
+recorded_table n markers r = channel_table n (kept_channel markers r)
 
 -- what a tape has of the channel from process p in round r
 abbrev pub channel_of : ℕ → ℕ → List Event → Channel

@@ -228,9 +228,13 @@ fn take_turn(
     Ok((check, channels))
 }
 
-/// A process takes its check of the round of colours that is open, which has number `_round` (Lai and Yang, Information Processing Letters 25(3), 1987), and the index of the check is told. The round is listed if this was the last of its checks. There is room for `further` events of the process then.
+/// A process takes its check of the round of colours that is open, which has number `_round` (Lai and
+/// Yang, Information Processing Letters 25(3), 1987), and the index of the check is told. The round is
+/// listed if this was the last of its checks. There is room for `further` events of the process then.
 ///
-/// The last check of a round looks at what was sent and received since the channels of a round were counted before, and once at each message that is in transit at its checks; or once at each process, where nothing was sent or received since the checks of the round before. Another check costs a push.
+/// The last check of a round costs a step for each process where nothing was sent or received since
+/// the checks of the round before. Else it looks at what was sent and received since channels were
+/// last counted, and at each message that is in transit at its checks. Another check costs a push.
 pub fn turn_round(
     alloc: Global,
     catalogue: &mut Catalogue,

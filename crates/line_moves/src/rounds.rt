@@ -11,7 +11,7 @@ ghost use Rattle.line_moves.specs.Listed.{check_in, channel_in, listed, stays, I
 ghost use Rattle.line_moves.specs.Listings.{IsBelow};
 ghost use Rattle.line_marker.specs.Recording.{MarkerView, messages_by, round_of};
 ghost use Rattle.std.specs.Option.{unwrap_or};
-ghost use Rattle.line_moves.specs.Openings.{recorded_channel, recording_of, AreFoundAt, AreInTransit, AreMarkers, IsRecording};
+ghost use Rattle.line_moves.specs.Openings.{kept_channel, recorded_channel, recording_of, AreFoundAt, AreInTransit, AreMarkers, IsRecording};
 
 use line_marker::Marker;
 use line_names::{Choice, Line, MOST_PROCESSES, MsgName, ProcId};
@@ -25,7 +25,8 @@ use std::marker::Model;
 pub struct Round {
     number: u32,
     checks: Vec<u32>,
-    /// What each process recorded until its last marker came; none where that is nothing at all, or links keep no order.
+    /// What processes recorded until their last marker came: those that recorded something, by
+    /// process; none where links keep no order.
     markers: Vec<Marker>,
     /// What was in transit, where links keep no order.
     counted: Option<SharedChannels>,
@@ -181,18 +182,22 @@ impl Round {
 }
 
 /// What process `to` recorded of the channel from process `from` in a round; nothing where it is not
-/// among these.
+/// among these. It looks for it from the first.
 fn recorded(markers: &[Marker], round: u32, from: ProcId, to: ProcId) -> &[MsgName]
     requires { All (λ (marker : MarkerView). from < marker.n) markers.now }
-    ensures { result.now ≡ recorded_channel markers.now round from to }
+    ensures { result.now ≡ kept_channel markers.now round from to }
 {
-    match markers.get(to.get() as usize) {
-        Some(marker) => match marker.channel(from, round) {
-            Some(names) => names,
-            None => &[],
-        },
-        None => &[],
+    let count = markers.len();
+    'each: for i in 0..count {
+        let marker = &markers[i];
+        if marker.me().get() == to.get() {
+            return match marker.channel(from, round) {
+                Some(names) => names,
+                None => &[],
+            };
+        }
     }
+    &[]
 }
 
 /// Whether nothing is on any channel of the round to a process. It looks at each of them.
@@ -213,34 +218,27 @@ fn is_silent(marker: &Marker, n: u32, round: u32) -> bool
     true
 }
 
-/// Whether nothing is on any channel of the round. It looks at each of them.
-fn are_silent(markers: &[Marker], n: u32, round: u32) -> bool
-    requires few { n ≤ MOST_PROCESSES }
-    requires n { All (λ (marker : MarkerView). marker.n ≡ n) markers.now }
-    ensures { result ≡ true → (p q : ℕ) → p < n → recorded_channel markers.now round p q ≡ [] }
-{
-    let count = markers.len();
-    'each: for q in 0..count {
-        if !is_silent(&markers[q], n, round) {
-            return false;
-        }
-    }
-    true
-}
-
-/// What was recorded of a round, or nothing where nothing is on any of its channels. It takes no
-/// memory.
+/// What was recorded of a round, by the processes that something is on a channel to. It takes no
+/// memory, and looks at each channel.
 fn without_silence(alloc: Global, n: u32, markers: Vec<Marker>, round: u32) -> Vec<Marker>
     requires few { n ≤ MOST_PROCESSES }
-    requires n { All (λ (marker : MarkerView). marker.n ≡ n) markers.items }
+    requires markers { AreMarkers n markers.items }
     ensures n { All (λ (marker : MarkerView). marker.n ≡ n) result.items }
-    ensures same { (p q : ℕ) → p < n
-        → recorded_channel result.items round p q ≡ recorded_channel markers.items round p q }
+    ensures same { (p q : ℕ) → p < n → q < n
+        → kept_channel result.items round p q ≡ recorded_channel markers.items round p q }
 {
-    if are_silent(&markers, n, round) {
+    let mut kept = markers;
+    let mut q = kept.len();
+    'each: while q > 0 {
+        q -= 1;
+        if is_silent(&kept[q], n, round) {
+            kept.remove(q);
+        }
+    }
+    if kept.is_empty() {
         return Vec::new(alloc);
     }
-    markers
+    kept
 }
 
 /// Whether a restart at the choice keeps a check.

@@ -1,6 +1,5 @@
 -- The channels of a round that the check completes are what is in transit where its process stands now and the others at their checks.
 use Rattle.std.proofs.Common.{◌≡◌, ◌≢◌, ◌<◌, ℕ, true, List, length, sym, ◌∙◌, subst}
-use Rattle.line_names.specs.declared.choices.Choice.{Choice}
 use Rattle.line_tape.specs.History.{Process, tape_at}
 use Rattle.line_tape.specs.Line.{IsLine}
 use Rattle.line_tape.specs.Rounds.{has_check_of}

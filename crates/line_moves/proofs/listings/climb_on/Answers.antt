@@ -1,5 +1,5 @@
 -- The last round is below the new one, and all others are below the last.
-use Rattle.std.proofs.Common.{◌≡◌, ◌<◌, ◌-◌, true, length, get_or, rules, arith}
+use Rattle.std.proofs.Common.{◌≡◌, ◌<◌, ◌-◌, true, length, get_or, rules}
 use Rattle.line_moves.specs.Listed.{Listed}
 use Rattle.line_moves.proofs.ListingLemmas.{Climb-push}
 use Rattle.line_moves.proofs.listings.climb_on.Goals as goal

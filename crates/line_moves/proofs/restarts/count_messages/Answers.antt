@@ -1,12 +1,11 @@
 -- One message more is counted.
-use Rattle.std.proofs.Common.{◌≡◌, ◌+◌, ◌<◌, ℕ, List, [], length, get_or, set, map, refl, sym, ap, ◌∙◌, subst, arith}
+use Rattle.std.proofs.Common.{◌≡◌, ◌+◌, ◌<◌, ℕ, List, length, get_or, set, map, refl, sym, ap, ◌∙◌, subst, arith}
 use Rattle.std.proofs.lemmas.List.{length-map}
 use Rattle.std.proofs.Math.Seq.{map-set_same}
 use Rattle.line_names.specs.declared.messages.MsgName.{MsgName}
-use Rattle.line_tape.specs.declared.items.Item.{Item}
 use Rattle.line_tape.specs.History.{Process}
 use Rattle.line_turns.proofs.ChannelLemmas.{addressee_within, sender_within}
-use Rattle.line_moves.specs.Rooms.{count_between, items_of, AreCounted, QueueView}
+use Rattle.line_moves.specs.Rooms.{items_of, AreCounted, QueueView}
 use Rattle.line_moves.specs.Worlds.{AreQueues}
 use Rattle.line_moves.proofs.CountLemmas.{row-length, counted-before, count-first, AreCounted-more, AreCounted-none, AreCounted-start}
 use Rattle.line_moves.proofs.restarts.count_messages.Goals.{in-Some+in_ok-count, in_default}

@@ -1,9 +1,8 @@
 -- None is counted on one queue more.
-use Rattle.std.proofs.Common.{◌≡◌, ◌+◌, ◌<◌, ℕ, List, [], length, get_or, set, map, refl, sym, ap, ◌∙◌, subst, arith}
+use Rattle.std.proofs.Common.{◌≡◌, ◌+◌, ◌<◌, ℕ, List, length, get_or, set, map, refl, sym, ap, ◌∙◌, subst, arith}
 use Rattle.std.proofs.lemmas.List.{length-map}
 use Rattle.std.proofs.Math.Seq.{map-set_same}
 use Rattle.line_names.specs.declared.messages.MsgName.{MsgName}
-use Rattle.line_tape.specs.declared.items.Item.{Item}
 use Rattle.line_tape.specs.History.{Process}
 use Rattle.line_turns.proofs.ChannelLemmas.{addressee_within, sender_within}
 use Rattle.line_moves.specs.Rooms.{items_of, AreUncounted, QueueView}

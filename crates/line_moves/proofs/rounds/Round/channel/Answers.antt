@@ -1,11 +1,11 @@
 -- What its receiver has recorded of it, or what was counted.
-use Rattle.std.proofs.Common.{◌≡◌, ◌<◌, ℕ, List, [], length, get_or, Option, Some, None, sym, ap, ◌∙◌, subst, arith}
+use Rattle.std.proofs.Common.{◌≡◌, ◌<◌, ℕ, List, [], length, get_or, Option, sym, ap, ◌∙◌, subst, arith}
 use Rattle.std.specs.Prelude.{All}
 use Rattle.line_marker.specs.Recording.{MarkerView}
 use Rattle.line_names.specs.declared.messages.MsgName.{MsgName}
 use Rattle.line_turns.specs.Tables.{between}
 use Rattle.line_moves.specs.Listed.{Listed, channel_in}
-use Rattle.line_moves.specs.Openings.{channels_kept, recorded_channel, AreChannels}
+use Rattle.line_moves.specs.Openings.{channels_kept, kept_channel, AreChannels}
 use Rattle.line_moves.proofs.OpeningLemmas.{table_cell}
 use Rattle.line_moves.proofs.rounds.Round.channel.Goals as goal
 
@@ -39,7 +39,7 @@ returns-in-None c =
     let to : ℕ = c.args.to in
     let count : length indices ≡ length c.args.self.now.checks = ap (λ (v : Listed). length v.checks) c.self.view_is in
     let kept : Option (List (List (List MsgName))) → List MsgName = λ o. get_or (get_or (channels_kept o (length indices) markers r) from []) to [] in
-    c.recorded.ensures ∙ ap (λ (ms : List MarkerView). recorded_channel ms r from to) c.deref.ensures.value
-    ∙ sym (table_cell (length indices) (recorded_channel markers r) from to (omega (arith, c.requires.from, count)) (omega (arith, c.requires.to, count)) c.requires.other)
+    c.recorded.ensures ∙ ap (λ (ms : List MarkerView). kept_channel ms r from to) c.deref.ensures.value
+    ∙ sym (table_cell (length indices) (kept_channel markers r) from to (omega (arith, c.requires.from, count)) (omega (arith, c.requires.to, count)) c.requires.other)
     ∙ ap kept (sym c.in-None.is)
     ∙ ap (λ (v : Listed). channel_in v from to) c.self.view_is

@@ -1,17 +1,15 @@
 -- What its checks and its markers say is what the tapes say.
 use Rattle.std.proofs.Common.{◌≡◌, ◌<◌, ℕ, List, length, sym, subst, ap, ◌∙◌, arith}
-use Rattle.std.proofs.lemmas.List.{get_or_default}
 use Rattle.line_marker.specs.Recording.{MarkerView}
 use Rattle.line_tape.specs.History.{Process}
 use Rattle.line_moves.specs.Listed.{Listed}
-use Rattle.line_moves.specs.Openings.{no_marker, recorded_channel, recorded_table}
+use Rattle.line_moves.specs.Openings.{kept_channel, recorded_channel, recorded_table, AreMarkers}
 use Rattle.line_moves.proofs.OpenFacts.{completed_is}
 use Rattle.line_moves.proofs.rounds.Round.of_markers.Goals as goal
 
-pub without_silence-markers-requires-clause-n : goal.without_silence-markers-requires-clause-n
-without_silence-markers-requires-clause-n c = λ k d within.
-    ap (λ (m : MarkerView). m.n) (get_or_default c.args.markers.items k d no_marker within)
-    ∙ c.requires.markers.n_is k (omega (arith, within, c.requires.markers.count)) ∙ c.requires.recording.turning.count ∙ sym c.n-n.ensures.value
+pub without_silence-markers-requires-clause-markers : goal.without_silence-markers-requires-clause-markers
+without_silence-markers-requires-clause-markers c =
+    subst (λ (n : ℕ). AreMarkers n c.args.markers.items) (c.requires.recording.turning.count ∙ sym c.n-n.ensures.value) c.requires.markers
 
 pub returns : goal.returns
 returns c =
@@ -24,9 +22,9 @@ returns c =
     ≡ (let it : Listed = record { number = r; checks = indices; channels = recorded_table (length indices) kept r } in it) =
     ap (λ (v : ℕ). let it : Listed = record { number = v; checks = c.into_checks.result.items; channels = recorded_table (length c.into_checks.result.items) kept v } in it) c.number-number.ensures
     ∙ ap (λ (v : List ℕ). let it : Listed = record { number = r; checks = v; channels = recorded_table (length v) kept r } in it) c.into_checks.ensures in
-    let same : (p q : ℕ) → p < length history → recorded_channel kept r p q ≡ recorded_channel markers r p q = λ p q within.
-    subst (λ (v : ℕ). recorded_channel kept v p q ≡ recorded_channel markers v p q) c.number-number.ensures
-    (c.without_silence-markers.ensures.same p q (omega (arith, within, c.n-n.ensures.value))) in
+    let same : (p q : ℕ) → p < length history → q < length history → kept_channel kept r p q ≡ recorded_channel markers r p q = λ p q p_within q_within.
+    subst (λ (v : ℕ). kept_channel kept v p q ≡ recorded_channel markers v p q) c.number-number.ensures
+    (c.without_silence-markers.ensures.same p q (omega (arith, p_within, c.n-n.ensures.value)) (omega (arith, q_within, c.n-n.ensures.value))) in
     told ∙ completed_is history c.args.turning markers kept c.requires.markers c.requires.recording c.requires.completed same
 
 pub invariant_of-result : goal.invariant_of-result

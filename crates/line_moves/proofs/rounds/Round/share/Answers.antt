@@ -1,7 +1,6 @@
 -- The channels that were counted are those that it shows.
 use Rattle.std.proofs.Common.{◌≡◌, ℕ, List, length, Option, Some, sym, ap, ◌∙◌, subst}
 use Rattle.line_names.specs.declared.messages.MsgName.{MsgName}
-use Rattle.line_tape.specs.History.{Process}
 use Rattle.line_tape.specs.Rounds.{check_line}
 use Rattle.line_turns.specs.Tables.{IsTable}
 use Rattle.line_moves.specs.Listed.{Listed, IsSnapshotOf}

@@ -1,0 +1,95 @@
+-- What is left of the markers of a round once those are out that recorded nothing.
+use Rattle.std.proofs.Common.{◌≡◌, ◌≢◌, ℕ, zero, suc, ◌+◌, ◌<◌, ◌≤◌, cond, List, [], ◌∷◌, length, refl, sym, ap, ◌∙◌, subst, arith, inl, inr}
+use Rattle.std.specs.Prelude.{All, remove}
+use Rattle.std.specs.Option.{unwrap_or}
+use Rattle.std.proofs.lemmas.Bool.{cases_eq, eq-eqb, ne_eqb}
+use Rattle.std.proofs.lemmas.List.Elements.{All-nil, All-cons, All-head, All-tail}
+use Rattle.line_marker.specs.Recording.{MarkerView, messages_by, round_of}
+use Rattle.line_names.specs.declared.messages.MsgName.{MsgName}
+use Rattle.line_moves.specs.Openings.{kept_channel, marker_at, marker_of, no_marker, recorded_channel, AreMarkers}
+
+-- the markers are of later and later processes, the first of them of this one or a later one
+abbrev pub Ascend : ℕ → List MarkerView → Type 0
+Ascend low [] = Unit {0}
+Ascend low (marker ∷ rest) = (low ≤ marker.me) × Ascend (suc marker.me) rest
+
+Ascend-weaker : (low least : ℕ) (markers : List MarkerView) → least ≤ low → Ascend low markers → Ascend least markers
+Ascend-weaker low least [] most is = tt
+Ascend-weaker low least (marker ∷ rest) most is = (omega (arith, most, is.0), is.1)
+
+-- so none is of an earlier one
+none_before : (low q : ℕ) (markers : List MarkerView) → q < low → Ascend low markers → marker_of markers q ≡ no_marker
+none_before low q [] less is = refl
+none_before low q (marker ∷ rest) less is =
+    ap (λ b. cond b marker (marker_of rest q)) (ne_eqb marker.me q (λ e. omega (arith, e, less, is.0)))
+    ∙ none_before (suc marker.me) q rest (omega (arith, less, is.0)) is.1
+
+-- those of all processes stand at their places
+module _ (first : ℕ) (markers : List MarkerView) (aligned : (q : ℕ) → q < length markers → (marker_at markers q).me ≡ first + q) where
+  later : (marker : MarkerView) (rest : List MarkerView) → markers ≡ marker ∷ rest → (q : ℕ) → q < length rest → (marker_at rest q).me ≡ suc first + q
+  later marker rest e q within =
+      let l : length markers ≡ suc (length rest) = ap (λ (ms : List MarkerView). length ms) e in
+      ap (λ (ms : List MarkerView). (marker_at ms (suc q)).me) (sym e) ∙ aligned (suc q) (omega (arith, within, l)) ∙ omega arith
+
+pub aligned_ascend : (first : ℕ) (markers : List MarkerView) → ((q : ℕ) → q < length markers → (marker_at markers q).me ≡ first + q) → Ascend first markers
+aligned_ascend first [] aligned = tt
+aligned_ascend first (marker ∷ rest) aligned =
+    let own : marker.me ≡ first = aligned 0 (omega arith) ∙ omega arith in
+    (omega (arith, own), subst (λ (k : ℕ). Ascend (suc k) rest) (sym own) (aligned_ascend (suc first) rest (later first (marker ∷ rest) aligned marker rest refl)))
+
+-- the first marker of a process is the one that is found
+pub found_at : (markers : List MarkerView) (i q : ℕ) → i < length markers → ((k : ℕ) → k < i → (marker_at markers k).me ≢ q) → (marker_at markers i).me ≡ q → marker_of markers q ≡ marker_at markers i
+found_at [] i q within before at = absurd (omega (arith, within))
+found_at (marker ∷ rest) zero q within before at = ap (λ b. cond b marker (marker_of rest q)) (eq-eqb marker.me q at)
+found_at (marker ∷ rest) (suc i) q within before at =
+    ap (λ b. cond b marker (marker_of rest q)) (ne_eqb marker.me q (before 0 (omega arith)))
+    ∙ found_at rest i q (omega (arith, within)) (λ k less. before (suc k) (omega (arith, less))) at
+
+pub found_nowhere : (markers : List MarkerView) (q : ℕ) → ((k : ℕ) → k < length markers → (marker_at markers k).me ≢ q) → marker_of markers q ≡ no_marker
+found_nowhere [] q none = refl
+found_nowhere (marker ∷ rest) q none =
+    ap (λ b. cond b marker (marker_of rest q)) (ne_eqb marker.me q (none 0 (omega arith)))
+    ∙ found_nowhere rest q (λ k within. none (suc k) (omega (arith, within)))
+
+-- of the markers of all processes each is found at its place
+pub found_all : (n r p q : ℕ) (markers : List MarkerView) → AreMarkers n markers → q < n → kept_channel markers r p q ≡ recorded_channel markers r p q
+found_all n r p q markers are within =
+    ap (λ (marker : MarkerView). unwrap_or (messages_by (round_of marker.rounds r) p) [])
+    (found_at markers q q (omega (arith, within, are.count)) (λ k less e. omega (arith, less, e, are.me_is k (omega (arith, less, within)))) (are.me_is q within))
+
+-- what all are stays so for what is left
+pub All-removed : {X : Type 0} (P : X → Type 0) (xs : List X) (j : ℕ) → All P xs → All P (remove xs j)
+All-removed P [] zero all = All-nil P
+All-removed P [] (suc j) all = All-nil P
+All-removed P (x ∷ xs) zero all = All-tail P x xs all
+All-removed P (x ∷ xs) (suc j) all = All-cons P x (remove xs j) (All-head P x xs all) (All-removed P xs j (All-tail P x xs all))
+
+pub Ascend-removed : (low : ℕ) (markers : List MarkerView) (j : ℕ) → Ascend low markers → Ascend low (remove markers j)
+Ascend-removed low [] zero is = tt
+Ascend-removed low [] (suc j) is = tt
+Ascend-removed low (marker ∷ rest) zero is = Ascend-weaker (suc marker.me) low rest (omega (arith, is.0)) is.1
+Ascend-removed low (marker ∷ rest) (suc j) is = (is.0, Ascend-removed (suc marker.me) rest j is.1)
+
+module _ (r p q : ℕ) where
+  abbrev pub told : MarkerView → List MsgName
+  told marker = unwrap_or (messages_by (round_of marker.rounds r) p) []
+
+  -- without a marker that recorded nothing of a channel, the same is kept of it
+  pub kept_removed : (low : ℕ) (markers : List MarkerView) (j : ℕ) → Ascend low markers → j < length markers → told (marker_at markers j) ≡ [] → kept_channel (remove markers j) r p q ≡ kept_channel markers r p q
+  kept_removed low [] j is within silent = absurd (omega (arith, within))
+  kept_removed low (marker ∷ rest) zero is within silent = elim (cases_eq marker.me q) [
+    | inl same ↦
+        ap told (none_before (suc marker.me) q rest (omega (arith, same)) is.1)
+        ∙ sym silent
+        ∙ ap (λ b. told (cond b marker (marker_of rest q))) (sym (eq-eqb marker.me q same))
+    | inr apart ↦ ap (λ b. told (cond b marker (marker_of rest q))) (sym (ne_eqb marker.me q apart))
+  ]
+  kept_removed low (marker ∷ rest) (suc j) is within silent = elim (cases_eq marker.me q) [
+    | inl same ↦
+        ap (λ b. told (cond b marker (marker_of (remove rest j) q))) (eq-eqb marker.me q same)
+        ∙ ap (λ b. told (cond b marker (marker_of rest q))) (sym (eq-eqb marker.me q same))
+    | inr apart ↦
+        ap (λ b. told (cond b marker (marker_of (remove rest j) q))) (ne_eqb marker.me q apart)
+        ∙ kept_removed (suc marker.me) rest j is.1 (omega (arith, within)) silent
+        ∙ ap (λ b. told (cond b marker (marker_of rest q))) (sym (ne_eqb marker.me q apart))
+  ]
