@@ -1,6 +1,6 @@
 //! Scripts that are run: a text in, the text of the replies out.
 
-ghost use Rattle.std.specs.Prelude.{◌≡◌, ◌≢◌, ◌<◌, ◌≤◌, ◌++◌, ◌+◌, ◌^◌, ◌⊎◌, ℕ, List, [], Err, Some, length, IfOk, IfErr, OnErr, OnOk};
+ghost use Rattle.std.specs.Prelude.{◌≡◌, ◌≢◌, ◌<◌, ◌≤◌, ◌++◌, ◌+◌, ◌^◌, ◌⊎◌, ℕ, List, [], Err, Ok, Some, length, IfOk, IfErr, OnErr, OnOk};
 ghost use Rattle.line_devices.specs.Devices.{Puts, PutsFront, one_more};
 ghost use Rattle.line_devices.specs.Reads.{GivesAll, IsTooLong};
 ghost use Rattle.line_fields.specs.Texts.{record_text, records_text};
@@ -256,6 +256,25 @@ fn world_of(alloc: Global, script: &Script) -> Result<World, TextFault>
     }
 }
 
+// The script that the whole input spells. The text of the input is let go.
+fn script_of<S: Source>(alloc: Global, source: &mut S) -> Result<Script, TextFault>
+    ensures spelt { IfOk result (λ script. (text : List ℕ) × GivesAll text (S.left source.old) (S.left source.new) (S.given source.old) (S.given source.new)
+        × (script_of_text text ≡ Ok (seen script))) }
+    ensures within { IfOk result (λ script. (1 ≤ script.n) × (script.n ≤ MOST_PROCESSES)) }
+    ensures few { IfOk result (λ script. length script.commands.items + 2 < 2 ^ 64) }
+    ensures text { IfErr result (λ fault. IsOfText fault
+        → (text : List ℕ) × GivesAll text (S.left source.old) (S.left source.new) (S.given source.old) (S.given source.new) × (script_of_text text ≡ Err fault)) }
+    ensures read { IfErr result (λ fault. fault.code ≡ READ_FAULT
+        → (S.faults source.new ≡ one_more (S.faults source.old)) ⊎ IsTooLong (S.left source.old) (S.given source.old) (S.given source.new)) }
+    ensures codes { IfErr result (λ fault. (fault ≡ no_memory) ⊎ (fault ≡ record { record_number = 0; code = READ_FAULT }) ⊎ IsOfText fault) }
+    ensures heard { OnOk result (S.faults source.new ≡ S.faults source.old) }
+    ensures told { IfErr result (λ fault. fault.code ≢ READ_FAULT → S.faults source.new ≡ S.faults source.old) }
+    ensures ended { HearsEnd result (S.ends source.old) (S.ends source.new) }
+{
+    let text = read_input(alloc, source)?;
+    read_script(alloc, &text)
+}
+
 /// Reads a script, runs it, and writes the replies.
 ///
 /// The whole script is read, and every fault of it found, before the first command runs. A fault of the
@@ -305,8 +324,7 @@ pub fn run_text<S: Source, K: Sink>(
     // Once the source said that nothing is left, it is asked no more.
     ensures ended { HearsEnd result (S.ends source.old) (S.ends source.new) }
 {
-    let text = read_input(alloc, source)?;
-    let script = read_script(alloc, &text)?;
+    let script = script_of(alloc, source)?;
     let mut world = world_of(alloc, &script)?;
     match run_commands(alloc, &mut world, &script.commands, sink) {
         Ok(refused) => Ok(Done { refused }),
