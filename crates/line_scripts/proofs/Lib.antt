@@ -1,2 +1,3 @@
 pub mod FaultLemmas
+pub mod KeepingLemmas
 pub mod ReadLemmas

@@ -1,7 +1,12 @@
 -- A script that was read.
+use Rattle.line_scripts.specs.declared.scripts.KeptScript as kept
 use Rattle.line_scripts.specs.declared.scripts.Script as made
 use Rattle.line_scripts.specs.Scripts.{Script}
 
 -- a script with its commands as a list
 abbrev pub seen : made.Script → Script
 seen script = record { n = script.n; mode = script.mode; commands = script.commands.items }
+
+-- the same of a script in little memory
+abbrev pub seen_kept : kept.KeptScript → Script
+seen_kept script = record { n = script.n; mode = script.mode; commands = script.commands }

@@ -1,16 +1,18 @@
 //! What one record of a script says.
 
-ghost use Rattle.std.specs.Prelude.{◌≡◌, ◌≤◌, ◌==◌, ◌&&◌, not, Err, IfOk};
+ghost use Rattle.std.specs.Prelude.{◌≡◌, ◌≤◌, ◌==◌, ◌&&◌, ℕ, List, length, not, Err, IfOk};
 ghost use Rattle.line_names.specs.declared.limits.TheConstants.{MOST_PROCESSES};
+ghost use Rattle.line_fields.specs.Faults.{code_of};
 ghost use Rattle.line_fields.specs.Fields.{Gives};
+ghost use Rattle.line_scripts.specs.Keeping.{MayHave, with_bytes};
 ghost use Rattle.line_scripts.specs.Scripts as spec;
 
+use crate::keeping::Bare;
 use line_claims::{failed_of, plain, want};
-use line_fields::{Fault, ReadError, Row, hex, hex_into, number};
-use line_names::{Body, MOST_PROCESSES, ProcId, ProcSet};
-use line_tape::State;
+use line_fields::{Fault, ReadError, Row, hex_into, number};
+use line_names::{MOST_BODY, MOST_PROCESSES, ProcId, ProcSet};
 use line_world::{Mode, Step};
-use std::alloc::Global;
+use std::alloc::{AllocError, Global};
 
 /// What a record of a script asks for.
 #[derive(Debug, Drop)]
@@ -51,10 +53,10 @@ pub(crate) enum Kind {
 }
 
 // A command that is refused, before any step.
-fn refused(fault: Fault) -> Command
-    ensures { result ≡ spec.refused fault }
+fn refused(fault: Fault) -> Bare
+    ensures { result ≡ Bare.Refused (code_of fault) }
 {
-    Command::Refused(fault.code())
+    Bare::Refused(fault.code())
 }
 
 fn mode_named(text: &[u8]) -> Result<Mode, Fault>
@@ -131,9 +133,10 @@ fn has_width(kind: Kind, width: usize) -> bool
 }
 
 #[tactic(auto, unfolding(crate::specs::Scripts::send_of))]
-fn send_of(n: u32, row: &Row, bytes: &mut Vec<u8>) -> Result<Command, ReadError>
+fn send_of(n: u32, row: &Row, bytes: &mut Vec<u8>) -> Result<Bare, ReadError>
     requires { n ≤ MOST_PROCESSES }
-    ensures { Gives (λ command. command) result (spec.send_of n row.now) }
+    ensures exact { Gives (λ bare. with_bytes bare bytes.new.items) result (spec.send_of n row.now) }
+    ensures fits { IfOk result (λ bare. MayHave bare (length bytes.new.items)) }
 {
     let from = plain(row, 1)?;
     let to = plain(row, 2)?;
@@ -144,147 +147,156 @@ fn send_of(n: u32, row: &Row, bytes: &mut Vec<u8>) -> Result<Command, ReadError>
     let Ok(to) = ProcId::try_new(to, n) else {
         return Ok(refused(Fault::NoSuchProcess));
     };
-    let Ok(body) = Body::try_new(bytes.as_slice()) else {
+    if bytes.len() > MOST_BODY {
         return Ok(refused(Fault::BodyTooLong));
-    };
-    Ok(Command::Do(Step::Send { from, to, body }))
+    }
+    Ok(Bare::Send { from, to })
 }
 
 #[tactic(auto, unfolding(crate::specs::Scripts::deliver_of))]
-fn deliver_of(alloc: Global, n: u32, row: &Row) -> Result<Command, ReadError>
+fn deliver_of(n: u32, row: &Row, bytes: &mut Vec<u8>) -> Result<Bare, ReadError>
     requires { n ≤ MOST_PROCESSES }
-    ensures { Gives (λ command. command) result (spec.deliver_of n row.now) }
+    ensures exact { Gives (λ bare. with_bytes bare bytes.new.items) result (spec.deliver_of n row.now) }
+    ensures fits { IfOk result (λ bare. MayHave bare (length bytes.new.items)) }
 {
     let from = plain(row, 1)?;
     let to = plain(row, 2)?;
     let pick = number(row.field(3), 0, u64::MAX)?;
-    let bytes = hex(alloc, row.field(4))?;
+    hex_into(bytes, row.field(4))?;
     let Ok(from) = ProcId::try_new(from, n) else {
         return Ok(refused(Fault::NoSuchProcess));
     };
     let Ok(to) = ProcId::try_new(to, n) else {
         return Ok(refused(Fault::NoSuchProcess));
     };
-    let state = State::of(bytes);
-    Ok(Command::Do(Step::Deliver {
-        from,
-        to,
-        pick,
-        state,
-    }))
+    Ok(Bare::Deliver { from, to, pick })
 }
 
 #[tactic(auto, unfolding(crate::specs::Scripts::check_of))]
-fn check_of(alloc: Global, n: u32, row: &Row) -> Result<Command, ReadError>
+fn check_of(n: u32, row: &Row, bytes: &mut Vec<u8>) -> Result<Bare, ReadError>
     requires { n ≤ MOST_PROCESSES }
-    ensures { Gives (λ command. command) result (spec.check_of n row.now) }
+    ensures exact { Gives (λ bare. with_bytes bare bytes.new.items) result (spec.check_of n row.now) }
+    ensures fits { IfOk result (λ bare. MayHave bare (length bytes.new.items)) }
 {
     let at = plain(row, 1)?;
-    let bytes = hex(alloc, row.field(2))?;
+    hex_into(bytes, row.field(2))?;
     let Ok(at) = ProcId::try_new(at, n) else {
         return Ok(refused(Fault::NoSuchProcess));
     };
-    let state = State::of(bytes);
-    Ok(Command::Do(Step::Check { at, state }))
+    Ok(Bare::Check { at })
 }
 
 #[tactic(auto, unfolding(crate::specs::Scripts::begin_of))]
-fn begin_of(alloc: Global, n: u32, row: &Row) -> Result<Command, ReadError>
+fn begin_of(n: u32, row: &Row, bytes: &mut Vec<u8>) -> Result<Bare, ReadError>
     requires { n ≤ MOST_PROCESSES }
-    ensures { Gives (λ command. command) result (spec.begin_of n row.now) }
+    ensures exact { Gives (λ bare. with_bytes bare bytes.new.items) result (spec.begin_of n row.now) }
+    ensures fits { IfOk result (λ bare. MayHave bare (length bytes.new.items)) }
 {
     let at = plain(row, 1)?;
-    let bytes = hex(alloc, row.field(2))?;
+    hex_into(bytes, row.field(2))?;
     let Ok(at) = ProcId::try_new(at, n) else {
         return Ok(refused(Fault::NoSuchProcess));
     };
-    let state = State::of(bytes);
-    Ok(Command::Do(Step::Begin { at, state }))
+    Ok(Bare::Begin { at })
 }
 
 #[tactic(auto, unfolding(crate::specs::Scripts::turn_of))]
-fn turn_of(alloc: Global, n: u32, row: &Row) -> Result<Command, ReadError>
+fn turn_of(n: u32, row: &Row, bytes: &mut Vec<u8>) -> Result<Bare, ReadError>
     requires { n ≤ MOST_PROCESSES }
-    ensures { Gives (λ command. command) result (spec.turn_of n row.now) }
+    ensures exact { Gives (λ bare. with_bytes bare bytes.new.items) result (spec.turn_of n row.now) }
+    ensures fits { IfOk result (λ bare. MayHave bare (length bytes.new.items)) }
 {
     let at = plain(row, 1)?;
-    let bytes = hex(alloc, row.field(2))?;
+    hex_into(bytes, row.field(2))?;
     let Ok(at) = ProcId::try_new(at, n) else {
         return Ok(refused(Fault::NoSuchProcess));
     };
-    let state = State::of(bytes);
-    Ok(Command::Do(Step::Turn { at, state }))
+    Ok(Bare::Turn { at })
 }
 
 #[tactic(auto, unfolding(crate::specs::Scripts::damage_of))]
-fn damage_of(n: u32, row: &Row) -> Result<Command, Fault>
+fn damage_of(n: u32, row: &Row) -> Result<Bare, ReadError>
     requires { n ≤ MOST_PROCESSES }
-    ensures { result ≡ spec.damage_of n row.now }
+    ensures exact { (bytes : List ℕ) → Gives (λ bare. with_bytes bare bytes) result (spec.damage_of n row.now) }
+    ensures fits { (long : ℕ) → IfOk result (λ bare. MayHave bare long) }
 {
     let at = plain(row, 1)?;
     let check = plain(row, 2)?;
     let Ok(at) = ProcId::try_new(at, n) else {
         return Ok(refused(Fault::NoSuchProcess));
     };
-    Ok(Command::Do(Step::Damage { at, check }))
+    Ok(Bare::Damage { at, check })
+}
+
+// A set in memory of its own.
+fn boxed(alloc: Global, failed: ProcSet) -> Result<Box<ProcSet>, AllocError>
+    ensures { IfOk result (λ set. set.value ≡ failed) }
+{
+    let set = Box::new(alloc, failed).map_err(AllocError::from)?;
+    Ok(set)
 }
 
 // A command of processes that were not read: one is not below the number of processes, or a field has a
 // fault.
-fn not_read(fault: Fault) -> Result<Command, Fault>
-    ensures { result ≡ spec.of_failed (λ failed. Command.Bundle failed) (Err fault) }
+fn not_read(fault: Fault) -> Result<Bare, ReadError>
+    ensures exact { (bytes : List ℕ) → Gives (λ bare. with_bytes bare bytes) result (spec.of_failed (λ failed. Command.Bundle failed) (Err fault)) }
+    ensures fits { (long : ℕ) → IfOk result (λ bare. MayHave bare long) }
 {
     if fault.code() == Fault::NoSuchProcess.code() {
         Ok(refused(fault))
     } else {
-        Err(fault)
+        Err(ReadError::Fault(fault))
     }
 }
 
-fn recover_of(n: u32, row: &Row) -> Result<Command, Fault>
+fn recover_of(alloc: Global, n: u32, row: &Row) -> Result<Bare, ReadError>
     requires { n ≤ MOST_PROCESSES }
-    ensures { result ≡ spec.recover_of n row.now }
+    ensures exact { (bytes : List ℕ) → Gives (λ bare. with_bytes bare bytes) result (spec.recover_of n row.now) }
+    ensures fits { (long : ℕ) → IfOk result (λ bare. MayHave bare long) }
 {
     match failed_of(n, row) {
-        Ok(failed) => Ok(Command::Do(Step::Recover { failed })),
+        Ok(failed) => Ok(Bare::Recover(boxed(alloc, failed)?)),
         Err(fault) => not_read(fault),
     }
 }
 
-fn bundle_of(n: u32, row: &Row) -> Result<Command, Fault>
+fn bundle_of(alloc: Global, n: u32, row: &Row) -> Result<Bare, ReadError>
     requires { n ≤ MOST_PROCESSES }
-    ensures { result ≡ spec.bundle_of n row.now }
+    ensures exact { (bytes : List ℕ) → Gives (λ bare. with_bytes bare bytes) result (spec.bundle_of n row.now) }
+    ensures fits { (long : ℕ) → IfOk result (λ bare. MayHave bare long) }
 {
     match failed_of(n, row) {
-        Ok(failed) => Ok(Command::Bundle(failed)),
+        Ok(failed) => Ok(Bare::Bundle(boxed(alloc, failed)?)),
         Err(fault) => not_read(fault),
     }
 }
 
 /// The command that a record after the first spells, or its first fault. What a list has gives way
-/// to the bytes of a message.
+/// to the bytes that the command carries.
 #[tactic(auto, unfolding(crate::specs::Scripts::command_of))]
 pub(crate) fn command_of(
     alloc: Global,
     n: u32,
     row: &Row,
     bytes: &mut Vec<u8>,
-) -> Result<Command, ReadError>
+) -> Result<Bare, ReadError>
     requires { n ≤ MOST_PROCESSES }
-    ensures { Gives (λ command. command) result (spec.command_of n row.now) }
+    ensures exact { Gives (λ bare. with_bytes bare bytes.new.items) result (spec.command_of n row.now) }
+    ensures fits { IfOk result (λ bare. MayHave bare (length bytes.new.items)) }
 {
+    bytes.clear();
     let kind = kind_named(row.field(0))?;
     want(has_width(kind, row.len()), Fault::BadRecord)?;
     match kind {
         Kind::Send => send_of(n, row, bytes),
-        Kind::Deliver => deliver_of(alloc, n, row),
-        Kind::Check => check_of(alloc, n, row),
-        Kind::Begin => begin_of(alloc, n, row),
-        Kind::Turn => turn_of(alloc, n, row),
-        Kind::Damage => Ok(damage_of(n, row)?),
-        Kind::Recover => Ok(recover_of(n, row)?),
-        Kind::Rounds => Ok(Command::Rounds),
-        Kind::History => Ok(Command::History),
-        Kind::Bundle => Ok(bundle_of(n, row)?),
+        Kind::Deliver => deliver_of(n, row, bytes),
+        Kind::Check => check_of(n, row, bytes),
+        Kind::Begin => begin_of(n, row, bytes),
+        Kind::Turn => turn_of(n, row, bytes),
+        Kind::Damage => damage_of(n, row),
+        Kind::Recover => recover_of(alloc, n, row),
+        Kind::Rounds => Ok(Bare::Rounds),
+        Kind::History => Ok(Bare::History),
+        Kind::Bundle => bundle_of(alloc, n, row),
     }
 }

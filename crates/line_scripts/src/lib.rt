@@ -2,7 +2,9 @@
 #![tactic(auto)]
 
 mod commands;
+mod keeping;
 mod scripts;
 
 pub use commands::Command;
-pub use scripts::{Script, read_script};
+pub use keeping::Commands;
+pub use scripts::{KeptScript, Script, keep_script, read_script};

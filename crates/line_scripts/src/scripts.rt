@@ -5,13 +5,15 @@ ghost use Rattle.line_names.specs.declared.limits.TheConstants.{MOST_PROCESSES};
 ghost use Rattle.line_scripts.specs.Scripts as spec;
 ghost use Rattle.line_claims.specs.Reads.{IsOfText, Reads, Yields, no_memory};
 ghost use Rattle.line_claims.specs.Reads as reads;
-ghost use Rattle.line_scripts.specs.Reads.{seen};
+ghost use Rattle.line_scripts.specs.Keeping.{MayHave, with_bytes};
+ghost use Rattle.line_scripts.specs.Reads.{seen, seen_kept};
 
 use crate::commands::{Command, World, command_of, world_of};
+use crate::keeping::{Bare, Commands, keep};
 use line_claims::{TextError, TextFault, error_at, fault_at, told};
 use line_fields::{Fault, RecordReader, Row, is_plain};
 use line_world::Mode;
-use std::alloc::Global;
+use std::alloc::{AllocError, Global};
 
 /// What a text asks of a machine.
 #[derive(Debug, Drop)]
@@ -22,6 +24,17 @@ pub struct Script {
     pub mode: Mode,
     /// What it is asked to do, in this order. The command at place `i` is that of record `i + 2`.
     pub commands: Vec<Command>,
+}
+
+/// What a text asks of a machine, its commands in little memory.
+#[derive(Drop)]
+pub struct KeptScript {
+    /// How many processes the machine has.
+    pub n: u32,
+    /// How its links deliver.
+    pub mode: Mode,
+    /// What it is asked to do, in this order.
+    pub commands: Commands,
 }
 
 // What the first record says.
@@ -35,28 +48,29 @@ fn world_at(row: &Row) -> Result<World, TextError>
     }
 }
 
-// What the record with that number asks for.
+// What the record with that number asks for, and in a list the bytes that it carries.
 fn command_at(
     alloc: Global,
     n: u32,
     record_number: u64,
     row: &Row,
     bytes: &mut Vec<u8>,
-) -> Result<Command, TextError>
+) -> Result<Bare, TextError>
     requires { n ≤ MOST_PROCESSES }
-    ensures { Yields (λ command. command) result (reads.numbered record_number (spec.command_of n row.now)) }
+    ensures exact { Yields (λ bare. with_bytes bare bytes.new.items) result (reads.numbered record_number (spec.command_of n row.now)) }
+    ensures fits { IfOk result (λ bare. MayHave bare (length bytes.new.items)) }
 {
     match command_of(alloc, n, row, bytes) {
-        Ok(command) => Ok(command),
+        Ok(bare) => Ok(bare),
         Err(error) => Err(error_at(record_number, error)),
     }
 }
 
 // The script that a text spells.
-fn read(alloc: Global, text: &[u8]) -> Result<Script, TextError>
-    ensures exact { Yields seen result (spec.script_of_text text.now) }
+fn read(alloc: Global, text: &[u8]) -> Result<KeptScript, TextError>
+    ensures exact { Yields seen_kept result (spec.script_of_text text.now) }
     ensures within { IfOk result (λ script. (1 ≤ script.n) × (script.n ≤ MOST_PROCESSES)) }
-    ensures few { IfOk result (λ script. length script.commands.items + 2 < 2 ^ 64) }
+    ensures few { IfOk result (λ script. length script.commands + 2 < 2 ^ 64) }
 {
     if !is_plain(text) {
         return Err(fault_at(0, Fault::BadRecord));
@@ -67,20 +81,48 @@ fn read(alloc: Global, text: &[u8]) -> Result<Script, TextError>
         return Err(fault_at(1, Fault::NoWorld));
     }
     let world = world_at(&row)?;
-    let mut commands = Vec::new(alloc);
+    let mut kept = Vec::new(alloc);
     let mut bytes = Vec::new(alloc);
+    let mut own = Vec::new(alloc);
     let mut record_number = 2u64;
     'records: loop {
         if !records.next_row(&mut row)? {
-            return Ok(Script {
+            return Ok(KeptScript {
                 n: world.n,
                 mode: world.mode,
-                commands,
+                commands: Commands::of(kept, bytes),
             });
         }
-        let command = command_at(alloc, world.n, record_number, &row, &mut bytes)?;
-        commands.push(command)?;
+        let command = command_at(alloc, world.n, record_number, &row, &mut own)?;
+        keep(&mut kept, &mut bytes, command, &own)?;
         record_number += 1;
+    }
+}
+
+/// The script that a text spells, in little memory: some 32 bytes for a command, beside those of its
+/// message or state. What it refuses, and how, is as of `read_script`.
+pub fn keep_script(alloc: Global, text: &[u8]) -> Result<KeptScript, TextFault>
+    ensures exact { Reads seen_kept result (spec.script_of_text text.now) }
+    ensures codes { IfErr result (λ fault. (fault ≡ no_memory) ⊎ IsOfText fault) }
+    ensures within { IfOk result (λ script. (1 ≤ script.n) × (script.n ≤ MOST_PROCESSES)) }
+    ensures few { IfOk result (λ script. length script.commands + 2 < 2 ^ 64) }
+{
+    match read(alloc, text) {
+        Ok(script) => Ok(script),
+        Err(error) => Err(told(error)),
+    }
+}
+
+// All commands, each with its own bytes.
+fn all_of(alloc: Global, mut commands: Commands) -> Result<Vec<Command>, AllocError>
+    ensures { IfOk result (λ all. all.items ≡ commands) }
+{
+    let mut all = Vec::new(alloc);
+    'commands: loop {
+        let Some(command) = commands.next(alloc)? else {
+            return Ok(all);
+        };
+        all.push(command)?;
     }
 }
 
@@ -96,8 +138,13 @@ pub fn read_script(alloc: Global, text: &[u8]) -> Result<Script, TextFault>
     ensures within { IfOk result (λ script. (1 ≤ script.n) × (script.n ≤ MOST_PROCESSES)) }
     ensures few { IfOk result (λ script. length script.commands.items + 2 < 2 ^ 64) }
 {
-    match read(alloc, text) {
-        Ok(script) => Ok(script),
-        Err(error) => Err(told(error)),
+    let script = keep_script(alloc, text)?;
+    match all_of(alloc, script.commands) {
+        Ok(commands) => Ok(Script {
+            n: script.n,
+            mode: script.mode,
+            commands,
+        }),
+        Err(_) => Err(told(TextError::OutOfMemory)),
     }
 }

@@ -3,7 +3,7 @@ use Rattle.std.proofs.Common.{inl, inr, ◌≡◌, ◌<◌, ◌≤◌, ℕ, ◌+
 use Rattle.std.specs.Prelude.{◌⊎◌, Bool, Err, IsTrue, Ok, Result}
 use Rattle.std.specs.List.{flat_map}
 use Rattle.std.proofs.lemmas.Grind.{flat_map-append}
-use Rattle.std.proofs.lemmas.List.{append-nil, drop_more, take_more}
+use Rattle.std.proofs.lemmas.List.{append-nil, drop_more, length-drop, take_more}
 use Rattle.std.proofs.lemmas.List.Sums.{count_by-le-length, sum_by-append}
 use Rattle.line_devices.specs.Devices.{Puts, PutsFront}
 use Rattle.line_claims.specs.declared.faults.TextFault.{TextFault}
@@ -201,6 +201,30 @@ stops_front first commands i old new h =
 -- the text of commands that stopped, seen otherwise
 pub stops_with : (first : Machine) (commands : List Command) (i : ℕ) (P Q : List ℕ → Type 0) → ((text : List ℕ) → P text → Q text) → StopsAt first commands i P → StopsAt first commands i Q
 stops_with first commands i P Q f h = record { done = h.done; told = h.told; end = h.end; own = h.own; at = h.at; there = h.there; run = h.run; next = h.next; text = f (text_of h.told ++ h.own) h.text }
+
+-- the first of the commands that are left
+pub first_left : (all left rest : List Command) (i : ℕ) (c : Command) → left ≡ drop i all → left ≡ c ∷ rest → (i < length all) × (c ≡ get_or all i c) × (rest ≡ drop (i + 1) all)
+first_left all left rest i c is first =
+    let parts : drop i all ≡ c ∷ rest = sym is ∙ first in
+    let lt : i < length all = omega (arith, length-drop i all, ap length parts) in
+    let same : c ∷ rest ≡ get_or all i c ∷ drop (i + 1) all = sym parts ∙ drop_more all i c lt in
+    (lt, ap (λ (cs : List Command). get_or cs 0 c) same, ap (λ (cs : List Command). drop 1 cs) same)
+
+-- there is a first one
+pub some_left : (left : List Command) → 0 < length left → (c : Command) × (rest : List Command) × (left ≡ c ∷ rest)
+some_left [] lt = absurd (omega (arith, lt))
+some_left (c ∷ rest) lt = (c, rest, refl)
+
+-- all were done where none is left
+pub none_left : (all left : List Command) (i : ℕ) → left ≡ drop i all → left ≡ [] → i ≤ length all → i ≡ length all
+none_left all left i is none le = let parts : drop i all ≡ [] = sym is ∙ none in omega (arith, le, length-drop i all, ap length parts)
+
+-- none is left: the run is whole
+pub run_whole : (first mid later : Machine) (all left : List Command) (i : ℕ) (refused count : ℕ) (old now new : Option (List ℕ)) (held kept : List ℕ) → left ≡ drop i all → left ≡ [] → i ≤ length all
+    → IsRunTo first all i mid refused old now held → later ≡ mid → new ≡ now → kept ≡ held → count ≡ refused → IsRunTo first all (length all) later count old new kept
+run_whole first mid later all left i refused count old now new held kept is none le run same_machine same_taken same_held same_count =
+    let whole : i ≡ length all = none_left all left i is none le in
+    rw (same_machine, same_taken, same_held, same_count) (subst (λ (d : ℕ). IsRunTo first all d mid refused old now held) whole run)
 
 -- no command was done yet
 pub starts : (first : Machine) (commands : List Command) (taken : Option (List ℕ)) (held : List ℕ) → held ≡ [] → IsRunTo first commands 0 first 0 taken taken held

@@ -1,6 +1,6 @@
 //! Scripts that are run: a text in, the text of the replies out.
 
-ghost use Rattle.std.specs.Prelude.{◌≡◌, ◌≢◌, ◌<◌, ◌≤◌, ◌++◌, ◌+◌, ◌^◌, ◌⊎◌, ℕ, List, [], Err, Ok, Some, length, IfOk, IfErr, OnErr, OnOk};
+ghost use Rattle.std.specs.Prelude.{◌≡◌, ◌≢◌, ◌<◌, ◌≤◌, ◌++◌, ◌+◌, ◌^◌, ◌⊎◌, ℕ, List, [], ◌∷◌, true, false, Err, Ok, Some, length, IfOk, IfErr, OnErr, OnOk};
 ghost use Rattle.line_devices.specs.Devices.{Puts, PutsFront, one_more};
 ghost use Rattle.line_devices.specs.Reads.{GivesAll, IsTooLong};
 ghost use Rattle.line_fields.specs.Texts.{record_text, records_text};
@@ -8,7 +8,7 @@ ghost use Rattle.line_replies.specs.Rounds.{rounds_records};
 ghost use Rattle.line_names.specs.declared.limits.TheConstants.{MOST_PROCESSES};
 ghost use Rattle.line_claims.specs.Reads.{IsOfText, no_memory};
 ghost use Rattle.line_text.specs.declared.ends.TheConstants.{READ_FAULT, WRITE_FAULT};
-ghost use Rattle.line_scripts.specs.Reads.{seen};
+ghost use Rattle.line_scripts.specs.Reads.{seen_kept};
 ghost use Rattle.line_replies.specs.Replies.{refused as refused_record};
 ghost use Rattle.line_text.specs.Inputs.{HearsEnd};
 ghost use Rattle.line_text.specs.Pieces.{Halts, IsBlamed, PutsButEnd};
@@ -23,7 +23,7 @@ use line_devices::{Sink, Source};
 use line_fields::{Draft, Fault, RecordWriter};
 use line_names::ProcSet;
 use line_replies::{put_refusal, put_reply, refusal_code};
-use line_scripts::{Command, Script, read_script};
+use line_scripts::{Command, Commands, KeptScript, keep_script};
 use line_tape::CountError;
 use line_world::{Step, World};
 use std::alloc::{AllocError, Global};
@@ -169,44 +169,85 @@ fn do_command<K: Sink>(
     }
 }
 
+// Lets a command go that was done.
+fn let_go(_command: Command) {}
+
+// Does the first command, as `do_command` does. It answers false where there is none.
+fn do_next<K: Sink>(
+    alloc: Global,
+    world: &mut World,
+    commands: &mut Commands,
+    sink: &mut K,
+    writer: &mut RecordWriter,
+    draft: &mut Draft,
+    refused: &mut u64,
+) -> Result<bool, Halt>
+    requires { refused.old < 18446744073709551615 }
+    ensures ok { IfOk result (λ more. more ≡ true → (command : Command) × (commands.old ≡ command ∷ commands.new)
+        × spec.Does world.old command world.new (K.taken sink.old) (K.taken sink.new) writer.old refused.old writer.new refused.new) }
+    ensures none { IfOk result (λ more. more ≡ false → (commands.old ≡ []) × (commands.new ≡ []) × (world.new ≡ world.old)
+        × (sink.new ≡ sink.old) × (writer.new ≡ writer.old) × (refused.new ≡ refused.old)) }
+    ensures err { IfErr result (λ halt. (command : Command) × (rest : List Command) × (commands.old ≡ command ∷ rest)
+        × spec.HaltsAt halt world.old command (K.taken sink.old) (K.taken sink.new) writer.old writer.new) }
+    ensures sound { OnOk result (K.faults sink.new ≡ K.faults sink.old) }
+    ensures blamed { IfErr result (λ halt. IsBlamed halt (K.faults sink.old) (K.faults sink.new)) }
+{
+    match commands.next(alloc) {
+        Ok(Some(command)) => {
+            let done = do_command(alloc, world, sink, writer, draft, refused, &command);
+            let_go(command);
+            match done {
+                Ok(()) => Ok(true),
+                Err(halt) => Err(halt),
+            }
+        }
+        Ok(None) => Ok(false),
+        Err(_) => Err(Halt::Memory),
+    }
+}
+
 // Does the commands one after another, and puts the text of what they are told but for an end, which it
 // leaves with the writer. It answers how many were refused.
 fn do_commands<K: Sink>(
     alloc: Global,
     world: &mut World,
-    commands: &[Command],
+    commands: &mut Commands,
     sink: &mut K,
     writer: &mut RecordWriter,
 ) -> Result<u64, Stop>
     requires empty { writer.old ≡ [] }
-    requires few { length commands.now + 2 < 2 ^ 64 }
-    ensures ok { IfOk result (λ refused. spec.IsRunTo world.old commands.now (length commands.now) world.new refused (K.taken sink.old) (K.taken sink.new) writer.new) }
-    ensures err { IfErr result (λ stop. spec.Stops stop world.old commands.now (K.taken sink.old) (K.taken sink.new) (PutsButEnd (K.taken sink.old) (K.taken sink.new) writer.new)) }
+    requires few { length commands.old + 2 < 2 ^ 64 }
+    ensures ok { IfOk result (λ refused. spec.IsRunTo world.old commands.old (length commands.old) world.new refused (K.taken sink.old) (K.taken sink.new) writer.new) }
+    ensures err { IfErr result (λ stop. spec.Stops stop world.old commands.old (K.taken sink.old) (K.taken sink.new) (PutsButEnd (K.taken sink.old) (K.taken sink.new) writer.new)) }
     ensures sound { OnOk result (K.faults sink.new ≡ K.faults sink.old) }
     ensures blamed { IfErr result (λ stop. spec.Blames stop (K.faults sink.old) (K.faults sink.new)) }
 {
     let mut draft = Draft::new(alloc);
     let mut refused = 0u64;
-    for (i, command) in commands.iter().enumerate() {
-        match do_command(
+    let mut done = 0u64;
+    'commands: loop {
+        let more = match do_next(
             alloc,
             world,
+            commands,
             sink,
             writer,
             &mut draft,
             &mut refused,
-            command,
         ) {
-            Ok(()) => {}
-            Err(Halt::Memory) => return Err(Stop::Memory(i as u64 + 2)),
+            Ok(more) => more,
+            Err(Halt::Memory) => return Err(Stop::Memory(done + 2)),
             Err(Halt::Write) => return Err(Stop::Write),
+        };
+        if !more {
+            return Ok(refused);
         }
         match put_long(sink, writer) {
             Ok(()) => {}
             Err(_) => return Err(Stop::Write),
         }
+        done += 1;
     }
-    Ok(refused)
 }
 
 // Does the commands one after another, and puts the text of what they are told. It answers how many were
@@ -214,15 +255,15 @@ fn do_commands<K: Sink>(
 fn run_commands<K: Sink>(
     alloc: Global,
     world: &mut World,
-    commands: &[Command],
+    commands: &mut Commands,
     sink: &mut K,
 ) -> Result<u64, TextFault>
-    requires { length commands.now + 2 < 2 ^ 64 }
-    ensures ok { IfOk result (λ refused. spec.Runs world.old commands.now refused (K.taken sink.old) (K.taken sink.new)) }
+    requires { length commands.old + 2 < 2 ^ 64 }
+    ensures ok { IfOk result (λ refused. spec.Runs world.old commands.old refused (K.taken sink.old) (K.taken sink.new)) }
     ensures write { IfErr result (λ fault. fault.code ≡ WRITE_FAULT
         → (fault.record_number ≡ 0) × (K.faults sink.new ≡ one_more (K.faults sink.old))
-        × spec.RunsFront world.old commands.now (K.taken sink.old) (K.taken sink.new)) }
-    ensures memory { IfErr result (λ fault. fault.code ≡ 0 → spec.StopsAt world.old commands.now fault.record_number (Puts (K.taken sink.old) (K.taken sink.new))) }
+        × spec.RunsFront world.old commands.old (K.taken sink.old) (K.taken sink.new)) }
+    ensures memory { IfErr result (λ fault. fault.code ≡ 0 → spec.StopsAt world.old commands.old fault.record_number (Puts (K.taken sink.old) (K.taken sink.new))) }
     ensures codes { IfErr result (λ fault. (fault.code ≡ 0) ⊎ (fault.code ≡ WRITE_FAULT)) }
     ensures sound { OnOk result (K.faults sink.new ≡ K.faults sink.old) }
 {
@@ -244,9 +285,9 @@ fn run_commands<K: Sink>(
 }
 
 // The machine that a script begins with.
-fn world_of(alloc: Global, script: &Script) -> Result<World, TextFault>
+fn world_of(alloc: Global, script: &KeptScript) -> Result<World, TextFault>
     requires { (1 ≤ script.now.n) × (script.now.n ≤ MOST_PROCESSES) }
-    ensures ok { IfOk result (λ world. world ≡ spec.first_of (seen script.now)) }
+    ensures ok { IfOk result (λ world. world ≡ spec.first_of (seen_kept script.now)) }
     ensures err { IfErr result (λ fault. fault ≡ no_memory) }
 {
     match World::new(alloc, script.n, script.mode) {
@@ -257,11 +298,11 @@ fn world_of(alloc: Global, script: &Script) -> Result<World, TextFault>
 }
 
 // The script that the whole input spells. The text of the input is let go.
-fn script_of<S: Source>(alloc: Global, source: &mut S) -> Result<Script, TextFault>
+fn script_of<S: Source>(alloc: Global, source: &mut S) -> Result<KeptScript, TextFault>
     ensures spelt { IfOk result (λ script. (text : List ℕ) × GivesAll text (S.left source.old) (S.left source.new) (S.given source.old) (S.given source.new)
-        × (script_of_text text ≡ Ok (seen script))) }
+        × (script_of_text text ≡ Ok (seen_kept script))) }
     ensures within { IfOk result (λ script. (1 ≤ script.n) × (script.n ≤ MOST_PROCESSES)) }
-    ensures few { IfOk result (λ script. length script.commands.items + 2 < 2 ^ 64) }
+    ensures few { IfOk result (λ script. length script.commands + 2 < 2 ^ 64) }
     ensures text { IfErr result (λ fault. IsOfText fault
         → (text : List ℕ) × GivesAll text (S.left source.old) (S.left source.new) (S.given source.old) (S.given source.new) × (script_of_text text ≡ Err fault)) }
     ensures read { IfErr result (λ fault. fault.code ≡ READ_FAULT
@@ -272,7 +313,7 @@ fn script_of<S: Source>(alloc: Global, source: &mut S) -> Result<Script, TextFau
     ensures ended { HearsEnd result (S.ends source.old) (S.ends source.new) }
 {
     let text = read_input(alloc, source)?;
-    read_script(alloc, &text)
+    keep_script(alloc, &text)
 }
 
 /// Reads a script, runs it, and writes the replies.
@@ -326,7 +367,8 @@ pub fn run_text<S: Source, K: Sink>(
 {
     let script = script_of(alloc, source)?;
     let mut world = world_of(alloc, &script)?;
-    match run_commands(alloc, &mut world, &script.commands, sink) {
+    let mut commands = script.commands;
+    match run_commands(alloc, &mut world, &mut commands, sink) {
         Ok(refused) => Ok(Done { refused }),
         Err(fault) => Err(fault),
     }

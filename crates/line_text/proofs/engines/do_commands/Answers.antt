@@ -1,24 +1,40 @@
-use Rattle.std.proofs.Common.{◌∙◌, refl, arith}
-use Rattle.line_text.proofs.RunLemmas.{does_on, front_behind, front_in, starts, stops_in}
+use Rattle.std.proofs.Common.{◌∙◌, refl, ap, arith}
+use Rattle.line_text.proofs.RunLemmas.{does_on, first_left, front_behind, front_in, run_whole, starts, stops_in}
 use Rattle.line_text.proofs.engines.do_commands.Goals as goal
 
-pub loop-i-init : goal.loop-i-init
-loop-i-init g c = record { run = starts _ _ _ _ c.requires.empty; sound = refl }
-
-pub loop-i-preserved : goal.loop-i-preserved
-loop-i-preserved g c = record {
-  run = does_on _ _ _ _ _ _ _ _ _ _ _ _ _ _ _ (omega arith) c.index-commands-i.is c.loop-i.invariant.run c.in-Ok.ensures.ok c.in-Ok-put_long.ensures.ok;
-  sound = c.in-Ok-put_long.ensures.sound ∙ c.in-Ok.ensures.sound ∙ c.loop-i.invariant.sound;
-}
+pub commands-init : goal.commands-init
+commands-init g c = record { run = starts _ _ _ _ c.requires.empty; left = refl; within = omega arith; sound = refl }
 
 pub returns-in-Err-Memory-clause-err : goal.returns-in-Err-Memory-clause-err
 returns-in-Err-Memory-clause-err g c =
-    stops_in _ _ _ _ _ _ _ _ _ _ _ (omega arith) c.index-commands-i.is c.loop-i.invariant.run (rw c.in-Err-Memory.field-0-is at c.in-Err-Memory.ensures.err)
+    let halted = rw c.in-Err-Memory.field-0-is at c.in-Err-Memory.ensures.err in
+    let first = first_left _ _ _ _ _ c.commands.invariant.left halted.2 in
+    stops_in _ _ _ _ _ _ _ _ _ _ _ first.0 first.1 c.commands.invariant.run halted.3
 
 pub returns-in-Err-Write-clause-err : goal.returns-in-Err-Write-clause-err
 returns-in-Err-Write-clause-err g c =
-    front_in _ _ _ _ _ _ _ _ _ _ _ (omega arith) c.index-commands-i.is c.loop-i.invariant.run (rw c.in-Err-Write.field-0-is at c.in-Err-Write.ensures.err)
+    let halted = rw c.in-Err-Write.field-0-is at c.in-Err-Write.ensures.err in
+    let first = first_left _ _ _ _ _ c.commands.invariant.left halted.2 in
+    front_in _ _ _ _ _ _ _ _ _ _ _ first.0 first.1 c.commands.invariant.run halted.3
+
+pub returns-then-not-more-clause-ok : goal.returns-then-not-more-clause-ok
+returns-then-not-more-clause-ok g c =
+    let none = c.in-Ok.ensures.none c.if-not-more.true in
+    run_whole _ _ _ _ _ _ _ _ _ _ _ _ _ c.commands.invariant.left none.0 c.commands.invariant.within c.commands.invariant.run none.2 (ap g.K.Sink.taken none.3) none.4 none.5
 
 pub returns-in-Err-clause-err : goal.returns-in-Err-clause-err
 returns-in-Err-clause-err g c =
-    front_behind _ _ _ _ _ _ _ _ _ _ _ _ _ _ (omega arith) c.index-commands-i.is c.loop-i.invariant.run c.in-Ok.ensures.ok c.in-Err.ensures.err
+    let does = c.in-Ok.ensures.ok c.if-not-more.false in
+    let first = first_left _ _ _ _ _ c.commands.invariant.left does.1 in
+    front_behind _ _ _ _ _ _ _ _ _ _ _ _ _ _ first.0 first.1 c.commands.invariant.run does.2 c.in-Err.ensures.err
+
+pub commands-preserved : goal.commands-preserved
+commands-preserved g c =
+    let does = c.in-Ok.ensures.ok c.if-not-more.false in
+    let first = first_left _ _ _ _ _ c.commands.invariant.left does.1 in
+    record {
+      run = does_on _ _ _ _ _ _ _ _ _ _ _ _ _ _ _ first.0 first.1 c.commands.invariant.run does.2 c.in-Ok-put_long.ensures.ok;
+      left = first.2;
+      within = omega (arith, first.0);
+      sound = c.in-Ok-put_long.ensures.sound ∙ c.in-Ok.ensures.sound ∙ c.commands.invariant.sound;
+    }

@@ -1,0 +1,44 @@
+-- Commands with all their bytes: one more behind the others, and the first one out.
+use Rattle.std.proofs.Common.{◌≡◌, ◌≤◌, ◌<◌, ℕ, ◌+◌, List, [], ◌∷◌, ◌++◌, drop, get_or, length, take, refl, sym, ap, ◌∙◌, subst, arith, reverse, length-append}
+use Rattle.std.proofs.lemmas.List.{take_more, take_all, take-append-le, drop-append-le, reverse-append}
+use Rattle.std.proofs.Math.Seq.{take-length, drop-length}
+use Rattle.line_scripts.specs.declared.commands.Command.{Command}
+use Rattle.line_scripts.specs.declared.keeping.Bare.{Bare}
+use Rattle.line_scripts.specs.declared.keeping.Kept.{Kept}
+use Rattle.line_scripts.specs.Keeping.{ArePacked, MayHave, unpacked, with_bytes}
+
+abbrev kept_of : Bare → List ℕ → Kept
+kept_of bare own = record { bare = bare; long = length own }
+
+-- one more behind the others
+pub packed_more : (ks : List Kept) (bytes : List ℕ) (bare : Bare) (own : List ℕ) → MayHave bare (length own) → ArePacked ks bytes → ArePacked (ks ++ kept_of bare own ∷ []) (bytes ++ own)
+packed_more [] bytes bare own may none =
+    subst (λ (bs : List ℕ). ArePacked (kept_of bare own ∷ []) (bs ++ own)) (sym none) (may, omega arith, drop-length own)
+packed_more (k ∷ ks) bytes bare own may (fits, within, others) = (
+  fits,
+  omega (arith, within, length-append bytes own),
+  subst (λ (bs : List ℕ). ArePacked (ks ++ kept_of bare own ∷ []) bs) (sym (drop-append-le k.long bytes own within)) (packed_more ks (drop k.long bytes) bare own may others),
+)
+
+pub unpacked_more : (ks : List Kept) (bytes : List ℕ) (bare : Bare) (own : List ℕ) → ArePacked ks bytes
+    → unpacked (ks ++ kept_of bare own ∷ []) (bytes ++ own) ≡ unpacked ks bytes ++ with_bytes bare own ∷ []
+unpacked_more [] bytes bare own none =
+    subst (λ (bs : List ℕ). unpacked (kept_of bare own ∷ []) (bs ++ own) ≡ with_bytes bare own ∷ []) (sym none)
+    (ap (λ (bs : List ℕ). with_bytes bare bs ∷ []) (take-length own))
+unpacked_more (k ∷ ks) bytes bare own (fits, within, others) =
+    let front : take k.long (bytes ++ own) ≡ take k.long bytes = take-append-le k.long bytes own within in
+    let rest : drop k.long (bytes ++ own) ≡ drop k.long bytes ++ own = drop-append-le k.long bytes own within in
+    ap (λ (bs : List ℕ). with_bytes k.bare bs ∷ unpacked (ks ++ kept_of bare own ∷ []) (drop k.long (bytes ++ own))) front
+    ∙ ap (λ (bs : List ℕ). with_bytes k.bare (take k.long bytes) ∷ unpacked (ks ++ kept_of bare own ∷ []) bs) rest
+    ∙ ap (λ (cs : List Command). with_bytes k.bare (take k.long bytes) ∷ cs) (unpacked_more ks (drop k.long bytes) bare own others)
+
+-- a list with one command more is one longer
+pub one_longer : (xs ys : List Command) (c : Command) → ys ≡ xs ++ c ∷ [] → length ys ≡ length xs + 1
+one_longer xs ys c more = ap length more ∙ length-append xs (c ∷ [])
+
+-- the last of a list is the first of it turned round
+pub turned_first : (ks : List Kept) (i : ℕ) (k : Kept) → length ks ≡ i + 1 → k ≡ get_or ks i k → reverse ks ≡ k ∷ reverse (take i ks)
+turned_first ks i k long is =
+    let all : take (i + 1) ks ≡ ks = take_all (i + 1) ks (omega (arith, long)) in
+    let more : take (i + 1) ks ≡ take i ks ++ k ∷ [] = take_more ks i k (omega (arith, long)) ∙ ap (λ (x : Kept). take i ks ++ x ∷ []) (sym is) in
+    ap reverse (sym all ∙ more) ∙ reverse-append (take i ks) (k ∷ [])

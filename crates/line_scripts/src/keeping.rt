@@ -1,0 +1,178 @@
+//! Commands that wait to be done: a few bytes for each, and one list of the bytes that they carry.
+
+ghost use Rattle.std.specs.Prelude.{◌≡◌, ◌≤◌, ◌<◌, ◌++◌, [], ◌∷◌, length, IfOk, MatchOption, OnErr, OnOk};
+ghost use Rattle.line_scripts.specs.Keeping.{ArePacked, MayHave, unpacked, with_bytes};
+
+use crate::commands::Command;
+use line_names::{Body, ProcId, ProcSet};
+use line_tape::State;
+use line_world::Step;
+use std::alloc::{AllocError, Global};
+use std::marker::Model;
+
+/// A command without the bytes that a message or a state has.
+#[derive(Drop)]
+pub(crate) enum Bare {
+    Send { from: ProcId, to: ProcId },
+    Deliver { from: ProcId, to: ProcId, pick: u64 },
+    Check { at: ProcId },
+    Begin { at: ProcId },
+    Turn { at: ProcId },
+    Damage { at: ProcId, check: u32 },
+    Recover(Box<ProcSet>),
+    Rounds,
+    History,
+    Bundle(Box<ProcSet>),
+    Refused(u32),
+}
+
+/// A command that waits, and how many bytes it carries.
+#[derive(Drop)]
+pub(crate) struct Kept {
+    bare: Bare,
+    long: usize,
+}
+
+/// Commands that wait to be done, the first one first.
+///
+/// Each takes 32 bytes beside those of its message or state. Memory is let go as they are taken.
+#[derive(Drop)]
+pub struct Commands {
+    // The last one first.
+    kept: Vec<Kept>,
+    // What all of them carry, in their order.
+    bytes: Vec<u8>,
+    // Where that of the first one begins.
+    at: usize,
+}
+
+impl Model for Commands {
+    ghost use Rattle.std.specs.Prelude.{◌≤◌, List, drop, length, reverse};
+    ghost use Rattle.line_scripts.specs.declared.commands.Command.{Command};
+
+    ghost Value = { List Command };
+
+    ghost use Rattle.line_scripts.specs.Keeping.{ArePacked, unpacked};
+
+    ghost view = { λ c. unpacked (reverse c.kept.items) (drop c.at c.bytes.items) };
+
+    ghost invariant = { λ c. (c.at ≤ length c.bytes.items) × ArePacked (reverse c.kept.items) (drop c.at c.bytes.items) };
+}
+
+/// Puts a command behind the others.
+pub(crate) fn keep(
+    kept: &mut Vec<Kept>,
+    bytes: &mut Vec<u8>,
+    bare: Bare,
+    own: &[u8],
+) -> Result<(), AllocError>
+    requires fits { MayHave bare (length own.now) }
+    requires packed { ArePacked kept.old.items bytes.old.items }
+    ensures packed { OnOk result (ArePacked kept.new.items bytes.new.items) }
+    ensures more { OnOk result (unpacked kept.new.items bytes.new.items ≡ unpacked kept.old.items bytes.old.items ++ with_bytes bare own.now ∷ []) }
+{
+    kept.reserve(1)?;
+    bytes.extend_from_slice(own)?;
+    kept.push_reserved(Kept {
+        bare,
+        long: own.len(),
+    });
+    Ok(())
+}
+
+// A message of so many bytes at most.
+fn body_of(own: &[u8]) -> Body
+    requires { MayHave (Bare.Send 0 0) (length own.now) }
+    ensures { result ≡ own.now }
+{
+    match Body::try_new(own) {
+        Ok(body) => body,
+        Err(_) => unreachable!(),
+    }
+}
+
+// A state of these bytes, in memory of its own.
+fn state_of(alloc: Global, own: &[u8]) -> Result<State, AllocError>
+    ensures { IfOk result (λ state. state ≡ own.now) }
+{
+    Ok(State::of(Vec::from_slice(alloc, own)?))
+}
+
+// The command that it makes with its bytes.
+fn command_with(alloc: Global, bare: &Bare, own: &[u8]) -> Result<Command, AllocError>
+    requires { MayHave bare.now (length own.now) }
+    ensures { IfOk result (λ command. command ≡ with_bytes bare.now own.now) }
+{
+    match bare {
+        Bare::Send { from, to } => Ok(Command::Do(Step::Send {
+            from: *from,
+            to: *to,
+            body: body_of(own),
+        })),
+        Bare::Deliver { from, to, pick } => Ok(Command::Do(Step::Deliver {
+            from: *from,
+            to: *to,
+            pick: *pick,
+            state: state_of(alloc, own)?,
+        })),
+        Bare::Check { at } => Ok(Command::Do(Step::Check {
+            at: *at,
+            state: state_of(alloc, own)?,
+        })),
+        Bare::Begin { at } => Ok(Command::Do(Step::Begin {
+            at: *at,
+            state: state_of(alloc, own)?,
+        })),
+        Bare::Turn { at } => Ok(Command::Do(Step::Turn {
+            at: *at,
+            state: state_of(alloc, own)?,
+        })),
+        Bare::Damage { at, check } => Ok(Command::Do(Step::Damage {
+            at: *at,
+            check: *check,
+        })),
+        Bare::Recover(failed) => Ok(Command::Do(Step::Recover { failed: **failed })),
+        Bare::Rounds => Ok(Command::Rounds),
+        Bare::History => Ok(Command::History),
+        Bare::Bundle(failed) => Ok(Command::Bundle(**failed)),
+        Bare::Refused(code) => Ok(Command::Refused(*code)),
+    }
+}
+
+// Gives back what commands that are gone have held, where that is as much as those that are left hold.
+fn shrink(kept: &mut Vec<Kept>)
+    ensures { kept.new.items ≡ kept.old.items }
+{
+    if kept.len() <= kept.capacity() / 2 {
+        kept.shrink_to_fit();
+    }
+}
+
+impl Commands {
+    /// Those that were kept, in their order.
+    pub(crate) fn of(mut kept: Vec<Kept>, bytes: Vec<u8>) -> Commands
+        requires { ArePacked kept.items bytes.items }
+        ensures { result ≡ unpacked kept.items bytes.items }
+    {
+        kept.reverse();
+        Commands { kept, bytes, at: 0 }
+    }
+
+    /// Takes the first one out, if there is one.
+    pub fn next(&mut self, alloc: Global) -> Result<Option<Command>, AllocError>
+        ensures some { IfOk result (λ found. MatchOption found ((self.old ≡ []) × (self.new ≡ [])) (λ command. self.old ≡ command ∷ self.new)) }
+        ensures memory { OnErr result ((self.new ≡ self.old) × (0 < length self.old)) }
+    {
+        let count = self.kept.len();
+        if count == 0 {
+            return Ok(None);
+        }
+        let first = &self.kept[count - 1];
+        let end = self.at + first.long;
+        let command = command_with(alloc, &first.bare, &self.bytes[self.at..end])?;
+        self.at = end;
+        self.kept.truncate(count - 1);
+        shrink(&mut self.kept);
+        Ok(Some(command))
+    }
+}
