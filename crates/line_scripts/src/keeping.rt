@@ -98,17 +98,25 @@ fn state_of(alloc: Global, own: &[u8]) -> Result<State, AllocError>
     Ok(State::of(Vec::from_slice(alloc, own)?))
 }
 
-// The command that it makes with its bytes.
-fn command_with(alloc: Global, bare: &Bare, own: &[u8]) -> Result<Command, AllocError>
+// A send with its message.
+#[inline(never)]
+fn send_with(from: ProcId, to: ProcId, own: &[u8]) -> Command
+    requires { MayHave (Bare.Send from to) (length own.now) }
+    ensures { result ≡ with_bytes (Bare.Send from to) own.now }
+{
+    let body = body_of(own);
+    Command::Do(Step::Send { from, to, body })
+}
+
+// The command that it makes with its bytes, where it is no send. It is kept apart, since each arm has
+// room for a whole command.
+#[inline(never)]
+fn other_with(alloc: Global, bare: &Bare, own: &[u8]) -> Result<Command, AllocError>
     requires { MayHave bare.now (length own.now) }
     ensures { IfOk result (λ command. command ≡ with_bytes bare.now own.now) }
 {
     match bare {
-        Bare::Send { from, to } => Ok(Command::Do(Step::Send {
-            from: *from,
-            to: *to,
-            body: body_of(own),
-        })),
+        Bare::Send { from, to } => Ok(send_with(*from, *to, own)),
         Bare::Deliver { from, to, pick } => Ok(Command::Do(Step::Deliver {
             from: *from,
             to: *to,
@@ -136,6 +144,17 @@ fn command_with(alloc: Global, bare: &Bare, own: &[u8]) -> Result<Command, Alloc
         Bare::History => Ok(Command::History),
         Bare::Bundle(failed) => Ok(Command::Bundle(**failed)),
         Bare::Refused(code) => Ok(Command::Refused(*code)),
+    }
+}
+
+// The command that it makes with its bytes.
+fn command_with(alloc: Global, bare: &Bare, own: &[u8]) -> Result<Command, AllocError>
+    requires { MayHave bare.now (length own.now) }
+    ensures { IfOk result (λ command. command ≡ with_bytes bare.now own.now) }
+{
+    match bare {
+        Bare::Send { from, to } => Ok(send_with(*from, *to, own)),
+        _ => other_with(alloc, bare, own),
     }
 }
 
