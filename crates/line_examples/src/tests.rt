@@ -8,6 +8,7 @@ mod build;
 mod catalogues;
 mod claims;
 mod markers;
+mod pieces;
 mod runs;
 mod texts;
 
