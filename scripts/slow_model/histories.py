@@ -188,7 +188,19 @@ class History:
         choices = [self.surviving(marks, failed, p) for p in self.processes()]
         if math.prod(map(len, choices)) > MOST_LINES:
             return
-        every = [list(it) for it in itertools.product(*choices) if self.is_consistent(it)]
+        # What is received and sent before each choice, read once for all lines.
+        received = [{it: set(self.received(p, it)) for it in own} for p, own in enumerate(choices)]
+        sent = [
+            {it: {name for name, _ in self.sent(p, it)} for it in own}
+            for p, own in enumerate(choices)
+        ]
+
+        def is_consistent(tried: Sequence[int]) -> bool:
+            """Each message that is received before a line is sent before it."""
+            held = set[Name]().union(*(sent[p][it] for p, it in enumerate(tried)))
+            return all(received[p][it] <= held for p, it in enumerate(tried))
+
+        every = [list(it) for it in itertools.product(*choices) if is_consistent(it)]
         latest = [max(it[p] for it in every) for p in self.processes()]
         if line != latest or latest not in every:
             raise AssertionError(f"the slow model plans {line}, and the latest line is {latest}")
