@@ -10,7 +10,6 @@ import pathlib
 import re
 import shutil
 import subprocess
-import sys
 import tempfile
 from collections.abc import Iterable, Sequence
 
@@ -144,11 +143,18 @@ def put_out(made: Path, home: Path) -> None:
     shutil.move(made, home)
 
 
+def is_one_file(one: pathlib.Path, other: pathlib.Path) -> bool:
+    """Whether two names are there, and are names of one file."""
+    return one.is_file() and other.is_file() and one.samefile(other)
+
+
 def build(top: Path, name: str, jobs: int, below: Below, log: Path) -> bool:
     """Proves and builds a crate of the tree at `top` in a room of its own, and keeps what was made.
 
-    It answers whether the crate is proved. One that is proved already costs a look at its files.
+    It answers whether the crate is proved. One that is proved already costs a look at its files,
+    and a library that is stays where it is, since others may be reading it.
     """
+    home = pathlib.Path(top) / "crates" / name / "out"
     with new_folder("recline-room-") as room:
         crate = make_room(room, top, name, below)
         is_program = (crate / "src" / "main.rt").is_file()
@@ -159,38 +165,6 @@ def build(top: Path, name: str, jobs: int, below: Below, log: Path) -> bool:
         )
         if run(words, crate, log):
             return False
-        put_out(crate / "out", pathlib.Path(top) / "crates" / name / "out")
+        if not is_one_file(crate / "out" / "rlib" / "stamp", home / "rlib" / "stamp"):
+            put_out(crate / "out", home)
     return True
-
-
-def copy_text(source: pathlib.Path, target: pathlib.Path) -> None:
-    """Writes a file with the text of another."""
-    target.parent.mkdir(parents=True, exist_ok=True)
-    target.write_text(source.read_text(encoding="utf-8"), encoding="utf-8")
-
-
-def build_bench(
-    room: pathlib.Path, name: str, low: list[str], words: Sequence[str]
-) -> pathlib.Path:
-    """Makes a program of `bench` a crate of a room over the crates `low`; proves and builds it.
-
-    Its files have the ends .rattle and .proof, since it is no crate of the repository. It is run
-    with these words, and answered is where it was built. One that is not proved ends all.
-    """
-    top = ROOT / "bench" / name
-    crate = make_room(room, ROOT, name, {**stands_on(), name: low})
-    with (room / "crates.txt").open("a", encoding="utf-8") as crates:
-        crates.write(f"{name}: {' '.join(low)} anyhow\n")
-    copy_text(ROOT / "HANDLES", room / "HANDLES")
-    for file in top.rglob("*.rattle"):
-        copy_text(file, crate / "src" / file.relative_to(top).with_suffix(".rt"))
-    for file in (top / "proofs").rglob("*.proof"):
-        copy_text(file, crate / file.relative_to(top).with_suffix(".antt"))
-    for part in ("specs", "proofs"):
-        (crate / part).mkdir(parents=True, exist_ok=True)
-        if not (crate / part / "Lib.antt").exists():
-            (crate / part / "Lib.antt").write_text("", encoding="utf-8")
-    log = room / "log"
-    if run(["rt", "run", "--", *words], crate, log):
-        sys.exit(log.read_text(errors="replace")[-4000:])
-    return crate / "out" / name

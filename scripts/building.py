@@ -1,0 +1,149 @@
+"""Crates that are proved and built side by side, and the programs of `bench` that stand on them."""
+
+import contextlib
+import fcntl
+import pathlib
+import sys
+import tempfile
+import time
+from collections.abc import Iterator, Sequence
+from concurrent.futures import FIRST_COMPLETED, Future, ThreadPoolExecutor, wait
+
+import workspace
+
+SECONDS_OF_SILENCE = 60
+
+
+class Progress:
+    """What is done and what is under way, and how it is told."""
+
+    def __init__(self, order: list[str]) -> None:
+        self.started = time.monotonic()
+        self.order = order
+        self.done: set[str] = set()
+        self.running: dict[Future[bool], str] = {}
+
+    def tell(self, what: str) -> None:
+        """One line on standard error, with the minutes so far."""
+        minutes = int(time.monotonic() - self.started) // 60
+        print(f"recline: building: {what}; {minutes} min so far", file=sys.stderr, flush=True)
+
+    def tell_state(self) -> None:
+        """Which crate of how many."""
+        now = ", ".join(sorted(self.running.values()))
+        self.tell(f"{len(self.done)} of {len(self.order)} crates" + (f", now {now}" if now else ""))
+
+    def ready(self, below: workspace.Below) -> list[str]:
+        """The crates that nothing is waited for any more."""
+        busy = set(self.running.values())
+        left = [it for it in self.order if it not in self.done and it not in busy]
+        return [it for it in left if all(low in self.done for low in below[it])]
+
+
+def share(at_once: int, under_way: int, is_heaviest: bool) -> int:
+    """How many jobs a crate starts with, where so many run or may start, itself among them.
+
+    A running one cannot be given more later, so this is no less than its part of all processors.
+    """
+    return at_once if is_heaviest else -(-at_once // under_way)
+
+
+@contextlib.contextmanager
+def alone() -> Iterator[None]:
+    """Waits until no other script builds crates of this tree, where that can be told."""
+    inside = workspace.ROOT / ".git"
+    if not inside.is_dir():
+        yield
+        return
+    with (inside / "recline-building").open("w", encoding="utf-8") as lock:
+        fcntl.flock(lock, fcntl.LOCK_EX)
+        yield
+
+
+def build_all(below: workspace.Below, order: list[str], at_once: int, what: str) -> bool:
+    """Builds the crates in `order`, and says first what is done; answers whether all are proved."""
+    chain = workspace.chains(order, below)
+    progress = Progress(order)
+    progress.tell(what)
+    with (
+        alone(),
+        tempfile.TemporaryDirectory(prefix="recline-logs-") as logs,
+        ThreadPoolExecutor(at_once) as pool,
+    ):
+        while len(progress.done) < len(order):
+            heaviest = max(chain[it] for it in order if it not in progress.done)
+            ready = sorted(progress.ready(below), key=lambda it: -chain[it])
+            under_way = len(progress.running) + len(ready)
+            for name in ready[: at_once - len(progress.running)]:
+                jobs = share(at_once, under_way, chain[name] == heaviest)
+                words = (workspace.ROOT, name, jobs, below, f"{logs}/{name}")
+                progress.running[pool.submit(workspace.build, *words)] = name
+            ended, _ = wait(
+                progress.running, timeout=SECONDS_OF_SILENCE, return_when=FIRST_COMPLETED
+            )
+            for it in ended:
+                name = progress.running.pop(it)
+                if not it.result():
+                    said = pathlib.Path(f"{logs}/{name}").read_text(errors="replace")
+                    sys.stderr.write(said)
+                    progress.tell(f"{name} could not be proved or built")
+                    return False
+                progress.done.add(name)
+            progress.tell_state()
+    return True
+
+
+def copy_text(source: pathlib.Path, target: pathlib.Path) -> None:
+    """Writes a file with the text of another."""
+    target.parent.mkdir(parents=True, exist_ok=True)
+    target.write_text(source.read_text(encoding="utf-8"), encoding="utf-8")
+
+
+def make_bench(room: pathlib.Path, name: str, low: list[str]) -> pathlib.Path:
+    """Makes a program of `bench` a crate of a room over the crates `low`; answers its folder.
+
+    Its files have the ends .rattle and .proof, since it is no crate of the repository.
+    """
+    top = workspace.ROOT / "bench" / name
+    crate = workspace.make_room(room, workspace.ROOT, name, {**workspace.stands_on(), name: low})
+    with (room / "crates.txt").open("a", encoding="utf-8") as crates:
+        crates.write(f"{name}: {' '.join(low)} anyhow\n")
+    copy_text(workspace.ROOT / "HANDLES", room / "HANDLES")
+    for file in top.rglob("*.rattle"):
+        copy_text(file, crate / "src" / file.relative_to(top).with_suffix(".rt"))
+    for file in (top / "proofs").rglob("*.proof"):
+        copy_text(file, crate / file.relative_to(top).with_suffix(".antt"))
+    for part in ("specs", "proofs"):
+        (crate / part).mkdir(parents=True, exist_ok=True)
+        if not (crate / part / "Lib.antt").exists():
+            (crate / part / "Lib.antt").write_text("", encoding="utf-8")
+    return crate
+
+
+def build_bench(
+    room: pathlib.Path, name: str, low: list[str], words: Sequence[str]
+) -> pathlib.Path:
+    """Proves and builds a program of `bench` over the crates `low`, and answers where it is.
+
+    The crates are built where they belong, so that the next program finds them. What is proved of
+    this one is kept in .git, if there is one. It is run with these words. One that is not proved
+    ends all.
+    """
+    below = workspace.stands_on()
+    order = workspace.needed(low, below)
+    what = f"proving the {len(order)} crates below bench/{name}, where they are not proved yet"
+    if not build_all(below, order, workspace.lanes(), what):
+        sys.exit(1)
+    crate = make_bench(room, name, low)
+    kept = workspace.ROOT / ".git" / "recline-bench" / name
+    with alone():
+        workspace.link_folder(kept, crate / "out")
+    log = room / "log"
+    if workspace.run(["rt", "run", "--", *words], crate, log):
+        sys.exit(log.read_text(errors="replace")[-4000:])
+    program = room / name
+    workspace.link(crate / "out" / name, program)
+    if kept.parent.parent.is_dir():
+        with alone():
+            workspace.put_out(crate / "out", kept)
+    return program
