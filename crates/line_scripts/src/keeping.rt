@@ -1,6 +1,6 @@
 //! Commands that wait to be done: a few bytes for each, and one list of the bytes that they carry.
 
-ghost use Rattle.std.specs.Prelude.{◌≡◌, ◌≤◌, ◌<◌, ◌++◌, [], ◌∷◌, length, IfOk, MatchOption, OnErr, OnOk};
+ghost use Rattle.std.specs.Prelude.{◌≡◌, ◌≤◌, ◌<◌, ◌++◌, [], ◌∷◌, true, false, length, IfOk, OnErr, OnOk};
 ghost use Rattle.line_scripts.specs.Keeping.{ArePacked, MayHave, unpacked, with_bytes};
 
 use crate::commands::Command;
@@ -177,21 +177,23 @@ impl Commands {
         Commands { kept, bytes, at: 0 }
     }
 
-    /// Takes the first one out, if there is one.
-    pub fn next(&mut self, alloc: Global) -> Result<Option<Command>, AllocError>
-        ensures some { IfOk result (λ found. MatchOption found ((self.old ≡ []) × (self.new ≡ [])) (λ command. self.old ≡ command ∷ self.new)) }
+    /// Takes the first one out, if there is one, and puts it in that place. It answers false where
+    /// there is none.
+    pub fn next(&mut self, alloc: Global, command: &mut Command) -> Result<bool, AllocError>
+        ensures some { IfOk result (λ more. more ≡ true → self.old ≡ command.new ∷ self.new) }
+        ensures none { IfOk result (λ more. more ≡ false → (self.old ≡ []) × (self.new ≡ [])) }
         ensures memory { OnErr result ((self.new ≡ self.old) × (0 < length self.old)) }
     {
         let count = self.kept.len();
         if count == 0 {
-            return Ok(None);
+            return Ok(false);
         }
         let first = &self.kept[count - 1];
         let end = self.at + first.long;
-        let command = command_with(alloc, &first.bare, &self.bytes[self.at..end])?;
+        *command = command_with(alloc, &first.bare, &self.bytes[self.at..end])?;
         self.at = end;
         self.kept.truncate(count - 1);
         shrink(&mut self.kept);
-        Ok(Some(command))
+        Ok(true)
     }
 }

@@ -119,9 +119,10 @@ fn all_of(alloc: Global, mut commands: Commands) -> Result<Vec<Command>, AllocEr
 {
     let mut all = Vec::new(alloc);
     'commands: loop {
-        let Some(command) = commands.next(alloc)? else {
+        let mut command = Command::Rounds;
+        if !commands.next(alloc, &mut command)? {
             return Ok(all);
-        };
+        }
         all.push(command)?;
     }
 }

@@ -169,39 +169,34 @@ fn do_command<K: Sink>(
     }
 }
 
-// Lets a command go that was done.
-fn let_go(_command: Command) {}
-
-// Does the first command, as `do_command` does. It answers false where there is none.
+// Does the first command, as `do_command` does, and leaves it in that place. It answers false where
+// there is none.
 fn do_next<K: Sink>(
     alloc: Global,
     world: &mut World,
     commands: &mut Commands,
+    command: &mut Command,
     sink: &mut K,
     writer: &mut RecordWriter,
     draft: &mut Draft,
     refused: &mut u64,
 ) -> Result<bool, Halt>
     requires { refused.old < 18446744073709551615 }
-    ensures ok { IfOk result (λ more. more ≡ true → (command : Command) × (commands.old ≡ command ∷ commands.new)
-        × spec.Does world.old command world.new (K.taken sink.old) (K.taken sink.new) writer.old refused.old writer.new refused.new) }
+    ensures ok { IfOk result (λ more. more ≡ true → (commands.old ≡ command.new ∷ commands.new)
+        × spec.Does world.old command.new world.new (K.taken sink.old) (K.taken sink.new) writer.old refused.old writer.new refused.new) }
     ensures none { IfOk result (λ more. more ≡ false → (commands.old ≡ []) × (commands.new ≡ []) × (world.new ≡ world.old)
         × (sink.new ≡ sink.old) × (writer.new ≡ writer.old) × (refused.new ≡ refused.old)) }
-    ensures err { IfErr result (λ halt. (command : Command) × (rest : List Command) × (commands.old ≡ command ∷ rest)
-        × spec.HaltsAt halt world.old command (K.taken sink.old) (K.taken sink.new) writer.old writer.new) }
+    ensures err { IfErr result (λ halt. (first : Command) × (rest : List Command) × (commands.old ≡ first ∷ rest)
+        × spec.HaltsAt halt world.old first (K.taken sink.old) (K.taken sink.new) writer.old writer.new) }
     ensures sound { OnOk result (K.faults sink.new ≡ K.faults sink.old) }
     ensures blamed { IfErr result (λ halt. IsBlamed halt (K.faults sink.old) (K.faults sink.new)) }
 {
-    match commands.next(alloc) {
-        Ok(Some(command)) => {
-            let done = do_command(alloc, world, sink, writer, draft, refused, &command);
-            let_go(command);
-            match done {
-                Ok(()) => Ok(true),
-                Err(halt) => Err(halt),
-            }
+    match commands.next(alloc, command) {
+        Ok(true) => {
+            do_command(alloc, world, sink, writer, draft, refused, command)?;
+            Ok(true)
         }
-        Ok(None) => Ok(false),
+        Ok(false) => Ok(false),
         Err(_) => Err(Halt::Memory),
     }
 }
@@ -223,6 +218,7 @@ fn do_commands<K: Sink>(
     ensures blamed { IfErr result (λ stop. spec.Blames stop (K.faults sink.old) (K.faults sink.new)) }
 {
     let mut draft = Draft::new(alloc);
+    let mut command = Command::Rounds;
     let mut refused = 0u64;
     let mut done = 0u64;
     'commands: loop {
@@ -230,6 +226,7 @@ fn do_commands<K: Sink>(
             alloc,
             world,
             commands,
+            &mut command,
             sink,
             writer,
             &mut draft,
