@@ -1,6 +1,6 @@
 -- A history that is written is read again.
-use Rattle.std.proofs.Common.{◌≡◌, ◌≤◌, ◌<◌, ℕ, ◌+◌, ◌==◌, true, List, [], ◌∷◌, ◌++◌, length, Result, Ok, refl, sym, ap, ◌∙◌, arith, append_assoc, eq-eqb, length-append}
-use Rattle.std.specs.Prelude.{map, replicate}
+use Rattle.std.proofs.Common.{◌≡◌, ◌≤◌, ◌<◌, ℕ, ◌+◌, true, false, List, [], ◌∷◌, ◌++◌, length, Result, Ok, refl, sym, ap, ◌∙◌, arith, append_assoc, length-append}
+use Rattle.std.specs.Prelude.{codes, map, replicate}
 use Rattle.std.specs.List.{AllByRecursion}
 use Rattle.std.proofs.Math.Seq.{get_or-append_seam, set-append_seam}
 use Rattle.std.proofs.Math.ListN.{length-replicate, set}
@@ -9,16 +9,18 @@ use Rattle.line_fields.specs.declared.faults.Fault.{Fault}
 use Rattle.line_names.specs.declared.limits.TheConstants.{MOST_PROCESSES}
 use Rattle.line_fields.specs.Records.{Record}
 use Rattle.line_tape.specs.declared.events.Event.{Event}
-use Rattle.line_tape.specs.declared.limits.TheConstants.{MOST_EVENTS}
+use Rattle.line_tape.specs.declared.limits.TheConstants.{LAST_INCARNATION, MOST_EVENTS}
 use Rattle.line_tape.specs.History.{Process, fresh, tape_at, with_event, with_incarnation}
 use Rattle.line_claims.specs.declared.faults.TextFault.{TextFault}
 use Rattle.line_claims.specs.declared.numbers.TheConstants.{MOST_NUMBER}
-use Rattle.line_claims.specs.Histories.{Front, Tapes, ends_front, front_from, front_of, step}
+use Rattle.line_claims.specs.Events.{is_event}
+use Rattle.line_claims.specs.Histories.{event_at, front_of, tape_from, tape_of, tapes_from}
+use Rattle.line_claims.specs.Parts.{Part, begins, many, named, one}
 use Rattle.line_claims.specs.Ranges.{IsHistoryInRange, IsInRange, IsTapeInRange}
 use Rattle.line_claims.specs.Records.{event_record, history_records, tape_record, tapes_records}
 use Rattle.line_claims.specs.Texts.{history_of}
-use Rattle.line_claims.proofs.FrontLemmas.{first_step, front_end}
-use Rattle.line_claims.proofs.SpellLemmas.{count_again, event_again, event_is_no_claim, tape_again, with_one, with_tape}
+use Rattle.line_claims.proofs.ReadingLemmas.{first_more, many_end}
+use Rattle.line_claims.proofs.SpellLemmas.{count_again, event_again, event_is_event, tape_again}
 
 -- a process
 abbrev process_with : ℕ → List Event → Process
@@ -28,18 +30,15 @@ process_with inc tape = record { incarnation = inc; tape = tape }
 abbrev between : List Process → Process → List Process → List Process
 between done process after = done ++ process ∷ after
 
--- the state that reading is in, and what it leaves
-abbrev with_history : List Process → ℕ → ℕ → Tapes
-with_history history begun at = record { history = history; begun = begun; at = at }
+-- what was read, and what it leaves
+abbrev pub part_to : {A : Type 0} → A → ℕ → List Record → Part A
+part_to x number left = record { value = x; number = number; left = left }
 
-abbrev pub front_to : List Process → ℕ → List Record → Front
-front_to history number left = record { history = history; number = number; left = left }
-
-abbrev stepped_to : Tapes → Result Tapes Fault
-stepped_to t = Ok t
-
-ok_of : {t u : Tapes} → t ≡ u → stepped_to t ≡ stepped_to u
-ok_of e = ap stepped_to e
+-- a record with the name that is asked for
+pub one_again : {A : Type 0} (name : List ℕ) (read : Record → Result A Fault) (i : ℕ) (r : Record) (rest : List Record) (x : A)
+    → named name r ≡ true → read r ≡ Ok x → one name read i (r ∷ rest) ≡ Ok (part_to x (i + 1) rest)
+unfolding one
+one_again name read i r rest x it h = rw (it, h) refl
 
 event_between : (done after : List Process) (inc : ℕ) (tape : List Event) (event : Event)
     → with_event (between done (process_with inc tape) after) (length done) event ≡ between done (process_with inc (tape ++ event ∷ [])) after
@@ -53,78 +52,89 @@ incarnation_between done after h b inc is at =
     ap (λ (x : List Process). with_incarnation x b inc) is ∙ ap (λ (k : ℕ). with_incarnation (between done fresh after) k inc) at
     ∙ ap changed (get_or-append_seam done fresh after fresh) ∙ set-append_seam done fresh after (process_with inc [])
 
--- the tapes while that of one process is read
-abbrev reading : List Process → ℕ → List Event → List Process → Tapes
-reading done inc tape after = record { history = between done (process_with inc tape) after; begun = length done + 1; at = length done }
-
 -- the events of a tape are read one after another
 events_again : (n : ℕ) (done after : List Process) (inc : ℕ) (tape events : List Event) (more : List Record) (i : ℕ)
     → length done + (1 + length after) ≡ n → n ≤ MOST_PROCESSES → length tape + length events ≤ MOST_EVENTS → AllByRecursion (IsInRange n) events
-    → (j : ℕ) × (front_from (reading done inc tape after) i (map event_record events ++ more) ≡ front_from (reading done inc (tape ++ events) after) j more)
-events_again n done after inc tape [] more i is few room fit = (i, ap (λ (ts : List Event). front_from (reading done inc ts after) i more) (sym (append-nil tape)))
+    → (j : ℕ) × (many is_event (event_at (length done)) (between done (process_with inc tape) after) i (map event_record events ++ more)
+    ≡ many is_event (event_at (length done)) (between done (process_with inc (tape ++ events)) after) j more)
+events_again n done after inc tape [] more i is few room fit =
+    (i, ap (λ (ts : List Event). many is_event (event_at (length done)) (between done (process_with inc ts) after) i more) (sym (append-nil tape)))
 events_again n done after inc tape (event ∷ events) more i is few room fit =
-    let t : Tapes = reading done inc tape after in
-    let next : Tapes = reading done inc (tape ++ event ∷ []) after in
-    let long : length (between done (process_with inc tape) after) ≡ n = omega (arith, length-append done (process_with inc tape ∷ after), is) in
-    let tape_is : tape_at t.history t.at ≡ tape = ap (λ (p : Process). p.tape) (get_or-append_seam done (process_with inc tape) after fresh) in
-    let short : length (tape_at t.history t.at) < MOST_EVENTS = omega (arith, ap length tape_is, room) in
-    let some : 0 < length done + 1 = omega arith in
-    let grown : with_one t event ≡ next = ap (λ (h : List Process). with_history h (length done + 1) (length done)) (event_between done after inc tape event) in
-    let stepped : step t (event_record event) ≡ Ok next = event_again t n event long few some fit.0 short ∙ ok_of grown in
-    let first = first_step t next i (event_record event) (map event_record events ++ more) (event_is_no_claim event) stepped in
+    let p : ℕ = length done in
+    let h : List Process = between done (process_with inc tape) after in
+    let next : List Process = between done (process_with inc (tape ++ event ∷ [])) after in
+    let long : length h ≡ n = omega (arith, length-append done (process_with inc tape ∷ after), is) in
+    let tape_is : tape_at h p ≡ tape = ap (λ (q : Process). q.tape) (get_or-append_seam done (process_with inc tape) after fresh) in
+    let short : length (tape_at h p) < MOST_EVENTS = omega (arith, ap length tape_is, room) in
+    let ok : List Process → Result (List Process) Fault = λ x. Ok x in
+    let read : event_at p h (event_record event) ≡ Ok next = event_again p n h event long few fit.0 short ∙ ap ok (event_between done after inc tape event) in
+    let first = first_more is_event (event_at p) h next i (event_record event) (map event_record events ++ more) (event_is_event event) read in
     let less : length (tape ++ event ∷ []) + length events ≤ MOST_EVENTS = omega (arith, length-append tape (event ∷ []), room) in
     let rest = events_again n done after inc (tape ++ event ∷ []) events more (i + 1) is few less fit.1 in
-    (rest.0, first ∙ rest.1 ∙ ap (λ (ts : List Event). front_from (reading done inc ts after) rest.0 more) (append_assoc tape (event ∷ []) events))
+    (rest.0, first ∙ rest.1 ∙ ap (λ (ts : List Event). many is_event (event_at p) (between done (process_with inc ts) after) rest.0 more) (append_assoc tape (event ∷ []) events))
 
--- the tapes are read one after another, up to the end or to a claim
-tapes_again : (n : ℕ) (done rest h : List Process) (b a i : ℕ) (more : List Record)
-    → ends_front more ≡ true → h ≡ done ++ replicate (length rest) fresh → b ≡ length done → length done + length rest ≡ n → n ≤ MOST_PROCESSES → AllByRecursion (IsTapeInRange n) rest
-    → (j : ℕ) × (front_from (with_history h b a) i (tapes_records b rest ++ more) ≡ Ok (front_to (done ++ rest) j more))
-tapes_again n done [] h b a i more ends is at total few fit =
-    let same : length h ≡ b = ap length is ∙ ap length (append-nil done) ∙ sym at in
-    let whole : (b == length h) ≡ true = eq-eqb b (length h) (sym same) in
-    let P : List Process → Result Front TextFault = λ x. Ok (front_to x i more) in
-    (i, front_end (with_history h b a) i more ends whole ∙ ap P is)
-tapes_again n done (p ∷ others) h b a i more ends is at total few fit =
+-- a tape is read with its events
+tape_from_again : (n : ℕ) (done after h : List Process) (b inc : ℕ) (tape : List Event) (more : List Record) (i : ℕ)
+    → begins is_event more ≡ false → h ≡ between done fresh after → b ≡ length done → length done + (1 + length after) ≡ n → n ≤ MOST_PROCESSES
+    → inc ≤ LAST_INCARNATION → length tape ≤ MOST_EVENTS → AllByRecursion (IsInRange n) tape
+    → (j : ℕ) × (tape_from b h i (tape_record b inc ∷ (map event_record tape ++ more)) ≡ Ok (part_to (between done (process_with inc tape) after) j more))
+unfolding tape_from
+tape_from_again n done after h b inc tape more i ends is at total few small short fit =
+    let events : List Record = map event_record tape in
+    let begun : List Process = between done (process_with inc []) after in
+    let wide : b ≤ MOST_NUMBER = omega (arith, at, total, few) in
+    let ok : List Process → Result (List Process) Fault = λ x. Ok x in
+    let head : tape_of b h (tape_record b inc) ≡ Ok begun = tape_again b inc h wide small ∙ ap ok (incarnation_between done after h b inc is at) in
+    let first = one_again (codes "tape") (tape_of b h) i (tape_record b inc) (events ++ more) begun refl head in
+    let room : 0 + length tape ≤ MOST_EVENTS = omega (arith, short) in
+    let read = events_again n done after inc [] tape more (i + 1) total few room fit in
+    let all : many is_event (event_at b) begun (i + 1) (events ++ more) ≡ Ok (part_to (between done (process_with inc tape) after) read.0 more)
+    = ap (λ (q : ℕ). many is_event (event_at q) begun (i + 1) (events ++ more)) at ∙ read.1 ∙ many_end is_event (event_at (length done)) (between done (process_with inc tape) after) read.0 more ends in
+    (read.0, rw first all)
+
+-- a tape is no event
+tapes_end_events : (b : ℕ) (rest : List Process) (more : List Record) → begins is_event more ≡ false → begins is_event (tapes_records b rest ++ more) ≡ false
+tapes_end_events b [] more ends = ends
+tapes_end_events b (p ∷ others) more ends = refl
+
+-- the tapes are read one after another
+tapes_again : (n : ℕ) (done rest h : List Process) (b i : ℕ) (more : List Record)
+    → begins is_event more ≡ false → h ≡ done ++ replicate (length rest) fresh → b ≡ length done → length done + length rest ≡ n → n ≤ MOST_PROCESSES → AllByRecursion (IsTapeInRange n) rest
+    → (j : ℕ) × (tapes_from b (length rest) h i (tapes_records b rest ++ more) ≡ Ok (part_to (done ++ rest) j more))
+unfolding tapes_from
+tapes_again n done [] h b i more ends is at total few fit =
+    let P : List Process → Result (Part (List Process)) TextFault = λ x. Ok (part_to x i more) in
+    (i, ap P is)
+tapes_again n done (p ∷ others) h b i more ends is at total few fit =
     let after : List Process = replicate (length others) fresh in
-    let t : Tapes = with_history h b a in
-    let inc : ℕ = p.incarnation in
-    let next : Tapes = reading done inc [] after in
     let events : List Record = map event_record p.tape in
     let later : List Record = tapes_records (b + 1) others ++ more in
     let ok : IsTapeInRange n p = fit.0 in
     let count : length after ≡ length others = length-replicate (length others) fresh in
-    let long : length h ≡ n = omega (arith, ap length is, length-append done (fresh ∷ after), count, total) in
-    let there : b < length h = omega (arith, at, long, total) in
-    let wide : b ≤ MOST_NUMBER = omega (arith, there, long, few) in
-    let begun : with_tape t inc ≡ next
-    = ap (λ (x : List Process). with_history x (b + 1) b) (incarnation_between done after h b inc is at) ∙ ap (λ (k : ℕ). with_history (between done (process_with inc []) after) (k + 1) k) at in
-    let stepped : step t (tape_record b inc) ≡ Ok next = tape_again t inc there wide ok.incarnation ∙ ok_of begun in
-    let first = first_step t next i (tape_record b inc) ((events ++ tapes_records (b + 1) others) ++ more) refl stepped in
     let around : length done + (1 + length after) ≡ n = omega (arith, count, total) in
-    let room : 0 + length p.tape ≤ MOST_EVENTS = omega (arith, ok.few) in
-    let read = events_again n done after inc [] p.tape later (i + 1) around few room ok.events in
-    let back : front_from (reading done inc p.tape after) read.0 later ≡ front_from (with_history (done ++ p ∷ after) (b + 1) (length done)) read.0 later
-    = ap (λ (k : ℕ). front_from (with_history (done ++ p ∷ after) (k + 1) (length done)) read.0 later) (sym at) in
-    let one : b + 1 ≡ length (done ++ p ∷ []) = omega (arith, length-append done (p ∷ []), at) in
+    let room : length p.tape ≤ MOST_EVENTS = omega (arith, ok.few) in
+    let read = tape_from_again n done after h b p.incarnation p.tape later i (tapes_end_events (b + 1) others more ends) is at around few ok.incarnation room ok.events in
+    let whole : tape_from b h i (tapes_records b (p ∷ others) ++ more) ≡ Ok (part_to (done ++ p ∷ after) read.0 later)
+    = ap (λ (rest : List Record). tape_from b h i (tape_record b p.incarnation ∷ rest)) (append_assoc events (tapes_records (b + 1) others) more) ∙ read.1 in
+    let one-more : b + 1 ≡ length (done ++ p ∷ []) = omega (arith, length-append done (p ∷ []), at) in
     let all : length (done ++ p ∷ []) + length others ≡ n = omega (arith, length-append done (p ∷ []), total) in
-    let rest = tapes_again n (done ++ p ∷ []) others (done ++ p ∷ after) (b + 1) (length done) read.0 more ends (sym (append_assoc done (p ∷ []) after)) one all few fit.1 in
-    let P : List Process → Result Front TextFault = λ x. Ok (front_to x rest.0 more) in
-    (rest.0, first ∙ ap (front_from next (i + 1)) (append_assoc events (tapes_records (b + 1) others) more) ∙ read.1 ∙ back ∙ rest.1 ∙ ap P (append_assoc done (p ∷ []) others))
+    let rest = tapes_again n (done ++ p ∷ []) others (done ++ p ∷ after) (b + 1) read.0 more ends (sym (append_assoc done (p ∷ []) after)) one-more all few fit.1 in
+    let P : List Process → Result (Part (List Process)) TextFault = λ x. Ok (part_to x rest.0 more) in
+    (rest.0, rw whole (rest.1 ∙ ap P (append_assoc done (p ∷ []) others)))
 
--- a history is read, up to the end or to a claim
-pub front_again : (history : List Process) (more : List Record) → IsHistoryInRange history → ends_front more ≡ true
-    → (j : ℕ) × (front_of (history_records history ++ more) ≡ Ok (front_to history j more))
+-- a history is read, up to the end or to what is no event
+pub front_again : (history : List Process) (more : List Record) → IsHistoryInRange history → begins is_event more ≡ false
+    → (j : ℕ) × (front_of (history_records history ++ more) ≡ Ok (part_to history j more))
 unfolding front_of
 front_again history more fit ends =
     let n : ℕ = length history in
     let none : 0 + length history ≡ n = omega arith in
-    let read = tapes_again n [] history (replicate n fresh) 0 0 2 more ends refl refl none fit.few fit.tapes in
+    let read = tapes_again n [] history (replicate n fresh) 0 2 more ends refl refl none fit.few fit.tapes in
     (read.0, rw (count_again n fit.some fit.few) read.1)
 
 pub history_again : (history : List Process) → IsHistoryInRange history → history_of (history_records history) ≡ Ok history
 unfolding history_of
 history_again history fit =
     let read = front_again history [] fit refl in
-    let whole : front_of (history_records history) ≡ Ok (front_to history read.0 []) = ap front_of (sym (append-nil (history_records history))) ∙ read.1 in
+    let whole : front_of (history_records history) ≡ Ok (part_to history read.0 []) = ap front_of (sym (append-nil (history_records history))) ∙ read.1 in
     rw whole refl

@@ -1,11 +1,11 @@
 -- Records of a claim that are written are read again.
-use Rattle.std.proofs.Common.{inl, inr, ◌≡◌, ◌≤◌, ◌<◌, ℕ, zero, suc, ◌+◌, ◌==◌, Bool, true, false, List, [], ◌∷◌, ◌++◌, length, get_or, Result, Ok, refl, sym, ap, ◌∙◌, arith, append_assoc, length-append, ne_eqb}
+use Rattle.std.proofs.Common.{inl, inr, ◌≡◌, ◌≤◌, ◌<◌, ℕ, zero, suc, ◌+◌, ◌==◌, Bool, true, false, List, [], ◌∷◌, ◌++◌, length, get_or, Result, Ok, refl, sym, ap, ◌∙◌, arith, append_assoc, length-append, le-leb, ne_eqb}
 use Rattle.std.specs.Prelude.{codes, decimal, filter, fold, map, nat_lt, replicate}
 use Rattle.std.specs.List.{AllByRecursion, list_all, range_with_len}
 use Rattle.std.proofs.Math.ListN.{set}
 use Rattle.std.proofs.Math.Seq.{get_or-append_seam, set-append_seam}
 use Rattle.std.proofs.lemmas.Bool.{cases_Bool, lt-ltb}
-use Rattle.std.proofs.lemmas.List.{get_or-append-add}
+use Rattle.std.proofs.lemmas.List.{get_or-append-add, length-map}
 use Rattle.line_names.specs.declared.certificates.Passed.{Passed}
 use Rattle.line_names.specs.declared.choices.Choice.{Choice}
 use Rattle.line_names.specs.declared.choices.Choice.TheVariants.{Check as AtCheck, Now}
@@ -14,8 +14,9 @@ use Rattle.line_names.specs.Sets.{is_member, nobody, with_member}
 use Rattle.line_tape.specs.Survival.{is_damaged}
 use Rattle.line_tape.specs.Views.{MarksView, with_mark}
 use Rattle.line_fields.specs.declared.faults.Fault.{Fault}
+use Rattle.line_fields.specs.Shapes.{two, five}
 use Rattle.line_claims.specs.declared.numbers.TheConstants.{MOST_NUMBER}
-use Rattle.line_claims.specs.Entries.{damage_of, failed_of, line_of, passed_of}
+use Rattle.line_claims.specs.Entries.{damage_of, entry_of, failed_of, line_of, marked, passed_of}
 use Rattle.line_claims.specs.Numbers.{choice, choices, numbers}
 use Rattle.line_claims.specs.Ranges.{IsChoice, IsEntryInRange}
 use Rattle.line_claims.specs.Records.{choice_text, damage_record, failed_record, line_record, members, pass_record}
@@ -23,7 +24,7 @@ use Rattle.line_claims.proofs.SpellLemmas.{incarnation_again, not_word, plain_ag
 
 pub damage_again : (n p check : ℕ) (marks : MarksView) → n ≤ MOST_PROCESSES → p < n → 1 ≤ check → check ≤ MOST_NUMBER → is_damaged marks p check ≡ false
     → damage_of n marks (damage_record p check) ≡ Ok (with_mark marks p check)
-unfolding damage_of
+unfolding damage_of marked two
 damage_again n p check marks few there some wide new =
     let later : (check == 0) ≡ false = ne_eqb check 0 (λ e. omega arith) in
     rw (plain_again p (omega arith), plain_again check wide, lt-ltb p n there, later, new) refl
@@ -37,18 +38,26 @@ unfolding choices
 choices_again [] fit = refl
 choices_again (c ∷ others) fit = rw (choice_again c fit.0, choices_again others fit.1) refl
 
-pub line_again : (line : List Choice) → AllByRecursion IsChoice line → line_of (line_record line) ≡ Ok line
+pub line_again : (line : List Choice) → 1 ≤ length line → length line ≤ MOST_PROCESSES → AllByRecursion IsChoice line → line_of (line_record line) ≡ Ok line
 unfolding line_of
-line_again line fit = choices_again line fit
+line_again line some short fit =
+    let width : length (line_record line) ≡ length line + 1 = omega (arith, length-map line choice_text) in
+    let low : 2 ≤ length (line_record line) = omega arith in
+    let high : length (line_record line) ≤ MOST_PROCESSES + 1 = omega arith in
+    rw (le-leb 2 (length (line_record line)) low, le-leb (length (line_record line)) (MOST_PROCESSES + 1) high, choices_again line fit) refl
 
-pub pass_again : (n : ℕ) (entry : Passed) → n ≤ MOST_PROCESSES → IsEntryInRange n entry → passed_of n (pass_record entry) ≡ Ok entry
-unfolding passed_of
+pass_again : (n : ℕ) (entry : Passed) → n ≤ MOST_PROCESSES → IsEntryInRange n entry → passed_of n (pass_record entry) ≡ Ok entry
+unfolding passed_of five
 pass_again n entry few fit =
     let at : entry.at < n = fit.at in
     let from : entry.message.from < n = fit.from in
     let who : entry.at ≤ MOST_NUMBER = omega arith in
     let sender : entry.message.from ≤ MOST_NUMBER = omega arith in
     rw (plain_again entry.at who, choice_again entry.choice fit.choice, plain_again entry.message.from sender, incarnation_again entry.message.inc fit.inc, plain_again entry.message.number fit.number, lt-ltb entry.at n at, lt-ltb entry.message.from n from) refl
+
+pub entry_again : (n : ℕ) (front : List Passed) (entry : Passed) → n ≤ MOST_PROCESSES → IsEntryInRange n entry → entry_of n front (pass_record entry) ≡ Ok (front ++ entry ∷ [])
+unfolding entry_of
+entry_again n front entry few fit = rw (pass_again n entry few fit) refl
 
 numbers_again : (ns : List ℕ) → AllByRecursion (λ n. n ≤ MOST_NUMBER) ns → numbers (map decimal ns) ≡ Ok ns
 unfolding numbers

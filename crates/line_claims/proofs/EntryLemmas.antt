@@ -9,7 +9,7 @@ use Rattle.line_fields.specs.declared.faults.Fault.{Fault}
 use Rattle.line_fields.specs.declared.faults.Fault.TheVariants as faults
 use Rattle.line_fields.specs.Fields.{◌>>=◌, want}
 use Rattle.line_fields.specs.Records.{Record, field}
-use Rattle.line_claims.specs.Entries.{failed_of, line_of}
+use Rattle.line_claims.specs.Entries.{failed_of}
 use Rattle.line_claims.specs.Numbers.{plain, choice, choices, numbers}
 
 -- the set of a record whose fields so far were all below n, or were not, and made this set
@@ -72,8 +72,7 @@ same_choices : (read : Result (List Choice) Fault) → (read >>= λ others. Ok (
 same_choices (Ok others) = refl
 same_choices (Err f) = refl
 
-pub line_start : (r : Record) → line_from [] (drop 1 r) ≡ line_of r
-unfolding line_of
+pub line_start : (r : Record) → line_from [] (drop 1 r) ≡ choices (drop 1 r)
 line_start r = same_choices (choices (drop 1 r))
 
 one_choice : (front : List Choice) (c : Choice) (read : Result (List Choice) Fault)

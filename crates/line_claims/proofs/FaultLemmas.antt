@@ -1,19 +1,22 @@
 -- A fault of a history or of a claim is one of the text.
-use Rattle.std.proofs.Common.{cond, inl, inr, ◌≡◌, ◌⊎◌, ℕ, ◌+◌, List, [], ◌∷◌, drop, length, Result, Ok, Err, true, false, refl, subst, arith}
-use Rattle.std.specs.Prelude.{IfErr}
+use Rattle.std.proofs.Common.{cond, inl, inr, ◌≡◌, ◌⊎◌, ℕ, zero, suc, ◌+◌, List, [], ◌∷◌, drop, length, Result, Ok, Err, true, false, refl, subst, arith}
+use Rattle.std.specs.Prelude.{Bool, IfErr, codes, replicate}
 use Rattle.line_fields.specs.declared.faults.Fault.{Fault}
 use Rattle.line_fields.specs.declared.faults.Fault.TheVariants as faults
 use Rattle.line_fields.specs.Bytes.{is_input_text}
 use Rattle.line_fields.specs.Fields.{◌>>=◌, want}
 use Rattle.line_fields.specs.Records.{Record, records_of_text}
+use Rattle.line_tape.specs.History.{Process, fresh}
 use Rattle.line_claims.specs.declared.faults.TextFault.{TextFault}
 use Rattle.line_claims.specs.declared.faults.TextError.{TextError}
 use Rattle.line_claims.specs.declared.faults.TextError.TheVariants as errors
-use Rattle.line_claims.specs.Claims.{Reading, claim_from, is_ended, nothing}
-use Rattle.line_claims.specs.Claims as claims
-use Rattle.line_claims.specs.Histories.{Tapes, begins_claim, count_in, count_of, front_at, front_from, front_of, is_whole, no_tapes, step}
+use Rattle.line_claims.specs.Claims.{claim_from, is_none, unmarked}
+use Rattle.line_claims.specs.Entries.{damage_of, end_of, entry_of, failed_of, line_of}
+use Rattle.line_claims.specs.Events.{is_event}
+use Rattle.line_claims.specs.Histories.{count_in, count_of, event_at, front_of, tape_from, tape_of, tapes_from}
+use Rattle.line_claims.specs.Parts.{Part, begins, first, many, named, one}
 use Rattle.line_claims.specs.Reads.{FailsText, IsOfText, fault_at, no_memory, numbered, told}
-use Rattle.line_claims.specs.Texts.{certificate_of, certificate_of_text, check_of, check_of_text, history_of, history_of_text, is_none, records_in}
+use Rattle.line_claims.specs.Texts.{certificate_of, certificate_of_text, check_of, check_of_text, history_of, history_of_text, records_in}
 
 -- each fault that is read is one of the text
 abbrev pub OnlyOfText : {A : Type 0} → Result A TextFault → Type 0
@@ -51,30 +54,49 @@ told_codes errors.OutOfMemory read all h = inl refl
 told_codes (errors.Fault fault) read all h = inr (fault_is_of_text read fault all h)
 
 count_faults : (records : List Record) → OnlyOfText (count_in records)
-count_faults [] = code_is_of_text 1 faults.NoWorld
-count_faults (first ∷ rest) = numbered_faults 1 (count_of first)
+count_faults records = numbered_faults 1 (want (begins (named (codes "history")) records) faults.NoWorld >>= λ it. count_of (first records))
 
-front_at_faults : (t : Tapes) (i : ℕ) (rest : List Record) → OnlyOfText (front_at t i rest)
-unfolding front_at
-front_at_faults t i rest = both_faults (numbered i (want (is_whole t) faults.BadRecord)) _ (numbered_faults i (want (is_whole t) faults.BadRecord)) (λ whole. tt)
+one_faults : {A : Type 0} (name : List ℕ) (read : Record → Result A Fault) (i : ℕ) (records : List Record) → OnlyOfText (one name read i records)
+unfolding one
+one_faults name read i records =
+    let next = want (begins (named name) records) faults.BadRecord >>= λ it. read (first records) in
+    both_faults (numbered i next) _ (numbered_faults i next) (λ x. tt)
 
-front_faults : (t : Tapes) (i : ℕ) (rest : List Record) → OnlyOfText (front_from t i rest)
-unfolding front_from
-front_faults t i [] = front_at_faults t i []
-front_faults t i (r ∷ rest) =
-    elim (begins_claim r) as (λ b. OnlyOfText (cond b (front_at t i (r ∷ rest)) (numbered i (step t r) >>= λ more. front_from more (i + 1) rest))) [
-      | true ↦ front_at_faults t i (r ∷ rest)
-      | false ↦ both_faults (numbered i (step t r)) _ (numbered_faults i (step t r)) (λ more. front_faults more (i + 1) rest)
+many_faults : {A : Type 0} (is : Record → Bool) (read : A → Record → Result A Fault) (before : A) (i : ℕ) (records : List Record) → OnlyOfText (many is read before i records)
+unfolding many
+many_faults is read before i [] = tt
+many_faults {A} is read before i (r ∷ rest) =
+    let stop : Result (Part A) TextFault = Ok (record { value = before; number = i; left = r ∷ rest }) in
+    elim (is r) as (λ b. OnlyOfText (cond b (numbered i (read before r) >>= λ more. many is read more (i + 1) rest) stop)) [
+      | true ↦ both_faults (numbered i (read before r)) _ (numbered_faults i (read before r)) (λ more. many_faults is read more (i + 1) rest)
+      | false ↦ tt
     ]
+
+tape_faults : (p : ℕ) (history : List Process) (i : ℕ) (records : List Record) → OnlyOfText (tape_from p history i records)
+unfolding tape_from
+tape_faults p history i records =
+    both_faults (one (codes "tape") (tape_of p history) i records) _ (one_faults (codes "tape") (tape_of p history) i records)
+    (λ tape. many_faults is_event (event_at p) tape.value tape.number tape.left)
+
+tapes_faults : (p k : ℕ) (history : List Process) (i : ℕ) (records : List Record) → OnlyOfText (tapes_from p k history i records)
+unfolding tapes_from
+tapes_faults p zero history i records = tt
+tapes_faults p (suc others) history i records =
+    both_faults (tape_from p history i records) _ (tape_faults p history i records) (λ tape. tapes_faults (p + 1) others tape.value tape.number tape.left)
 
 front_of_faults : (records : List Record) → OnlyOfText (front_of records)
 unfolding front_of
-front_of_faults records = both_faults (count_in records) _ (count_faults records) (λ n. front_faults (no_tapes n) 2 (drop 1 records))
+front_of_faults records = both_faults (count_in records) _ (count_faults records) (λ n. tapes_faults 0 n (replicate n fresh) 2 (drop 1 records))
 
-claim_faults : (s : Reading) (i : ℕ) (rest : List Record) → OnlyOfText (claim_from s i rest)
+claim_faults : (n i : ℕ) (records : List Record) → OnlyOfText (claim_from n i records)
 unfolding claim_from
-claim_faults s i [] = numbered_faults i (want (is_ended s.part) faults.BadRecord >>= λ ended. Ok s.claim)
-claim_faults s i (r ∷ rest) = both_faults (numbered i (claims.step s r)) _ (numbered_faults i (claims.step s r)) (λ more. claim_faults more (i + 1) rest)
+claim_faults n i records =
+    both_faults (many (named (codes "damage")) (damage_of n) (unmarked n) i records) _ (many_faults (named (codes "damage")) (damage_of n) (unmarked n) i records)
+    (λ marks. both_faults (one (codes "failed") (failed_of n) marks.number marks.left) _ (one_faults (codes "failed") (failed_of n) marks.number marks.left)
+    (λ failed. both_faults (one (codes "line") line_of failed.number failed.left) _ (one_faults (codes "line") line_of failed.number failed.left)
+    (λ line. both_faults (many (named (codes "pass")) (entry_of n) [] line.number line.left) _ (many_faults (named (codes "pass")) (entry_of n) [] line.number line.left)
+    (λ entries. both_faults (one (codes "end") end_of entries.number entries.left) _ (one_faults (codes "end") end_of entries.number entries.left)
+    (λ end. both_faults (numbered end.number (want (is_none end.left) faults.BadRecord)) _ (numbered_faults end.number (want (is_none end.left) faults.BadRecord)) (λ last. tt))))))
 
 history_faults : (records : List Record) → OnlyOfText (history_of records)
 unfolding history_of
@@ -84,13 +106,13 @@ history_faults records =
 
 certificate_faults : (n : ℕ) (records : List Record) → OnlyOfText (certificate_of n records)
 unfolding certificate_of
-certificate_faults n records = claim_faults (nothing n) 1 records
+certificate_faults n records = claim_faults n 1 records
 
 check_faults : (records : List Record) → OnlyOfText (check_of records)
 unfolding check_of
 check_faults records =
     both_faults (front_of records) _ (front_of_faults records)
-    (λ front. both_faults (claim_from (nothing (length front.history)) front.number front.left) _ (claim_faults (nothing (length front.history)) front.number front.left) (λ claim. tt))
+    (λ front. both_faults (claim_from (length front.value) front.number front.left) _ (claim_faults (length front.value) front.number front.left) (λ claim. tt))
 
 -- of the records of a text
 pub records_faults : (text : List ℕ) → OnlyOfText (records_in text)

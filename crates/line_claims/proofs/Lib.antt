@@ -1,13 +1,12 @@
 pub mod AgainLemmas
 pub mod ClaimAgainLemmas
-pub mod ClaimLemmas
 pub mod ClaimWrittenLemmas
 pub mod EntryAgainLemmas
 pub mod EntryLemmas
 pub mod FaultLemmas
-pub mod FrontLemmas
 pub mod MemoryLemmas
 pub mod PartLemmas
+pub mod ReadingLemmas
 pub mod SpellLemmas
 pub mod WriteLemmas
 pub mod WrittenLemmas

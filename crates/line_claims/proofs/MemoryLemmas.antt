@@ -1,5 +1,5 @@
 -- A history that stands in memory: its records are those of no other, and it keeps to the ranges of their fields where its rounds do.
-use Rattle.std.proofs.Common.{◌≡◌, ◌≤◌, ◌<◌, ℕ, zero, suc, ◌+◌, ◌^◌, true, false, List, [], ◌∷◌, ◌++◌, Option, Some, None, length, get_or, take, Result, Ok, refl, sym, ap, ap₂, ◌∙◌, arith}
+use Rattle.std.proofs.Common.{◌≡◌, ◌≤◌, ◌<◌, ℕ, suc, ◌+◌, ◌^◌, true, false, List, [], ◌∷◌, ◌++◌, Some, None, length, get_or, take, Result, Ok, refl, sym, ap, ap₂, ◌∙◌, arith}
 use Rattle.std.specs.Prelude.{All, codes, decimal, map}
 use Rattle.std.specs.List.{AllByRecursion}
 use Rattle.std.specs.Str.{all_ascii_digits, bytes_eq}
@@ -18,8 +18,8 @@ use Rattle.line_tape.specs.declared.limits.TheConstants.{LAST_INCARNATION, LAST_
 use Rattle.line_tape.specs.Event.{IsShort, NamesBelow}
 use Rattle.line_tape.specs.History.{IsHistory, IsProcess, Process}
 use Rattle.line_claims.specs.declared.numbers.TheConstants.{MOST_NUMBER}
-use Rattle.line_claims.specs.Ranges.{AreRoundsInRange, FitsMemory, FitsProcess, FitsWords, IsHistoryInRange, IsInRange, IsRound, IsRoundInRange, IsTapeInRange}
-use Rattle.line_claims.specs.Records.{event_record, history_record, history_records, name_fields, number_text, tape_record, tapes_records}
+use Rattle.line_claims.specs.Ranges.{AreRoundsInRange, FitsMemory, FitsProcess, FitsWords, IsHistoryInRange, IsInRange, IsRoundInRange, IsTapeInRange}
+use Rattle.line_claims.specs.Records.{event_record, history_record, history_records, number_text, tape_record, tapes_records}
 
 -- what holds of each place holds of each element
 pub all_by : {X : Type 0} (P : X → Type 0) (xs : List X) → All P xs → AllByRecursion P xs

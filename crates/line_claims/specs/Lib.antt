@@ -5,6 +5,7 @@ pub mod Events
 pub mod Faults
 pub mod Histories
 pub mod Numbers
+pub mod Parts
 pub mod Ranges
 pub mod Reads
 pub mod Records

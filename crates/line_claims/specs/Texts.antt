@@ -1,5 +1,5 @@
 -- Which history, claim or both a text spells, and its first fault where it spells none.
-use Rattle.std.specs.Prelude.{ℕ, Bool, true, false, List, [], ◌∷◌, length, Result, Ok, Err, if◌then◌else◌}
+use Rattle.std.specs.Prelude.{ℕ, List, length, Result, Ok, Err, if◌then◌else◌}
 use Rattle.line_fields.specs.declared.faults.Fault.TheVariants as faults
 use Rattle.line_fields.specs.Bytes.{is_input_text}
 use Rattle.line_fields.specs.Fields.{◌>>=◌, want}
@@ -7,7 +7,7 @@ use Rattle.line_fields.specs.Records.{Record, records_of_text}
 use Rattle.line_tape.specs.History.{Process}
 use Rattle.line_claims.specs.declared.faults.TextFault.{TextFault}
 use Rattle.line_claims.specs.declared.texts.CheckText as made
-use Rattle.line_claims.specs.Claims.{Claim, nothing, claim_from, seen}
+use Rattle.line_claims.specs.Claims.{Claim, claim_from, is_none, seen}
 use Rattle.line_claims.specs.Histories.{front_of}
 use Rattle.line_claims.specs.Reads.{fault_at, numbered}
 
@@ -15,21 +15,16 @@ use Rattle.line_claims.specs.Reads.{fault_at, numbered}
 abbrev pub records_in : List ℕ → Result (List Record) TextFault
 records_in text = if is_input_text text then Ok (records_of_text text) else Err (fault_at 0 faults.BadRecord)
 
--- there are no records
-abbrev pub is_none : List Record → Bool
-is_none [] = true
-is_none (r ∷ rest) = false
-
 -- a history: a front with nothing behind it
 unfoldable pub history_of : List Record → Result (List Process) TextFault
 history_of records = do
   front ← front_of records
   ended ← numbered front.number (want (is_none front.left) faults.BadRecord)
-  Ok front.history
+  Ok front.value
 
 -- a claim among n processes
 unfoldable pub certificate_of : ℕ → List Record → Result Claim TextFault
-certificate_of n records = claim_from (nothing n) 1 records
+certificate_of n records = claim_from n 1 records
 
 -- a history and a claim on it
 pub record Check : Type 0 where
@@ -44,8 +39,8 @@ seen_check text = record { history = text.history.processes; claim = seen text.c
 unfoldable pub check_of : List Record → Result Check TextFault
 check_of records = do
   front ← front_of records
-  claim ← claim_from (nothing (length front.history)) front.number front.left
-  Ok (record { history = front.history; claim = claim })
+  claim ← claim_from (length front.value) front.number front.left
+  Ok (record { history = front.value; claim = claim })
 
 -- the history that a text spells
 abbrev pub history_of_text : List ℕ → Result (List Process) TextFault

@@ -1,9 +1,12 @@
 //! A place among the records of a text.
 
-ghost use Rattle.std.specs.Prelude.{◌≡◌, ◌≢◌, ◌+◌, ◌∷◌, [], IfOk, IsTrue, MatchOption, OnOk, drop};
+ghost use Rattle.std.specs.Prelude.{◌≡◌, ◌≢◌, ◌+◌, ◌∷◌, [], true, false, IfOk, IsTrue, MatchOption, OnOk, drop};
 ghost use Rattle.line_fields.specs.Bytes.{is_input_text};
 ghost use Rattle.line_fields.specs.Records.{Record, records_of_text};
+ghost use Rattle.line_claims.specs.Events as spec;
+ghost use Rattle.line_claims.specs.Parts.{begins, named};
 
+use crate::events::is_event;
 use line_fields::{RecordReader, Row};
 use std::alloc::{AllocError, Global};
 use std::marker::Model;
@@ -57,6 +60,34 @@ impl<'a> Cursor<'a> {
         ensures { MatchOption result (self.now.left ≡ []) (λ row. self.now.left ≡ row.now ∷ drop 1 self.now.left) }
     {
         if self.found { Some(&self.row) } else { None }
+    }
+
+    /// The record that stands here, where it has that name.
+    pub fn named(&self, name: &[u8]) -> Option<&Row>
+        ensures { MatchOption result (begins (named name.now) self.now.left ≡ false)
+            (λ row. (begins (named name.now) self.now.left ≡ true) × (self.now.left ≡ row.now ∷ drop 1 self.now.left)) }
+    {
+        match self.row() {
+            None => None,
+            Some(row) => {
+                if row.field(0) == name {
+                    Some(row)
+                } else {
+                    None
+                }
+            }
+        }
+    }
+
+    /// The record that stands here, where it spells an event.
+    pub fn event(&self) -> Option<&Row>
+        ensures { MatchOption result (begins spec.is_event self.now.left ≡ false)
+            (λ row. (begins spec.is_event self.now.left ≡ true) × (self.now.left ≡ row.now ∷ drop 1 self.now.left)) }
+    {
+        match self.row() {
+            None => None,
+            Some(row) => { if is_event(row) { Some(row) } else { None } }
+        }
     }
 
     /// Goes on to the next record.

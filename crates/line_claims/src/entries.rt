@@ -1,23 +1,25 @@
 //! What the records of a claim spell.
 
-ghost use Rattle.std.specs.Prelude.{◌≡◌, ◌≤◌, ◌+◌, length};
+ghost use Rattle.std.specs.Prelude.{◌≡◌, ◌≤◌, ◌+◌, drop, length};
 ghost use Rattle.line_names.specs.declared.limits.TheConstants.{MOST_PROCESSES};
 ghost use Rattle.line_claims.specs.Entries as spec;
+ghost use Rattle.line_claims.specs.Numbers.{choices};
 ghost use Rattle.line_claims.specs.Reads.{Steps};
 
-use crate::numbers::{choice, incarnation, plain, process};
+use crate::numbers::{choice, incarnation, plain, process, want};
 use line_fields::{Fault, ReadError, Row};
-use line_names::{Line, MOST_PROCESSES, MsgName, Passed, ProcId, ProcSet};
+use line_names::{Certificate, Line, MOST_PROCESSES, MsgName, Passed, ProcId, ProcSet};
 use line_tape::{MarkError, Marks};
 
 /// Adds the mark of `damage,P,C`.
-#[tactic(auto, unfolding(crate::specs::Entries::damage_of))]
+#[tactic(auto, unfolding(crate::specs::Entries::damage_of, crate::specs::Entries::marked, line_fields::specs::Shapes::two))]
 pub(crate) fn damage_of(marks: &mut Marks, n: u32, row: &Row) -> Result<(), ReadError>
     requires few { n ≤ MOST_PROCESSES }
     requires whole { length marks.old.damaged ≡ n }
     ensures exact { Steps result (spec.damage_of n marks.old row.now) marks.new }
     ensures whole { length marks.new.damaged ≡ n }
 {
+    want(row.len() == 3, Fault::BadRecord)?;
     let p = plain(row, 1)?;
     let check = plain(row, 2)?;
     let p = process(n, p)?;
@@ -50,10 +52,10 @@ pub fn failed_of(n: u32, row: &Row) -> Result<ProcSet, Fault>
     Ok(failed)
 }
 
-/// The choices of `line,CHOICE,..`.
-pub(crate) fn line_of(row: &Row) -> Result<Line, Fault>
+// The choices of the fields behind the first.
+fn choices_of(row: &Row) -> Result<Line, Fault>
     requires { length row.now ≤ MOST_PROCESSES + 1 }
-    ensures { result ≡ spec.line_of row.now }
+    ensures { result ≡ choices (drop 1 row.now) }
 {
     let mut line = Line::new();
     for place in 1..row.len() {
@@ -63,12 +65,25 @@ pub(crate) fn line_of(row: &Row) -> Result<Line, Fault>
     Ok(line)
 }
 
+/// The choices of `line,CHOICE,..`.
+#[tactic(auto, unfolding(crate::specs::Entries::line_of))]
+pub(crate) fn line_of(row: &Row) -> Result<Line, Fault>
+    ensures { result ≡ spec.line_of row.now }
+{
+    want(
+        2 <= row.len() && row.len() <= MOST_PROCESSES + 1,
+        Fault::BadRecord,
+    )?;
+    choices_of(row)
+}
+
 /// The entry of `pass,P,CHOICE,FROM,INC,NUMBER`.
-#[tactic(auto, unfolding(crate::specs::Entries::passed_of))]
+#[tactic(auto, unfolding(crate::specs::Entries::passed_of, line_fields::specs::Shapes::five))]
 pub(crate) fn passed_of(n: u32, row: &Row) -> Result<Passed, Fault>
     requires { n ≤ MOST_PROCESSES }
     ensures { result ≡ spec.passed_of n row.now }
 {
+    want(row.len() == 6, Fault::BadRecord)?;
     let at = plain(row, 1)?;
     let choice = choice(row, 2)?;
     let from = plain(row, 3)?;
@@ -82,4 +97,15 @@ pub(crate) fn passed_of(n: u32, row: &Row) -> Result<Passed, Fault>
         choice,
         message,
     })
+}
+
+/// Adds the entry of a record.
+#[tactic(auto, unfolding(crate::specs::Entries::entry_of))]
+pub(crate) fn entry_of(certificate: &mut Certificate, n: u32, row: &Row) -> Result<(), ReadError>
+    requires { n ≤ MOST_PROCESSES }
+    ensures { Steps result (spec.entry_of n certificate.old.items row.now) certificate.new.items }
+{
+    let entry = passed_of(n, row)?;
+    certificate.push(entry)?;
+    Ok(())
 }

@@ -13,13 +13,14 @@ use line_tape::{Event, MOST_STATE, State};
 use std::alloc::Global;
 
 /// The event of `send,TO,INC,HEX`. What a list has gives way to the bytes of the message.
-#[tactic(auto, unfolding(crate::specs::Events::send_of))]
+#[tactic(auto, unfolding(crate::specs::Events::send_of, line_fields::specs::Shapes::three))]
 pub(crate) fn send_of(n: u32, row: &Row, bytes: &mut Vec<u8>) -> Result<Event, ReadError>
     requires { n ≤ MOST_PROCESSES }
     ensures exact { Gives (λ event. event) result (spec.send_of n row.now) }
     ensures named { IfOk result (NamesBelow n) }
     ensures short { IfOk result (λ event. HasLongState event → ⊥) }
 {
+    want(row.len() == 4, Fault::BadRecord)?;
     let to = plain(row, 1)?;
     let inc = incarnation(row, 2)?;
     hex_into(bytes, row.field(3))?;
@@ -31,13 +32,14 @@ pub(crate) fn send_of(n: u32, row: &Row, bytes: &mut Vec<u8>) -> Result<Event, R
 }
 
 /// The event of `recv,FROM,INC,NUMBER`.
-#[tactic(auto, unfolding(crate::specs::Events::recv_of))]
+#[tactic(auto, unfolding(crate::specs::Events::recv_of, line_fields::specs::Shapes::three))]
 pub(crate) fn recv_of(n: u32, row: &Row) -> Result<Event, Fault>
     requires { n ≤ MOST_PROCESSES }
     ensures exact { result ≡ spec.recv_of n row.now }
     ensures named { IfOk result (NamesBelow n) }
     ensures short { IfOk result (λ event. HasLongState event → ⊥) }
 {
+    want(row.len() == 4, Fault::BadRecord)?;
     let from = plain(row, 1)?;
     let inc = incarnation(row, 2)?;
     let number = plain(row, 3)?;
@@ -47,12 +49,13 @@ pub(crate) fn recv_of(n: u32, row: &Row) -> Result<Event, Fault>
 }
 
 /// The event of `check,HEX,ROUND`.
-#[tactic(auto, unfolding(crate::specs::Events::check_of))]
+#[tactic(auto, unfolding(crate::specs::Events::check_of, line_fields::specs::Shapes::two))]
 pub(crate) fn check_of(alloc: Global, row: &Row) -> Result<Event, ReadError>
     ensures exact { Gives (λ event. event) result (spec.check_of row.now) }
     ensures named { IfOk result (λ event. (n : ℕ) → NamesBelow n event) }
     ensures short { IfOk result (λ event. HasLongState event → ⊥) }
 {
+    want(row.len() == 3, Fault::BadRecord)?;
     let bytes = hex(alloc, row.field(1))?;
     let round = round_or_none(row, 2)?;
     want(bytes.len() <= MOST_STATE, Fault::StateTooLong)?;
@@ -61,15 +64,55 @@ pub(crate) fn check_of(alloc: Global, row: &Row) -> Result<Event, ReadError>
 }
 
 /// The event of `mark,FROM,ROUND`.
-#[tactic(auto, unfolding(crate::specs::Events::mark_of))]
+#[tactic(auto, unfolding(crate::specs::Events::mark_of, line_fields::specs::Shapes::two))]
 pub(crate) fn mark_of(n: u32, row: &Row) -> Result<Event, Fault>
     requires { n ≤ MOST_PROCESSES }
     ensures exact { result ≡ spec.mark_of n row.now }
     ensures named { IfOk result (NamesBelow n) }
     ensures short { IfOk result (λ event. HasLongState event → ⊥) }
 {
+    want(row.len() == 3, Fault::BadRecord)?;
     let from = plain(row, 1)?;
     let round = round(row, 2)?;
     let from = process(n, from)?;
     Ok(Event::Mark { from, round })
+}
+
+/// Whether a record spells an event, by its first field.
+pub(crate) fn is_event(row: &Row) -> bool
+    ensures { result ≡ spec.is_event row.now }
+{
+    let first = row.field(0);
+    first == b"send".as_slice()
+        || first == b"recv".as_slice()
+        || first == b"check".as_slice()
+        || first == b"mark".as_slice()
+}
+
+/// The event of such a record. What a list has gives way to the bytes of a message.
+pub(crate) fn event_of(
+    alloc: Global,
+    n: u32,
+    row: &Row,
+    bytes: &mut Vec<u8>,
+) -> Result<Event, ReadError>
+    requires { n ≤ MOST_PROCESSES }
+    ensures exact { Gives (λ event. event) result (spec.event_of n row.now) }
+    ensures named { IfOk result (NamesBelow n) }
+    ensures short { IfOk result (λ event. HasLongState event → ⊥) }
+{
+    let first = row.field(0);
+    if first == b"send".as_slice() {
+        let event = send_of(n, row, bytes)?;
+        Ok(event)
+    } else if first == b"recv".as_slice() {
+        let event = recv_of(n, row)?;
+        Ok(event)
+    } else if first == b"check".as_slice() {
+        let event = check_of(alloc, row)?;
+        Ok(event)
+    } else {
+        let event = mark_of(n, row)?;
+        Ok(event)
+    }
 }

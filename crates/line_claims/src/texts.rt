@@ -1,17 +1,18 @@
 //! Texts: a history, a claim, or both.
 
-ghost use Rattle.std.specs.Prelude.{◌≡◌, ◌≢◌, ◌≤◌, ◌⊎◌, ◌∷◌, [], true, false, drop, IfErr, IfOk, MatchOption};
+ghost use Rattle.std.specs.Prelude.{◌≡◌, ◌≢◌, ◌≤◌, ◌⊎◌, [], IfErr, IfOk};
 ghost use Rattle.line_names.specs.declared.limits.TheConstants.{MOST_PROCESSES};
 ghost use Rattle.line_claims.specs.Claims as claims;
-ghost use Rattle.line_claims.specs.Histories.{Leaves, begins_claim, count_in, ends_front, front_from, front_of, no_tapes};
+ghost use Rattle.line_claims.specs.Histories.{count_in, front_of};
+ghost use Rattle.line_claims.specs.Parts.{Leaves};
 ghost use Rattle.line_claims.specs.Reads.{IsOfText, Reads, Yields, no_memory};
 ghost use Rattle.line_claims.specs.Texts as spec;
 
 use crate::claims::{Claim, read_claim};
 use crate::cursors::Cursor;
-use crate::faults::{TextError, TextFault, error_at, fault_at, told};
-use crate::histories::{Tapes, begins_claim, count_of};
-use line_fields::{Fault, Row, is_plain};
+use crate::faults::{TextError, TextFault, fault_at, told};
+use crate::histories::{count_of, read_tapes};
+use line_fields::{Fault, is_plain};
 use line_names::MOST_PROCESSES;
 use line_tape::History;
 use std::alloc::Global;
@@ -37,48 +38,17 @@ fn open(alloc: Global, text: &[u8]) -> Result<Cursor<'_>, TextError>
     Ok(cursor)
 }
 
-// The record that stands here, unless the history ends before it.
-fn history_row<'a>(cursor: &'a Cursor<'_>) -> Option<&'a Row>
-    ensures { MatchOption result (ends_front cursor.now.left ≡ true)
-        (λ row. (cursor.now.left ≡ row.now ∷ drop 1 cursor.now.left) × (begins_claim row.now ≡ false)) }
-{
-    match cursor.row() {
-        None => None,
-        Some(row) => { if begins_claim(row) { None } else { Some(row) } }
-    }
-}
-
-// The tapes of `n` processes, up to the end or to a claim.
-fn read_tapes(alloc: Global, n: u32, cursor: &mut Cursor<'_>) -> Result<History, TextError>
-    requires some { 1 ≤ n }
-    requires few { n ≤ MOST_PROCESSES }
-    ensures { Leaves result (front_from (no_tapes n) cursor.old.number cursor.old.left) cursor.new }
-{
-    let mut tapes = Tapes::new(alloc, n)?;
-    let mut bytes = Vec::new(alloc);
-    'records: while let Some(row) = history_row(cursor) {
-        if let Err(error) = tapes.step(alloc, row, &mut bytes) {
-            return Err(error_at(cursor.number(), error));
-        }
-        cursor.advance()?;
-    }
-    if !tapes.is_whole() {
-        return Err(fault_at(cursor.number(), Fault::BadRecord));
-    }
-    Ok(tapes.into_history())
-}
-
 // How many processes the first record announces.
 fn read_count(cursor: &Cursor<'_>) -> Result<u32, TextError>
     ensures exact { Yields (λ n. n) result (count_in cursor.now.left) }
     ensures within { IfOk result (λ n. (1 ≤ n) × (n ≤ MOST_PROCESSES) × (cursor.now.left ≢ [])) }
 {
-    match cursor.row() {
-        None => Err(fault_at(1, Fault::NoWorld)),
-        Some(row) => match count_of(row) {
-            Ok(n) => Ok(n),
-            Err(fault) => Err(fault_at(1, fault)),
-        },
+    let Some(row) = cursor.named(b"history") else {
+        return Err(fault_at(1, Fault::NoWorld));
+    };
+    match count_of(row) {
+        Ok(n) => Ok(n),
+        Err(fault) => Err(fault_at(1, fault)),
     }
 }
 
@@ -86,7 +56,7 @@ fn read_count(cursor: &Cursor<'_>) -> Result<u32, TextError>
 #[tactic(auto, unfolding(crate::specs::Histories::front_of))]
 fn read_front(alloc: Global, cursor: &mut Cursor<'_>) -> Result<History, TextError>
     requires { cursor.old.number ≡ 1 }
-    ensures { Leaves result (front_of cursor.old.left) cursor.new }
+    ensures { Leaves (λ history. history.processes) result (front_of cursor.old.left) cursor.new }
 {
     let n = read_count(cursor)?;
     cursor.advance()?;

@@ -1,7 +1,5 @@
-use Rattle.std.proofs.Common.{List, length, take, arith, ap, ◌∙◌, ◌≡◌}
-use Rattle.std.proofs.lemmas.List.{take_all}
+use Rattle.std.proofs.Common.{arith}
 use Rattle.std.proofs.lemmas.Result.{err_from_is_err_and}
-use Rattle.line_tape.specs.declared.events.Event.{Event}
 use Rattle.line_claims.specs.Ranges.{FitsWords}
 use Rattle.line_claims.specs.Records.{event_record}
 use Rattle.line_claims.proofs.MemoryLemmas.{front_fits}

@@ -2,7 +2,7 @@ use Rattle.std.proofs.Common.{◌∙◌, ◌<◌, ◌≤◌, sym, refl, length, 
 use Rattle.std.proofs.lemmas.Result.{err_from_is_err_and}
 use Rattle.line_names.specs.declared.choices.Choice.{Choice}
 use Rattle.line_claims.proofs.EntryLemmas.{line_start, line_more, line_fault, line_end}
-use Rattle.line_claims.proofs.entries.line_of.Goals as goal
+use Rattle.line_claims.proofs.entries.choices_of.Goals as goal
 
 pub loop-place-init : goal.loop-place-init
 loop-place-init c = record {
