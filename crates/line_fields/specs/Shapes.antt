@@ -1,5 +1,5 @@
 -- Records by their shape: how many fields stand behind the name, and what each of them spells, read from left to right.
-use Rattle.std.specs.Prelude.{ℕ, ◌==◌, List, length, Result}
+use Rattle.std.specs.Prelude.{ℕ, ◌==◌, List, length, Result, Ok}
 use Rattle.line_fields.specs.declared.faults.Fault.{Fault}
 use Rattle.line_fields.specs.declared.faults.Fault.TheVariants as faults
 use Rattle.line_fields.specs.Fields.{◌>>=◌, want}
@@ -26,6 +26,16 @@ three first second third next r = do
   c ← third (field r 3)
   next a b c
 
+-- four fields
+unfoldable pub four : {A B C D E : Type 0} → Reader A → Reader B → Reader C → Reader D → (A → B → C → D → Result E Fault) → Record → Result E Fault
+four first second third fourth next r = do
+  long ← want (length r == 5) faults.BadRecord
+  a ← first (field r 1)
+  b ← second (field r 2)
+  c ← third (field r 3)
+  d ← fourth (field r 4)
+  next a b c d
+
 -- five fields
 unfoldable pub five : {A B C D E F : Type 0} → Reader A → Reader B → Reader C → Reader D → Reader E → (A → B → C → D → E → Result F Fault) → Record → Result F Fault
 five first second third fourth fifth next r = do
@@ -36,3 +46,7 @@ five first second third fourth fifth next r = do
   d ← fourth (field r 4)
   e ← fifth (field r 5)
   next a b c d e
+
+-- a name and no field
+unfoldable pub alone : {A : Type 0} → A → Record → Result A Fault
+alone value r = want (length r == 1) faults.BadRecord >>= λ long. Ok value

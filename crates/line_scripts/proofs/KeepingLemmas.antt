@@ -1,5 +1,5 @@
 -- Commands with all their bytes: one more behind the others, and the first one out.
-use Rattle.std.proofs.Common.{◌≡◌, ◌≤◌, ◌<◌, ℕ, ◌+◌, List, [], ◌∷◌, ◌++◌, drop, get_or, length, take, refl, sym, ap, ◌∙◌, subst, arith, reverse, length-append}
+use Rattle.std.proofs.Common.{◌≡◌, ℕ, ◌+◌, List, [], ◌∷◌, ◌++◌, drop, get_or, length, take, sym, ap, ◌∙◌, subst, arith, reverse, length-append}
 use Rattle.std.proofs.lemmas.List.{take_more, take_all, take-append-le, drop-append-le, reverse-append}
 use Rattle.std.proofs.Math.Seq.{take-length, drop-length}
 use Rattle.line_scripts.specs.declared.commands.Command.{Command}

@@ -1,3 +1,4 @@
+pub mod FailedLemmas
 pub mod FaultLemmas
 pub mod KeepingLemmas
 pub mod ReadLemmas

@@ -1,12 +1,19 @@
 -- How commands are kept, each without its bytes, and the bytes of all in one list. No contract that a caller reads needs this: there they are a list of commands.
-use Rattle.std.specs.Prelude.{◌≡◌, ◌≤◌, ℕ, List, [], ◌∷◌, length, take, drop}
+use Rattle.std.specs.Prelude.{◌≡◌, ◌≤◌, ℕ, List, [], ◌∷◌, length, take, drop, Option, Some, None}
 use Rattle.line_names.specs.declared.limits.TheConstants.{MOST_BODY}
+use Rattle.line_fields.specs.declared.faults.Fault.TheVariants as faults
 use Rattle.line_world.specs.declared.steps.Step.TheVariants.{Send, Deliver, Check, Begin, Turn, Damage, Recover}
 use Rattle.line_scripts.specs.declared.commands.Command.{Command}
 use Rattle.line_scripts.specs.declared.commands.Command.TheVariants.{Bundle, Do, History, Refused, Rounds}
 use Rattle.line_scripts.specs.declared.keeping.Bare.{Bare}
 use Rattle.line_scripts.specs.declared.keeping.Bare.TheVariants as bares
 use Rattle.line_scripts.specs.declared.keeping.Kept.{Kept}
+use Rattle.line_scripts.specs.Scripts.{refused}
+
+-- the command of what a record says of processes, if there are such
+abbrev pub of_found : {A : Type 0} → (A → Command) → Option A → Command
+of_found command None = refused faults.NoSuchProcess
+of_found command (Some found) = command found
 
 -- the command that a bare one and its bytes make
 abbrev pub with_bytes : Bare → List ℕ → Command

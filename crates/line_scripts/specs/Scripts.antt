@@ -1,24 +1,24 @@
 -- Which script a list of records spells, and the first fault where it spells none.
-use Rattle.std.specs.Prelude.{ℕ, ◌+◌, nat_le, nat_lt, ◌==◌, ◌&&◌, Bool, true, List, [], ◌∷◌, length, Result, Ok, Err, if◌then◌else◌, codes}
+use Rattle.std.specs.Prelude.{ℕ, ◌+◌, nat_le, nat_lt, ◌==◌, ◌&&◌, Bool, List, [], ◌∷◌, drop, fold, length, Result, Ok, Err, if◌then◌else◌, codes}
 use Rattle.std.specs.Str.{bytes_eq}
 use Rattle.std.specs.List.{list_all}
 use Rattle.line_names.specs.declared.limits.TheConstants.{MOST_BODY, MOST_PROCESSES}
+use Rattle.line_names.specs.Sets.{nobody, with_member}
 use Rattle.line_fields.specs.declared.faults.Fault.{Fault}
 use Rattle.line_fields.specs.declared.faults.Fault.TheVariants as faults
 use Rattle.line_fields.specs.Faults.{code_of}
 use Rattle.line_fields.specs.Fields.{◌>>=◌, want, num, hex}
 use Rattle.line_fields.specs.Records.{Record, field}
+use Rattle.line_fields.specs.Shapes.{alone, two, three, four}
 use Rattle.line_moves.specs.declared.modes.Mode.{Mode}
 use Rattle.line_moves.specs.declared.modes.Mode.TheVariants.{Fifo, Unordered}
+use Rattle.line_world.specs.declared.steps.Step.{Step}
 use Rattle.line_world.specs.declared.steps.Step.TheVariants.{Send, Deliver, Check, Begin, Turn, Damage, Recover}
 use Rattle.line_scripts.specs.declared.commands.Command.{Command}
 use Rattle.line_scripts.specs.declared.commands.Command.TheVariants.{Bundle, Do, History, Refused, Rounds}
-use Rattle.line_scripts.specs.declared.commands.Kind.{Kind}
-use Rattle.line_scripts.specs.declared.commands.Kind.TheVariants as kinds
 use Rattle.line_scripts.specs.declared.commands.World.{World}
 use Rattle.line_claims.specs.declared.faults.TextFault.{TextFault}
-use Rattle.line_claims.specs.Entries.{failed_of}
-use Rattle.line_claims.specs.Numbers.{plain}
+use Rattle.line_claims.specs.Numbers.{numbers, plain}
 use Rattle.line_claims.specs.Reads.{fault_at, numbered}
 use Rattle.line_claims.specs.Texts.{records_in}
 
@@ -59,109 +59,38 @@ with_body body command = if nat_le (length body) MOST_BODY then command else ref
 
 -- send,FROM,TO,HEX
 unfoldable pub send_of : ℕ → Record → Result Command Fault
-send_of n r = do
-  from ← plain (field r 1)
-  to ← plain (field r 2)
-  body ← hex (field r 3)
-  Ok (below n (from ∷ to ∷ []) (with_body body (Do (Send from to body))))
+send_of n = three plain plain hex (λ from to body. Ok (below n (from ∷ to ∷ []) (with_body body (Do (Send from to body)))))
 
 -- deliver,FROM,TO,PICK,HEX
 unfoldable pub deliver_of : ℕ → Record → Result Command Fault
-deliver_of n r = do
-  from ← plain (field r 1)
-  to ← plain (field r 2)
-  picked ← pick (field r 3)
-  state ← hex (field r 4)
-  Ok (below n (from ∷ to ∷ []) (Do (Deliver from to picked state)))
+deliver_of n = four plain plain pick hex (λ from to picked state. Ok (below n (from ∷ to ∷ []) (Do (Deliver from to picked state))))
 
--- check,P,HEX
-unfoldable pub check_of : ℕ → Record → Result Command Fault
-check_of n r = do
-  at ← plain (field r 1)
-  state ← hex (field r 2)
-  Ok (below n (at ∷ []) (Do (Check at state)))
+-- check,P,HEX, begin,P,HEX or turn,P,HEX: a step of a process with a state
+unfoldable pub with_state : (ℕ → List ℕ → Step) → ℕ → Record → Result Command Fault
+with_state step n = two plain hex (λ at state. Ok (below n (at ∷ []) (Do (step at state))))
 
--- begin,P,HEX
-unfoldable pub begin_of : ℕ → Record → Result Command Fault
-begin_of n r = do
-  at ← plain (field r 1)
-  state ← hex (field r 2)
-  Ok (below n (at ∷ []) (Do (Begin at state)))
+-- damage,P,C: a step of a process and one of its checks
+unfoldable pub with_check : (ℕ → ℕ → Step) → ℕ → Record → Result Command Fault
+with_check step n = two plain plain (λ at check. Ok (below n (at ∷ []) (Do (step at check))))
 
--- turn,P,HEX
-unfoldable pub turn_of : ℕ → Record → Result Command Fault
-turn_of n r = do
-  at ← plain (field r 1)
-  state ← hex (field r 2)
-  Ok (below n (at ∷ []) (Do (Turn at state)))
+-- recover,P,.. or bundle,P,..: a command of processes, of none where no field names one
+unfoldable pub with_failed : (List Bool → Command) → ℕ → Record → Result Command Fault
+with_failed command n r = numbers (drop 1 r) >>= λ failed. Ok (below n failed (command (fold with_member nobody failed)))
 
--- damage,P,C
-unfoldable pub damage_of : ℕ → Record → Result Command Fault
-damage_of n r = do
-  at ← plain (field r 1)
-  check ← plain (field r 2)
-  Ok (below n (at ∷ []) (Do (Damage at check)))
-
--- a command of the processes that a record names, refused where one is not below the number of processes
-abbrev pub of_failed : (List Bool → Command) → Result (List Bool) Fault → Result Command Fault
-of_failed command (Ok failed) = Ok (command failed)
-of_failed command (Err fault) = if code_of fault == code_of faults.NoSuchProcess then Ok (refused fault) else Err fault
-
--- recover or recover,P,..
-abbrev pub recover_of : ℕ → Record → Result Command Fault
-recover_of n r = of_failed (λ failed. Do (Recover failed)) (failed_of n r)
-
--- bundle or bundle,P,..
-abbrev pub bundle_of : ℕ → Record → Result Command Fault
-bundle_of n r = of_failed (λ failed. Bundle failed) (failed_of n r)
-
--- the first field names the kind
-abbrev pub kind_named : List ℕ → Result Kind Fault
-kind_named first =
-    if bytes_eq first (codes "send") then Ok kinds.Send
-    else if bytes_eq first (codes "deliver") then Ok kinds.Deliver
-    else if bytes_eq first (codes "check") then Ok kinds.Check
-    else if bytes_eq first (codes "begin") then Ok kinds.Begin
-    else if bytes_eq first (codes "turn") then Ok kinds.Turn
-    else if bytes_eq first (codes "damage") then Ok kinds.Damage
-    else if bytes_eq first (codes "recover") then Ok kinds.Recover
-    else if bytes_eq first (codes "rounds") then Ok kinds.Rounds
-    else if bytes_eq first (codes "history") then Ok kinds.History
-    else if bytes_eq first (codes "bundle") then Ok kinds.Bundle
-    else Err faults.BadRecord
-
--- how many fields a kind has
-abbrev pub has_width : Kind → ℕ → Bool
-has_width kinds.Send width = width == 4
-has_width kinds.Deliver width = width == 5
-has_width kinds.Check width = width == 3
-has_width kinds.Begin width = width == 3
-has_width kinds.Turn width = width == 3
-has_width kinds.Damage width = width == 3
-has_width kinds.Recover width = true
-has_width kinds.Rounds width = width == 1
-has_width kinds.History width = width == 1
-has_width kinds.Bundle width = true
-
--- the command of a record of that kind
-abbrev pub of_kind : Kind → ℕ → Record → Result Command Fault
-of_kind kinds.Send n r = send_of n r
-of_kind kinds.Deliver n r = deliver_of n r
-of_kind kinds.Check n r = check_of n r
-of_kind kinds.Begin n r = begin_of n r
-of_kind kinds.Turn n r = turn_of n r
-of_kind kinds.Damage n r = damage_of n r
-of_kind kinds.Recover n r = recover_of n r
-of_kind kinds.Rounds n r = Ok Rounds
-of_kind kinds.History n r = Ok History
-of_kind kinds.Bundle n r = bundle_of n r
-
--- the command that a record spells, among n processes
+-- the command that a record spells, among n processes: the first field is its name
 unfoldable pub command_of : ℕ → Record → Result Command Fault
-command_of n r = do
-  kind ← kind_named (field r 0)
-  long ← want (has_width kind (length r)) faults.BadRecord
-  of_kind kind n r
+command_of n r =
+    if bytes_eq (field r 0) (codes "send") then send_of n r
+    else if bytes_eq (field r 0) (codes "deliver") then deliver_of n r
+    else if bytes_eq (field r 0) (codes "check") then with_state Check n r
+    else if bytes_eq (field r 0) (codes "begin") then with_state Begin n r
+    else if bytes_eq (field r 0) (codes "turn") then with_state Turn n r
+    else if bytes_eq (field r 0) (codes "damage") then with_check Damage n r
+    else if bytes_eq (field r 0) (codes "recover") then with_failed (λ failed. Do (Recover failed)) n r
+    else if bytes_eq (field r 0) (codes "rounds") then alone Rounds r
+    else if bytes_eq (field r 0) (codes "history") then alone History r
+    else if bytes_eq (field r 0) (codes "bundle") then with_failed Bundle n r
+    else Err faults.BadRecord
 
 -- the commands of the records from the i-th on
 unfoldable pub commands_from : ℕ → ℕ → List Record → Result (List Command) TextFault

@@ -1,10 +1,12 @@
 //! What one record of a script says.
 
-ghost use Rattle.std.specs.Prelude.{◌≡◌, ◌≤◌, ◌==◌, ◌&&◌, ℕ, List, length, not, Err, IfOk};
+ghost use Rattle.std.specs.Prelude.{◌≡◌, ◌≤◌, ◌==◌, Bool, ℕ, List, length, IfOk};
 ghost use Rattle.line_names.specs.declared.limits.TheConstants.{MOST_PROCESSES};
+ghost use Rattle.line_fields.specs.declared.faults.Fault.TheVariants as faults;
 ghost use Rattle.line_fields.specs.Faults.{code_of};
 ghost use Rattle.line_fields.specs.Fields.{Gives};
-ghost use Rattle.line_scripts.specs.Keeping.{MayHave, with_bytes};
+ghost use Rattle.line_world.specs.declared.steps.Step.{Step};
+ghost use Rattle.line_scripts.specs.Keeping.{MayHave, of_found, with_bytes};
 ghost use Rattle.line_scripts.specs.Scripts as spec;
 
 use crate::keeping::Bare;
@@ -37,26 +39,18 @@ pub(crate) struct World {
     pub mode: Mode,
 }
 
-/// Which record it is, by its first field.
-#[derive(Clone, Copy)]
-pub(crate) enum Kind {
-    Send,
-    Deliver,
-    Check,
-    Begin,
-    Turn,
-    Damage,
-    Recover,
-    Rounds,
-    History,
-    Bundle,
-}
-
 // A command that is refused, before any step.
 fn refused(fault: Fault) -> Bare
     ensures { result ≡ Bare.Refused (code_of fault) }
 {
     Bare::Refused(fault.code())
+}
+
+// A command of a process that there is not.
+fn no_process() -> Bare
+    ensures { result ≡ Bare.Refused (code_of faults.NoSuchProcess) }
+{
+    refused(Fault::NoSuchProcess)
 }
 
 fn mode_named(text: &[u8]) -> Result<Mode, Fault>
@@ -87,65 +81,21 @@ pub(crate) fn world_of(row: &Row) -> Result<World, Fault>
     Ok(World { n, mode })
 }
 
-fn kind_named(first: &[u8]) -> Result<Kind, Fault>
-    ensures { result ≡ spec.kind_named first.now }
-{
-    if first == b"send".as_slice() {
-        Ok(Kind::Send)
-    } else if first == b"deliver".as_slice() {
-        Ok(Kind::Deliver)
-    } else if first == b"check".as_slice() {
-        Ok(Kind::Check)
-    } else if first == b"begin".as_slice() {
-        Ok(Kind::Begin)
-    } else if first == b"turn".as_slice() {
-        Ok(Kind::Turn)
-    } else if first == b"damage".as_slice() {
-        Ok(Kind::Damage)
-    } else if first == b"recover".as_slice() {
-        Ok(Kind::Recover)
-    } else if first == b"rounds".as_slice() {
-        Ok(Kind::Rounds)
-    } else if first == b"history".as_slice() {
-        Ok(Kind::History)
-    } else if first == b"bundle".as_slice() {
-        Ok(Kind::Bundle)
-    } else {
-        Err(Fault::BadRecord)
-    }
-}
-
-fn has_width(kind: Kind, width: usize) -> bool
-    ensures { result ≡ spec.has_width kind width }
-{
-    match kind {
-        Kind::Send => width == 4,
-        Kind::Deliver => width == 5,
-        Kind::Check => width == 3,
-        Kind::Begin => width == 3,
-        Kind::Turn => width == 3,
-        Kind::Damage => width == 3,
-        Kind::Recover => true,
-        Kind::Rounds => width == 1,
-        Kind::History => width == 1,
-        Kind::Bundle => true,
-    }
-}
-
-#[tactic(auto, unfolding(crate::specs::Scripts::send_of))]
+#[tactic(auto, unfolding(crate::specs::Scripts::send_of, line_fields::specs::Shapes::three))]
 fn send_of(n: u32, row: &Row, bytes: &mut Vec<u8>) -> Result<Bare, ReadError>
     requires { n ≤ MOST_PROCESSES }
     ensures exact { Gives (λ bare. with_bytes bare bytes.new.items) result (spec.send_of n row.now) }
     ensures fits { IfOk result (λ bare. MayHave bare (length bytes.new.items)) }
 {
+    want(row.len() == 4, Fault::BadRecord)?;
     let from = plain(row, 1)?;
     let to = plain(row, 2)?;
     hex_into(bytes, row.field(3))?;
     let Ok(from) = ProcId::try_new(from, n) else {
-        return Ok(refused(Fault::NoSuchProcess));
+        return Ok(no_process());
     };
     let Ok(to) = ProcId::try_new(to, n) else {
-        return Ok(refused(Fault::NoSuchProcess));
+        return Ok(no_process());
     };
     if bytes.len() > MOST_BODY {
         return Ok(refused(Fault::BodyTooLong));
@@ -153,79 +103,51 @@ fn send_of(n: u32, row: &Row, bytes: &mut Vec<u8>) -> Result<Bare, ReadError>
     Ok(Bare::Send { from, to })
 }
 
-#[tactic(auto, unfolding(crate::specs::Scripts::deliver_of))]
+#[tactic(auto, unfolding(crate::specs::Scripts::deliver_of, line_fields::specs::Shapes::four))]
 fn deliver_of(n: u32, row: &Row, bytes: &mut Vec<u8>) -> Result<Bare, ReadError>
     requires { n ≤ MOST_PROCESSES }
     ensures exact { Gives (λ bare. with_bytes bare bytes.new.items) result (spec.deliver_of n row.now) }
     ensures fits { IfOk result (λ bare. MayHave bare (length bytes.new.items)) }
 {
+    want(row.len() == 5, Fault::BadRecord)?;
     let from = plain(row, 1)?;
     let to = plain(row, 2)?;
     let pick = number(row.field(3), 0, u64::MAX)?;
     hex_into(bytes, row.field(4))?;
     let Ok(from) = ProcId::try_new(from, n) else {
-        return Ok(refused(Fault::NoSuchProcess));
+        return Ok(no_process());
     };
     let Ok(to) = ProcId::try_new(to, n) else {
-        return Ok(refused(Fault::NoSuchProcess));
+        return Ok(no_process());
     };
     Ok(Bare::Deliver { from, to, pick })
 }
 
-#[tactic(auto, unfolding(crate::specs::Scripts::check_of))]
-fn check_of(n: u32, row: &Row, bytes: &mut Vec<u8>) -> Result<Bare, ReadError>
+// The process of a record with a state, whose bytes the list then has; none where there is no such process.
+#[tactic(auto, unfolding(crate::specs::Scripts::with_state, line_fields::specs::Shapes::two))]
+fn with_state(n: u32, row: &Row, bytes: &mut Vec<u8>) -> Result<Option<ProcId>, ReadError>
     requires { n ≤ MOST_PROCESSES }
-    ensures exact { Gives (λ bare. with_bytes bare bytes.new.items) result (spec.check_of n row.now) }
-    ensures fits { IfOk result (λ bare. MayHave bare (length bytes.new.items)) }
+    ensures { (step : ℕ → List ℕ → Step) → Gives (of_found (λ at. Command.Do (step at bytes.new.items))) result (spec.with_state step n row.now) }
 {
+    want(row.len() == 3, Fault::BadRecord)?;
     let at = plain(row, 1)?;
     hex_into(bytes, row.field(2))?;
-    let Ok(at) = ProcId::try_new(at, n) else {
-        return Ok(refused(Fault::NoSuchProcess));
-    };
-    Ok(Bare::Check { at })
+    Ok(ProcId::try_new(at, n).ok())
 }
 
-#[tactic(auto, unfolding(crate::specs::Scripts::begin_of))]
-fn begin_of(n: u32, row: &Row, bytes: &mut Vec<u8>) -> Result<Bare, ReadError>
+// The process and the check of a record; none where there is no such process.
+#[tactic(auto, unfolding(crate::specs::Scripts::with_check, line_fields::specs::Shapes::two))]
+fn with_check(n: u32, row: &Row) -> Result<Option<(ProcId, u32)>, ReadError>
     requires { n ≤ MOST_PROCESSES }
-    ensures exact { Gives (λ bare. with_bytes bare bytes.new.items) result (spec.begin_of n row.now) }
-    ensures fits { IfOk result (λ bare. MayHave bare (length bytes.new.items)) }
+    ensures { (step : ℕ → ℕ → Step) → Gives (of_found (λ found. Command.Do (step found.0 found.1))) result (spec.with_check step n row.now) }
 {
-    let at = plain(row, 1)?;
-    hex_into(bytes, row.field(2))?;
-    let Ok(at) = ProcId::try_new(at, n) else {
-        return Ok(refused(Fault::NoSuchProcess));
-    };
-    Ok(Bare::Begin { at })
-}
-
-#[tactic(auto, unfolding(crate::specs::Scripts::turn_of))]
-fn turn_of(n: u32, row: &Row, bytes: &mut Vec<u8>) -> Result<Bare, ReadError>
-    requires { n ≤ MOST_PROCESSES }
-    ensures exact { Gives (λ bare. with_bytes bare bytes.new.items) result (spec.turn_of n row.now) }
-    ensures fits { IfOk result (λ bare. MayHave bare (length bytes.new.items)) }
-{
-    let at = plain(row, 1)?;
-    hex_into(bytes, row.field(2))?;
-    let Ok(at) = ProcId::try_new(at, n) else {
-        return Ok(refused(Fault::NoSuchProcess));
-    };
-    Ok(Bare::Turn { at })
-}
-
-#[tactic(auto, unfolding(crate::specs::Scripts::damage_of))]
-fn damage_of(n: u32, row: &Row) -> Result<Bare, ReadError>
-    requires { n ≤ MOST_PROCESSES }
-    ensures exact { (bytes : List ℕ) → Gives (λ bare. with_bytes bare bytes) result (spec.damage_of n row.now) }
-    ensures fits { (long : ℕ) → IfOk result (λ bare. MayHave bare long) }
-{
+    want(row.len() == 3, Fault::BadRecord)?;
     let at = plain(row, 1)?;
     let check = plain(row, 2)?;
-    let Ok(at) = ProcId::try_new(at, n) else {
-        return Ok(refused(Fault::NoSuchProcess));
-    };
-    Ok(Bare::Damage { at, check })
+    match ProcId::try_new(at, n) {
+        Ok(at) => Ok(Some((at, check))),
+        Err(_) => Ok(None),
+    }
 }
 
 // A set in memory of its own.
@@ -236,44 +158,28 @@ fn boxed(alloc: Global, failed: ProcSet) -> Result<Box<ProcSet>, AllocError>
     Ok(set)
 }
 
-// A command of processes that were not read: one is not below the number of processes, or a field has a
-// fault.
-fn not_read(fault: Fault) -> Result<Bare, ReadError>
-    ensures exact { (bytes : List ℕ) → Gives (λ bare. with_bytes bare bytes) result (spec.of_failed (λ failed. Command.Bundle failed) (Err fault)) }
-    ensures fits { (long : ℕ) → IfOk result (λ bare. MayHave bare long) }
+// The fault says that there is no such process.
+fn is_of_process(fault: Fault) -> bool
+    ensures { result ≡ (code_of fault == code_of faults.NoSuchProcess) }
 {
-    if fault.code() == Fault::NoSuchProcess.code() {
-        Ok(refused(fault))
-    } else {
-        Err(ReadError::Fault(fault))
-    }
+    fault.code() == Fault::NoSuchProcess.code()
 }
 
-fn recover_of(alloc: Global, n: u32, row: &Row) -> Result<Bare, ReadError>
+// The processes of a record; none where there is no such process.
+fn with_failed(alloc: Global, n: u32, row: &Row) -> Result<Option<Box<ProcSet>>, ReadError>
     requires { n ≤ MOST_PROCESSES }
-    ensures exact { (bytes : List ℕ) → Gives (λ bare. with_bytes bare bytes) result (spec.recover_of n row.now) }
-    ensures fits { (long : ℕ) → IfOk result (λ bare. MayHave bare long) }
+    ensures { (command : List Bool → Command) → Gives (of_found (λ failed. command failed.value)) result (spec.with_failed command n row.now) }
 {
     match failed_of(n, row) {
-        Ok(failed) => Ok(Bare::Recover(boxed(alloc, failed)?)),
-        Err(fault) => not_read(fault),
-    }
-}
-
-fn bundle_of(alloc: Global, n: u32, row: &Row) -> Result<Bare, ReadError>
-    requires { n ≤ MOST_PROCESSES }
-    ensures exact { (bytes : List ℕ) → Gives (λ bare. with_bytes bare bytes) result (spec.bundle_of n row.now) }
-    ensures fits { (long : ℕ) → IfOk result (λ bare. MayHave bare long) }
-{
-    match failed_of(n, row) {
-        Ok(failed) => Ok(Bare::Bundle(boxed(alloc, failed)?)),
-        Err(fault) => not_read(fault),
+        Ok(failed) => Ok(Some(boxed(alloc, failed)?)),
+        Err(fault) if is_of_process(fault) => Ok(None),
+        Err(fault) => Err(ReadError::Fault(fault)),
     }
 }
 
 /// The command that a record after the first spells, or its first fault. What a list has gives way
 /// to the bytes that the command carries.
-#[tactic(auto, unfolding(crate::specs::Scripts::command_of))]
+#[tactic(auto, unfolding(crate::specs::Scripts::command_of, line_fields::specs::Shapes::alone))]
 pub(crate) fn command_of(
     alloc: Global,
     n: u32,
@@ -285,18 +191,48 @@ pub(crate) fn command_of(
     ensures fits { IfOk result (λ bare. MayHave bare (length bytes.new.items)) }
 {
     bytes.clear();
-    let kind = kind_named(row.field(0))?;
-    want(has_width(kind, row.len()), Fault::BadRecord)?;
-    match kind {
-        Kind::Send => send_of(n, row, bytes),
-        Kind::Deliver => deliver_of(n, row, bytes),
-        Kind::Check => check_of(n, row, bytes),
-        Kind::Begin => begin_of(n, row, bytes),
-        Kind::Turn => turn_of(n, row, bytes),
-        Kind::Damage => damage_of(n, row),
-        Kind::Recover => recover_of(alloc, n, row),
-        Kind::Rounds => Ok(Bare::Rounds),
-        Kind::History => Ok(Bare::History),
-        Kind::Bundle => bundle_of(alloc, n, row),
+    let name = row.field(0);
+    if name == b"send".as_slice() {
+        send_of(n, row, bytes)
+    } else if name == b"deliver".as_slice() {
+        deliver_of(n, row, bytes)
+    } else if name == b"check".as_slice() {
+        match with_state(n, row, bytes)? {
+            Some(at) => Ok(Bare::Check { at }),
+            None => Ok(no_process()),
+        }
+    } else if name == b"begin".as_slice() {
+        match with_state(n, row, bytes)? {
+            Some(at) => Ok(Bare::Begin { at }),
+            None => Ok(no_process()),
+        }
+    } else if name == b"turn".as_slice() {
+        match with_state(n, row, bytes)? {
+            Some(at) => Ok(Bare::Turn { at }),
+            None => Ok(no_process()),
+        }
+    } else if name == b"damage".as_slice() {
+        match with_check(n, row)? {
+            Some((at, check)) => Ok(Bare::Damage { at, check }),
+            None => Ok(no_process()),
+        }
+    } else if name == b"recover".as_slice() {
+        match with_failed(alloc, n, row)? {
+            Some(failed) => Ok(Bare::Recover(failed)),
+            None => Ok(no_process()),
+        }
+    } else if name == b"rounds".as_slice() {
+        want(row.len() == 1, Fault::BadRecord)?;
+        Ok(Bare::Rounds)
+    } else if name == b"history".as_slice() {
+        want(row.len() == 1, Fault::BadRecord)?;
+        Ok(Bare::History)
+    } else if name == b"bundle".as_slice() {
+        match with_failed(alloc, n, row)? {
+            Some(failed) => Ok(Bare::Bundle(failed)),
+            None => Ok(no_process()),
+        }
+    } else {
+        Err(ReadError::Fault(Fault::BadRecord))
     }
 }
