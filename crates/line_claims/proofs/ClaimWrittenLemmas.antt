@@ -36,7 +36,7 @@ damages_are_written p (checks ∷ others) room fit =
     let more = damages_are_written (p + 1) others (omega arith) fit.1 in
     rw (list_all-append is_written (map (damage_record p) checks) (damages_records (p + 1) others), one, more) refl
 
-decimals_are_plain : (n : ℕ) (ps : List ℕ) → n ≤ MOST_PROCESSES → AllByRecursion (λ p. p < n) ps → list_all is_plain_field (map decimal ps) ≡ true
+pub decimals_are_plain : (n : ℕ) (ps : List ℕ) → n ≤ MOST_PROCESSES → AllByRecursion (λ p. p < n) ps → list_all is_plain_field (map decimal ps) ≡ true
 decimals_are_plain n [] few fit = refl
 decimals_are_plain n (p ∷ others) few fit =
     let there : p < n = fit.0 in

@@ -16,7 +16,7 @@ use Rattle.line_claims.specs.Texts.{history_of_text}
 use Rattle.line_claims.proofs.AgainLemmas.{history_again}
 use Rattle.line_claims.proofs.MemoryLemmas.{history_fits, records_apart}
 
-byte_at : (bytes : List ℕ) → AllByRecursion (λ byte. byte < 256) bytes → (i : ℕ) → get_or bytes i 0 < 256
+pub byte_at : (bytes : List ℕ) → AllByRecursion (λ byte. byte < 256) bytes → (i : ℕ) → get_or bytes i 0 < 256
 byte_at [] fit i = omega arith
 byte_at (byte ∷ rest) fit zero = fit.0
 byte_at (byte ∷ rest) fit (suc i) = byte_at rest fit.1 i

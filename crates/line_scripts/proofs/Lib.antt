@@ -1,3 +1,4 @@
+pub mod AgainLemmas
 pub mod FailedLemmas
 pub mod FaultLemmas
 pub mod KeepingLemmas

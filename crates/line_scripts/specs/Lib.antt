@@ -1,3 +1,5 @@
 pub mod Scripts
 pub mod Reads
+pub mod Records
+pub mod Ranges
 pub mod Keeping

@@ -3,8 +3,10 @@
 
 mod commands;
 mod keeping;
+mod laws;
 mod scripts;
 
 pub use commands::Command;
 pub use keeping::Commands;
+pub use laws::scripts_are_read_again;
 pub use scripts::{KeptScript, Script, keep_script, read_script};

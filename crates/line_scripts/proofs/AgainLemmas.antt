@@ -1,0 +1,130 @@
+-- A script that is written is read again.
+use Rattle.std.proofs.Common.{◌≡◌, ◌≤◌, ◌<◌, ℕ, ◌+◌, ◌^◌, true, List, [], ◌∷◌, Bool, Ok, refl, arith, length, le-leb}
+use Rattle.std.specs.Prelude.{codes, decimal, map}
+use Rattle.std.specs.List.{AllByRecursion, list_all}
+use Rattle.std.proofs.lemmas.Bool.{lt-ltb}
+use Rattle.line_names.specs.declared.limits.TheConstants.{MOST_BODY, MOST_PROCESSES}
+use Rattle.line_fields.proofs.PlainLemmas.{plain_decimal, plain_hex}
+use Rattle.line_fields.proofs.ReadAgain.{written_is_input, written_is_read}
+use Rattle.line_fields.proofs.RoundLemmas.{hex_hex_text, num_decimal}
+use Rattle.line_fields.specs.Shapes.{alone, two, three, four}
+use Rattle.line_fields.specs.Texts.{hex_text, is_plain_field, is_written, records_text}
+use Rattle.line_moves.specs.declared.modes.Mode.{Mode}
+use Rattle.line_moves.specs.declared.modes.Mode.TheVariants.{Fifo, Unordered}
+use Rattle.line_world.specs.declared.steps.Step.TheVariants.{Send, Deliver, Check, Begin, Turn, Damage, Recover}
+use Rattle.line_claims.specs.Entries.{failed_of}
+use Rattle.line_claims.specs.Records.{members}
+use Rattle.line_claims.proofs.ClaimWrittenLemmas.{decimals_are_plain}
+use Rattle.line_claims.proofs.EntryAgainLemmas.{failed_again, members_below}
+use Rattle.line_claims.proofs.SpellLemmas.{plain_again}
+use Rattle.line_claims.proofs.WrittenLemmas.{byte_at}
+use Rattle.line_scripts.specs.declared.commands.Command.{Command}
+use Rattle.line_scripts.specs.declared.commands.Command.TheVariants.{Bundle, Do, History, Refused, Rounds}
+use Rattle.line_scripts.specs.Ranges.{IsCommandInRange, IsScriptInRange, IsSetAmong, IsWithState}
+use Rattle.line_scripts.specs.Records.{command_record, mode_text, script_records, world_record}
+use Rattle.line_scripts.specs.Scripts.{Script, command_of, commands_from, deliver_of, mode_named, pick, script_of, script_of_text, send_of, with_check, with_failed, with_state, world_of}
+use Rattle.line_scripts.proofs.FailedLemmas.{failed_found}
+
+mode_again : (mode : Mode) → mode_named (mode_text mode) ≡ Ok mode
+mode_again Fifo = refl
+mode_again Unordered = refl
+
+world_again : (n : ℕ) (mode : Mode) → 1 ≤ n → n ≤ MOST_PROCESSES → world_of (world_record n mode) ≡ Ok (record { n = n; mode = mode })
+unfolding world_of
+world_again n mode some few =
+    rw (plain_again 1 (omega arith), plain_again n (omega arith), le-leb 1 n some, le-leb n MOST_PROCESSES few, mode_again mode) refl
+
+pick_again : (picked : ℕ) → picked < 2 ^ 64 → pick (decimal picked) ≡ Ok picked
+pick_again picked small = num_decimal 0 18446744073709551615 picked (omega arith) (omega arith) small
+
+-- the processes of a set are read again, whatever the name before them
+failed_set : (n : ℕ) (name : List ℕ) (command : List Bool → Command) (set : List Bool) → n ≤ MOST_PROCESSES → IsSetAmong n set → with_failed command n (name ∷ map decimal (members n set)) ≡ Ok (command set)
+unfolding failed_of
+failed_set n name command set few fit = failed_found command n (name ∷ map decimal (members n set)) set (failed_again n set few fit.whole fit.there)
+
+command_again : (n : ℕ) (c : Command) → n ≤ MOST_PROCESSES → IsCommandInRange n c → command_of n (command_record n c) ≡ Ok c
+unfolding command_of send_of deliver_of with_state with_check two three four alone
+command_again n (Do (Send from to body)) few fit =
+    let there : from < n = fit.0 in
+    let at : to < n = fit.1 in
+    rw (plain_again from (omega arith), plain_again to (omega arith), hex_hex_text body fit.2.fit, lt-ltb from n there, lt-ltb to n at, le-leb (length body) MOST_BODY fit.2.few) refl
+command_again n (Do (Deliver from to picked state)) few fit =
+    let there : from < n = fit.0 in
+    let at : to < n = fit.2.0 in
+    rw (plain_again from (omega arith), plain_again to (omega arith), pick_again picked fit.1, hex_hex_text state fit.2.1, lt-ltb from n there, lt-ltb to n at) refl
+command_again n (Do (Check at state)) few fit =
+    let there : at < n = fit.0 in
+    rw (plain_again at (omega arith), hex_hex_text state fit.1, lt-ltb at n there) refl
+command_again n (Do (Begin at state)) few fit =
+    let there : at < n = fit.0 in
+    rw (plain_again at (omega arith), hex_hex_text state fit.1, lt-ltb at n there) refl
+command_again n (Do (Turn at state)) few fit =
+    let there : at < n = fit.0 in
+    rw (plain_again at (omega arith), hex_hex_text state fit.1, lt-ltb at n there) refl
+command_again n (Do (Damage at check)) few fit =
+    let there : at < n = fit.0 in
+    let wide : check < 2 ^ 32 = fit.1 in
+    rw (plain_again at (omega arith), plain_again check (omega arith), lt-ltb at n there) refl
+command_again n (Do (Recover failed)) few fit = failed_set n (codes "recover") (λ set. Do (Recover set)) failed few fit
+command_again n Rounds few fit = refl
+command_again n History few fit = refl
+command_again n (Bundle failed) few fit = failed_set n (codes "bundle") Bundle failed few fit
+command_again n (Refused code) few fit = absurd fit
+
+commands_again : (n i : ℕ) (cs : List Command) → n ≤ MOST_PROCESSES → AllByRecursion (IsCommandInRange n) cs → commands_from n i (map (command_record n) cs) ≡ Ok cs
+unfolding commands_from
+commands_again n i [] few fit = refl
+commands_again n i (c ∷ others) few fit = rw (command_again n c few fit.0, commands_again n (i + 1) others few fit.1) refl
+
+script_again : (script : Script) → IsScriptInRange script → script_of (script_records script) ≡ Ok script
+unfolding script_of
+script_again script fit =
+    rw (world_again script.n script.mode fit.some fit.few, commands_again script.n 2 script.commands fit.few fit.commands) refl
+
+with_state_is_written : (at : ℕ) (state : List ℕ) (n : ℕ) → n ≤ MOST_PROCESSES → IsWithState n at state → list_all is_plain_field (decimal at ∷ hex_text state ∷ []) ≡ true
+with_state_is_written at state n few fit =
+    let there : at < n = fit.0 in
+    rw (plain_decimal at (omega arith), plain_hex state (byte_at state fit.1)) refl
+
+set_is_written : (n : ℕ) (set : List Bool) → n ≤ MOST_PROCESSES → list_all is_plain_field (map decimal (members n set)) ≡ true
+set_is_written n set few = decimals_are_plain n (members n set) few (members_below n set)
+
+command_is_written : (n : ℕ) (c : Command) → n ≤ MOST_PROCESSES → IsCommandInRange n c → is_written (command_record n c) ≡ true
+command_is_written n (Do (Send from to body)) few fit =
+    let there : from < n = fit.0 in
+    let at : to < n = fit.1 in
+    rw (plain_decimal from (omega arith), plain_decimal to (omega arith), plain_hex body (byte_at body fit.2.fit)) refl
+command_is_written n (Do (Deliver from to picked state)) few fit =
+    let there : from < n = fit.0 in
+    rw (plain_decimal from (omega arith), plain_decimal picked fit.1) (with_state_is_written to state n few fit.2)
+command_is_written n (Do (Check at state)) few fit = with_state_is_written at state n few fit
+command_is_written n (Do (Begin at state)) few fit = with_state_is_written at state n few fit
+command_is_written n (Do (Turn at state)) few fit = with_state_is_written at state n few fit
+command_is_written n (Do (Damage at check)) few fit =
+    let there : at < n = fit.0 in
+    let wide : check < 2 ^ 32 = fit.1 in
+    rw (plain_decimal at (omega arith), plain_decimal check (omega arith)) refl
+command_is_written n (Do (Recover failed)) few fit = set_is_written n failed few
+command_is_written n Rounds few fit = refl
+command_is_written n History few fit = refl
+command_is_written n (Bundle failed) few fit = set_is_written n failed few
+command_is_written n (Refused code) few fit = absurd fit
+
+commands_are_written : (n : ℕ) (cs : List Command) → n ≤ MOST_PROCESSES → AllByRecursion (IsCommandInRange n) cs → list_all is_written (map (command_record n) cs) ≡ true
+commands_are_written n [] few fit = refl
+commands_are_written n (c ∷ others) few fit = rw (command_is_written n c few fit.0) (commands_are_written n others few fit.1)
+
+mode_is_plain : (mode : Mode) → is_plain_field (mode_text mode) ≡ true
+mode_is_plain Fifo = refl
+mode_is_plain Unordered = refl
+
+script_is_written : (script : Script) → IsScriptInRange script → list_all is_written (script_records script) ≡ true
+script_is_written script fit =
+    let few : script.n ≤ MOST_PROCESSES = fit.few in
+    rw (plain_decimal 1 (omega arith), plain_decimal script.n (omega arith), mode_is_plain script.mode) (commands_are_written script.n script.commands fit.few fit.commands)
+
+pub text_again : (script : Script) → IsScriptInRange script → script_of_text (records_text (script_records script)) ≡ Ok script
+unfolding script_of_text
+text_again script fit =
+    let written = script_is_written script fit in
+    rw (written_is_input (script_records script) written, written_is_read (script_records script) written) (script_again script fit)
