@@ -1,14 +1,14 @@
 -- What a catalogue keeps, as its history grows and as its checks are marked.
 use Rattle.std.proofs.Common.{◌≡◌, ℕ, zero, suc, ◌+◌, ◌<◌, ◌≤◌, List, [], ◌∷◌, ◌++◌, length, get_or, set, min, inl, inr, refl, sym, ap, ◌∙◌, subst, arith}
 use Rattle.std.specs.List.{All}
-use Rattle.std.specs.Prelude.{replicate}
+use Rattle.std.specs.Prelude.{replicate, IfSome, Option, None, Some}
 use Rattle.std.proofs.lemmas.Bool.{cases_eq, cases_lt}
-use Rattle.std.proofs.lemmas.List.{length-set, length-replicate, get_or-set_same, get_or-set_other, get_or-replicate, get_or_past}
+use Rattle.std.proofs.lemmas.List.{length-set, length-replicate, get_or-set_same, get_or-set_other, get_or-replicate, get_or_past, set_past}
 use Rattle.std.proofs.lemmas.List.Elements.{All-nil, All-push, All-weaker}
 use Rattle.line_tape.specs.declared.events.Event.{Event}
 use Rattle.line_tape.specs.Event.{checks, sends, NamesBelow}
 use Rattle.line_tape.specs.History.{Process, tape_at, with_event}
-use Rattle.line_tape.specs.Views.{MarksView, with_mark, damaged_at}
+use Rattle.line_tape.specs.Views.{MarksView, no_marks, with_bar, with_mark, bar_at, damaged_at}
 use Rattle.line_tape.proofs.RowLemmas.{checks-push}
 use Rattle.line_catalogue.specs.declared.rows.Row.{Row}
 use Rattle.line_catalogue.specs.Agreement.{AgreesNext}
@@ -32,13 +32,22 @@ lesser_at (room ∷ rooms) (other ∷ others) (suc p) = lesser_at rooms others p
 checks-more : (tape : List Event) (event : Event) → checks tape ≤ checks (tape ++ event ∷ [])
 checks-more tape event = omega (arith, checks-push tape event)
 
--- marks stay on checks when an event is added
+-- a bar up to a check is up to each later one
+bar-weaker : (bar : Option ℕ) (k n : ℕ) → k ≤ n → IfSome bar (λ check. check ≤ k) → IfSome bar (λ check. check ≤ n)
+bar-weaker None k n h on = tt
+bar-weaker (Some check) k n h on = omega arith
+
+-- marks and bars stay on checks when an event is added
 pub AreOnChecks-event : (history : List Process) (marks : MarksView) (p : ℕ) (event : Event) → p < length history → AreOnChecks history marks → AreOnChecks (with_event history p event) marks
 AreOnChecks-event history marks p event within on = record {
   each = λ q. elim (cases_eq q p) [
     | inl here ↦ All-weaker (λ check. check ≤ checks (tape_at history q)) (λ check. check ≤ checks (tape_at (with_event history p event) q))
         (λ check h. omega (arith, checks-more (tape_at history q) event, ap checks (tape-here history p event within q here))) (damaged_at marks q) (on.each q)
     | inr apart ↦ subst (λ (tape : List Event). All (λ check. check ≤ checks tape) (damaged_at marks q)) (sym (tape-other history p event within q apart)) (on.each q)
+  ];
+  bars = λ q. elim (cases_eq q p) [
+    | inl here ↦ bar-weaker (bar_at marks q) (checks (tape_at history q)) (checks (tape_at (with_event history p event) q)) (omega (arith, checks-more (tape_at history q) event, ap checks (tape-here history p event within q here))) (on.bars q)
+    | inr apart ↦ subst (λ (tape : List Event). IfSome (bar_at marks q) (λ check. check ≤ checks tape)) (sym (tape-other history p event within q apart)) (on.bars q)
   ];
 }
 
@@ -50,11 +59,36 @@ AreOnChecks-mark history marks p c within there on = record {
         (subst (All (λ check. check ≤ checks (tape_at history p))) (sym (get_or-set_same marks.damaged p (damaged_at marks p ++ c ∷ []) [] within)) (All-push (λ check. check ≤ checks (tape_at history p)) (damaged_at marks p) c (on.each p) there))
     | inr apart ↦ subst (All (λ check. check ≤ checks (tape_at history q))) (sym (get_or-set_other marks.damaged p q (damaged_at marks p ++ c ∷ []) [] apart)) (on.each q)
   ];
+  bars = on.bars;
 }
 
+-- and when a process is barred
+pub AreOnChecks-bar : (history : List Process) (marks : MarksView) (p c : ℕ) → c ≤ checks (tape_at history p) → AreOnChecks history marks → AreOnChecks history (with_bar marks p c)
+AreOnChecks-bar history marks p c there on = record {
+  each = on.each;
+  bars = λ q. elim (cases_eq q p) [
+    | inl here ↦ elim (cases_lt p (length marks.bars)) [
+      | inl within ↦ subst (λ (v : ℕ). IfSome (bar_at (with_bar marks p c) v) (λ check. check ≤ checks (tape_at history v))) (sym here)
+          (subst (λ (bar : Option ℕ). IfSome bar (λ check. check ≤ checks (tape_at history p))) (sym (get_or-set_same marks.bars p (Some c) None within)) there)
+      | inr past ↦ subst (λ (bars : List (Option ℕ)). IfSome (get_or bars q None) (λ check. check ≤ checks (tape_at history q))) (sym (set_past marks.bars p (Some c) past)) (on.bars q)
+    ]
+    | inr apart ↦ subst (λ (bar : Option ℕ). IfSome bar (λ check. check ≤ checks (tape_at history q))) (sym (get_or-set_other marks.bars p q (Some c) None apart)) (on.bars q)
+  ];
+}
+
+-- where no process is barred, no bar is on a check that there isn't
+pub no-bars : (history : List Process) (bars : List (Option ℕ)) (n : ℕ) → bars ≡ replicate n None → (p : ℕ) → IfSome (get_or bars p None) (λ check. check ≤ checks (tape_at history p))
+no-bars history bars n none p =
+    let empty : get_or bars p None ≡ None = ap (λ (xs : List (Option ℕ)). get_or xs p None) none ∙ elim (cases_lt p n) [
+      | inl within ↦ get_or-replicate n p None None within
+      | inr past ↦ get_or_past (replicate n None) p None (omega (arith, length-replicate {A = Option ℕ} n None))
+    ] in
+    subst (λ (bar : Option ℕ). IfSome bar (λ check. check ≤ checks (tape_at history p))) (sym empty) tt
+
 -- no marks are on checks of whatever history
-pub AreOnChecks-none : (history : List Process) (marks : MarksView) (n : ℕ) → marks.damaged ≡ replicate n [] → AreOnChecks history marks
-AreOnChecks-none history marks n none = record {
+pub AreOnChecks-none : (history : List Process) (marks : MarksView) (n : ℕ) → marks ≡ no_marks n → AreOnChecks history marks
+AreOnChecks-none history marks n is = let none : marks.damaged ≡ replicate n [] = ap (λ (m : MarksView). m.damaged) is in record {
+  bars = no-bars history marks.bars n (ap (λ (m : MarksView). m.bars) is);
   each = λ q.
       let empty : damaged_at marks q ≡ [] = ap (λ (xs : List (List ℕ)). get_or xs q []) none ∙ elim (cases_lt q n) [
         | inl within ↦ get_or-replicate n q [] [] within
@@ -64,8 +98,9 @@ AreOnChecks-none history marks n none = record {
 }
 
 -- it is enough to look at the processes that there are
-pub AreOnChecks-below : (history : List Process) (marks : MarksView) → length marks.damaged ≡ length history → ((q : ℕ) → q < length history → All (λ check. check ≤ checks (tape_at history q)) (damaged_at marks q)) → AreOnChecks history marks
-AreOnChecks-below history marks count below = record {
+pub AreOnChecks-below : (history : List Process) (marks : MarksView) → length marks.damaged ≡ length history → ((q : ℕ) → IfSome (bar_at marks q) (λ check. check ≤ checks (tape_at history q))) → ((q : ℕ) → q < length history → All (λ check. check ≤ checks (tape_at history q)) (damaged_at marks q)) → AreOnChecks history marks
+AreOnChecks-below history marks count barred below = record {
+  bars = barred;
   each = λ q. elim (cases_lt q (length history)) [
     | inl within ↦ below q within
     | inr past ↦ subst (All (λ check. check ≤ checks (tape_at history q))) (sym (get_or_past marks.damaged q [] (omega arith))) (All-nil (λ check. check ≤ checks (tape_at history q)))
@@ -116,6 +151,18 @@ module _ (history : List Process) (marks : MarksView) (rows : List (List Row)) (
               get_or-set_other presents p q further [] apart ∙ is.heard q (omega arith) ∙ ap (reach_of n) (sym (tape-other history p event within q apart)) ∙ ap (λ k. reach_of k (tape_at grown q)) (sym same)
         ];
       }
+
+  -- a bar
+  pub IsCatalogue-bar : (c : ℕ) → c ≤ checks (tape_at history p) → IsCatalogue history marks rows presents → IsCatalogue history (with_bar marks p c) rows presents
+  IsCatalogue-bar c there is = record {
+    agrees = is.agrees;
+    marked = AreOnChecks-bar history marks p c there is.marked;
+    marks_count = is.marks_count;
+    rows_count = is.rows_count;
+    presents_count = is.presents_count;
+    shown = is.shown;
+    heard = is.heard;
+  }
 
   -- a mark, and the row that it changes
   pub IsCatalogue-mark : (c : ℕ) → c ≤ checks (tape_at history p) → IsCatalogue history marks rows presents → IsCatalogue history (with_mark marks p c) (set rows p (with_damage (rows_at rows p) c)) presents

@@ -26,7 +26,7 @@ use Rattle.line_catalogue.specs.Rows.{AreInStep, AreRows, WithPlaces, rows_kept,
 use Rattle.line_catalogue.proofs.CheckLemmas.{AreInStep-left, AreRows-left, length-kept, vector-left}
 use Rattle.line_vectors.specs.Reach.{reach_of}
 use Rattle.line_catalogue.proofs.AgreementLemmas.{Agrees-below}
-use Rattle.line_catalogue.proofs.CatalogueLemmas.{AreOnChecks-below}
+use Rattle.line_catalogue.proofs.CatalogueLemmas.{AreOnChecks-below, no-bars}
 use Rattle.line_tape.proofs.RowLemmas.{checks_front}
 
 -- a check that is kept is one of the front
@@ -103,7 +103,7 @@ module _ (history : List Process) (line : List Choice) (is_line : IsLine history
 
     -- they are on checks that are left
     pub AreOnChecks-restarted : AreOnChecks history marks → AreOnChecks (restarted history line) (restarted_marks marks line)
-    AreOnChecks-restarted on = AreOnChecks-below (restarted history line) (restarted_marks marks line) (length-marks ∙ sym length-restarted) (λ p h.
+    AreOnChecks-restarted on = AreOnChecks-below (restarted history line) (restarted_marks marks line) (length-marks ∙ sym length-restarted) (no-bars (restarted history line) (restarted_marks marks line).bars (length marks.bars) refl) (λ p h.
         let within : p < length history = omega (arith, length-restarted) in
         let choice : Choice = choice_at line p in
         let kept : List ℕ = filter (is_kept choice) (damaged_at marks p) in

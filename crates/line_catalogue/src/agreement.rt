@@ -1,8 +1,8 @@
 //! Whether names of messages agree with their senders, and marks with the tapes.
-ghost use Rattle.std.specs.Prelude.{◌≡◌, ◌<◌, ◌≤◌, ◌↔◌, IsTrue, All, length};
+ghost use Rattle.std.specs.Prelude.{◌≡◌, ◌<◌, ◌≤◌, ◌↔◌, IsTrue, All, IfSome, length};
 ghost use Rattle.line_tape.specs.Event.{NamesBelow};
 ghost use Rattle.line_tape.specs.History.{tape_at};
-ghost use Rattle.line_tape.specs.Views.{damaged_at};
+ghost use Rattle.line_tape.specs.Views.{bar_at, damaged_at};
 ghost use Rattle.line_catalogue.specs.Agreement.{NameAgrees, EventAgrees, Agrees};
 ghost use Rattle.line_catalogue.specs.Damage.{AreOnChecks};
 
@@ -74,15 +74,37 @@ fn none_above(marks: &Marks, p: ProcId, last: u32) -> bool
     }
 }
 
-/// Whether each mark is on a check that its tape has. It looks at the latest mark of each process.
+/// Whether a process, if it is barred, is barred at a check up to the last one.
+fn is_barred_within(marks: &Marks, p: ProcId, last: u32) -> bool
+    ensures { IsTrue result ↔ IfSome (bar_at marks.now p) (λ check. check ≤ last) }
+{
+    match marks.bar_of(p) {
+        Some(check) => check <= last,
+        None => true,
+    }
+}
+
+/// Whether the marks and the bar of a process are on checks up to the last one.
+fn are_within(marks: &Marks, p: ProcId, last: u32) -> bool
+    requires { p < length marks.now.damaged }
+    ensures { IsTrue result ↔ (All (λ check. check ≤ last) (damaged_at marks.now p)
+        × IfSome (bar_at marks.now p) (λ check. check ≤ last)) }
+{
+    none_above(marks, p, last) && is_barred_within(marks, p, last)
+}
+
+/// Whether each mark and each bar is on a check that its tape has. It looks at the latest mark and at
+/// the bar of each process.
 pub fn are_on_checks(history: &History, marks: &Marks) -> bool
     requires { length marks.now.damaged ≡ length history.now.processes }
     ensures { IsTrue result ↔ AreOnChecks history.now.processes marks.now }
 {
     let n = history.n();
+    let _count = marks.processes();
     for q in 0..n {
         let p = ProcId::try_new(q, n).unwrap();
-        if !none_above(marks, p, history.tape(p).checks()) {
+        let last = history.tape(p).checks();
+        if !are_within(marks, p, last) {
             return false;
         }
     }

@@ -1,4 +1,4 @@
-//! A history that agrees, with its marks of damage.
+//! A history that agrees, with its marks of damage and its bars.
 ghost use Rattle.std.specs.Prelude.{◌≡◌, ◌≢◌, ◌<◌, ◌≤◌, ◌+◌, ◌↔◌, ◌⊎◌, ℕ, [], List, length, replicate, IfOk, IsOk, OnOk, OnErr, IsErrOf, IsTrue, IfSome};
 ghost use Rattle.std.specs.Option.{SomeIff};
 ghost use Rattle.line_names.specs.declared.choices.Choice.{Choice};
@@ -9,9 +9,9 @@ ghost use Rattle.line_tape.specs.History.{fresh, tape_at, with_event, IsHistory}
 ghost use Rattle.line_tape.specs.Front.{front, HasChoice};
 ghost use Rattle.line_tape.specs.Line.{IsLine, IsConsistent, AreSentBefore};
 ghost use Rattle.line_tape.specs.Restart.{restarted, restarted_marks, HaveFurther};
-ghost use Rattle.line_tape.specs.Survival.{survives, is_damaged};
+ghost use Rattle.line_tape.specs.Survival.{survives, is_barred, is_damaged};
 ghost use Rattle.line_tape.specs.Transit.{in_transit};
-ghost use Rattle.line_tape.specs.Views.{with_mark, damaged_at};
+ghost use Rattle.line_tape.specs.Views.{damaged_at, no_marks, with_bar, with_mark};
 ghost use Rattle.line_catalogue.specs.Agreement.{Agrees, AgreesNext};
 ghost use Rattle.line_catalogue.specs.Damage.{AreOnChecks};
 ghost use Rattle.line_catalogue.specs.Rows.{AreRows};
@@ -26,12 +26,12 @@ use crate::refusals::{AddError, CatalogueError, DamageError};
 use crate::rows::Row;
 use crate::tables::RowTable;
 use line_names::{Choice, Line, MOST_PROCESSES, MsgName, ProcId, ProcSet};
-use line_tape::{CountError, Event, History, MOST_EVENTS, Marks};
+use line_tape::{BarError, CountError, Event, History, MOST_EVENTS, Marks};
 use line_vectors::Reach;
 use std::alloc::{AllocError, Global};
 use std::marker::Model;
 
-/// A history that agrees, with marks of damage on its checks.
+/// A history that agrees, with marks of damage and bars on its checks.
 ///
 /// It answers what a planner asks of choices from rows that it keeps beside them, one for each check, and grows with its history event by event. A row has the vector of its check, and each process one of where it stands: how much was received from each other process before. So a history of n processes takes 4n bytes more for each check, and no question looks at its events.
 #[derive(Drop)]
@@ -61,7 +61,7 @@ impl Catalogue {
     /// The catalogue of `n` processes that have done nothing yet.
     pub fn new(alloc: Global, n: u32) -> Result<Catalogue, CountError>
         ensures processes { IfOk result (λ catalogue. catalogue.processes ≡ replicate n fresh) }
-        ensures marks { IfOk result (λ catalogue. catalogue.marks.damaged ≡ replicate n []) }
+        ensures marks { IfOk result (λ catalogue. catalogue.marks ≡ no_marks n) }
         ensures count { IsErrOf result CountError.BadCount ↔ ((n ≡ 0) ⊎ (MOST_PROCESSES < n)) }
     {
         let history = History::new(alloc, n)?;
@@ -120,7 +120,7 @@ impl Catalogue {
         self.ledger.history()
     }
 
-    /// Its marks of damage.
+    /// Its marks of damage and its bars.
     pub fn marks(&self) -> &Marks
         ensures value { result.now ≡ self.now.marks }
         ensures count { length self.now.marks.damaged ≡ length self.now.processes }
@@ -137,7 +137,8 @@ impl Catalogue {
         self.rows.at(p)
     }
 
-    /// Whether a choice of a process survives: its initial state does, each check without a mark, and `Now` where it did not fail. It costs nothing.
+    /// Whether a choice of a process survives: its initial state does, and of what the process's bar
+    /// allows each check without a mark, and `Now` where it did not fail. It costs nothing.
     pub fn survives(&self, p: ProcId, choice: Choice, failed: &ProcSet) -> bool
         requires { p < length self.now.processes }
         ensures { result ≡ survives self.now.processes self.now.marks failed.now p choice }
@@ -145,10 +146,10 @@ impl Catalogue {
         match choice {
             Choice::Check(0) => true,
             Choice::Check(c) => match self.rows.at(p).get(c as usize) {
-                Some(row) => !row.damaged,
+                Some(row) => !row.damaged && self.marks.allows(p, choice),
                 None => false,
             },
-            Choice::Now => !failed.has(p),
+            Choice::Now => !failed.has(p) && self.marks.allows(p, Choice::Now),
         }
     }
 
@@ -292,6 +293,26 @@ impl Catalogue {
         Ok(())
     }
 
+    /// Bars a process at a check: none of its choices later than that check survives, until the next
+    /// restart. Check 0 is its initial state. It costs nothing.
+    pub fn bar(&mut self, p: ProcId, check: u32) -> Result<(), BarError>
+        requires { p < length self.old.processes }
+        ensures ok { OnOk result (self.new.marks ≡ with_bar self.old.marks p check) }
+        ensures err { OnErr result (self.new.marks ≡ self.old.marks) }
+        ensures processes { self.new.processes ≡ self.old.processes }
+        ensures rooms { self.new.rooms ≡ self.old.rooms }
+
+        // The refusals, in their order.
+        ensures check { IsErrOf result BarError.NoSuchCheck ↔ (checks (tape_at self.old.processes p) < check) }
+        ensures lower { IsErrOf result BarError.BarNotLower
+            ↔ ((check ≤ checks (tape_at self.old.processes p)) × IsTrue (is_barred self.old.marks p check)) }
+    {
+        if self.rows.at(p).len() <= check as usize {
+            return Err(BarError::NoSuchCheck);
+        }
+        self.marks.bar(p, check)
+    }
+
     /// The messages in transit at a line, by sender, then number: those whose send stands before the line, and which the process that the send names has not received before its own choice.
     ///
     /// It looks at what `keep_transit` or `restart_with` was last told, at each send behind that line, and at each event behind this one; at each send where neither was called, or `restart` was after it. It takes memory for these and for the result, and fails without.
@@ -327,7 +348,7 @@ impl Catalogue {
         self.rows.restart(self.ledger.history(), line);
     }
 
-    /// Has each process go on from its choice of a consistent line, as `History::restart` does, and takes the marks off the checks that it cuts off. It takes no memory and cannot fail.
+    /// Has each process go on from its choice of a consistent line, as `History::restart` does, takes the marks off the checks that it cuts off, and takes all bars away. It takes no memory and cannot fail.
     ///
     /// Each message that is received before a consistent line is sent before it, so the history goes on to agree. It looks at the marks that it takes off, at one more and one vector of each process that goes back, at each check that came since the last restart, and otherwise costs what `History::restart` does.
     pub fn restart(&mut self, line: &Line)

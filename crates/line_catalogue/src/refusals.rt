@@ -33,7 +33,8 @@ impl fmt::Display for CatalogueError {
     fn fmt<W: fmt::Write>(&self, f: &mut fmt::Formatter<W>) -> fmt::Result {
         f.write_str(match self {
             CatalogueError::OutOfMemory => "out of memory",
-            CatalogueError::NoSuchCheck => "a mark is on a check that its tape does not have",
+            CatalogueError::NoSuchCheck =>
+                "a mark or a bar is on a check that its tape does not have",
             CatalogueError::NamesDisagree => {
                 "a received message has a name that its sender did not give it"
             }

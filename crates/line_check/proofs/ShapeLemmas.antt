@@ -1,12 +1,13 @@
--- Marks of damage, mark by mark and process by process.
-use Rattle.std.proofs.Common.{◌≡◌, ℕ, ◌<◌, ◌≤◌, ◌==◌, true, List, [], length, get_or, slice_index_or, IsTrue, All, refl, ◌∙◌, subst, inl, inr, arith}
+-- Marks of damage, mark by mark and process by process, and bars.
+use Rattle.std.proofs.Common.{◌≡◌, ℕ, ◌<◌, ◌≤◌, ◌==◌, true, List, [], length, get_or, slice_index_or, IsTrue, All, Some, None, refl, sym, ◌∙◌, subst, inl, inr, arith}
 use Rattle.std.specs.List.{list_any}
 use Rattle.std.proofs.lemmas.Bool.{cases_lt, eqb-true, eq-eqb, false≢true}
+use Rattle.std.proofs.lemmas.Option.{none-some}
 use Rattle.std.proofs.lemmas.List.{get_or_past}
 use Rattle.std.proofs.lemmas.List.Folds.{Any-from_list_any, list_any_at}
 use Rattle.line_tape.specs.History.{Process}
 use Rattle.line_tape.specs.Survival.{is_damaged}
-use Rattle.line_tape.specs.Views.{MarksView}
+use Rattle.line_tape.specs.Views.{MarksView, bar_at}
 use Rattle.line_check.specs.Shape.{IsCheckOf}
 
 -- a number that is looked for and found in a list of which something holds
@@ -32,3 +33,10 @@ module _ (history : List Process) (marks : MarksView) where
   -- and the other way
   pub checks-damaged : ((p c : ℕ) → IsTrue (is_damaged marks p c) → IsCheckOf history p c) → (p : ℕ) → All (IsCheckOf history p) (slice_index_or marks.damaged p [])
   checks-damaged each p = λ k d within. each p (get_or (slice_index_or marks.damaged p []) k d) (list_any_at (λ x. x == get_or (slice_index_or marks.damaged p []) k d) (slice_index_or marks.damaged p []) k d within (eq-eqb (get_or (slice_index_or marks.damaged p []) k d) (get_or (slice_index_or marks.damaged p []) k d) refl))
+
+  -- what holds of the bars of the processes that there are holds of each bar
+  pub barred-checks : ((p : ℕ) → p < length marks.bars → (c : ℕ) → bar_at marks p ≡ Some c → IsCheckOf history p c) → (p c : ℕ) → bar_at marks p ≡ Some c → IsCheckOf history p c
+  barred-checks each p c is = elim (cases_lt p (length marks.bars)) [
+    | inl within ↦ each p within c is
+    | inr past ↦ absurd (none-some c (sym (get_or_past marks.bars p None past) ∙ is))
+  ]

@@ -1,5 +1,5 @@
 -- Claims that name only what a history has.
-use Rattle.std.specs.Prelude.{ℕ, ◌<◌, ◌≤◌, Bool, IsTrue, List, length, All}
+use Rattle.std.specs.Prelude.{◌≡◌, ℕ, ◌<◌, ◌≤◌, Bool, IsTrue, List, length, All, Some}
 use Rattle.line_names.specs.declared.certificates.Passed.{Passed}
 use Rattle.line_names.specs.declared.choices.Choice.{Choice}
 use Rattle.line_names.specs.Sets.{is_member}
@@ -8,7 +8,7 @@ use Rattle.line_tape.specs.Front.{HasChoice}
 use Rattle.line_tape.specs.History.{Process, tape_at}
 use Rattle.line_tape.specs.Line.{IsLine}
 use Rattle.line_tape.specs.Survival.{is_damaged}
-use Rattle.line_tape.specs.Views.{MarksView}
+use Rattle.line_tape.specs.Views.{MarksView, bar_at}
 
 -- the history has the entry's process, its choice of that process, and the sender of its message
 pub record IsEntryOf (history : List Process) (entry : Passed) : Type 0 where
@@ -26,4 +26,5 @@ pub record HasShape (history : List Process) (marks : MarksView) (failed : List 
   pub choices : IsLine history line
   pub passed : All (IsEntryOf history) entries
   pub damaged : (p c : ℕ) → IsTrue (is_damaged marks p c) → IsCheckOf history p c
+  pub barred : (p c : ℕ) → bar_at marks p ≡ Some c → IsCheckOf history p c
   pub members : (p : ℕ) → IsTrue (is_member failed p) → p < length history

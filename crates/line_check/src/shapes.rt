@@ -1,8 +1,8 @@
 //! Whether a claim names only what a history has.
-ghost use Rattle.std.specs.Prelude.{◌<◌, ◌↔◌, ℕ, IsTrue, All, length};
+ghost use Rattle.std.specs.Prelude.{◌≡◌, ◌<◌, ◌↔◌, ℕ, IsTrue, All, Some, length};
 ghost use Rattle.line_tape.specs.Event.{checks};
 ghost use Rattle.line_tape.specs.Survival.{is_damaged};
-ghost use Rattle.line_tape.specs.Views.{damaged_at};
+ghost use Rattle.line_tape.specs.Views.{bar_at, damaged_at};
 ghost use Rattle.line_check.specs.Shape.{IsEntryOf, IsCheckOf, HasShape};
 
 use line_names::{Line, Passed, ProcId, ProcSet};
@@ -65,8 +65,32 @@ fn are_marks_of(history: &History, marks: &Marks) -> bool
     true
 }
 
+/// Whether the process of that number is barred at a check that there is, if it is barred.
+fn is_bar_of(history: &History, marks: &Marks, p: usize) -> bool
+    ensures { IsTrue result
+        ↔ ((c : ℕ) → bar_at marks.now p ≡ Some c → IsCheckOf history.now.processes p c) }
+{
+    match marks.bar_at(p) {
+        Some(check) => is_check_of(history, p, check),
+        None => true,
+    }
+}
+
+/// Whether each bar is at a check that there is.
+fn are_bars_of(history: &History, marks: &Marks) -> bool
+    ensures { IsTrue result
+        ↔ ((p c : ℕ) → bar_at marks.now p ≡ Some c → IsCheckOf history.now.processes p c) }
+{
+    for p in 0..marks.processes() {
+        if !is_bar_of(history, marks, p) {
+            return false;
+        }
+    }
+    true
+}
+
 /// Whether the claim names only processes, choices and checks that the history has. It looks at each
-/// entry, and at the latest mark of each process.
+/// entry, and at the latest mark and the bar of each process.
 pub(crate) fn has_shape(
     history: &History,
     marks: &Marks,
@@ -79,5 +103,6 @@ pub(crate) fn has_shape(
     is_line(history, line)
         && are_entries_of(history, entries)
         && are_marks_of(history, marks)
+        && are_bars_of(history, marks)
         && failed.is_below(history.n())
 }

@@ -14,13 +14,13 @@ use Rattle.line_tape.specs.History.{Process, fresh, tape_at, with_event, with_in
 use Rattle.line_claims.specs.declared.faults.TextFault.{TextFault}
 use Rattle.line_claims.specs.declared.numbers.TheConstants.{MOST_NUMBER}
 use Rattle.line_claims.specs.Events.{is_event}
-use Rattle.line_claims.specs.Histories.{event_at, front_of, tape_from, tape_of, tapes_from}
+use Rattle.line_claims.specs.Histories.{IsVersion, event_at, front_of, head_in, tape_from, tape_of, tapes_from}
 use Rattle.line_claims.specs.Parts.{Part, begins, many, named, one}
 use Rattle.line_claims.specs.Ranges.{IsHistoryInRange, IsInRange, IsTapeInRange}
-use Rattle.line_claims.specs.Records.{event_record, history_records, tape_record, tapes_records}
+use Rattle.line_claims.specs.Records.{event_record, front_records, tape_record, tapes_records}
 use Rattle.line_claims.specs.Texts.{history_of}
 use Rattle.line_claims.proofs.ReadingLemmas.{first_more, many_end}
-use Rattle.line_claims.proofs.SpellLemmas.{count_again, event_again, event_is_event, tape_again}
+use Rattle.line_claims.proofs.SpellLemmas.{event_again, event_is_event, head_again, tape_again}
 
 -- a process
 abbrev process_with : ℕ → List Event → Process
@@ -123,18 +123,24 @@ tapes_again n done (p ∷ others) h b i more ends is at total few fit =
     (rest.0, rw whole (rest.1 ∙ ap P (append_assoc done (p ∷ []) others)))
 
 -- a history is read, up to the end or to what is no event
-pub front_again : (history : List Process) (more : List Record) → IsHistoryInRange history → begins is_event more ≡ false
-    → (j : ℕ) × (front_of (history_records history ++ more) ≡ Ok (part_to history j more))
+pub front_again : (version : ℕ) (history : List Process) (more : List Record) → IsHistoryInRange history → begins is_event more ≡ false
+    → (j : ℕ) × (front_of (length history) (front_records version history ++ more) ≡ Ok (part_to history j more))
 unfolding front_of
-front_again history more fit ends =
+front_again version history more fit ends =
     let n : ℕ = length history in
     let none : 0 + length history ≡ n = omega arith in
-    let read = tapes_again n [] history (replicate n fresh) 0 2 more ends refl refl none fit.few fit.tapes in
-    (read.0, rw (count_again n fit.some fit.few) read.1)
+    tapes_again n [] history (replicate n fresh) 0 2 more ends refl refl none fit.few fit.tapes
 
-pub history_again : (history : List Process) → IsHistoryInRange history → history_of (history_records history) ≡ Ok history
+-- its first record announces it
+pub first_again : (version : ℕ) (history : List Process) (more : List Record) → IsVersion version → IsHistoryInRange history
+    → head_in (front_records version history ++ more) ≡ Ok (record { version = version; n = length history })
+first_again version history more known fit = rw (head_again version (length history) known fit.some fit.few) refl
+
+pub history_again : (version : ℕ) (history : List Process) → IsVersion version → IsHistoryInRange history → history_of (front_records version history) ≡ Ok history
 unfolding history_of
-history_again history fit =
-    let read = front_again history [] fit refl in
-    let whole : front_of (history_records history) ≡ Ok (part_to history read.0 []) = ap front_of (sym (append-nil (history_records history))) ∙ read.1 in
-    rw whole refl
+history_again version history known fit =
+    let records : List Record = front_records version history in
+    let head : head_in records ≡ Ok (record { version = version; n = length history }) = rw (head_again version (length history) known fit.some fit.few) refl in
+    let read = front_again version history [] fit refl in
+    let whole : front_of (length history) records ≡ Ok (part_to history read.0 []) = ap (front_of (length history)) (sym (append-nil records)) ∙ read.1 in
+    rw (head, whole) refl

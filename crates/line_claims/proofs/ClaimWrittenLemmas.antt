@@ -1,7 +1,8 @@
 -- The records of a claim have plain fields, and the text of a history and a claim on it is read again.
-use Rattle.std.proofs.Common.{◌≡◌, ◌≤◌, ◌<◌, ℕ, ◌+◌, ◌^◌, true, List, [], ◌∷◌, ◌++◌, length, Ok, refl, sym, arith}
+use Rattle.std.proofs.Common.{cond, ◌≡◌, ◌≤◌, ◌<◌, ℕ, ◌+◌, ◌^◌, Bool, true, false, Option, Some, None, List, [], ◌∷◌, ◌++◌, length, Ok, refl, sym, arith}
 use Rattle.std.specs.Prelude.{decimal, map}
-use Rattle.std.specs.List.{AllByRecursion, list_all}
+use Rattle.std.specs.List.{AllByRecursion, list_all, list_any}
+use Rattle.std.specs.Option.{is_some}
 use Rattle.std.proofs.lemmas.List.Folds.{list_all-append}
 use Rattle.line_names.specs.declared.certificates.Passed.{Passed}
 use Rattle.line_names.specs.declared.choices.Choice.{Choice}
@@ -14,10 +15,11 @@ use Rattle.line_fields.proofs.ReadAgain.{written_is_input, written_is_read}
 use Rattle.line_tape.specs.History.{Process}
 use Rattle.line_claims.specs.declared.numbers.TheConstants.{MOST_NUMBER}
 use Rattle.line_claims.specs.Claims.{Claim}
-use Rattle.line_claims.specs.Ranges.{AreMarks, IsChoice, IsClaimInRange, IsEntryInRange, IsHistoryInRange}
-use Rattle.line_claims.specs.Records.{choice_text, claim_records, damage_record, damages_records, end_record, history_records, judged_records, members, pass_record}
+use Rattle.line_claims.specs.Histories.{IsVersion}
+use Rattle.line_claims.specs.Ranges.{AreMarks, IsBar, IsChoice, IsClaimInRange, IsEntryInRange, IsHistoryInRange}
+use Rattle.line_claims.specs.Records.{bars_records, choice_text, claim_records, damage_record, damages_records, end_record, front_records, judged_records, marks_records, members, pass_record, version_of}
 use Rattle.line_claims.specs.Texts.{certificate_of, certificate_of_text, check_of, check_of_text}
-use Rattle.line_claims.proofs.AgainLemmas.{front_again}
+use Rattle.line_claims.proofs.AgainLemmas.{first_again, front_again}
 use Rattle.line_claims.proofs.ClaimAgainLemmas.{claim_again, claim_ends_front}
 use Rattle.line_claims.proofs.EntryAgainLemmas.{members_below}
 use Rattle.line_claims.proofs.WrittenLemmas.{history_is_written}
@@ -35,6 +37,13 @@ damages_are_written p (checks ∷ others) room fit =
     let one = marks_are_written p [] checks (omega arith) fit.0 in
     let more = damages_are_written (p + 1) others (omega arith) fit.1 in
     rw (list_all-append is_written (map (damage_record p) checks) (damages_records (p + 1) others), one, more) refl
+
+bars_are_written : (p : ℕ) (bars : List (Option ℕ)) → p + length bars ≤ MOST_PROCESSES → AllByRecursion IsBar bars → list_all is_written (bars_records p bars) ≡ true
+bars_are_written p [] room fit = refl
+bars_are_written p (None ∷ others) room fit = bars_are_written (p + 1) others (omega arith) fit.1
+bars_are_written p (Some check ∷ others) room fit =
+    let wide : check ≤ MOST_NUMBER = fit.0 in
+    rw (plain_decimal p (omega arith), plain_decimal check (omega arith)) (bars_are_written (p + 1) others (omega arith) fit.1)
 
 pub decimals_are_plain : (n : ℕ) (ps : List ℕ) → n ≤ MOST_PROCESSES → AllByRecursion (λ p. p < n) ps → list_all is_plain_field (map decimal ps) ≡ true
 decimals_are_plain n [] few fit = refl
@@ -72,25 +81,35 @@ claim_is_written claim fit =
     let few = fit.few in
     let room : 0 + length claim.marks.damaged ≤ MOST_PROCESSES = omega (arith, few) in
     let judged : List Record = judged_records n claim.failed claim.line claim.certificate in
-    let marks = damages_are_written 0 claim.marks.damaged room fit.marks in
+    let barred = fit.barred in
+    let space : 0 + length claim.marks.bars ≤ MOST_PROCESSES = omega (arith, few, barred) in
+    let marks : list_all is_written (marks_records claim.marks) ≡ true
+    = rw (list_all-append is_written (damages_records 0 claim.marks.damaged) (bars_records 0 claim.marks.bars), damages_are_written 0 claim.marks.damaged room fit.marks) (bars_are_written 0 claim.marks.bars space fit.bars) in
     let failed = decimals_are_plain n (members n claim.failed) fit.few (members_below n claim.failed) in
     let line = choices_are_plain claim.line fit.choices in
     let rest : list_all is_written judged ≡ true = rw (failed, line) (entries_are_written n claim.certificate fit.few fit.entries) in
-    rw (list_all-append is_written (damages_records 0 claim.marks.damaged) judged, marks, rest) refl
+    rw (list_all-append is_written (marks_records claim.marks) judged, marks, rest) refl
 
-pub claim_text_again : (claim : Claim) → IsClaimInRange claim → certificate_of_text (length claim.marks.damaged) (records_text (claim_records claim)) ≡ Ok claim
+pub claim_text_again : (claim : Claim) → IsClaimInRange claim → certificate_of_text (version_of claim.marks) (length claim.marks.damaged) (records_text (claim_records claim)) ≡ Ok claim
 unfolding certificate_of
 claim_text_again claim fit =
     let written = claim_is_written claim fit in
     rw (written_is_input (claim_records claim) written, written_is_read (claim_records claim) written) (claim_again claim 1 fit)
 
+version_is_known : (b : Bool) → IsVersion (cond b 2 1)
+version_is_known true = (omega arith, omega arith)
+version_is_known false = (omega arith, omega arith)
+
 -- a history and a claim on it are read again
 pub check_text_again : (history : List Process) (claim : Claim) → IsHistoryInRange history → IsClaimInRange claim → length claim.marks.damaged ≡ length history
-    → check_of_text (records_text (history_records history ++ claim_records claim)) ≡ Ok (record { history = history; claim = claim })
+    → check_of_text (records_text (front_records (version_of claim.marks) history ++ claim_records claim)) ≡ Ok (record { history = history; claim = claim })
 unfolding check_of
 check_text_again history claim fit good same =
-    let records : List Record = history_records history ++ claim_records claim in
-    let written : list_all is_written records ≡ true = rw (list_all-append is_written (history_records history) (claim_records claim), history_is_written history fit, claim_is_written claim good) refl in
-    let front = front_again history (claim_records claim) fit (claim_ends_front claim) in
+    let version : ℕ = version_of claim.marks in
+    let known : IsVersion version = version_is_known (list_any is_some claim.marks.bars) in
+    let records : List Record = front_records version history ++ claim_records claim in
+    let written : list_all is_written records ≡ true = rw (list_all-append is_written (front_records version history) (claim_records claim), history_is_written version history known fit, claim_is_written claim good) refl in
+    let head = first_again version history (claim_records claim) known fit in
+    let front = front_again version history (claim_records claim) fit (claim_ends_front claim) in
     let rest = claim_again claim front.0 good in
-    rw (written_is_input records written, written_is_read records written, front.1, sym same, rest) refl
+    rw (written_is_input records written, written_is_read records written, head, front.1, sym same, rest) refl

@@ -7,13 +7,14 @@ use Rattle.line_fields.specs.Bytes.{is_input_text}
 use Rattle.line_fields.specs.Fields.{◌>>=◌, want}
 use Rattle.line_fields.specs.Records.{Record, records_of_text}
 use Rattle.line_tape.specs.History.{Process, fresh}
+use Rattle.line_tape.specs.Views.{no_marks}
 use Rattle.line_claims.specs.declared.faults.TextFault.{TextFault}
 use Rattle.line_claims.specs.declared.faults.TextError.{TextError}
 use Rattle.line_claims.specs.declared.faults.TextError.TheVariants as errors
-use Rattle.line_claims.specs.Claims.{claim_from, is_none, unmarked}
-use Rattle.line_claims.specs.Entries.{damage_of, end_of, entry_of, failed_of, line_of}
+use Rattle.line_claims.specs.Claims.{claim_from, is_bar, is_none}
+use Rattle.line_claims.specs.Entries.{bar_of, damage_of, end_of, entry_of, failed_of, line_of}
 use Rattle.line_claims.specs.Events.{is_event}
-use Rattle.line_claims.specs.Histories.{count_in, count_of, event_at, front_of, tape_from, tape_of, tapes_from}
+use Rattle.line_claims.specs.Histories.{event_at, front_of, head_in, head_of, tape_from, tape_of, tapes_from}
 use Rattle.line_claims.specs.Parts.{Part, begins, first, many, named, one}
 use Rattle.line_claims.specs.Reads.{FailsText, IsOfText, fault_at, no_memory, numbered, told}
 use Rattle.line_claims.specs.Texts.{certificate_of, certificate_of_text, check_of, check_of_text, history_of, history_of_text, records_in}
@@ -23,17 +24,18 @@ abbrev pub OnlyOfText : {A : Type 0} → Result A TextFault → Type 0
 OnlyOfText read = IfErr read IsOfText
 
 pub code_is_of_text : (i : ℕ) (fault : Fault) → IsOfText (fault_at i fault)
-code_is_of_text i faults.NoSuchProcess = (omega arith, omega arith)
-code_is_of_text i faults.BodyTooLong = (omega arith, omega arith)
-code_is_of_text i faults.TapeFull = (omega arith, omega arith)
-code_is_of_text i faults.StateTooLong = (omega arith, omega arith)
-code_is_of_text i faults.BadCount = (omega arith, omega arith)
-code_is_of_text i faults.InitialDamage = (omega arith, omega arith)
-code_is_of_text i faults.AlreadyDamaged = (omega arith, omega arith)
-code_is_of_text i faults.BadRecord = (omega arith, omega arith)
-code_is_of_text i faults.BadNumber = (omega arith, omega arith)
-code_is_of_text i faults.NoWorld = (omega arith, omega arith)
-code_is_of_text i faults.BadVersion = (omega arith, omega arith)
+code_is_of_text i faults.NoSuchProcess = inl (omega arith, omega arith)
+code_is_of_text i faults.BodyTooLong = inl (omega arith, omega arith)
+code_is_of_text i faults.TapeFull = inl (omega arith, omega arith)
+code_is_of_text i faults.StateTooLong = inl (omega arith, omega arith)
+code_is_of_text i faults.BadCount = inl (omega arith, omega arith)
+code_is_of_text i faults.InitialDamage = inl (omega arith, omega arith)
+code_is_of_text i faults.AlreadyDamaged = inl (omega arith, omega arith)
+code_is_of_text i faults.BarNotLower = inr refl
+code_is_of_text i faults.BadRecord = inl (omega arith, omega arith)
+code_is_of_text i faults.BadNumber = inl (omega arith, omega arith)
+code_is_of_text i faults.NoWorld = inl (omega arith, omega arith)
+code_is_of_text i faults.BadVersion = inl (omega arith, omega arith)
 
 pub numbered_faults : {A : Type 0} (i : ℕ) (read : Result A Fault) → OnlyOfText (numbered i read)
 numbered_faults i (Ok x) = tt
@@ -53,8 +55,8 @@ pub told_codes : {A : Type 0} (error : TextError) (read : Result A TextFault) �
 told_codes errors.OutOfMemory read all h = inl refl
 told_codes (errors.Fault fault) read all h = inr (fault_is_of_text read fault all h)
 
-count_faults : (records : List Record) → OnlyOfText (count_in records)
-count_faults records = numbered_faults 1 (want (begins (named (codes "history")) records) faults.NoWorld >>= λ it. count_of (first records))
+head_faults : (records : List Record) → OnlyOfText (head_in records)
+head_faults records = numbered_faults 1 (want (begins (named (codes "history")) records) faults.NoWorld >>= λ it. head_of (first records))
 
 one_faults : {A : Type 0} (name : List ℕ) (read : Record → Result A Fault) (i : ℕ) (records : List Record) → OnlyOfText (one name read i records)
 unfolding one
@@ -84,35 +86,38 @@ tapes_faults p zero history i records = tt
 tapes_faults p (suc others) history i records =
     both_faults (tape_from p history i records) _ (tape_faults p history i records) (λ tape. tapes_faults (p + 1) others tape.value tape.number tape.left)
 
-front_of_faults : (records : List Record) → OnlyOfText (front_of records)
+front_of_faults : (n : ℕ) (records : List Record) → OnlyOfText (front_of n records)
 unfolding front_of
-front_of_faults records = both_faults (count_in records) _ (count_faults records) (λ n. tapes_faults 0 n (replicate n fresh) 2 (drop 1 records))
+front_of_faults n records = tapes_faults 0 n (replicate n fresh) 2 (drop 1 records)
 
-claim_faults : (n i : ℕ) (records : List Record) → OnlyOfText (claim_from n i records)
+claim_faults : (version n i : ℕ) (records : List Record) → OnlyOfText (claim_from version n i records)
 unfolding claim_from
-claim_faults n i records =
-    both_faults (many (named (codes "damage")) (damage_of n) (unmarked n) i records) _ (many_faults (named (codes "damage")) (damage_of n) (unmarked n) i records)
+claim_faults version n i records =
+    both_faults (many (named (codes "damage")) (damage_of n) (no_marks n) i records) _ (many_faults (named (codes "damage")) (damage_of n) (no_marks n) i records)
+    (λ damage. both_faults (many (is_bar version) (bar_of n) damage.value damage.number damage.left) _ (many_faults (is_bar version) (bar_of n) damage.value damage.number damage.left)
     (λ marks. both_faults (one (codes "failed") (failed_of n) marks.number marks.left) _ (one_faults (codes "failed") (failed_of n) marks.number marks.left)
     (λ failed. both_faults (one (codes "line") line_of failed.number failed.left) _ (one_faults (codes "line") line_of failed.number failed.left)
     (λ line. both_faults (many (named (codes "pass")) (entry_of n) [] line.number line.left) _ (many_faults (named (codes "pass")) (entry_of n) [] line.number line.left)
     (λ entries. both_faults (one (codes "end") end_of entries.number entries.left) _ (one_faults (codes "end") end_of entries.number entries.left)
-    (λ end. both_faults (numbered end.number (want (is_none end.left) faults.BadRecord)) _ (numbered_faults end.number (want (is_none end.left) faults.BadRecord)) (λ last. tt))))))
+    (λ end. both_faults (numbered end.number (want (is_none end.left) faults.BadRecord)) _ (numbered_faults end.number (want (is_none end.left) faults.BadRecord)) (λ last. tt)))))))
 
 history_faults : (records : List Record) → OnlyOfText (history_of records)
 unfolding history_of
 history_faults records =
-    both_faults (front_of records) _ (front_of_faults records)
-    (λ front. both_faults (numbered front.number (want (is_none front.left) faults.BadRecord)) _ (numbered_faults front.number (want (is_none front.left) faults.BadRecord)) (λ ended. tt))
+    both_faults (head_in records) _ (head_faults records)
+    (λ head. both_faults (front_of head.n records) _ (front_of_faults head.n records)
+    (λ front. both_faults (numbered front.number (want (is_none front.left) faults.BadRecord)) _ (numbered_faults front.number (want (is_none front.left) faults.BadRecord)) (λ ended. tt)))
 
-certificate_faults : (n : ℕ) (records : List Record) → OnlyOfText (certificate_of n records)
+certificate_faults : (version n : ℕ) (records : List Record) → OnlyOfText (certificate_of version n records)
 unfolding certificate_of
-certificate_faults n records = claim_faults n 1 records
+certificate_faults version n records = claim_faults version n 1 records
 
 check_faults : (records : List Record) → OnlyOfText (check_of records)
 unfolding check_of
 check_faults records =
-    both_faults (front_of records) _ (front_of_faults records)
-    (λ front. both_faults (claim_from (length front.value) front.number front.left) _ (claim_faults (length front.value) front.number front.left) (λ claim. tt))
+    both_faults (head_in records) _ (head_faults records)
+    (λ head. both_faults (front_of head.n records) _ (front_of_faults head.n records)
+    (λ front. both_faults (claim_from head.version head.n front.number front.left) _ (claim_faults head.version head.n front.number front.left) (λ claim. tt)))
 
 -- of the records of a text
 pub records_faults : (text : List ℕ) → OnlyOfText (records_in text)
@@ -124,8 +129,8 @@ records_faults text = elim (is_input_text text) as (λ b. OnlyOfText (cond b (Ok
 pub history_text_faults : (text : List ℕ) → OnlyOfText (history_of_text text)
 history_text_faults text = both_faults (records_in text) history_of (records_faults text) history_faults
 
-pub certificate_text_faults : (n : ℕ) (text : List ℕ) → OnlyOfText (certificate_of_text n text)
-certificate_text_faults n text = both_faults (records_in text) (certificate_of n) (records_faults text) (certificate_faults n)
+pub certificate_text_faults : (version n : ℕ) (text : List ℕ) → OnlyOfText (certificate_of_text version n text)
+certificate_text_faults version n text = both_faults (records_in text) (certificate_of version n) (records_faults text) (certificate_faults version n)
 
 pub check_text_faults : (text : List ℕ) → OnlyOfText (check_of_text text)
 check_text_faults text = both_faults (records_in text) check_of (records_faults text) check_faults

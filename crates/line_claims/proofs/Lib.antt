@@ -4,6 +4,7 @@ pub mod ClaimWrittenLemmas
 pub mod EntryAgainLemmas
 pub mod EntryLemmas
 pub mod FaultLemmas
+pub mod LaterLemmas
 pub mod MemoryLemmas
 pub mod PartLemmas
 pub mod ReadingLemmas

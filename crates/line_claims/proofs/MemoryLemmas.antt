@@ -19,7 +19,7 @@ use Rattle.line_tape.specs.Event.{IsShort, NamesBelow}
 use Rattle.line_tape.specs.History.{IsHistory, IsProcess, Process}
 use Rattle.line_claims.specs.declared.numbers.TheConstants.{MOST_NUMBER}
 use Rattle.line_claims.specs.Ranges.{AreRoundsInRange, FitsMemory, FitsProcess, FitsWords, IsHistoryInRange, IsInRange, IsRoundInRange, IsTapeInRange}
-use Rattle.line_claims.specs.Records.{event_record, history_record, history_records, number_text, tape_record, tapes_records}
+use Rattle.line_claims.specs.Records.{event_record, front_records, history_record, number_text, tape_record, tapes_records}
 
 -- what holds of each place holds of each element
 pub all_by : {X : Type 0} (P : X → Type 0) (xs : List X) → All P xs → AllByRecursion P xs
@@ -226,6 +226,6 @@ tapes_apart p (a ∷ more) (b ∷ others) fit good same =
     ap₂ (λ (x : Process) (xs : List Process). x ∷ xs) (process_apart a b inc tapes.0) (tapes_apart (p + 1) more others fit.1 good.1 tapes.1)
 
 -- one list of records is of one history
-pub records_apart : (history other : List Process) → FitsMemory history → FitsMemory other → history_records history ≡ history_records other → history ≡ other
-records_apart history other fit good same =
-    tapes_apart 0 history other fit.processes good.processes (rest_same (history_record (length history)) (history_record (length other)) _ _ same)
+pub records_apart : (version later : ℕ) (history other : List Process) → FitsMemory history → FitsMemory other → front_records version history ≡ front_records later other → history ≡ other
+records_apart version later history other fit good same =
+    tapes_apart 0 history other fit.processes good.processes (rest_same (history_record version (length history)) (history_record later (length other)) _ _ same)

@@ -1,7 +1,8 @@
 -- A text that is written part by part.
-use Rattle.std.proofs.Common.{◌≡◌, ◌<◌, ◌≤◌, ℕ, ◌+◌, List, [], ◌∷◌, ◌++◌, Bool, true, false, Some, get_or, length, take, drop, refl, sym, ap, ◌∙◌, subst, append_assoc, arith}
-use Rattle.std.specs.Prelude.{filter, map}
-use Rattle.std.specs.List.{range_with_len}
+use Rattle.std.proofs.Common.{◌≡◌, ◌<◌, ◌≤◌, ℕ, ◌+◌, List, [], ◌∷◌, ◌++◌, Bool, true, false, Option, Some, None, get_or, length, take, drop, refl, sym, ap, ◌∙◌, subst, append_assoc, arith}
+use Rattle.std.specs.Prelude.{◌||◌, filter, map}
+use Rattle.std.specs.List.{list_any, range_with_len}
+use Rattle.std.specs.Option.{is_some}
 use Rattle.std.proofs.lemmas.Grind.{flat_map-append}
 use Rattle.std.proofs.lemmas.List.{append-nil, drop_all, drop_more, map-append, take-append-drop, take_more}
 use Rattle.std.proofs.lemmas.List.FromFn.{get_or-map-range_with_len, get_or-range_with_len, length-map-range_with_len, length-range_with_len}
@@ -12,7 +13,7 @@ use Rattle.line_fields.specs.Texts.{record_text, records_text}
 use Rattle.line_tape.specs.History.{Process, fresh, process_at}
 use Rattle.line_tape.specs.Survival.{is_damaged}
 use Rattle.line_tape.specs.Views.{MarksView}
-use Rattle.line_claims.specs.Records.{damage_record, damages_records, tape_records, tapes_records}
+use Rattle.line_claims.specs.Records.{bar_records, bars_records, damage_record, damages_records, tape_records, tapes_records}
 
 -- behind what stood before, a front of the total is written, and this is left of it
 pub record IsPart (before now total left : List ℕ) : Type 0 where
@@ -131,6 +132,46 @@ no_damages f n p le =
     let all : List (List ℕ) = map f (range_with_len 0 n) in
     let long : length all ≡ n = length-map-range_with_len f 0 n in
     ap (λ (rest : List (List ℕ)). records_text (damages_records p rest)) (drop_all p all (omega (arith, long, le)))
+
+-- the bars from process p on: its own, and those behind it
+next_of_bars : (f : ℕ → Option ℕ) (n p : ℕ) → p < n → drop p (map f (range_with_len 0 n)) ≡ f p ∷ drop (p + 1) (map f (range_with_len 0 n))
+next_of_bars f n p lt =
+    let all : List (Option ℕ) = map f (range_with_len 0 n) in
+    let long : length all ≡ n = length-map-range_with_len f 0 n in
+    let there : p < length all = omega (arith, long, lt) in
+    let first : get_or all p None ≡ f p = get_or-map-range_with_len f 0 n p p None lt (omega arith) in
+    drop_more all p None there ∙ ap (λ (x : Option ℕ). x ∷ drop (p + 1) all) first
+
+none_of_bars : (f : ℕ → Option ℕ) (n p : ℕ) → n ≤ p → drop p (map f (range_with_len 0 n)) ≡ []
+none_of_bars f n p le =
+    let all : List (Option ℕ) = map f (range_with_len 0 n) in
+    let long : length all ≡ n = length-map-range_with_len f 0 n in
+    drop_all p all (omega (arith, long, le))
+
+pub next_bars : (f : ℕ → Option ℕ) (n p : ℕ) → p < n
+    → records_text (bars_records p (drop p (map f (range_with_len 0 n)))) ≡ records_text (bar_records p (f p)) ++ records_text (bars_records (p + 1) (drop (p + 1) (map f (range_with_len 0 n))))
+next_bars f n p lt =
+    let others : List (Option ℕ) = drop (p + 1) (map f (range_with_len 0 n)) in
+    ap (λ (rest : List (Option ℕ)). records_text (bars_records p rest)) (next_of_bars f n p lt) ∙ flat_map-append record_text (bar_records p (f p)) (bars_records (p + 1) others)
+
+pub no_bars : (f : ℕ → Option ℕ) (n p : ℕ) → n ≤ p → records_text (bars_records p (drop p (map f (range_with_len 0 n)))) ≡ []
+no_bars f n p le = ap (λ (rest : List (Option ℕ)). records_text (bars_records p rest)) (none_of_bars f n p le)
+
+-- whether one of them is barred: none of the first p is, and process p is
+pub bar_found : (f : ℕ → Option ℕ) (n p : ℕ) → p < n → is_some (f p) ≡ true → list_any is_some (drop p (map f (range_with_len 0 n))) ≡ true
+bar_found f n p lt is =
+    let all : List (Option ℕ) = map f (range_with_len 0 n) in
+    ap (list_any is_some) (next_of_bars f n p lt) ∙ ap (λ (b : Bool). b || list_any is_some (drop (p + 1) all)) is
+
+-- it isn't
+pub bar_behind : (f : ℕ → Option ℕ) (n p : ℕ) → p < n → is_some (f p) ≡ false
+    → list_any is_some (drop p (map f (range_with_len 0 n))) ≡ list_any is_some (drop (p + 1) (map f (range_with_len 0 n)))
+bar_behind f n p lt is =
+    let all : List (Option ℕ) = map f (range_with_len 0 n) in
+    ap (list_any is_some) (next_of_bars f n p lt) ∙ ap (λ (b : Bool). b || list_any is_some (drop (p + 1) all)) is
+
+pub no_bar_found : (f : ℕ → Option ℕ) (n p : ℕ) → n ≤ p → list_any is_some (drop p (map f (range_with_len 0 n))) ≡ false
+no_bar_found f n p le = ap (list_any is_some) (none_of_bars f n p le)
 
 -- the damaged ones among the checks of a process behind the first i
 abbrev pub damages_behind : MarksView → ℕ → ℕ → ℕ → List ℕ

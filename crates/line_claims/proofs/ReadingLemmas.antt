@@ -1,5 +1,5 @@
 -- Reading the parts of a text record by record.
-use Rattle.std.proofs.Common.{◌≡◌, ◌<◌, ℕ, suc, ◌+◌, ◌-◌, Bool, true, false, List, [], ◌∷◌, drop, Result, Ok, refl, sym, ap, ◌∙◌, arith}
+use Rattle.std.proofs.Common.{◌≡◌, ◌<◌, ℕ, suc, ◌+◌, ◌-◌, Bool, true, false, List, [], ◌∷◌, drop, Result, Ok, Err, refl, sym, ap, ◌∙◌, arith}
 use Rattle.line_fields.specs.declared.faults.Fault.{Fault}
 use Rattle.line_fields.specs.declared.faults.ReadError.{ReadError}
 use Rattle.line_fields.specs.declared.faults.ReadError.TheVariants as errors
@@ -11,7 +11,7 @@ use Rattle.line_claims.specs.declared.faults.TextError.TheVariants as texts
 use Rattle.line_claims.specs.declared.faults.TextFault.{TextFault}
 use Rattle.line_claims.specs.Histories.{tape_from, tapes_from}
 use Rattle.line_claims.specs.Parts.{Part, begins, many}
-use Rattle.line_claims.specs.Reads.{FailsText, error_at}
+use Rattle.line_claims.specs.Reads.{FailsText, error_at, fault_at}
 
 pub first_more : {A : Type 0} (is : Record → Bool) (read : A → Record → Result A Fault) (before more : A) (i : ℕ) (r : Record) (rest : List Record)
     → is r ≡ true → read before r ≡ Ok more → many is read before i (r ∷ rest) ≡ many is read more (i + 1) rest
@@ -36,6 +36,17 @@ pub many_fault : {A : Type 0} (is : Record → Bool) (read : A → Record → Re
 many_fault is read before i left r e total it same h k =
     let there : FailsText (error_at i e) (many is read before i left) = rw same (first_fault is read before i r (drop 1 left) e (sym (ap (begins is) same) ∙ it) h) in
     rw k at there
+
+first_refused : {A : Type 0} (is : Record → Bool) (read : A → Record → Result A Fault) (before : A) (i : ℕ) (r : Record) (rest : List Record) (f : Fault)
+    → is r ≡ true → read before r ≡ Err f → many is read before i (r ∷ rest) ≡ Err (fault_at i f)
+unfolding many
+first_refused is read before i r rest f it h = rw (it, h) refl
+
+-- the same of a reader that takes no memory
+pub many_refused : {A : Type 0} (is : Record → Bool) (read : A → Record → Result A Fault) (before : A) (i : ℕ) (left : List Record) (r : Record) (f : Fault)
+    → begins is left ≡ true → left ≡ r ∷ drop 1 left → read before r ≡ Err f → many is read before i left ≡ Err (fault_at i f)
+many_refused is read before i left r f it same h =
+    ap (many is read before i) same ∙ first_refused is read before i r (drop 1 left) f (sym (ap (begins is) same) ∙ it) h
 
 -- the next record, if there is one, is of another kind
 pub many_end : {A : Type 0} (is : Record → Bool) (read : A → Record → Result A Fault) (before : A) (i : ℕ) (left : List Record)

@@ -1,18 +1,18 @@
 -- Which claim a list of records spells, and the first fault where it spells none.
-use Rattle.std.specs.Prelude.{ℕ, Bool, true, false, List, [], ◌∷◌, replicate, Result, Ok, codes}
+use Rattle.std.specs.Prelude.{ℕ, ◌==◌, ◌&&◌, Bool, true, false, List, [], ◌∷◌, Result, Ok, codes}
 use Rattle.line_names.specs.declared.certificates.Passed.{Passed}
 use Rattle.line_names.specs.declared.choices.Choice.{Choice}
 use Rattle.line_fields.specs.declared.faults.Fault.TheVariants as faults
 use Rattle.line_fields.specs.Fields.{◌>>=◌, want}
 use Rattle.line_fields.specs.Records.{Record}
-use Rattle.line_tape.specs.Views.{MarksView}
+use Rattle.line_tape.specs.Views.{MarksView, no_marks}
 use Rattle.line_claims.specs.declared.claims.Claim as made
 use Rattle.line_claims.specs.declared.faults.TextFault.{TextFault}
-use Rattle.line_claims.specs.Entries.{damage_of, failed_of, line_of, entry_of, end_of}
+use Rattle.line_claims.specs.Entries.{damage_of, bar_of, failed_of, line_of, entry_of, end_of}
 use Rattle.line_claims.specs.Parts.{many, named, one}
 use Rattle.line_claims.specs.Reads.{numbered}
 
--- the damaged checks, the failed processes, a line, and the entries of its certificate
+-- the marks of damage and the bars, the failed processes, a line, and the entries of its certificate
 pub record Claim : Type 0 where
   pub marks : MarksView
   pub failed : List Bool
@@ -23,19 +23,20 @@ pub record Claim : Type 0 where
 abbrev pub seen : made.Claim → Claim
 seen claim = record { marks = claim.marks; failed = claim.failed; line = claim.line; certificate = claim.certificate.items }
 
--- no check of n processes is damaged
-abbrev pub unmarked : ℕ → MarksView
-unmarked n = record { damaged = replicate n [] }
-
 -- there are no records
 abbrev pub is_none : List Record → Bool
 is_none [] = true
 is_none (r ∷ rest) = false
 
--- the claim among n processes that records spell, the first of which is the i-th of the text
-unfoldable pub claim_from : ℕ → ℕ → List Record → Result Claim TextFault
-claim_from n i records = do
-  marks ← many (named (codes "damage")) (damage_of n) (unmarked n) i records
+-- a record that bars a process, which version 1 does not know
+abbrev pub is_bar : ℕ → Record → Bool
+is_bar version r = (version == 2) && named (codes "bar") r
+
+-- the claim of that version among n processes that records spell, the first of which is the i-th of the text
+unfoldable pub claim_from : ℕ → ℕ → ℕ → List Record → Result Claim TextFault
+claim_from version n i records = do
+  damage ← many (named (codes "damage")) (damage_of n) (no_marks n) i records
+  marks ← many (is_bar version) (bar_of n) damage.value damage.number damage.left
   failed ← one (codes "failed") (failed_of n) marks.number marks.left
   line ← one (codes "line") line_of failed.number failed.left
   entries ← many (named (codes "pass")) (entry_of n) [] line.number line.left

@@ -10,8 +10,8 @@ use Rattle.line_fields.specs.declared.faults.Fault.TheVariants as faults
 use Rattle.line_fields.specs.Fields.{◌>>=◌, want}
 use Rattle.line_fields.specs.Records.{Record}
 use Rattle.line_fields.specs.Shapes.{two, five}
-use Rattle.line_tape.specs.Survival.{is_damaged}
-use Rattle.line_tape.specs.Views.{MarksView, with_mark}
+use Rattle.line_tape.specs.Survival.{is_barred, is_damaged}
+use Rattle.line_tape.specs.Views.{MarksView, with_bar, with_mark}
 use Rattle.line_claims.specs.Numbers.{plain, incarnation, choice, choices, numbers, process}
 
 -- one mark more, of no initial state and not there yet
@@ -24,6 +24,14 @@ marked marks p check = do
 -- damage,P,C
 unfoldable pub damage_of : ℕ → MarksView → Record → Result MarksView Fault
 damage_of n marks = two plain plain (λ number check. process n number >>= λ p. marked marks p check)
+
+-- one bar more, lower than the one before
+unfoldable pub barred : MarksView → ℕ → ℕ → Result MarksView Fault
+barred marks p check = want (not (is_barred marks p check)) faults.BarNotLower >>= λ lower. Ok (with_bar marks p check)
+
+-- bar,P,C
+unfoldable pub bar_of : ℕ → MarksView → Record → Result MarksView Fault
+bar_of n marks = two plain plain (λ number check. process n number >>= λ p. barred marks p check)
 
 -- failed or failed,P,..
 unfoldable pub failed_of : ℕ → Record → Result (List Bool) Fault

@@ -36,4 +36,5 @@ name_of code =
     else if code == 36 then codes "ReadFault"
     else if code == 37 then codes "WriteFault"
     else if code == 38 then codes "NamesDisagree"
+    else if code == 40 then codes "BarNotLower"
     else []

@@ -1,5 +1,5 @@
 -- Which history a list of records spells, and the first fault where it spells none.
-use Rattle.std.specs.Prelude.{ℕ, zero, suc, ◌+◌, nat_le, nat_lt, ◌==◌, ◌&&◌, List, drop, length, replicate, Result, Ok, codes}
+use Rattle.std.specs.Prelude.{ℕ, zero, suc, ◌+◌, ◌≤◌, nat_le, nat_lt, ◌==◌, ◌&&◌, List, drop, length, replicate, Result, Ok, codes}
 use Rattle.line_names.specs.declared.limits.TheConstants.{MOST_PROCESSES}
 use Rattle.line_fields.specs.declared.faults.Fault.{Fault}
 use Rattle.line_fields.specs.declared.faults.Fault.TheVariants as faults
@@ -9,21 +9,27 @@ use Rattle.line_fields.specs.Shapes.{two}
 use Rattle.line_tape.specs.declared.limits.TheConstants.{MOST_EVENTS}
 use Rattle.line_tape.specs.History.{Process, fresh, tape_at, with_event, with_incarnation}
 use Rattle.line_claims.specs.declared.faults.TextFault.{TextFault}
+use Rattle.line_claims.specs.declared.histories.Head.{Head}
+use Rattle.line_claims.specs.declared.histories.TheConstants.{LAST_VERSION}
 use Rattle.line_claims.specs.Events.{is_event, event_of}
 use Rattle.line_claims.specs.Numbers.{plain, incarnation}
 use Rattle.line_claims.specs.Parts.{Part, begins, first, many, named, one}
 use Rattle.line_claims.specs.Reads.{numbered}
 
--- history,1,N
-unfoldable pub count_of : Record → Result ℕ Fault
-count_of = two plain plain (λ version n. do
-  known ← want (version == 1) faults.BadVersion
-  within ← want (nat_le 1 n && nat_le n MOST_PROCESSES) faults.BadCount
-  Ok n)
+-- the versions of texts
+abbrev pub IsVersion : ℕ → Type 0
+IsVersion version = (1 ≤ version) × (version ≤ LAST_VERSION)
 
--- the number of processes that the first record announces
-abbrev pub count_in : List Record → Result ℕ TextFault
-count_in records = numbered 1 (want (begins (named (codes "history")) records) faults.NoWorld >>= λ it. count_of (first records))
+-- history,V,N
+unfoldable pub head_of : Record → Result Head Fault
+head_of = two plain plain (λ version n. do
+  known ← want (nat_le 1 version && nat_le version LAST_VERSION) faults.BadVersion
+  within ← want (nat_le 1 n && nat_le n MOST_PROCESSES) faults.BadCount
+  Ok (record { version = version; n = n }))
+
+-- the version and the number of processes that the first record announces
+abbrev pub head_in : List Record → Result Head TextFault
+head_in records = numbered 1 (want (begins (named (codes "history")) records) faults.NoWorld >>= λ it. head_of (first records))
 
 -- tape,P,INC of process p
 unfoldable pub tape_of : ℕ → List Process → Record → Result (List Process) Fault
@@ -49,8 +55,6 @@ tapes_from p (suc others) history i records = do
   tape ← tape_from p history i records
   tapes_from (p + 1) others tape.value tape.number tape.left
 
--- the history that records begin with
-unfoldable pub front_of : List Record → Result (Part (List Process)) TextFault
-front_of records = do
-  n ← count_in records
-  tapes_from 0 n (replicate n fresh) 2 (drop 1 records)
+-- the history of n processes that records begin with
+unfoldable pub front_of : ℕ → List Record → Result (Part (List Process)) TextFault
+front_of n records = tapes_from 0 n (replicate n fresh) 2 (drop 1 records)

@@ -87,10 +87,17 @@ abbrev pub AreMarks : List ℕ → List ℕ → Type 0
 AreMarks before [] = Unit {0}
 AreMarks before (check ∷ others) = (1 ≤ check) × (check ≤ MOST_NUMBER) × (list_any (λ mark. mark == check) before ≡ false) × AreMarks (before ++ check ∷ []) others
 
+-- the check of a bar, if there is one
+abbrev pub IsBar : Option ℕ → Type 0
+IsBar None = Unit {0}
+IsBar (Some check) = check ≤ MOST_NUMBER
+
 -- a claim, on a history of as many processes as it has lists of marks
 pub record IsClaimInRange (claim : Claim) : Type 0 where
   pub few : length claim.marks.damaged ≤ MOST_PROCESSES
   pub marks : AllByRecursion (AreMarks []) claim.marks.damaged
+  pub barred : length claim.marks.bars ≡ length claim.marks.damaged
+  pub bars : AllByRecursion IsBar claim.marks.bars
   pub whole : length claim.failed ≡ MOST_PROCESSES
   pub there : (p : ℕ) → length claim.marks.damaged ≤ p → is_member claim.failed p ≡ false
   pub some : 1 ≤ length claim.line

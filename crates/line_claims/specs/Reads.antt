@@ -54,4 +54,4 @@ Reads seen (Err fault) read = (fault ≡ no_memory) ⊎ (read ≡ Err fault)
 
 -- the fault is one of the text, by its number
 abbrev pub IsOfText : TextFault → Type 0
-IsOfText fault = (0 < fault.code) × (fault.code < 36)
+IsOfText fault = ((0 < fault.code) × (fault.code < 36)) ⊎ (fault.code ≡ 40)

@@ -1,6 +1,7 @@
 -- How histories and claims are written, record by record.
-use Rattle.std.specs.Prelude.{ℕ, ◌+◌, Bool, List, [], ◌∷◌, ◌++◌, length, map, filter, Option, Some, None, codes, decimal}
-use Rattle.std.specs.List.{range_with_len}
+use Rattle.std.specs.Prelude.{ℕ, ◌+◌, Bool, if◌then◌else◌, List, [], ◌∷◌, ◌++◌, length, map, filter, Option, Some, None, codes, decimal}
+use Rattle.std.specs.List.{list_any, range_with_len}
+use Rattle.std.specs.Option.{is_some}
 use Rattle.line_names.specs.declared.certificates.Passed.{Passed}
 use Rattle.line_names.specs.declared.choices.Choice.{Choice}
 use Rattle.line_names.specs.declared.choices.Choice.TheVariants.{Check as AtCheck, Now}
@@ -13,7 +14,7 @@ use Rattle.line_tape.specs.declared.events.Event.TheVariants.{Send, Recv, Check,
 use Rattle.line_tape.specs.Event.{checks}
 use Rattle.line_tape.specs.History.{Process, tape_at}
 use Rattle.line_tape.specs.Survival.{is_damaged}
-use Rattle.line_tape.specs.Views.{MarksView}
+use Rattle.line_tape.specs.Views.{MarksView, bar_at}
 use Rattle.line_claims.specs.Claims.{Claim}
 use Rattle.line_claims.specs.Numbers.{none_text, now_text}
 
@@ -51,13 +52,17 @@ abbrev pub tapes_records : ℕ → List Process → List Record
 tapes_records p [] = []
 tapes_records p (process ∷ others) = tape_records p process ++ tapes_records (p + 1) others
 
--- history,1,N
-abbrev pub history_record : ℕ → Record
-history_record n = codes "history" ∷ decimal 1 ∷ decimal n ∷ []
+-- history,V,N
+abbrev pub history_record : ℕ → ℕ → Record
+history_record version n = codes "history" ∷ decimal version ∷ decimal n ∷ []
 
--- a history
+-- a history, in a text of that version
+abbrev pub front_records : ℕ → List Process → List Record
+front_records version history = history_record version (length history) ∷ tapes_records 0 history
+
+-- a history alone, which is of version 1
 abbrev pub history_records : List Process → List Record
-history_records history = history_record (length history) ∷ tapes_records 0 history
+history_records history = front_records 1 history
 
 -- damage,P,C
 abbrev pub damage_record : ℕ → ℕ → Record
@@ -67,6 +72,28 @@ damage_record p check = codes "damage" ∷ decimal p ∷ decimal check ∷ []
 abbrev pub damages_records : ℕ → List (List ℕ) → List Record
 damages_records p [] = []
 damages_records p (checks ∷ others) = map (damage_record p) checks ++ damages_records (p + 1) others
+
+-- bar,P,C
+abbrev pub bar_record : ℕ → ℕ → Record
+bar_record p check = codes "bar" ∷ decimal p ∷ decimal check ∷ []
+
+-- the bar of a process, where it has one
+abbrev pub bar_records : ℕ → Option ℕ → List Record
+bar_records p None = []
+bar_records p (Some check) = bar_record p check ∷ []
+
+-- the bars of processes, the first of which has that number
+abbrev pub bars_records : ℕ → List (Option ℕ) → List Record
+bars_records p [] = []
+bars_records p (bar ∷ others) = bar_records p bar ++ bars_records (p + 1) others
+
+-- the marks of damage, and the bars
+abbrev pub marks_records : MarksView → List Record
+marks_records marks = damages_records 0 marks.damaged ++ bars_records 0 marks.bars
+
+-- the version of a text that tells of marks: 2 where a process is barred, and else 1
+abbrev pub version_of : MarksView → ℕ
+version_of marks = if list_any is_some marks.bars then 2 else 1
 
 -- the processes of a set, of the first n
 abbrev pub members : ℕ → List Bool → List ℕ
@@ -94,7 +121,7 @@ judged_records n failed line certificate = failed_record n failed ∷ line_recor
 
 -- a claim
 abbrev pub claim_records : Claim → List Record
-claim_records claim = damages_records 0 claim.marks.damaged ++ judged_records (length claim.marks.damaged) claim.failed claim.line claim.certificate
+claim_records claim = marks_records claim.marks ++ judged_records (length claim.marks.damaged) claim.failed claim.line claim.certificate
 
 -- the damaged checks of process p, of its checks up to the last one, in order
 abbrev pub damaged_checks : MarksView → ℕ → ℕ → List ℕ
@@ -104,11 +131,14 @@ damaged_checks marks p last = filter (λ check. is_damaged marks p check) (range
 abbrev pub damaged_of : List Process → MarksView → ℕ → List ℕ
 damaged_of history marks p = damaged_checks marks p (checks (tape_at history p))
 
--- the marks on a history's checks, by process and then check
+-- the marks on a history's checks, by process and then check, and the bars of its processes
 abbrev pub in_order : List Process → MarksView → MarksView
-in_order history marks = record { damaged = map (damaged_of history marks) (range_with_len 0 (length history)) }
+in_order history marks = record {
+  damaged = map (damaged_of history marks) (range_with_len 0 (length history));
+  bars = map (bar_at marks) (range_with_len 0 (length history));
+}
 
 -- a history, and a claim on it
 abbrev pub check_records : List Process → Claim → List Record
 check_records history claim =
-    history_records history ++ (damages_records 0 claim.marks.damaged ++ judged_records (length history) claim.failed claim.line claim.certificate)
+    front_records (version_of claim.marks) history ++ (marks_records claim.marks ++ judged_records (length history) claim.failed claim.line claim.certificate)

@@ -1,5 +1,5 @@
 -- Which history, claim or both a text spells, and its first fault where it spells none.
-use Rattle.std.specs.Prelude.{ℕ, List, length, Result, Ok, Err, if◌then◌else◌}
+use Rattle.std.specs.Prelude.{ℕ, List, Result, Ok, Err, if◌then◌else◌}
 use Rattle.line_fields.specs.declared.faults.Fault.TheVariants as faults
 use Rattle.line_fields.specs.Bytes.{is_input_text}
 use Rattle.line_fields.specs.Fields.{◌>>=◌, want}
@@ -8,7 +8,7 @@ use Rattle.line_tape.specs.History.{Process}
 use Rattle.line_claims.specs.declared.faults.TextFault.{TextFault}
 use Rattle.line_claims.specs.declared.texts.CheckText as made
 use Rattle.line_claims.specs.Claims.{Claim, claim_from, is_none, seen}
-use Rattle.line_claims.specs.Histories.{front_of}
+use Rattle.line_claims.specs.Histories.{front_of, head_in}
 use Rattle.line_claims.specs.Reads.{fault_at, numbered}
 
 -- the records of a text, where it has no byte that no text has
@@ -18,13 +18,14 @@ records_in text = if is_input_text text then Ok (records_of_text text) else Err 
 -- a history: a front with nothing behind it
 unfoldable pub history_of : List Record → Result (List Process) TextFault
 history_of records = do
-  front ← front_of records
+  head ← head_in records
+  front ← front_of head.n records
   ended ← numbered front.number (want (is_none front.left) faults.BadRecord)
   Ok front.value
 
--- a claim among n processes
-unfoldable pub certificate_of : ℕ → List Record → Result Claim TextFault
-certificate_of n records = claim_from n 1 records
+-- a claim of a version among n processes
+unfoldable pub certificate_of : ℕ → ℕ → List Record → Result Claim TextFault
+certificate_of version n records = claim_from version n 1 records
 
 -- a history and a claim on it
 pub record Check : Type 0 where
@@ -38,17 +39,18 @@ seen_check text = record { history = text.history.processes; claim = seen text.c
 -- a history and a claim on it: a front with a claim behind it
 unfoldable pub check_of : List Record → Result Check TextFault
 check_of records = do
-  front ← front_of records
-  claim ← claim_from (length front.value) front.number front.left
+  head ← head_in records
+  front ← front_of head.n records
+  claim ← claim_from head.version head.n front.number front.left
   Ok (record { history = front.value; claim = claim })
 
 -- the history that a text spells
 abbrev pub history_of_text : List ℕ → Result (List Process) TextFault
 history_of_text text = records_in text >>= history_of
 
--- the claim that a text spells, among n processes
-abbrev pub certificate_of_text : ℕ → List ℕ → Result Claim TextFault
-certificate_of_text n text = records_in text >>= certificate_of n
+-- the claim of a version that a text spells, among n processes
+abbrev pub certificate_of_text : ℕ → ℕ → List ℕ → Result Claim TextFault
+certificate_of_text version n text = records_in text >>= certificate_of version n
 
 -- the history and the claim on it that a text spells
 abbrev pub check_of_text : List ℕ → Result Check TextFault

@@ -1,25 +1,26 @@
 //! Claims, read record by record.
 
-ghost use Rattle.std.specs.Prelude.{◌≡◌, ◌≤◌, [], codes};
+ghost use Rattle.std.specs.Prelude.{◌≡◌, ◌≤◌, [], codes, length, IfOk};
 ghost use Rattle.line_names.specs.declared.limits.TheConstants.{MOST_PROCESSES};
 ghost use Rattle.line_claims.specs.Claims as spec;
 ghost use Rattle.line_claims.specs.Entries as entries;
 ghost use Rattle.line_claims.specs.Parts.{Leaves, many, named, one};
 ghost use Rattle.line_claims.specs.Reads.{Yields};
+ghost use Rattle.line_tape.specs.Views.{no_marks};
 
 use crate::cursors::Cursor;
-use crate::entries::{damage_of, entry_of, failed_of, line_of};
+use crate::entries::{bar_of, damage_of, entry_of, failed_of, line_of};
 use crate::faults::{TextError, error_at, fault_at};
 use line_fields::Fault;
 use line_names::{Certificate, Line, MOST_PROCESSES, ProcSet};
 use line_tape::Marks;
 use std::alloc::Global;
 
-/// What is claimed of a history: that this is the latest line, where these checks are damaged and these
-/// processes failed, and that this certificate shows it.
+/// What is claimed of a history: that this is the latest line, where these checks are damaged, processes
+/// are barred at these checks and these failed, and that this certificate shows it.
 #[derive(Drop)]
 pub struct Claim {
-    /// The checks that are damaged.
+    /// The checks that are damaged, and those at which processes are barred.
     pub marks: Marks,
     /// The processes that failed.
     pub failed: ProcSet,
@@ -29,11 +30,12 @@ pub struct Claim {
     pub certificate: Certificate,
 }
 
-// The marks of a claim among `n` processes.
-fn read_marks(alloc: Global, n: u32, cursor: &mut Cursor<'_>) -> Result<Marks, TextError>
+// The damaged checks of a claim among `n` processes.
+fn read_damage(alloc: Global, n: u32, cursor: &mut Cursor<'_>) -> Result<Marks, TextError>
     requires { n ≤ MOST_PROCESSES }
-    ensures { Leaves (λ marks. marks) result
-        (many (named (codes "damage")) (entries.damage_of n) (spec.unmarked n) cursor.old.number cursor.old.left) cursor.new }
+    ensures exact { Leaves (λ marks. marks) result
+        (many (named (codes "damage")) (entries.damage_of n) (no_marks n) cursor.old.number cursor.old.left) cursor.new }
+    ensures whole { IfOk result (λ marks. length marks.damaged ≡ n) }
 {
     let mut marks = Marks::new(alloc, n)?;
     'records: while let Some(row) = cursor.named(b"damage") {
@@ -43,6 +45,27 @@ fn read_marks(alloc: Global, n: u32, cursor: &mut Cursor<'_>) -> Result<Marks, T
         cursor.advance()?;
     }
     Ok(marks)
+}
+
+// The bars of a claim of that version among `n` processes, added to its damaged checks.
+fn read_bars(
+    version: u32,
+    n: u32,
+    marks: &mut Marks,
+    cursor: &mut Cursor<'_>,
+) -> Result<(), TextError>
+    requires few { n ≤ MOST_PROCESSES }
+    requires whole { length marks.old.damaged ≡ n }
+    ensures { Leaves (λ done. marks.new) result
+        (many (spec.is_bar version) (entries.bar_of n) marks.old cursor.old.number cursor.old.left) cursor.new }
+{
+    'records: while let Some(row) = cursor.bar(version) {
+        if let Err(fault) = bar_of(marks, n, row) {
+            return Err(fault_at(cursor.number(), fault));
+        }
+        cursor.advance()?;
+    }
+    Ok(())
 }
 
 // Its processes that failed.
@@ -112,13 +135,19 @@ fn read_end(cursor: &mut Cursor<'_>) -> Result<(), TextError>
     Ok(())
 }
 
-/// The claim among `n` processes that the records from a place on spell.
+/// The claim of that version among `n` processes that the records from a place on spell.
 #[tactic(auto, unfolding(crate::specs::Claims::claim_from))]
-pub(crate) fn read_claim(alloc: Global, n: u32, cursor: &mut Cursor<'_>) -> Result<Claim, TextError>
+pub(crate) fn read_claim(
+    alloc: Global,
+    version: u32,
+    n: u32,
+    cursor: &mut Cursor<'_>,
+) -> Result<Claim, TextError>
     requires { n ≤ MOST_PROCESSES }
-    ensures { Yields spec.seen result (spec.claim_from n cursor.old.number cursor.old.left) }
+    ensures { Yields spec.seen result (spec.claim_from version n cursor.old.number cursor.old.left) }
 {
-    let marks = read_marks(alloc, n, cursor)?;
+    let mut marks = read_damage(alloc, n, cursor)?;
+    read_bars(version, n, &mut marks, cursor)?;
     let failed = read_failed(n, cursor)?;
     let line = read_line(cursor)?;
     let certificate = read_entries(alloc, n, cursor)?;

@@ -3,6 +3,7 @@
 ghost use Rattle.std.specs.Prelude.{◌≡◌, ◌≢◌, ◌+◌, ◌∷◌, [], true, false, IfOk, IsTrue, MatchOption, OnOk, drop};
 ghost use Rattle.line_fields.specs.Bytes.{is_input_text};
 ghost use Rattle.line_fields.specs.Records.{Record, records_of_text};
+ghost use Rattle.line_claims.specs.Claims.{is_bar};
 ghost use Rattle.line_claims.specs.Events as spec;
 ghost use Rattle.line_claims.specs.Parts.{begins, named};
 
@@ -88,6 +89,17 @@ impl<'a> Cursor<'a> {
             None => None,
             Some(row) => { if is_event(row) { Some(row) } else { None } }
         }
+    }
+
+    /// The record that stands here, where it bars a process and the version knows bars.
+    pub fn bar(&self, version: u32) -> Option<&Row>
+        ensures { MatchOption result (begins (is_bar version) self.now.left ≡ false)
+            (λ row. (begins (is_bar version) self.now.left ≡ true) × (self.now.left ≡ row.now ∷ drop 1 self.now.left)) }
+    {
+        if version != 2 {
+            return None;
+        }
+        self.named(b"bar")
     }
 
     /// Goes on to the next record.

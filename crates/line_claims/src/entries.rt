@@ -1,6 +1,6 @@
 //! What the records of a claim spell.
 
-ghost use Rattle.std.specs.Prelude.{◌≡◌, ◌≤◌, ◌+◌, drop, length};
+ghost use Rattle.std.specs.Prelude.{◌≡◌, ◌≤◌, ◌+◌, Ok, Err, IfErr, OnOk, drop, length};
 ghost use Rattle.line_names.specs.declared.limits.TheConstants.{MOST_PROCESSES};
 ghost use Rattle.line_claims.specs.Entries as spec;
 ghost use Rattle.line_claims.specs.Numbers.{choices};
@@ -9,7 +9,7 @@ ghost use Rattle.line_claims.specs.Reads.{Steps};
 use crate::numbers::{choice, incarnation, plain, process, want};
 use line_fields::{Fault, ReadError, Row};
 use line_names::{Certificate, Line, MOST_PROCESSES, MsgName, Passed, ProcId, ProcSet};
-use line_tape::{MarkError, Marks};
+use line_tape::{BarError, MarkError, Marks};
 
 /// Adds the mark of `damage,P,C`.
 #[tactic(auto, unfolding(crate::specs::Entries::damage_of, crate::specs::Entries::marked, line_fields::specs::Shapes::two))]
@@ -28,6 +28,26 @@ pub(crate) fn damage_of(marks: &mut Marks, n: u32, row: &Row) -> Result<(), Read
         Err(MarkError::OutOfMemory) => Err(ReadError::OutOfMemory),
         Err(MarkError::InitialDamage) => Err(ReadError::Fault(Fault::InitialDamage)),
         Err(MarkError::AlreadyDamaged) => Err(ReadError::Fault(Fault::AlreadyDamaged)),
+    }
+}
+
+/// Adds the bar of `bar,P,C`.
+#[tactic(auto, unfolding(crate::specs::Entries::bar_of, crate::specs::Entries::barred, line_fields::specs::Shapes::two))]
+pub(crate) fn bar_of(marks: &mut Marks, n: u32, row: &Row) -> Result<(), Fault>
+    requires few { n ≤ MOST_PROCESSES }
+    requires whole { length marks.old.damaged ≡ n }
+    ensures ok { OnOk result (spec.bar_of n marks.old row.now ≡ Ok marks.new) }
+    ensures err { IfErr result (λ fault. spec.bar_of n marks.old row.now ≡ Err fault) }
+    ensures whole { length marks.new.damaged ≡ n }
+{
+    want(row.len() == 3, Fault::BadRecord)?;
+    let p = plain(row, 1)?;
+    let bar = plain(row, 2)?;
+    let p = process(n, p)?;
+    match marks.bar(p, bar) {
+        Ok(()) => Ok(()),
+        Err(BarError::BarNotLower) => Err(Fault::BarNotLower),
+        Err(BarError::NoSuchCheck) => unreachable!(),
     }
 }
 

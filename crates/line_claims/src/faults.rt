@@ -49,6 +49,7 @@ pub fn name_of(code: u32) -> &'static str
         36 => "ReadFault",
         37 => "WriteFault",
         38 => "NamesDisagree",
+        40 => "BarNotLower",
         _ => "",
     }
 }

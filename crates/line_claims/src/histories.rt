@@ -17,18 +17,31 @@ use line_names::{MOST_PROCESSES, ProcId};
 use line_tape::{CountError, History, HistoryError, MOST_EVENTS};
 use std::alloc::Global;
 
-/// How many processes there are, by `history,1,N`.
-#[tactic(auto, unfolding(crate::specs::Histories::count_of, line_fields::specs::Shapes::two))]
-pub(crate) fn count_of(row: &Row) -> Result<u32, Fault>
-    ensures exact { result ≡ spec.count_of row.now }
-    ensures within { IfOk result (λ n. (1 ≤ n) × (n ≤ MOST_PROCESSES)) }
+/// The latest version of texts.
+pub(crate) const LAST_VERSION: u32 = 2;
+
+/// What the first record of a text announces.
+#[derive(Clone, Copy)]
+pub(crate) struct Head {
+    /// The version of the text.
+    pub version: u32,
+    /// How many processes there are.
+    pub n: u32,
+}
+
+/// What `history,V,N` announces.
+#[tactic(auto, unfolding(crate::specs::Histories::head_of, line_fields::specs::Shapes::two))]
+pub(crate) fn head_of(row: &Row) -> Result<Head, Fault>
+    ensures exact { result ≡ spec.head_of row.now }
+    ensures within { IfOk result (λ head. (1 ≤ head.n) × (head.n ≤ MOST_PROCESSES)) }
 {
     want(row.len() == 3, Fault::BadRecord)?;
     let version = plain(row, 1)?;
     let n = plain(row, 2)?;
-    want(version == 1, Fault::BadVersion)?;
+    let known = 1 <= version && version <= LAST_VERSION;
+    want(known, Fault::BadVersion)?;
     want(1 <= n && n as usize <= MOST_PROCESSES, Fault::BadCount)?;
-    Ok(n)
+    Ok(Head { version, n })
 }
 
 // Begins the tape of a process, by `tape,P,INC`.

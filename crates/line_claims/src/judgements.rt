@@ -5,6 +5,7 @@ ghost use Rattle.line_devices.specs.Devices.{PutsFront};
 ghost use Rattle.line_names.specs.declared.limits.TheConstants.{MOST_PROCESSES};
 ghost use Rattle.line_fields.specs.Texts.{record_text, records_text};
 ghost use Rattle.line_claims.specs.Records as spec;
+ghost use Rattle.line_tape.specs.Views.{bar_at};
 
 use crate::writers::put_history;
 use line_fields::{Draft, RecordWriter};
@@ -71,6 +72,77 @@ fn put_damages(
         put_damages_of(writer, draft, marks, p, last)?;
     }
     Ok(())
+}
+
+// Writes `bar,P,C` behind the records that were written before.
+fn put_bar(
+    writer: &mut RecordWriter,
+    draft: &mut Draft,
+    p: ProcId,
+    bar: u32,
+) -> Result<(), AllocError>
+    ensures ok { OnOk result (writer.new ≡ writer.old ++ record_text (spec.bar_record p bar)) }
+    ensures err { OnErr result (writer.new ≡ writer.old) }
+{
+    draft.clear();
+    draft.word(b"bar")?;
+    draft.number(u64::from(p.get()))?;
+    draft.number(u64::from(bar))?;
+    writer.put(draft)
+}
+
+/// Writes `bar,P,C` behind the records that were written before, where process P is barred at check C, and
+/// nothing where it isn't barred.
+///
+/// In a check text, which is of version 2 where a process is barred, these stand behind the damage, by
+/// process. Where a growth is refused, the text stays as it was.
+pub fn put_bar_of(
+    writer: &mut RecordWriter,
+    draft: &mut Draft,
+    marks: &Marks,
+    p: ProcId,
+) -> Result<(), AllocError>
+    ensures ok { OnOk result (writer.new ≡ writer.old ++ records_text (spec.bar_records p (bar_at marks.now p))) }
+    ensures err { OnErr result (writer.new ≡ writer.old) }
+{
+    match marks.bar_of(p) {
+        Some(bar) => put_bar(writer, draft, p, bar),
+        None => Ok(()),
+    }
+}
+
+// Writes `bar,P,C` for each process of a history that is barred.
+fn put_bars(
+    writer: &mut RecordWriter,
+    draft: &mut Draft,
+    history: &History,
+    marks: &Marks,
+) -> Result<(), AllocError>
+    ensures ok { OnOk result (writer.new ≡ writer.old ++ records_text (spec.bars_records 0 (spec.in_order history.now.processes marks.now).bars)) }
+    ensures err { OnErr result (PutsFront (Some writer.old) (Some writer.new) (records_text (spec.bars_records 0 (spec.in_order history.now.processes marks.now).bars))) }
+{
+    let n = history.n();
+    for value in 0..n {
+        let Ok(p) = ProcId::try_new(value, n) else {
+            unreachable!()
+        };
+        put_bar_of(writer, draft, marks, p)?;
+    }
+    Ok(())
+}
+
+// Writes the marks of a history: the damaged checks, and the bars.
+fn put_marks(
+    writer: &mut RecordWriter,
+    draft: &mut Draft,
+    history: &History,
+    marks: &Marks,
+) -> Result<(), AllocError>
+    ensures ok { OnOk result (writer.new ≡ writer.old ++ records_text (spec.marks_records (spec.in_order history.now.processes marks.now))) }
+    ensures err { OnErr result (PutsFront (Some writer.old) (Some writer.new) (records_text (spec.marks_records (spec.in_order history.now.processes marks.now)))) }
+{
+    put_damages(writer, draft, history, marks)?;
+    put_bars(writer, draft, history, marks)
 }
 
 // Begins a record with the processes of a set, of the first `n`.
@@ -248,15 +320,33 @@ fn put_claim(
     line: &Line,
     certificate: &[Passed],
 ) -> Result<(), AllocError>
-    ensures ok { OnOk result (writer.new ≡ writer.old ++ records_text (spec.damages_records 0 (spec.in_order history.now.processes marks.now).damaged ++ spec.judged_records (length history.now.processes) failed.now line.now certificate.now)) }
-    ensures err { OnErr result (PutsFront (Some writer.old) (Some writer.new) (records_text (spec.damages_records 0 (spec.in_order history.now.processes marks.now).damaged ++ spec.judged_records (length history.now.processes) failed.now line.now certificate.now))) }
+    ensures ok { OnOk result (writer.new ≡ writer.old ++ records_text (spec.marks_records (spec.in_order history.now.processes marks.now) ++ spec.judged_records (length history.now.processes) failed.now line.now certificate.now)) }
+    ensures err { OnErr result (PutsFront (Some writer.old) (Some writer.new) (records_text (spec.marks_records (spec.in_order history.now.processes marks.now) ++ spec.judged_records (length history.now.processes) failed.now line.now certificate.now))) }
 {
-    put_damages(writer, draft, history, marks)?;
+    put_marks(writer, draft, history, marks)?;
     put_judged(writer, draft, history.n(), failed, line, certificate)
 }
 
+/// The version of a check text on these marks of a history: 2 where one of its processes is barred, and
+/// else 1. It asks once for the bar of each process.
+pub fn version_of(history: &History, marks: &Marks) -> u32
+    ensures { result ≡ spec.version_of (spec.in_order history.now.processes marks.now) }
+{
+    let n = history.n();
+    for value in 0..n {
+        let Ok(p) = ProcId::try_new(value, n) else {
+            unreachable!()
+        };
+        if marks.bar_of(p).is_some() {
+            return 2;
+        }
+    }
+    1
+}
+
 /// Writes a check text behind the records that were written before: a history, and the claim on it that
-/// these of its checks are damaged, these processes failed, and this is the line with its certificate.
+/// these of its checks are damaged, its processes are barred so, these failed, and this is the line with
+/// its certificate. It is of version 2 where a process is barred, and else of version 1.
 ///
 /// Where a growth is refused, a front of them may be written. It asks once for a mark of each check.
 /// The draft is room for one record at a time, and what it held is lost.
@@ -272,6 +362,6 @@ pub fn put_check_text(
     ensures ok { OnOk result (writer.new ≡ writer.old ++ records_text (spec.check_records history.now.processes (record { marks = spec.in_order history.now.processes marks.now; failed = failed.now; line = line.now; certificate = certificate.now }))) }
     ensures err { OnErr result (PutsFront (Some writer.old) (Some writer.new) (records_text (spec.check_records history.now.processes (record { marks = spec.in_order history.now.processes marks.now; failed = failed.now; line = line.now; certificate = certificate.now })))) }
 {
-    put_history(writer, draft, history)?;
+    put_history(writer, draft, version_of(history, marks), history)?;
     put_claim(writer, draft, history, marks, failed, line, certificate)
 }

@@ -1,7 +1,8 @@
 //! History texts and check texts: what they say, as values.
 //!
 //! A history text has the tapes of all processes. A check text is a history text and a claim on it: the
-//! checks that are damaged, the processes that failed, a line, and the certificate of that line.
+//! checks that are damaged, the processes that are barred, those that failed, a line, and the certificate
+//! of that line.
 #![tactic(auto)]
 
 mod claims;
@@ -20,7 +21,8 @@ pub use claims::Claim;
 pub use entries::failed_of;
 pub use faults::{TextError, TextFault, error_at, fault_at, name_of, told};
 pub use judgements::{
-    put_check_text, put_damage, put_end, put_failed, put_judged, put_line, put_pass,
+    put_bar_of, put_check_text, put_damage, put_end, put_failed, put_judged, put_line, put_pass,
+    version_of,
 };
 pub use laws::{claims_are_read_again, histories_are_read_again};
 pub use numbers::{plain, want};

@@ -3,7 +3,7 @@
 ghost use Rattle.std.specs.Prelude.{◌≡◌, ◌≢◌, ◌≤◌, ◌⊎◌, [], IfErr, IfOk};
 ghost use Rattle.line_names.specs.declared.limits.TheConstants.{MOST_PROCESSES};
 ghost use Rattle.line_claims.specs.Claims as claims;
-ghost use Rattle.line_claims.specs.Histories.{count_in, front_of};
+ghost use Rattle.line_claims.specs.Histories.{IsVersion, front_of, head_in};
 ghost use Rattle.line_claims.specs.Parts.{Leaves};
 ghost use Rattle.line_claims.specs.Reads.{IsOfText, Reads, Yields, no_memory};
 ghost use Rattle.line_claims.specs.Texts as spec;
@@ -11,7 +11,7 @@ ghost use Rattle.line_claims.specs.Texts as spec;
 use crate::claims::{Claim, read_claim};
 use crate::cursors::Cursor;
 use crate::faults::{TextError, TextFault, fault_at, told};
-use crate::histories::{count_of, read_tapes};
+use crate::histories::{Head, head_of, read_tapes};
 use line_fields::{Fault, is_plain};
 use line_names::MOST_PROCESSES;
 use line_tape::History;
@@ -38,27 +38,29 @@ fn open(alloc: Global, text: &[u8]) -> Result<Cursor<'_>, TextError>
     Ok(cursor)
 }
 
-// How many processes the first record announces.
-fn read_count(cursor: &Cursor<'_>) -> Result<u32, TextError>
-    ensures exact { Yields (λ n. n) result (count_in cursor.now.left) }
-    ensures within { IfOk result (λ n. (1 ≤ n) × (n ≤ MOST_PROCESSES) × (cursor.now.left ≢ [])) }
+// What the first record announces.
+fn read_first(cursor: &Cursor<'_>) -> Result<Head, TextError>
+    ensures exact { Yields (λ head. head) result (head_in cursor.now.left) }
+    ensures within { IfOk result (λ head. (1 ≤ head.n) × (head.n ≤ MOST_PROCESSES) × (cursor.now.left ≢ [])) }
 {
     let Some(row) = cursor.named(b"history") else {
         return Err(fault_at(1, Fault::NoWorld));
     };
-    match count_of(row) {
-        Ok(n) => Ok(n),
+    match head_of(row) {
+        Ok(head) => Ok(head),
         Err(fault) => Err(fault_at(1, fault)),
     }
 }
 
-// The history that a text begins with.
+// The history of `n` processes that a text begins with.
 #[tactic(auto, unfolding(crate::specs::Histories::front_of))]
-fn read_front(alloc: Global, cursor: &mut Cursor<'_>) -> Result<History, TextError>
-    requires { cursor.old.number ≡ 1 }
-    ensures { Leaves (λ history. history.processes) result (front_of cursor.old.left) cursor.new }
+fn read_front(alloc: Global, n: u32, cursor: &mut Cursor<'_>) -> Result<History, TextError>
+    requires first { cursor.old.number ≡ 1 }
+    requires there { cursor.old.left ≢ [] }
+    requires some { 1 ≤ n }
+    requires few { n ≤ MOST_PROCESSES }
+    ensures { Leaves (λ history. history.processes) result (front_of n cursor.old.left) cursor.new }
 {
-    let n = read_count(cursor)?;
     cursor.advance()?;
     read_tapes(alloc, n, cursor)
 }
@@ -68,7 +70,8 @@ fn history_in(alloc: Global, text: &[u8]) -> Result<History, TextError>
     ensures { Yields (λ history. history.processes) result (spec.history_of_text text.now) }
 {
     let mut cursor = open(alloc, text)?;
-    let history = read_front(alloc, &mut cursor)?;
+    let head = read_first(&cursor)?;
+    let history = read_front(alloc, head.n, &mut cursor)?;
     if cursor.row().is_some() {
         return Err(fault_at(cursor.number(), Fault::BadRecord));
     }
@@ -76,12 +79,12 @@ fn history_in(alloc: Global, text: &[u8]) -> Result<History, TextError>
 }
 
 #[tactic(auto, unfolding(crate::specs::Texts::certificate_of))]
-fn certificate_in(alloc: Global, text: &[u8], n: u32) -> Result<Claim, TextError>
+fn certificate_in(alloc: Global, text: &[u8], n: u32, version: u32) -> Result<Claim, TextError>
     requires { n ≤ MOST_PROCESSES }
-    ensures { Yields claims.seen result (spec.certificate_of_text n text.now) }
+    ensures { Yields claims.seen result (spec.certificate_of_text version n text.now) }
 {
     let mut cursor = open(alloc, text)?;
-    read_claim(alloc, n, &mut cursor)
+    read_claim(alloc, version, n, &mut cursor)
 }
 
 #[tactic(auto, unfolding(crate::specs::Texts::check_of))]
@@ -89,14 +92,16 @@ fn check_in(alloc: Global, text: &[u8]) -> Result<CheckText, TextError>
     ensures { Yields spec.seen_check result (spec.check_of_text text.now) }
 {
     let mut cursor = open(alloc, text)?;
-    let history = read_front(alloc, &mut cursor)?;
-    let claim = read_claim(alloc, history.n(), &mut cursor)?;
+    let head = read_first(&cursor)?;
+    let history = read_front(alloc, head.n, &mut cursor)?;
+    let claim = read_claim(alloc, head.version, head.n, &mut cursor)?;
     Ok(CheckText { history, claim })
 }
 
 /// The history that a text spells.
 ///
-/// The first record tells how many processes there are. Their tapes follow in order, each with its
+/// The first record tells the version, 1 or 2, which makes no difference to a history, and how many
+/// processes there are. Their tapes follow in order, each with its
 /// events. The events need not fit together: it asks only that each number keeps to its range, that the
 /// processes are there, and that bodies, states and tapes keep to their limits.
 ///
@@ -115,21 +120,27 @@ pub fn read_history(alloc: Global, text: &[u8]) -> Result<History, TextFault>
     }
 }
 
-/// The claim among `n` processes that a text spells: the part of a check text that stands behind its
-/// history, with its records numbered from 1.
+/// The claim among `n` processes that a text spells: the part of a check text of that version that stands
+/// behind its history, with its records numbered from 1. Version 1 knows no bars.
 ///
-/// It asks nothing of a history: a mark or a choice may be of a check that isn't there, and the line may
-/// have any number of choices that a line can have.
+/// It asks nothing of a history: a mark, a bar or a choice may be of a check that isn't there, and the line
+/// may have any number of choices that a line can have.
 ///
 /// Refused as a history is; a missing end is a fault of the record that would follow the last. It
 /// takes time and memory in proportion to the text, and for a mark of damage the logarithm of those
 /// before it of its process.
-pub fn read_certificate(alloc: Global, text: &[u8], n: u32) -> Result<Claim, TextFault>
-    requires { n ≤ MOST_PROCESSES }
-    ensures exact { Reads claims.seen result (spec.certificate_of_text n text.now) }
+pub fn read_certificate(
+    alloc: Global,
+    text: &[u8],
+    n: u32,
+    version: u32,
+) -> Result<Claim, TextFault>
+    requires few { n ≤ MOST_PROCESSES }
+    requires version { IsVersion version }
+    ensures exact { Reads claims.seen result (spec.certificate_of_text version n text.now) }
     ensures codes { IfErr result (λ fault. (fault ≡ no_memory) ⊎ IsOfText fault) }
 {
-    match certificate_in(alloc, text, n) {
+    match certificate_in(alloc, text, n, version) {
         Ok(claim) => Ok(claim),
         Err(error) => Err(told(error)),
     }

@@ -191,26 +191,27 @@ fn put_tape_of(
     put_tape(writer, draft, p, inc, events)
 }
 
-/// Writes `history,1,N`, which the tapes of N processes follow, behind the records that were written
-/// before.
+/// Writes `history,V,N`, which the tapes of N processes follow, behind the records that were written
+/// before. The version V is 1, or 2 where bars are to follow the history.
 ///
 /// Where a growth is refused, the text stays as it was.
 pub fn put_history_head(
     writer: &mut RecordWriter,
     draft: &mut Draft,
+    version: u32,
     n: u32,
 ) -> Result<(), AllocError>
-    ensures ok { OnOk result (writer.new ≡ writer.old ++ record_text (spec.history_record n)) }
+    ensures ok { OnOk result (writer.new ≡ writer.old ++ record_text (spec.history_record version n)) }
     ensures err { OnErr result (writer.new ≡ writer.old) }
 {
     draft.clear();
     draft.word(b"history")?;
-    draft.number(1)?;
+    draft.number(u64::from(version))?;
     draft.number(u64::from(n))?;
     writer.put(draft)
 }
 
-/// Writes the records of a history behind those that were written before.
+/// Writes the records of a history in a text of that version behind those that were written before.
 ///
 /// Where a growth is refused, a front of them may be written. The draft is room for one record at a time,
 /// and what it held is lost. What was written stood in memory, so it is known to be in the ranges of its
@@ -218,15 +219,16 @@ pub fn put_history_head(
 pub fn put_history(
     writer: &mut RecordWriter,
     draft: &mut Draft,
+    version: u32,
     history: &History,
 ) -> Result<(), AllocError>
-    ensures ok { OnOk result (writer.new ≡ writer.old ++ records_text (spec.history_records history.now.processes)) }
-    ensures err { OnErr result (PutsFront (Some writer.old) (Some writer.new) (records_text (spec.history_records history.now.processes))) }
+    ensures ok { OnOk result (writer.new ≡ writer.old ++ records_text (spec.front_records version history.now.processes)) }
+    ensures err { OnErr result (PutsFront (Some writer.old) (Some writer.new) (records_text (spec.front_records version history.now.processes))) }
     ensures fits { OnOk result (FitsMemory history.now.processes) }
     ensures range { OnOk result (AreRoundsInRange history.now.processes → IsHistoryInRange history.now.processes) }
 {
     let n = history.n();
-    put_history_head(writer, draft, n)?;
+    put_history_head(writer, draft, version, n)?;
     for p in 0..n {
         let Ok(p) = ProcId::try_new(p, n) else {
             unreachable!()
@@ -236,7 +238,7 @@ pub fn put_history(
     Ok(())
 }
 
-/// The text of a history. `read_history` takes it back where the rounds of the history are from 1 to
+/// The text of a history, of version 1. `read_history` takes it back where the rounds of the history are from 1 to
 /// 65,535.
 pub fn write_history(alloc: Global, history: &History) -> Result<Vec<u8>, AllocError>
     ensures text { IfOk result (λ text. text.items ≡ records_text (spec.history_records history.now.processes)) }
@@ -247,6 +249,6 @@ pub fn write_history(alloc: Global, history: &History) -> Result<Vec<u8>, AllocE
 {
     let mut draft = Draft::new(alloc);
     let mut writer = RecordWriter::new(alloc);
-    put_history(&mut writer, &mut draft, history)?;
+    put_history(&mut writer, &mut draft, 1, history)?;
     Vec::from_slice(alloc, writer.text())
 }

@@ -4,7 +4,7 @@ use Rattle.line_names.specs.declared.messages.MsgName.{MsgName}
 use Rattle.line_tape.specs.declared.events.Event.{Event}
 use Rattle.line_tape.specs.declared.events.Event.TheVariants.{Send, Recv, Check, Mark}
 use Rattle.line_tape.specs.History.{Process}
-use Rattle.line_tape.specs.Views.{MarksView}
+use Rattle.line_tape.specs.Views.{MarksView, no_marks, with_bar, with_mark}
 
 -- message number k of process p, from its first incarnation
 abbrev pub first_life : ℕ → ℕ → MsgName
@@ -45,13 +45,21 @@ round_history =
     living (Check (0xa1 ∷ []) (Some 1) ∷ Mark 1 1 ∷ Send 1 0 (0x61 ∷ []) ∷ Recv (first_life 1 0) ∷ Check (0xa2 ∷ []) None ∷ Send 1 0 (0x63 ∷ []) ∷ []) ∷
     living (Check (0xb1 ∷ []) (Some 1) ∷ Mark 0 1 ∷ Recv (first_life 0 0) ∷ Check (0xb2 ∷ []) None ∷ Send 0 0 (0x62 ∷ []) ∷ Recv (first_life 0 1) ∷ Check (0xb3 ∷ []) None ∷ []) ∷ []
 
--- no check is damaged
+-- no check is damaged, and no process is barred
 abbrev pub unmarked : MarksView
-unmarked = record { damaged = [] ∷ [] ∷ [] }
+unmarked = no_marks 2
 
 -- check 1 of process 1 is damaged
 abbrev pub second_marked : MarksView
-second_marked = record { damaged = [] ∷ (1 ∷ []) ∷ [] }
+second_marked = with_mark unmarked 1 1
+
+-- process 1 is barred at its check 1
+abbrev pub second_barred : MarksView
+second_barred = with_bar unmarked 1 1
+
+-- nobody failed
+abbrev pub none_failed : List Bool
+none_failed = false ∷ false ∷ []
 
 -- process 0 failed
 abbrev pub first_failed : List Bool

@@ -6,7 +6,7 @@
 mod worked;
 
 pub use worked::{
-    consistent_checks, damaged_round, domino, received_after_the_line, replay,
+    barred_process, consistent_checks, damaged_round, domino, received_after_the_line, replay,
     restart_after_a_replay,
 };
 

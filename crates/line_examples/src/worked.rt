@@ -6,7 +6,7 @@ ghost use Rattle.line_tape.specs.Chain.{latest_choice, next_lower, first_ceiling
 ghost use Rattle.line_tape.specs.Restart.{restarted, restarted_marks};
 ghost use Rattle.line_tape.specs.Survival.{survives};
 ghost use Rattle.line_tape.specs.Transit.{in_transit};
-ghost use Rattle.line_examples.specs.Worked.{first_life, living, domino_history, crossed_history, both_failed, replay_history, received_history, round_history, unmarked, second_marked, first_failed};
+ghost use Rattle.line_examples.specs.Worked.{first_life, living, domino_history, crossed_history, both_failed, replay_history, received_history, round_history, unmarked, second_marked, second_barred, none_failed, first_failed};
 
 /// With process 0 failed its check 1 is the latest to survive; each message was received, so nothing is in transit.
 pub fn domino()
@@ -48,6 +48,17 @@ pub fn damaged_round()
     ensures passed { next_lower round_history second_marked first_failed 1 (AtCheck 2) ≡ AtCheck 0 }
     ensures latest { latest_choice round_history second_marked first_failed 0 ≡ AtCheck 2 }
     ensures transit { in_transit round_history (AtCheck 1 ∷ AtCheck 0 ∷ []) ≡ [] }
+{}
+
+/// Of a process that is barred at check 1 that check survives and its initial state, and nothing later, although it did not fail; other processes are as they were, and a restart takes the bar away.
+pub fn barred_process()
+    ensures now { survives domino_history second_barred none_failed 1 Now ≡ false }
+    ensures later { survives domino_history second_barred none_failed 1 (AtCheck 2) ≡ false }
+    ensures at { survives domino_history second_barred none_failed 1 (AtCheck 1) ≡ true }
+    ensures initial { survives domino_history second_barred none_failed 1 (AtCheck 0) ≡ true }
+    ensures other { survives domino_history second_barred none_failed 0 Now ≡ true }
+    ensures ceilings { first_ceilings domino_history second_barred none_failed ≡ Now ∷ AtCheck 1 ∷ [] }
+    ensures gone { restarted_marks second_barred (AtCheck 0 ∷ AtCheck 0 ∷ []) ≡ unmarked }
 {}
 
 /// A restart cuts each tape to its choice, raises the incarnation of each process that goes back, takes marks out and rounds off, and keeps the damage of checks that are kept.

@@ -12,6 +12,7 @@ code_of faults.StateTooLong = 5
 code_of faults.BadCount = 6
 code_of faults.InitialDamage = 7
 code_of faults.AlreadyDamaged = 8
+code_of faults.BarNotLower = 40
 code_of faults.BadRecord = 32
 code_of faults.BadNumber = 33
 code_of faults.NoWorld = 34

@@ -30,6 +30,9 @@ pub enum Fault {
     /// A check is marked as damaged twice.
     #[error("AlreadyDamaged")]
     AlreadyDamaged,
+    /// A process is barred at a check that is not lower than its bar before.
+    #[error("BarNotLower")]
+    BarNotLower,
     /// An unknown first field or mode, a wrong number of fields, a record out of its place, or a byte
     /// that no text has.
     #[error("BadRecord")]
@@ -58,6 +61,7 @@ impl Fault {
             Fault::BadCount => 6,
             Fault::InitialDamage => 7,
             Fault::AlreadyDamaged => 8,
+            Fault::BarNotLower => 40,
             Fault::BadRecord => 32,
             Fault::BadNumber => 33,
             Fault::NoWorld => 34,

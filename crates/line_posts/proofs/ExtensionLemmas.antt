@@ -1,6 +1,6 @@
 -- A line of checks is as consistent in each later history.
-use Rattle.std.proofs.Common.{◌≡◌, ◌∙◌, ◌++◌, ◌<◌, [], ℕ, true, Bool, List, length, not, refl, sym, ap, inl, inr, arith}
-use Rattle.std.proofs.lemmas.Bool.{cases_lt}
+use Rattle.std.proofs.Common.{◌≡◌, ◌∙◌, ◌++◌, ◌<◌, ◌&&◌, [], ℕ, true, false, Bool, List, length, not, refl, sym, ap, inl, inr, arith}
+use Rattle.std.proofs.lemmas.Bool.{cases_lt, false≢true}
 use Rattle.std.proofs.lemmas.List.{append_assoc, append-nil, get_or_past}
 use Rattle.line_names.specs.declared.choices.Choice.{Choice}
 use Rattle.line_names.specs.declared.choices.Choice.TheVariants.{Check as AtCheck, Now}
@@ -9,8 +9,8 @@ use Rattle.line_names.specs.Sets.{is_member}
 use Rattle.line_tape.specs.Front.{front}
 use Rattle.line_tape.specs.History.{Process, tape_at}
 use Rattle.line_tape.specs.Line.{events_before, IsConsistent}
-use Rattle.line_tape.specs.Survival.{survives, IsRecoverable}
-use Rattle.line_tape.specs.Views.{MarksView}
+use Rattle.line_tape.specs.Survival.{is_allowed, survives, IsRecoverable}
+use Rattle.line_tape.specs.Views.{bar_at, MarksView}
 use Rattle.line_tape.proofs.ChoiceLemmas.{survives_within}
 use Rattle.line_tape.proofs.SnapshotLemmas.{consistent_same, front_more}
 use Rattle.line_posts.specs.Extension.{Extends}
@@ -41,7 +41,7 @@ module _ (old new : List Process) (more : Extends new old) (marks : MarksView) (
       let (later, grown) = more.tapes p in
       ap (λ t. front t (AtCheck c)) grown ∙ front_more (tape_at old p) later c (survives_within old marks failed p c s)
   same_choice p Now e s = elim (cases_lt p (length old)) [
-    | inl lt ↦ (let a : not true ≡ true = ap not (sym (all p lt)) ∙ s in absurd (cc a))
+    | inl lt ↦ (let a : false ≡ true = ap (λ (failed : Bool). not failed && is_allowed (bar_at marks p) Now) (sym (all p lt)) ∙ s in absurd (false≢true a))
     | inr past ↦ (let n = is.length_is in let a : AtCheck 0 ≡ Now = sym (get_or_past line p (AtCheck 0) (omega (arith, past, n))) ∙ e in absurd (cc a))
   ]
 

@@ -1,5 +1,5 @@
 -- A restart of what was gathered is one of the workers' own tapes.
-use Rattle.std.proofs.Common.{◌≡◌, ◌∙◌, ◌++◌, ◌∷◌, [], ℕ, suc, Bool, true, false, List, length, map, not, refl, sym, ap, arith, subst}
+use Rattle.std.proofs.Common.{◌≡◌, ◌∙◌, ◌++◌, ◌∷◌, [], ◌&&◌, ℕ, suc, Bool, true, false, List, length, map, not, refl, sym, ap, arith, subst}
 use Rattle.std.proofs.lemmas.List.{append-nil, length-append, nil_from_length}
 use Rattle.std.specs.List.{filter_map}
 use Rattle.line_names.specs.declared.choices.Choice.{Choice}
@@ -14,9 +14,9 @@ use Rattle.line_tape.specs.History.{Process, incarnation_at, tape_at}
 use Rattle.line_tape.specs.Line.{events_before, IsConsistent, IsLine}
 use Rattle.line_tape.specs.Restart.{restarted, restarted_event, restarted_incarnation, restarted_process}
 use Rattle.line_tape.specs.Rounds.{rounds_checked}
-use Rattle.line_tape.specs.Survival.{survives, IsLatest}
+use Rattle.line_tape.specs.Survival.{is_allowed, survives, IsLatest}
 use Rattle.line_tape.specs.Transit.{in_transit_between}
-use Rattle.line_tape.specs.Views.{MarksView}
+use Rattle.line_tape.specs.Views.{bar_at, MarksView}
 use Rattle.line_tape.proofs.ChoiceLemmas.{survives_within}
 use Rattle.line_tape.proofs.LinkLemmas.{no_rounds, restart_fit, restart_link, tape_restarted}
 use Rattle.line_tape.proofs.SnapshotLemmas.{consistent_same, front_more, transit_same}
@@ -32,11 +32,11 @@ module _ (history : List Process) (marks : MarksView) (failed : List Bool) where
 
   stays_alive : (p : ℕ) (choice : Choice) → survives history marks failed p choice ≡ true → choice ≡ Now → is_member failed p ≡ false
   stays_alive p (AtCheck c) h e = cc e
-  stays_alive p Now h e = alive (is_member failed p) h
+  stays_alive p Now h e = alive (is_member failed p) (is_allowed (bar_at marks p) Now) h
     where
-      alive : (b : Bool) → not b ≡ true → b ≡ false
-      alive true k = cc k
-      alive false k = refl
+      alive : (b allowed : Bool) → (not b && allowed) ≡ true → b ≡ false
+      alive true allowed k = cc k
+      alive false allowed k = refl
 
   -- the latest line is one of the history
   pub latest_is_line : (line : List Choice) → IsLatest history marks failed line → IsLine history line

@@ -1,8 +1,9 @@
 //! How a generation begins.
-ghost use Rattle.std.specs.Prelude.{◌≡◌, ◌≢◌, ◌<◌, ◌≤◌, ◌∷◌, ◌↔◌, ◌⊎◌, [], List, IfOk, IsErrOf};
+ghost use Rattle.std.specs.Prelude.{◌≡◌, ◌≢◌, ◌<◌, ◌≤◌, ◌∷◌, ◌↔◌, ◌⊎◌, List, IfOk, IsErrOf};
 ghost use Rattle.std.specs.Prelude.{length, replicate};
 ghost use Rattle.line_tape.specs.History.{fresh};
 ghost use Rattle.line_tape.specs.Fit.{IsFitFifo};
+ghost use Rattle.line_tape.specs.Views.{no_marks};
 ghost use Rattle.line_tape.specs.declared.events.Event.{Event};
 ghost use Rattle.line_rings.specs.Ends.{in_ends, in_rows, out_rows, AreLinked, End};
 ghost use Rattle.line_posts.specs.Collected.{collector_of};
@@ -103,7 +104,7 @@ pub(crate) fn open_all(
 pub fn fleet(alloc: Global, n: u32, capacity: usize) -> Result<(Collector, Vec<Post>), FleetError>
     ensures collector { IfOk result (λ r. r.0
         ≡ collector_of (replicate n fresh) (replicate n fresh)
-        (record { damaged = replicate n [] }) r.0.lines capacity) }
+        (no_marks n) r.0.lines capacity) }
     ensures opened { IfOk result (λ r. AreOpened (replicate n fresh) 0 r.1.items r.0.lines) }
     ensures generation { IfOk result (λ r. IsGeneration r.1.items × AreLined r.0 r.1.items) }
 

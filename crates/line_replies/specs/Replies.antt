@@ -8,7 +8,7 @@ use Rattle.line_names.specs.Lines.{choice_at}
 use Rattle.line_fields.specs.Records.{Record}
 use Rattle.line_fields.specs.Texts.{hex_text}
 use Rattle.line_world.specs.declared.replies.Reply.{Reply}
-use Rattle.line_world.specs.declared.replies.Reply.TheVariants.{Sent, Took, Marked, Stale, Repeated, Checked, Begun, Turned, Damaged, Recovered}
+use Rattle.line_world.specs.declared.replies.Reply.TheVariants.{Sent, Took, Marked, Stale, Repeated, Checked, Begun, Turned, Damaged, Barred, Recovered}
 use Rattle.line_world.specs.declared.replies.Answer.{Answer}
 use Rattle.line_world.specs.declared.replies.Answer.TheVariants as answers
 use Rattle.line_world.specs.Codes.{refusal_code}
@@ -51,6 +51,10 @@ checked p check = codes "checked" ∷ decimal p ∷ decimal check ∷ []
 -- damaged,P,C
 abbrev pub damaged : ℕ → ℕ → Record
 damaged p check = codes "damaged" ∷ decimal p ∷ decimal check ∷ []
+
+-- barred,P,C
+abbrev pub barred : ℕ → ℕ → Record
+barred p check = codes "barred" ∷ decimal p ∷ decimal check ∷ []
 
 -- recovered,SWEEPS,ENTRIES,REPLAYS
 abbrev pub recovered : ℕ → ℕ → ℕ → Record
@@ -105,6 +109,7 @@ reply_records (Checked at check) = checked at check ∷ []
 reply_records (Begun at check round) = begun at check round ∷ []
 reply_records (Turned at check round) = turned at check round ∷ []
 reply_records (Damaged at check) = damaged at check ∷ []
+reply_records (Barred at check) = barred at check ∷ []
 reply_records (Recovered plan states incarnations) = recovery plan.value.sweeps plan.value.certificate.items plan.value.replays.items plan.value.line incarnations.items states.items
 
 -- the records of an answer

@@ -196,6 +196,22 @@ fn put_damaged(
     writer.put(draft)
 }
 
+// Writes `barred,P,C`.
+fn put_barred(
+    writer: &mut RecordWriter,
+    draft: &mut Draft,
+    at: ProcId,
+    check: u32,
+) -> Result<(), AllocError>
+    ensures ok { OnOk result (writer.new ≡ writer.old ++ record_text (spec.barred at check)) }
+    ensures err { OnErr result (writer.new ≡ writer.old) }
+{
+    draft.clear();
+    draft.word(b"barred")?;
+    add_check(draft, at, check)?;
+    writer.put(draft)
+}
+
 /// Writes the records of a reply behind those that were written before.
 ///
 /// Where a growth is refused, a front of the reply may be written. The draft is room for one record at a
@@ -218,6 +234,7 @@ pub fn put_reply(
         Reply::Begun { at, check, round } => put_begun(writer, draft, *at, *check, *round),
         Reply::Turned { at, check, round } => put_turned(writer, draft, *at, *check, *round),
         Reply::Damaged { at, check } => put_damaged(writer, draft, *at, *check),
+        Reply::Barred { at, check } => put_barred(writer, draft, *at, *check),
         Reply::Recovered {
             plan,
             states,

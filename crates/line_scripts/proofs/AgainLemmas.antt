@@ -11,7 +11,7 @@ use Rattle.line_fields.specs.Shapes.{alone, two, three, four}
 use Rattle.line_fields.specs.Texts.{hex_text, is_plain_field, is_written, records_text}
 use Rattle.line_moves.specs.declared.modes.Mode.{Mode}
 use Rattle.line_moves.specs.declared.modes.Mode.TheVariants.{Fifo, Unordered}
-use Rattle.line_world.specs.declared.steps.Step.TheVariants.{Send, Deliver, Check, Begin, Turn, Damage, Recover}
+use Rattle.line_world.specs.declared.steps.Step.TheVariants.{Send, Deliver, Check, Begin, Turn, Damage, Bar, Recover}
 use Rattle.line_claims.specs.Entries.{failed_of}
 use Rattle.line_claims.specs.Records.{members}
 use Rattle.line_claims.proofs.ClaimWrittenLemmas.{decimals_are_plain}
@@ -20,7 +20,7 @@ use Rattle.line_claims.proofs.SpellLemmas.{plain_again}
 use Rattle.line_claims.proofs.WrittenLemmas.{byte_at}
 use Rattle.line_scripts.specs.declared.commands.Command.{Command}
 use Rattle.line_scripts.specs.declared.commands.Command.TheVariants.{Bundle, Do, History, Refused, Rounds}
-use Rattle.line_scripts.specs.Ranges.{IsCommandInRange, IsScriptInRange, IsSetAmong, IsWithState}
+use Rattle.line_scripts.specs.Ranges.{IsCommandInRange, IsScriptInRange, IsSetAmong, IsWithCheck, IsWithState}
 use Rattle.line_scripts.specs.Records.{command_record, mode_text, script_records, world_record}
 use Rattle.line_scripts.specs.Scripts.{Script, command_of, commands_from, deliver_of, mode_named, pick, script_of, script_of_text, send_of, with_check, with_failed, with_state, world_of}
 use Rattle.line_scripts.proofs.FailedLemmas.{failed_found}
@@ -65,6 +65,10 @@ command_again n (Do (Damage at check)) few fit =
     let there : at < n = fit.0 in
     let wide : check < 2 ^ 32 = fit.1 in
     rw (plain_again at (omega arith), plain_again check (omega arith), lt-ltb at n there) refl
+command_again n (Do (Bar at check)) few fit =
+    let there : at < n = fit.0 in
+    let wide : check < 2 ^ 32 = fit.1 in
+    rw (plain_again at (omega arith), plain_again check (omega arith), lt-ltb at n there) refl
 command_again n (Do (Recover failed)) few fit = failed_set n (codes "recover") (λ set. Do (Recover set)) failed few fit
 command_again n Rounds few fit = refl
 command_again n History few fit = refl
@@ -86,6 +90,12 @@ with_state_is_written at state n few fit =
     let there : at < n = fit.0 in
     rw (plain_decimal at (omega arith), plain_hex state (byte_at state fit.1)) refl
 
+with_check_is_written : (at check n : ℕ) → n ≤ MOST_PROCESSES → IsWithCheck n at check → list_all is_plain_field (decimal at ∷ decimal check ∷ []) ≡ true
+with_check_is_written at check n few fit =
+    let there : at < n = fit.0 in
+    let wide : check < 2 ^ 32 = fit.1 in
+    rw (plain_decimal at (omega arith), plain_decimal check (omega arith)) refl
+
 set_is_written : (n : ℕ) (set : List Bool) → n ≤ MOST_PROCESSES → list_all is_plain_field (map decimal (members n set)) ≡ true
 set_is_written n set few = decimals_are_plain n (members n set) few (members_below n set)
 
@@ -100,10 +110,8 @@ command_is_written n (Do (Deliver from to picked state)) few fit =
 command_is_written n (Do (Check at state)) few fit = with_state_is_written at state n few fit
 command_is_written n (Do (Begin at state)) few fit = with_state_is_written at state n few fit
 command_is_written n (Do (Turn at state)) few fit = with_state_is_written at state n few fit
-command_is_written n (Do (Damage at check)) few fit =
-    let there : at < n = fit.0 in
-    let wide : check < 2 ^ 32 = fit.1 in
-    rw (plain_decimal at (omega arith), plain_decimal check (omega arith)) refl
+command_is_written n (Do (Damage at check)) few fit = with_check_is_written at check n few fit
+command_is_written n (Do (Bar at check)) few fit = with_check_is_written at check n few fit
 command_is_written n (Do (Recover failed)) few fit = set_is_written n failed few
 command_is_written n Rounds few fit = refl
 command_is_written n History few fit = refl

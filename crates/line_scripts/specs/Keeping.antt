@@ -2,7 +2,7 @@
 use Rattle.std.specs.Prelude.{◌≡◌, ◌≤◌, ℕ, List, [], ◌∷◌, length, take, drop, Option, Some, None}
 use Rattle.line_names.specs.declared.limits.TheConstants.{MOST_BODY}
 use Rattle.line_fields.specs.declared.faults.Fault.TheVariants as faults
-use Rattle.line_world.specs.declared.steps.Step.TheVariants.{Send, Deliver, Check, Begin, Turn, Damage, Recover}
+use Rattle.line_world.specs.declared.steps.Step.TheVariants.{Send, Deliver, Check, Begin, Turn, Damage, Bar, Recover}
 use Rattle.line_scripts.specs.declared.commands.Command.{Command}
 use Rattle.line_scripts.specs.declared.commands.Command.TheVariants.{Bundle, Do, History, Refused, Rounds}
 use Rattle.line_scripts.specs.declared.keeping.Bare.{Bare}
@@ -23,6 +23,7 @@ with_bytes (bares.Check at) bytes = Do (Check at bytes)
 with_bytes (bares.Begin at) bytes = Do (Begin at bytes)
 with_bytes (bares.Turn at) bytes = Do (Turn at bytes)
 with_bytes (bares.Damage at check) bytes = Do (Damage at check)
+with_bytes (bares.Bar at check) bytes = Do (Bar at check)
 with_bytes (bares.Recover failed) bytes = Do (Recover failed.value)
 with_bytes bares.Rounds bytes = Rounds
 with_bytes bares.History bytes = History

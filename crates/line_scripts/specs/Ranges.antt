@@ -3,7 +3,7 @@ use Rattle.std.specs.Prelude.{◌≡◌, ℕ, ◌≤◌, ◌<◌, ◌^◌, Bool,
 use Rattle.std.specs.List.{AllByRecursion}
 use Rattle.line_names.specs.declared.limits.TheConstants.{MOST_BODY, MOST_PROCESSES}
 use Rattle.line_names.specs.Sets.{is_member}
-use Rattle.line_world.specs.declared.steps.Step.TheVariants.{Send, Deliver, Check, Begin, Turn, Damage, Recover}
+use Rattle.line_world.specs.declared.steps.Step.TheVariants.{Send, Deliver, Check, Begin, Turn, Damage, Bar, Recover}
 use Rattle.line_claims.specs.Ranges.{AreBytes}
 use Rattle.line_scripts.specs.declared.commands.Command.{Command}
 use Rattle.line_scripts.specs.declared.commands.Command.TheVariants.{Bundle, Do, History, Refused, Rounds}
@@ -18,6 +18,10 @@ pub record IsSetAmong (n : ℕ) (set : List Bool) : Type 0 where
 abbrev pub IsWithState : ℕ → ℕ → List ℕ → Type 0
 IsWithState n at state = (at < n) × AllByRecursion (λ byte. byte < 256) state
 
+-- a process among n, and a check
+abbrev pub IsWithCheck : ℕ → ℕ → ℕ → Type 0
+IsWithCheck n at check = (at < n) × (check < 2 ^ 32)
+
 -- a command among n processes, which is not refused before its step
 abbrev pub IsCommandInRange : ℕ → Command → Type 0
 IsCommandInRange n (Do (Send from to body)) = (from < n) × (to < n) × AreBytes MOST_BODY body
@@ -25,7 +29,8 @@ IsCommandInRange n (Do (Deliver from to picked state)) = (from < n) × (picked <
 IsCommandInRange n (Do (Check at state)) = IsWithState n at state
 IsCommandInRange n (Do (Begin at state)) = IsWithState n at state
 IsCommandInRange n (Do (Turn at state)) = IsWithState n at state
-IsCommandInRange n (Do (Damage at check)) = (at < n) × (check < 2 ^ 32)
+IsCommandInRange n (Do (Damage at check)) = IsWithCheck n at check
+IsCommandInRange n (Do (Bar at check)) = IsWithCheck n at check
 IsCommandInRange n (Do (Recover failed)) = IsSetAmong n failed
 IsCommandInRange n Rounds = Unit {0}
 IsCommandInRange n History = Unit {0}

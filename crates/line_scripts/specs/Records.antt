@@ -4,7 +4,7 @@ use Rattle.line_fields.specs.Records.{Record}
 use Rattle.line_fields.specs.Texts.{hex_text}
 use Rattle.line_moves.specs.declared.modes.Mode.{Mode}
 use Rattle.line_moves.specs.declared.modes.Mode.TheVariants.{Fifo, Unordered}
-use Rattle.line_world.specs.declared.steps.Step.TheVariants.{Send, Deliver, Check, Begin, Turn, Damage, Recover}
+use Rattle.line_world.specs.declared.steps.Step.TheVariants.{Send, Deliver, Check, Begin, Turn, Damage, Bar, Recover}
 use Rattle.line_claims.specs.Records.{members}
 use Rattle.line_scripts.specs.declared.commands.Command.{Command}
 use Rattle.line_scripts.specs.declared.commands.Command.TheVariants.{Bundle, Do, History, Refused, Rounds}
@@ -27,6 +27,7 @@ command_record n (Do (Check at state)) = codes "check" ∷ decimal at ∷ hex_te
 command_record n (Do (Begin at state)) = codes "begin" ∷ decimal at ∷ hex_text state ∷ []
 command_record n (Do (Turn at state)) = codes "turn" ∷ decimal at ∷ hex_text state ∷ []
 command_record n (Do (Damage at check)) = codes "damage" ∷ decimal at ∷ decimal check ∷ []
+command_record n (Do (Bar at check)) = codes "bar" ∷ decimal at ∷ decimal check ∷ []
 command_record n (Do (Recover failed)) = codes "recover" ∷ map decimal (members n failed)
 command_record n Rounds = codes "rounds" ∷ []
 command_record n History = codes "history" ∷ []

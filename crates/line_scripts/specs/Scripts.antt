@@ -13,7 +13,7 @@ use Rattle.line_fields.specs.Shapes.{alone, two, three, four}
 use Rattle.line_moves.specs.declared.modes.Mode.{Mode}
 use Rattle.line_moves.specs.declared.modes.Mode.TheVariants.{Fifo, Unordered}
 use Rattle.line_world.specs.declared.steps.Step.{Step}
-use Rattle.line_world.specs.declared.steps.Step.TheVariants.{Send, Deliver, Check, Begin, Turn, Damage, Recover}
+use Rattle.line_world.specs.declared.steps.Step.TheVariants.{Send, Deliver, Check, Begin, Turn, Damage, Bar, Recover}
 use Rattle.line_scripts.specs.declared.commands.Command.{Command}
 use Rattle.line_scripts.specs.declared.commands.Command.TheVariants.{Bundle, Do, History, Refused, Rounds}
 use Rattle.line_scripts.specs.declared.commands.World.{World}
@@ -69,7 +69,7 @@ deliver_of n = four plain plain pick hex (λ from to picked state. Ok (below n (
 unfoldable pub with_state : (ℕ → List ℕ → Step) → ℕ → Record → Result Command Fault
 with_state step n = two plain hex (λ at state. Ok (below n (at ∷ []) (Do (step at state))))
 
--- damage,P,C: a step of a process and one of its checks
+-- damage,P,C or bar,P,C: a step of a process and one of its checks
 unfoldable pub with_check : (ℕ → ℕ → Step) → ℕ → Record → Result Command Fault
 with_check step n = two plain plain (λ at check. Ok (below n (at ∷ []) (Do (step at check))))
 
@@ -86,6 +86,7 @@ command_of n r =
     else if bytes_eq (field r 0) (codes "begin") then with_state Begin n r
     else if bytes_eq (field r 0) (codes "turn") then with_state Turn n r
     else if bytes_eq (field r 0) (codes "damage") then with_check Damage n r
+    else if bytes_eq (field r 0) (codes "bar") then with_check Bar n r
     else if bytes_eq (field r 0) (codes "recover") then with_failed (λ failed. Do (Recover failed)) n r
     else if bytes_eq (field r 0) (codes "rounds") then alone Rounds r
     else if bytes_eq (field r 0) (codes "history") then alone History r

@@ -25,7 +25,7 @@ pub enum Command {
     Rounds,
     /// The machine's history, as a text.
     History,
-    /// A check text of the machine's history and damage, with the plan for these failed processes.
+    /// A check text of the machine's history, damage and bars, with the plan for these failed processes.
     Bundle(ProcSet),
     /// Nothing: a process isn't below the number of processes, or a body is too long. The number of
     /// the refusal tells which.
@@ -214,6 +214,11 @@ pub(crate) fn command_of(
     } else if name == b"damage".as_slice() {
         match with_check(n, row)? {
             Some((at, check)) => Ok(Bare::Damage { at, check }),
+            None => Ok(no_process()),
+        }
+    } else if name == b"bar".as_slice() {
+        match with_check(n, row)? {
+            Some((at, check)) => Ok(Bare::Bar { at, check }),
             None => Ok(no_process()),
         }
     } else if name == b"recover".as_slice() {

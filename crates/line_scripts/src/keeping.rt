@@ -19,6 +19,7 @@ pub(crate) enum Bare {
     Begin { at: ProcId },
     Turn { at: ProcId },
     Damage { at: ProcId, check: u32 },
+    Bar { at: ProcId, check: u32 },
     Recover(Box<ProcSet>),
     Rounds,
     History,
@@ -136,6 +137,10 @@ fn other_with(alloc: Global, bare: &Bare, own: &[u8]) -> Result<Command, AllocEr
             state: state_of(alloc, own)?,
         })),
         Bare::Damage { at, check } => Ok(Command::Do(Step::Damage {
+            at: *at,
+            check: *check,
+        })),
+        Bare::Bar { at, check } => Ok(Command::Do(Step::Bar {
             at: *at,
             check: *check,
         })),

@@ -7,9 +7,9 @@ use Rattle.line_names.specs.declared.choices.Choice.TheVariants.{Check as AtChec
 use Rattle.line_names.specs.Order.{IsNoLater}
 use Rattle.line_tape.specs.Event.{checks}
 use Rattle.line_tape.specs.History.{Process, tape_at}
-use Rattle.line_tape.specs.Survival.{survives, is_damaged}
+use Rattle.line_tape.specs.Survival.{survives, is_allowed, is_damaged}
 use Rattle.line_tape.specs.Chain.{latest_check, latest_choice, next_lower}
-use Rattle.line_tape.specs.Views.{MarksView}
+use Rattle.line_tape.specs.Views.{MarksView, bar_at}
 
 pub IsNoLater-refl : (a : Choice) → IsNoLater a a
 IsNoLater-refl (AtCheck a) = omega arith
@@ -69,7 +69,7 @@ module _ (history : List Process) (marks : MarksView) (failed : List Bool) (p : 
   pub survives_within : (c : ℕ) → survives history marks failed p (AtCheck c) ≡ true → c ≤ checks (tape_at history p)
   survives_within zero h = omega arith
   survives_within (suc c) h =
-      elim (leb (suc c) (checks (tape_at history p))) as (λ b. b ≡ leb (suc c) (checks (tape_at history p)) → (b && not (is_damaged marks p (suc c))) ≡ true → suc c ≤ checks (tape_at history p)) [ true ↦ λ e k. grind (arith, nat_tests) | false ↦ λ e k. absurd (false≢true k) ] refl h
+      elim (leb (suc c) (checks (tape_at history p))) as (λ b. b ≡ leb (suc c) (checks (tape_at history p)) → (b && not (is_damaged marks p (suc c)) && is_allowed (bar_at marks p) (AtCheck (suc c))) ≡ true → suc c ≤ checks (tape_at history p)) [ true ↦ λ e k. grind (arith, nat_tests) | false ↦ λ e k. absurd (false≢true k) ] refl h
 
   latest_choice_at : (b : Bool) → b ≡ survives history marks failed p Now → (c : Choice) → survives history marks failed p c ≡ true → IsNoLater c (cond b Now (latest_check (survives history marks failed p) (checks (tape_at history p))))
   latest_choice_at true e (AtCheck c) h = tt

@@ -1,5 +1,5 @@
 -- A latest line is unique, and in a history that links can lead to it is `Now` everywhere, where nobody failed.
-use Rattle.std.proofs.Common.{◌≡◌, ◌↔◌, ℕ, suc, ◌<◌, Bool, true, false, not, List, [], ◌∷◌, length, replicate, Some, refl, sym, ap, ◌∙◌, subst, arith, inl, inr}
+use Rattle.std.proofs.Common.{◌≡◌, ◌↔◌, ℕ, suc, ◌<◌, Bool, true, false, not, ◌&&◌, List, [], ◌∷◌, length, replicate, Option, Some, None, refl, sym, ap, ◌∙◌, subst, arith, inl, inr}
 use Rattle.std.specs.List.{Contains, slice_get}
 use Rattle.std.proofs.lemmas.Bool.{cases_lt}
 use Rattle.std.proofs.lemmas.List.{get_or-replicate, length-replicate, take_all}
@@ -16,8 +16,8 @@ use Rattle.line_tape.specs.Fit.{IsFitUnordered}
 use Rattle.line_tape.specs.Front.{front}
 use Rattle.line_tape.specs.History.{Process, tape_at}
 use Rattle.line_tape.specs.Line.{events_before, IsConsistent}
-use Rattle.line_tape.specs.Survival.{survives, IsLatest}
-use Rattle.line_tape.specs.Views.{MarksView}
+use Rattle.line_tape.specs.Survival.{survives, is_allowed, IsLatest}
+use Rattle.line_tape.specs.Views.{MarksView, bar_at}
 use Rattle.line_tape.proofs.ChainLemmas.{choice-past}
 use Rattle.line_tape.proofs.ChoiceLemmas.{IsNoLater-refl, IsNoLater-both}
 use Rattle.line_tape.proofs.LineLemmas.{tape_at-past, IsConsistent-below}
@@ -65,12 +65,12 @@ module _ (history : List Process) where
       let held : Holds (tape_at history m.from) m.inc m.number = (fit.held q m (subst (λ (es : List Event). Contains es (Recv m)) (whole_tape q within) received)).held in
       subst (λ (es : List Event). Holds es m.inc m.number) (sym (whole_tape m.from (held_within m held))) held)
 
-  stays_latest : (marks : MarksView) (failed : List Bool) → IsFitUnordered history → ((p : ℕ) → p < length history → is_member failed p ≡ false) → IsLatest history marks failed (stays history)
-  stays_latest marks failed fit nobody = record {
+  stays_latest : (marks : MarksView) (failed : List Bool) → IsFitUnordered history → ((p : ℕ) → p < length history → is_member failed p ≡ false) → ((p : ℕ) → bar_at marks p ≡ None) → IsLatest history marks failed (stays history)
+  stays_latest marks failed fit nobody free = record {
     recoverable = record {
       length_is = length-replicate (length history) Now;
       surviving = λ p. elim (cases_lt p (length history)) [
-        | inl h ↦ subst (λ (c : Choice). survives history marks failed p c ≡ true) (sym (stays_at p h)) (ap not (nobody p h))
+        | inl h ↦ subst (λ (c : Choice). survives history marks failed p c ≡ true) (sym (stays_at p h)) (ap (λ (m : Bool). not m && is_allowed (bar_at marks p) Now) (nobody p h) ∙ ap (λ (bar : Option ℕ). is_allowed bar Now) (free p))
         | inr h ↦ subst (λ (c : Choice). survives history marks failed p c ≡ true) (sym (choice-past (stays history) p (omega (arith, length-replicate (length history) Now)))) refl
       ];
       consistent = stays_consistent fit;
@@ -85,7 +85,7 @@ module _ (history : List Process) where
   }
 
   -- every latest line is that one, and that one is latest
-  pub latest_stays : (marks : MarksView) (failed : List Bool) (line : List Choice) → IsFitUnordered history → ((p : ℕ) → p < length history → is_member failed p ≡ false) → IsLatest history marks failed line ↔ (line ≡ stays history)
-  latest_stays marks failed line fit nobody =
-      let latest : IsLatest history marks failed (stays history) = stays_latest marks failed fit nobody in
+  pub latest_stays : (marks : MarksView) (failed : List Bool) (line : List Choice) → IsFitUnordered history → ((p : ℕ) → p < length history → is_member failed p ≡ false) → ((p : ℕ) → bar_at marks p ≡ None) → IsLatest history marks failed line ↔ (line ≡ stays history)
+  latest_stays marks failed line fit nobody free =
+      let latest : IsLatest history marks failed (stays history) = stays_latest marks failed fit nobody free in
       (λ h. latest_same history marks failed line (stays history) h latest, λ e. subst (IsLatest history marks failed) (sym e) latest)

@@ -36,3 +36,4 @@ pub mod SeatLemmas
 pub mod NotedLemmas
 pub mod FirstLemmas
 pub mod MarkedLemmas
+pub mod BarLemmas

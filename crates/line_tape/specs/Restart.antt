@@ -1,5 +1,5 @@
--- What a restart at a line leaves of a history and of its damage marks.
-use Rattle.std.specs.Prelude.{◌≢◌, ℕ, ◌+◌, ◌<◌, Bool, true, nat_le, List, [], ◌∷◌, length, filter, Option, Some, None}
+-- What a restart at a line leaves of a history, of its damage marks and of its bars.
+use Rattle.std.specs.Prelude.{◌≢◌, ℕ, ◌+◌, ◌<◌, Bool, true, nat_le, List, [], ◌∷◌, length, filter, replicate, Option, Some, None}
 use Rattle.std.specs.List.{filter_map}
 use Rattle.line_names.specs.declared.choices.Choice.{Choice}
 use Rattle.line_names.specs.declared.choices.Choice.TheVariants.{Check as AtCheck, Now}
@@ -54,6 +54,7 @@ restarted_damage [] line = []
 restarted_damage (checks ∷ rest) [] = []
 restarted_damage (checks ∷ rest) (choice ∷ line) = filter (is_kept choice) checks ∷ restarted_damage rest line
 
--- the marks of damage that are kept
+-- the marks of damage that are kept; all bars go
 abbrev pub restarted_marks : MarksView → List Choice → MarksView
-restarted_marks marks line = record marks { damaged = restarted_damage marks.damaged line }
+restarted_marks marks line =
+    record { damaged = restarted_damage marks.damaged line; bars = replicate (length marks.bars) None }

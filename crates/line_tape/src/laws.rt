@@ -1,5 +1,5 @@
 //! Laws over the definitions alone.
-ghost use Rattle.std.specs.Prelude.{◌≡◌, ◌<◌, ◌↔◌, ℕ, false, List, Bool, length, replicate};
+ghost use Rattle.std.specs.Prelude.{◌≡◌, ◌<◌, ◌↔◌, ℕ, false, List, Bool, length, replicate, None};
 ghost use Rattle.line_names.specs.declared.certificates.Passed.{Passed};
 ghost use Rattle.line_names.specs.declared.choices.Choice.{Choice};
 ghost use Rattle.line_names.specs.declared.choices.Choice.TheVariants.{Now};
@@ -8,7 +8,7 @@ ghost use Rattle.line_tape.specs.Chain.{IsAbove, IsChain, IsPassedOnce, PassesOv
 ghost use Rattle.line_tape.specs.Fit.{IsFitFifo, IsFitUnordered};
 ghost use Rattle.line_tape.specs.History.{Process};
 ghost use Rattle.line_tape.specs.Survival.{IsLatest};
-ghost use Rattle.line_tape.specs.Views.{MarksView};
+ghost use Rattle.line_tape.specs.Views.{MarksView, bar_at};
 
 /// On every history whatever, a chain that is valid for a line makes that line the latest.
 ///
@@ -26,15 +26,17 @@ pub fn latest_is_unique()
         → IsLatest history marks failed line → IsLatest history marks failed other → line ≡ other }
 {}
 
-/// Where links, of either kind, can lead to the history and no process of it failed, the latest line is where every process stands now, whatever checks are damaged; and there is no other.
+/// Where links, of either kind, can lead to the history and no process of it failed or is barred, the latest line is where every process stands now, whatever checks are damaged; and there is no other.
 ///
 /// The call does nothing: its contract is the law.
 pub fn now_is_latest()
     ensures ordered { (history : List Process) (marks : MarksView) (failed : List Bool) (line : List Choice) → IsFitFifo history
         → ((p : ℕ) → p < length history → is_member failed p ≡ false)
+        → ((p : ℕ) → bar_at marks p ≡ None)
         → IsLatest history marks failed line ↔ (line ≡ replicate (length history) Now) }
     ensures unordered { (history : List Process) (marks : MarksView) (failed : List Bool) (line : List Choice) → IsFitUnordered history
         → ((p : ℕ) → p < length history → is_member failed p ≡ false)
+        → ((p : ℕ) → bar_at marks p ≡ None)
         → IsLatest history marks failed line ↔ (line ≡ replicate (length history) Now) }
 {}
 

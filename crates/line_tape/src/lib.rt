@@ -3,6 +3,7 @@
 //! A history has one tape of events for each process. A choice of a process is its initial state, one of its checks or where it stands now; a line picks one choice for each process. What is consistent, which line is the latest, what is in transit and what a restart leaves is defined in `specs/`, over plain lists of events.
 #![tactic(auto)]
 
+mod bars;
 mod colours;
 mod copies;
 mod events;
@@ -21,6 +22,7 @@ mod survival;
 mod tapes;
 mod transits;
 
+pub use bars::BarError;
 pub use colours::{
     colour_round_holds, colours_change, colours_hold, forced_checks_suffice, turns_tell,
 };

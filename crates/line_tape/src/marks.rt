@@ -1,12 +1,13 @@
-//! Marks of damage.
-ghost use Rattle.std.specs.Prelude.{◌≡◌, ◌≢◌, ◌<◌, ◌≤◌, ◌↔◌, ◌-◌, ◌==◌, ℕ, false, [], ◌∷◌, ◌++◌, All, IsTrue, length, filter, replicate, slice_get, IfOk, IfSome, None, OnOk, OnErr, IsErrOf, Some};
+//! Marks of damage, and bars.
+ghost use Rattle.std.specs.Prelude.{◌≡◌, ◌≢◌, ◌<◌, ◌≤◌, ◌↔◌, ◌-◌, ◌==◌, ℕ, false, [], ◌∷◌, ◌++◌, All, IsTrue, length, filter, slice_get, IfOk, IfSome, None, OnOk, OnErr, IsErrOf, Some};
 ghost use Rattle.std.specs.List.{list_any};
 ghost use Rattle.line_names.specs.declared.choices.Choice.TheVariants.{Check as AtCheck};
 ghost use Rattle.line_tape.specs.Marked.{checks_marked, AreNumbered};
 ghost use Rattle.line_tape.specs.Restart.{is_kept, restarted_marks};
-ghost use Rattle.line_tape.specs.Survival.{is_damaged};
-ghost use Rattle.line_tape.specs.Views.{damaged_at, with_mark};
+ghost use Rattle.line_tape.specs.Survival.{is_allowed, is_barred, is_damaged};
+ghost use Rattle.line_tape.specs.Views.{bar_at, damaged_at, no_marks, with_bar, with_mark};
 
+use crate::bars::{BarError, Bars};
 use line_names::{Choice, Line, ProcId};
 use std::alloc::{AllocError, Global};
 use std::collections::BTreeMap;
@@ -127,12 +128,15 @@ impl Damaged {
     }
 }
 
-/// Which checks are damaged, process by process.
+/// Which checks are damaged, and where processes are barred, process by process.
 ///
-/// A mark is the caller's word: nothing here looks at the bytes of a check, and a mark may name a check that no tape has.
+/// A process that is barred at a check must not go on later than from there, for instance because its
+/// results are known to be wrong from then on. A mark and a bar are the caller's word: nothing here
+/// looks at the bytes of a check, and they may name a check that no tape has.
 #[derive(Drop)]
 pub struct Marks {
     damaged: Vec<Damaged>,
+    bars: Bars,
 }
 
 impl Model for Marks {
@@ -140,19 +144,24 @@ impl Model for Marks {
 
     ghost Value = { MarksView };
 
-    ghost view = { λ m. record { damaged = m.damaged.items } };
+    ghost use Rattle.std.specs.Prelude.{◌≡◌, length};
+
+    ghost view = { λ m. record { damaged = m.damaged.items; bars = m.bars } };
+
+    ghost invariant = { λ m. length m.bars ≡ length m.damaged.items };
 }
 
 impl Marks {
-    /// No marks yet, for `n` processes.
+    /// No marks and no bars yet, for `n` processes.
     pub fn new(alloc: Global, n: u32) -> Result<Marks, AllocError>
-        ensures { IfOk result (λ marks. marks.damaged ≡ replicate n []) }
+        ensures { IfOk result (λ marks. marks ≡ no_marks n) }
     {
+        let bars = Bars::new(alloc, n)?;
         let mut damaged = Vec::with_capacity(alloc, n as usize)?;
         for _p in 0..n {
             damaged.push(Damaged::new(alloc))?;
         }
-        Ok(Marks { damaged })
+        Ok(Marks { damaged, bars })
     }
 
     /// Marks a check as damaged. It costs the logarithm of the marks of the process.
@@ -177,8 +186,51 @@ impl Marks {
         Ok(())
     }
 
-    /// Takes the marks off the checks that a restart at a line cuts off. It takes no memory, and
-    /// looks at the marks that it takes off and at one more of each process.
+    /// Bars a process at a check: none of its choices later than that check survives, until the next
+    /// restart. The process may have been barred at a later check before; check 0 is its initial state.
+    pub fn bar(&mut self, p: ProcId, check: u32) -> Result<(), BarError>
+        requires { p < length self.old.damaged }
+        ensures ok { OnOk result (self.new ≡ with_bar self.old p check) }
+        ensures err { OnErr result (self.new ≡ self.old) }
+        ensures lower { IsErrOf result BarError.BarNotLower ↔ IsTrue (is_barred self.old p check) }
+        ensures check { IsErrOf result BarError.NoSuchCheck → ⊥ }
+    {
+        if let Some(bar) = self.bar_of(p) {
+            if bar <= check {
+                return Err(BarError::BarNotLower);
+            }
+        }
+        self.bars.set(p.get() as usize, check);
+        Ok(())
+    }
+
+    /// The check that a process is barred at, if it is.
+    pub fn bar_of(&self, p: ProcId) -> Option<u32>
+        ensures { result ≡ bar_at self.now p }
+    {
+        self.bars.at(p.get() as usize)
+    }
+
+    /// The check that the process of that number is barred at, if there is the process and it is.
+    pub fn bar_at(&self, p: usize) -> Option<u32>
+        ensures { result ≡ bar_at self.now p }
+    {
+        self.bars.at(p)
+    }
+
+    /// Whether a choice of a process is not later than its bar, where it has one.
+    pub fn allows(&self, p: ProcId, choice: Choice) -> bool
+        ensures { result ≡ is_allowed (bar_at self.now p) choice }
+    {
+        match (self.bar_of(p), choice) {
+            (None, _) => true,
+            (Some(bar), Choice::Check(c)) => c <= bar,
+            (Some(_), Choice::Now) => false,
+        }
+    }
+
+    /// Takes the marks off the checks that a restart at a line cuts off, and all bars away. It takes no
+    /// memory, and looks at the marks that it takes off and at one more of each process.
     pub fn restart(&mut self, line: &Line)
         requires { length self.old.damaged ≤ length line.now }
         ensures { self.new ≡ restarted_marks self.old line.now }
@@ -187,6 +239,7 @@ impl Marks {
         for p in 0..self.damaged.len() {
             self.damaged[p].restart(choices[p]);
         }
+        self.bars.clear();
     }
 
     /// Whether a check carries a mark. It costs the logarithm of the marks of the process.
@@ -201,7 +254,8 @@ impl Marks {
 
     /// How many processes it was made for.
     pub fn processes(&self) -> usize
-        ensures { result ≡ length self.now.damaged }
+        ensures value { result ≡ length self.now.damaged }
+        ensures bars { length self.now.bars ≡ length self.now.damaged }
     {
         self.damaged.len()
     }
@@ -226,7 +280,8 @@ impl Marks {
         for process in &self.damaged {
             damaged.push(process.copy()?)?;
         }
-        Ok(Marks { damaged })
+        let bars = self.bars.copy(alloc)?;
+        Ok(Marks { damaged, bars })
     }
 }
 

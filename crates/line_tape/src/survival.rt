@@ -9,7 +9,8 @@ use crate::histories::History;
 use crate::marks::Marks;
 use line_names::{Choice, Line, ProcId, ProcSet};
 
-/// Whether a choice of a process survives: its initial state does, each check without a mark, and `Now` where it did not fail.
+/// Whether a choice of a process survives: its initial state does, and of what the process's bar
+/// allows each check without a mark, and `Now` where it did not fail.
 pub fn survives(
     history: &History,
     marks: &Marks,
@@ -22,8 +23,10 @@ pub fn survives(
 {
     match choice {
         Choice::Check(0) => true,
-        Choice::Check(c) => c <= history.tape(p).checks() && !marks.has(p, c),
-        Choice::Now => !failed.has(p),
+        Choice::Check(c) => {
+            c <= history.tape(p).checks() && !marks.has(p, c) && marks.allows(p, choice)
+        }
+        Choice::Now => !failed.has(p) && marks.allows(p, Choice::Now),
     }
 }
 

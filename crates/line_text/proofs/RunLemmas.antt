@@ -341,5 +341,6 @@ stops_text text script first commands i old new spelt start all runs = record {
 
 -- a fault of a text that was read is the first one
 pub fault_of_text : {A : Type 0} (read : Result A TextFault) (fault : TextFault) → (fault ≡ no_memory) ⊎ (read ≡ Err fault) → IsOfText fault → read ≡ Err fault
-fault_of_text read fault (inl none) of_text = let zero : fault.code ≡ 0 = ap (λ (f : TextFault). f.code) none in absurd (omega (arith, zero, of_text.0))
+fault_of_text read fault (inl none) (inl low) = let zero : fault.code ≡ 0 = ap (λ (f : TextFault). f.code) none in absurd (omega (arith, zero, low.0))
+fault_of_text read fault (inl none) (inr forty) = let zero : fault.code ≡ 0 = ap (λ (f : TextFault). f.code) none in absurd (omega (arith, zero, forty))
 fault_of_text read fault (inr first) of_text = first

@@ -60,7 +60,7 @@ fn refuse(
     Ok(())
 }
 
-// Writes the check text of the machine's history and damage, with the plan for these failed processes, and
+// Writes the check text of the machine's history, damage and bars, with the plan for these failed processes, and
 // puts it in pieces.
 fn bundle<K: Sink>(
     alloc: Global,
@@ -160,7 +160,7 @@ fn do_command<K: Sink>(
             Ok(())
         }
         Command::Rounds => list_rounds(world, sink, writer, draft),
-        Command::History => pass_history(sink, writer, draft, world.history()),
+        Command::History => pass_history(sink, writer, draft, 1, world.history()),
         Command::Bundle(failed) => bundle(alloc, world, sink, writer, draft, refused, failed),
         Command::Do(step) => {
             do_step(alloc, world, writer, draft, refused, step)?;
@@ -354,7 +354,7 @@ pub fn run_text<S: Source, K: Sink>(
         × spec.StopsText text fault.record_number (K.taken sink.old) (K.taken sink.new))) }
 
     // There are no other faults, a sound sink is not blamed, and no failure of the source is passed over.
-    ensures codes { IfErr result (λ fault. fault.code ≤ WRITE_FAULT) }
+    ensures codes { IfErr result (λ fault. (fault.code ≤ WRITE_FAULT) ⊎ IsOfText fault) }
     ensures sound { OnOk result (K.faults sink.new ≡ K.faults sink.old) }
     ensures heard { OnOk result (S.faults source.new ≡ S.faults source.old) }
     ensures told { IfErr result (λ fault. fault.code ≢ READ_FAULT → S.faults source.new ≡ S.faults source.old) }

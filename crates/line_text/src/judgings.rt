@@ -128,7 +128,7 @@ pub fn check_text<S: Source, K: Sink>(
     ensures memory { IfErr result (λ fault. fault.code ≡ 0 → (fault.record_number ≡ 0) × (sink.new ≡ sink.old)) }
 
     // There are no other faults, a sound sink is not blamed, and no failure of the source is passed over.
-    ensures codes { IfErr result (λ fault. fault.code ≤ WRITE_FAULT) }
+    ensures codes { IfErr result (λ fault. (fault.code ≤ WRITE_FAULT) ⊎ IsOfText fault) }
     ensures sound { OnOk result (K.faults sink.new ≡ K.faults sink.old) }
     ensures heard { OnOk result (S.faults source.new ≡ S.faults source.old) }
     ensures told { IfErr result (λ fault. fault.code ≢ READ_FAULT → S.faults source.new ≡ S.faults source.old) }

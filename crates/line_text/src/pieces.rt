@@ -9,7 +9,8 @@ ghost use Rattle.line_tape.specs.History.{process_at};
 ghost use Rattle.line_text.specs.Pieces as spec;
 
 use line_claims::{
-    put_damage, put_end, put_event, put_failed, put_history_head, put_line, put_pass, put_tape_head,
+    put_bar_of, put_damage, put_end, put_event, put_failed, put_history_head, put_line, put_pass,
+    put_tape_head, version_of,
 };
 use line_devices::{DeviceFault, Sink, put_all};
 use line_fields::{Draft, RecordWriter};
@@ -124,20 +125,22 @@ fn pass_tape_of<K: Sink>(
     pass_tape(sink, writer, draft, p, inc, events)
 }
 
-/// Writes the records of a history behind what is held, and puts them in pieces of some 64 KiB.
+/// Writes the records of a history in a text of that version behind what is held, and puts them in
+/// pieces of some 64 KiB.
 pub(crate) fn pass_history<K: Sink>(
     sink: &mut K,
     writer: &mut RecordWriter,
     draft: &mut Draft,
+    version: u32,
     history: &History,
 ) -> Result<(), Halt>
-    ensures ok { OnOk result (spec.PutsButEnd (K.taken sink.old) (K.taken sink.new) writer.new (writer.old ++ records_text (records.history_records history.now.processes))) }
-    ensures err { IfErr result (λ halt. spec.Halts halt (K.taken sink.old) (K.taken sink.new) writer.old writer.new (records_text (records.history_records history.now.processes))) }
+    ensures ok { OnOk result (spec.PutsButEnd (K.taken sink.old) (K.taken sink.new) writer.new (writer.old ++ records_text (records.front_records version history.now.processes))) }
+    ensures err { IfErr result (λ halt. spec.Halts halt (K.taken sink.old) (K.taken sink.new) writer.old writer.new (records_text (records.front_records version history.now.processes))) }
     ensures sound { OnOk result (K.faults sink.new ≡ K.faults sink.old) }
     ensures blamed { IfErr result (λ halt. spec.IsBlamed halt (K.faults sink.old) (K.faults sink.new)) }
 {
     let n = history.n();
-    put_history_head(writer, draft, n)?;
+    put_history_head(writer, draft, version, n)?;
     put_long(sink, writer)?;
     for p in 0..n {
         let Ok(p) = ProcId::try_new(p, n) else {
@@ -195,6 +198,48 @@ fn pass_damages<K: Sink>(
         let last = history.tape(p).checks();
         pass_damages_of(sink, writer, draft, marks, p, last)?;
     }
+    Ok(())
+}
+
+// Writes `bar,P,C` for each process of a history that is barred, and puts them in pieces.
+fn pass_bars<K: Sink>(
+    sink: &mut K,
+    writer: &mut RecordWriter,
+    draft: &mut Draft,
+    history: &History,
+    marks: &Marks,
+) -> Result<(), Halt>
+    ensures ok { OnOk result (spec.PutsButEnd (K.taken sink.old) (K.taken sink.new) writer.new (writer.old ++ records_text (records.bars_records 0 (records.in_order history.now.processes marks.now).bars))) }
+    ensures err { IfErr result (λ halt. spec.Halts halt (K.taken sink.old) (K.taken sink.new) writer.old writer.new (records_text (records.bars_records 0 (records.in_order history.now.processes marks.now).bars))) }
+    ensures sound { OnOk result (K.faults sink.new ≡ K.faults sink.old) }
+    ensures blamed { IfErr result (λ halt. spec.IsBlamed halt (K.faults sink.old) (K.faults sink.new)) }
+{
+    let n = history.n();
+    for value in 0..n {
+        let Ok(p) = ProcId::try_new(value, n) else {
+            unreachable!()
+        };
+        put_bar_of(writer, draft, marks, p)?;
+        put_long(sink, writer)?;
+    }
+    Ok(())
+}
+
+// Writes the marks of a history, the damaged checks and the bars, and puts them in pieces.
+fn pass_marks<K: Sink>(
+    sink: &mut K,
+    writer: &mut RecordWriter,
+    draft: &mut Draft,
+    history: &History,
+    marks: &Marks,
+) -> Result<(), Halt>
+    ensures ok { OnOk result (spec.PutsButEnd (K.taken sink.old) (K.taken sink.new) writer.new (writer.old ++ records_text (records.marks_records (records.in_order history.now.processes marks.now)))) }
+    ensures err { IfErr result (λ halt. spec.Halts halt (K.taken sink.old) (K.taken sink.new) writer.old writer.new (records_text (records.marks_records (records.in_order history.now.processes marks.now)))) }
+    ensures sound { OnOk result (K.faults sink.new ≡ K.faults sink.old) }
+    ensures blamed { IfErr result (λ halt. spec.IsBlamed halt (K.faults sink.old) (K.faults sink.new)) }
+{
+    pass_damages(sink, writer, draft, history, marks)?;
+    pass_bars(sink, writer, draft, history, marks)?;
     Ok(())
 }
 
@@ -287,19 +332,19 @@ fn pass_claim<K: Sink>(
     line: &Line,
     certificate: &[Passed],
 ) -> Result<(), Halt>
-    ensures ok { OnOk result (spec.PutsButEnd (K.taken sink.old) (K.taken sink.new) writer.new (writer.old ++ records_text (records.damages_records 0 (records.in_order history.now.processes marks.now).damaged ++ records.judged_records (length history.now.processes) failed.now line.now certificate.now))) }
-    ensures err { IfErr result (λ halt. spec.Halts halt (K.taken sink.old) (K.taken sink.new) writer.old writer.new (records_text (records.damages_records 0 (records.in_order history.now.processes marks.now).damaged ++ records.judged_records (length history.now.processes) failed.now line.now certificate.now))) }
+    ensures ok { OnOk result (spec.PutsButEnd (K.taken sink.old) (K.taken sink.new) writer.new (writer.old ++ records_text (records.marks_records (records.in_order history.now.processes marks.now) ++ records.judged_records (length history.now.processes) failed.now line.now certificate.now))) }
+    ensures err { IfErr result (λ halt. spec.Halts halt (K.taken sink.old) (K.taken sink.new) writer.old writer.new (records_text (records.marks_records (records.in_order history.now.processes marks.now) ++ records.judged_records (length history.now.processes) failed.now line.now certificate.now))) }
     ensures sound { OnOk result (K.faults sink.new ≡ K.faults sink.old) }
     ensures blamed { IfErr result (λ halt. spec.IsBlamed halt (K.faults sink.old) (K.faults sink.new)) }
 {
-    pass_damages(sink, writer, draft, history, marks)?;
+    pass_marks(sink, writer, draft, history, marks)?;
     pass_judged(sink, writer, draft, history.n(), failed, line, certificate)?;
     Ok(())
 }
 
 /// Writes a check text behind what is held, and puts it in pieces of some 64 KiB: a history, and the
-/// claim on it that these of its checks are damaged, these processes failed, and this is the line with
-/// its certificate.
+/// claim on it that these of its checks are damaged, its processes are barred so, these failed, and this
+/// is the line with its certificate.
 pub(crate) fn pass_check_text<K: Sink>(
     sink: &mut K,
     writer: &mut RecordWriter,
@@ -315,7 +360,8 @@ pub(crate) fn pass_check_text<K: Sink>(
     ensures sound { OnOk result (K.faults sink.new ≡ K.faults sink.old) }
     ensures blamed { IfErr result (λ halt. spec.IsBlamed halt (K.faults sink.old) (K.faults sink.new)) }
 {
-    pass_history(sink, writer, draft, history)?;
+    let version = version_of(history, marks);
+    pass_history(sink, writer, draft, version, history)?;
     pass_claim(
         sink,
         writer,

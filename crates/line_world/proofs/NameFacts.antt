@@ -16,9 +16,9 @@ use Rattle.line_moves.specs.declared.fates.Fate.TheVariants.{Taken, Stale as IsS
 use Rattle.line_world.specs.declared.replies.Answer.{Answer}
 use Rattle.line_world.specs.declared.replies.Answer.TheVariants.{Done, Refused}
 use Rattle.line_world.specs.declared.replies.Reply.{Reply}
-use Rattle.line_world.specs.declared.replies.Reply.TheVariants.{Sent, Took, Marked, Stale, Repeated, Checked, Begun, Turned, Damaged, Recovered}
+use Rattle.line_world.specs.declared.replies.Reply.TheVariants.{Sent, Took, Marked, Stale, Repeated, Checked, Begun, Turned, Damaged, Barred, Recovered}
 use Rattle.line_world.specs.declared.steps.Step.{Step}
-use Rattle.line_world.specs.declared.steps.Step.TheVariants.{Send, Deliver, Check, Begin, Turn, Damage, Recover}
+use Rattle.line_world.specs.declared.steps.Step.TheVariants.{Send, Deliver, Check, Begin, Turn, Damage, Bar, Recover}
 use Rattle.line_moves.specs.Fates.{fate_of, forced_round, events_of, events_taken, is_forced, marker_events}
 use Rattle.line_world.specs.Steps.{reply_of, reply_taken, Does, RecoversWith}
 use Rattle.line_world.specs.Machine.{Machine}
@@ -92,8 +92,8 @@ told_taken mode history to (Marker round) = refl
 names-done : (old new : Machine) (step : Step) (reply : Reply) → HasNoLaterSend old.history → refusal_of old step ≡ None → Does old step reply new → KeepsNames old.history new.history × IsNamed old.history new.history (reply_name reply)
 names-done old new (Send from to body) reply sends none does =
     let within : from < length old.history = (may_send old from to body none).named.from_within in
-    let after : new.history ≡ with_event old.history from (SendEvent to (incarnation_at old.history from) body) = ap (λ (m : Machine). m.history) does.new_is in
-    let name : reply_name reply ≡ Some (next_name old.history from) = ap reply_name does.reply_is in (
+    let after : new.history ≡ with_event old.history from (SendEvent to (incarnation_at old.history from) body) = ap (λ (m : Machine). m.history) does.1 in
+    let name : reply_name reply ≡ Some (next_name old.history from) = ap reply_name does.0 in (
       subst (KeepsNames old.history) (sym after) (KeepsNames-event old.history from (SendEvent to (incarnation_at old.history from) body) sends within (λ inc e. let same : incarnation_at old.history from ≡ inc = cc in omega (arith, same))),
       record {
         fresh = λ message e is. let same : message ≡ next_name old.history from = cc (e, name) in next_unspent old.history from (subst (IsSpentName old.history) same is);
@@ -110,23 +110,26 @@ names-done old new (Deliver from to pick state) reply sends none does =
       unnamed old.history new.history (reply_name reply) (ap reply_name does.reply_is ∙ told_taken old.mode old.history to does.item),
     )
 names-done old new (Check at state) reply sends none does =
-    let after : new.history ≡ with_event old.history at (CheckEvent state None) = ap (λ (m : Machine). m.history) does.new_is in (
+    let after : new.history ≡ with_event old.history at (CheckEvent state None) = ap (λ (m : Machine). m.history) does.1 in (
       subst (KeepsNames old.history) (sym after) (KeepsNames-event old.history at (CheckEvent state None) sends (may_check old at state none).within (λ inc e. absurd (cc))),
-      unnamed old.history new.history (reply_name reply) (ap reply_name does.reply_is),
+      unnamed old.history new.history (reply_name reply) (ap reply_name does.0),
     )
 names-done old new (Begin at state) reply sends none does =
-    let after : new.history ≡ with_event old.history at (CheckEvent state (Some (old.last_round + 1))) = ap (λ (m : Machine). m.history) does.new_is in (
+    let after : new.history ≡ with_event old.history at (CheckEvent state (Some (old.last_round + 1))) = ap (λ (m : Machine). m.history) does.1 in (
       subst (KeepsNames old.history) (sym after) (KeepsNames-event old.history at (CheckEvent state (Some (old.last_round + 1))) sends (may_begin old at state none).within (λ inc e. absurd (cc))),
-      unnamed old.history new.history (reply_name reply) (ap reply_name does.reply_is),
+      unnamed old.history new.history (reply_name reply) (ap reply_name does.0),
     )
 names-done old new (Turn at state) reply sends none does =
-    let after : new.history ≡ with_event old.history at (CheckEvent state (Some old.last_round)) = ap (λ (m : Machine). m.history) does.new_is in (
+    let after : new.history ≡ with_event old.history at (CheckEvent state (Some old.last_round)) = ap (λ (m : Machine). m.history) does.1 in (
       subst (KeepsNames old.history) (sym after) (KeepsNames-event old.history at (CheckEvent state (Some old.last_round)) sends (may_turn_at old at state none).within (λ inc e. absurd (cc))),
-      unnamed old.history new.history (reply_name reply) (ap reply_name does.reply_is),
+      unnamed old.history new.history (reply_name reply) (ap reply_name does.0),
     )
 names-done old new (Damage at check) reply sends none does =
-    let after : new.history ≡ old.history = ap (λ (m : Machine). m.history) does.new_is in
-    (subst (KeepsNames old.history) (sym after) (KeepsNames-same old.history sends), unnamed old.history new.history (reply_name reply) (ap reply_name does.reply_is))
+    let after : new.history ≡ old.history = ap (λ (m : Machine). m.history) does.1 in
+    (subst (KeepsNames old.history) (sym after) (KeepsNames-same old.history sends), unnamed old.history new.history (reply_name reply) (ap reply_name does.0))
+names-done old new (Bar at check) reply sends none does =
+    let after : new.history ≡ old.history = ap (λ (m : Machine). m.history) does.1 in
+    (subst (KeepsNames old.history) (sym after) (KeepsNames-same old.history sends), unnamed old.history new.history (reply_name reply) (ap reply_name does.0))
 names-done old new (Recover failed) reply sends none does = recovered reply does where
   recovered : (r : Reply) → RecoversWith old failed r new → KeepsNames old.history new.history × IsNamed old.history new.history (reply_name r)
   recovered (Recovered plan states incarnations) is =
@@ -148,6 +151,7 @@ names-done old new (Recover failed) reply sends none does = recovered reply does
   recovered (Begun at check round) is = absurd is
   recovered (Turned at check round) is = absurd is
   recovered (Damaged at check) is = absurd is
+  recovered (Barred at check) is = absurd is
 
 names-taken : (old new : Machine) (step : Step) (answer : Answer) → HasNoLaterSend old.history → Takes old step answer new → KeepsNames old.history new.history × IsNamed old.history new.history (answer_name answer)
 names-taken old new step (Done reply) sends takes = names-done old new step reply sends takes.0 takes.1

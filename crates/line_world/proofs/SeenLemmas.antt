@@ -17,8 +17,9 @@ use Rattle.line_moves.specs.Modes.{copies_in}
 use Rattle.line_moves.specs.Worlds.{message_of, names_on}
 use Rattle.line_moves.proofs.WorldLemmas.{names-at, names-with}
 use Rattle.line_world.specs.declared.replies.Reply.TheVariants.{Sent}
+use Rattle.line_world.specs.declared.steps.Step.TheVariants.{Send as SendStep}
 use Rattle.line_world.specs.Machine.{Machine}
-use Rattle.line_world.specs.Steps.{Sends}
+use Rattle.line_world.specs.Steps.{Does}
 
 -- the machine that a world shows
 abbrev pub seen : Mode → List Process → MarksView → ℕ → List Listed → List (List (List Item)) → Machine
@@ -42,10 +43,10 @@ pub Sends-seen : (mode : Mode) (history : List Process) (marks : MarksView) (las
     → marks_after ≡ marks
     → queues_after ≡ with_list queues from to (between queues from to ++ Message (next_name history from) ∷ [])
     → newly_listed mode history (with_event history from (Send to (incarnation_at history from) body)) last ≡ []
-    → Sends (seen mode history marks last rounds queues) from to body (Sent message) (seen mode after marks_after last rounds queues_after)
-Sends-seen mode history marks last rounds queues from to body message after marks_after queues_after name sent marked put none = record {
-  reply_is = ap (λ (m : MsgName). Sent m) name;
-  new_is = ap (λ (h : List Process). seen mode h marks_after last rounds queues_after) sent
+    → Does (seen mode history marks last rounds queues) (SendStep from to body) (Sent message) (seen mode after marks_after last rounds queues_after)
+Sends-seen mode history marks last rounds queues from to body message after marks_after queues_after name sent marked put none = (
+  ap (λ (m : MsgName). Sent m) name,
+  ap (λ (h : List Process). seen mode h marks_after last rounds queues_after) sent
       ∙ ap (λ (v : MarksView). seen mode (with_event history from (Send to (incarnation_at history from) body)) v last rounds queues_after) marked
       ∙ ap (λ (q : List (List (List Item))). seen mode (with_event history from (Send to (incarnation_at history from) body)) marks last rounds q) put
       ∙ ap (λ (copies : List (List (List MsgName))). let m : Machine = record { mode = mode; history = with_event history from (Send to (incarnation_at history from) body); marks = marks; last_round = last; rounds = rounds; copies = copies } in m)
@@ -58,5 +59,5 @@ Sends-seen mode history marks last rounds queues from to body message after mark
         rounds = listed;
         copies = copies_in mode (with_list (names_on (copies_in mode queues)) from to (between (names_on (copies_in mode queues)) from to ++ next_name history from ∷ []));
       } in m)
-      (sym (append-nil rounds) ∙ ap (λ (new : List Listed). rounds ++ new) (sym none));
-}
+      (sym (append-nil rounds) ∙ ap (λ (new : List Listed). rounds ++ new) (sym none)),
+)

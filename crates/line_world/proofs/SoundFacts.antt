@@ -45,11 +45,11 @@ use Rattle.line_moves.proofs.WorldLemmas.{items-world, marker_sent, next_receipt
 use Rattle.line_world.specs.declared.replies.Answer.{Answer}
 use Rattle.line_world.specs.declared.replies.Answer.TheVariants.{Done, Refused}
 use Rattle.line_world.specs.declared.replies.Reply.{Reply}
-use Rattle.line_world.specs.declared.replies.Reply.TheVariants.{Sent, Took, Marked, Stale, Repeated, Checked, Begun, Turned, Damaged, Recovered}
+use Rattle.line_world.specs.declared.replies.Reply.TheVariants.{Sent, Took, Marked, Stale, Repeated, Checked, Begun, Turned, Damaged, Barred, Recovered}
 use Rattle.line_world.specs.declared.replies.StepError.{StepError}
 use Rattle.line_world.specs.declared.replies.StepError.TheVariants.{TapeFull}
 use Rattle.line_world.specs.declared.steps.Step.{Step}
-use Rattle.line_world.specs.declared.steps.Step.TheVariants.{Send, Deliver, Check, Begin, Turn, Damage, Recover}
+use Rattle.line_world.specs.declared.steps.Step.TheVariants.{Send, Deliver, Check, Begin, Turn, Damage, Bar, Recover}
 use Rattle.line_world.specs.Machine.{Machine, items_on, start}
 use Rattle.line_world.specs.Refusals.{first_cause, is_full_for, link_causes, refusal_of}
 use Rattle.line_world.specs.Runs.{Run, Takes, IsParted}
@@ -386,7 +386,7 @@ goes-done old new (Send from to body) reply stands none does =
     let may = may_send old from to body none in
     goes_on old new from (SendEvent to (incarnation_at old.history from) body ∷ []) old.last_round
     (copies_in old.mode (with_list old.copies from to (between old.copies from to ++ next_name old.history from ∷ []))) stands
-    (moves_send old.mode old.history old.last_round old.rounds old.copies stands.are stands.linked from to body may.named.from_within may.named.to_within) does.new_is
+    (moves_send old.mode old.history old.last_round old.rounds old.copies stands.are stands.linked from to body may.named.from_within may.named.to_within) does.1
 goes-done old new (Deliver from to pick state) reply stands none does =
     let may = may_deliver old from to pick state (first_part (link_causes old from to pick state) ((is_full_for old from to state (slice_get (items_on old from to) pick), TapeFull) ∷ []) none) in
     let queues : List (List (List Item)) = stands.linked.queues in
@@ -399,18 +399,19 @@ goes-done old new (Deliver from to pick state) reply stands none does =
     (moves_item old.mode old.history old.last_round old.rounds old.copies stands.are stands.linked from to pick state may.named.from_within may.named.to_within may.apart may.first does.item at
     (at_place (IsItemOf from) (between queues from to) pick does.item (world.queued.messages from to) at)) does.new_is
 goes-done old new (Check at state) reply stands none does =
-    goes_on old new at (CheckEvent state None ∷ []) old.last_round old.copies stands (moves_check old.mode old.history old.last_round old.rounds old.copies stands.are stands.linked at state (may_check old at state none).within) does.new_is
+    goes_on old new at (CheckEvent state None ∷ []) old.last_round old.copies stands (moves_check old.mode old.history old.last_round old.rounds old.copies stands.are stands.linked at state (may_check old at state none).within) does.1
 goes-done old new (Begin at state) reply stands none does =
     let may = may_begin old at state none in
     goes_on old new at (CheckEvent state (Some (old.last_round + 1)) ∷ []) (old.last_round + 1) old.copies stands
-    (moves_begin old.mode old.history old.last_round old.rounds old.copies stands.are stands.linked at state may.within may.closed) does.new_is
+    (moves_begin old.mode old.history old.last_round old.rounds old.copies stands.are stands.linked at state may.within may.closed) does.1
 goes-done old new (Turn at state) reply stands none does =
     let may = may_turn_at old at state none in
     goes_on old new at (CheckEvent state (Some old.last_round) ∷ []) old.last_round old.copies stands
     (moves_turn old.mode old.history old.last_round old.rounds old.copies stands.are stands.linked may.unordered at state may.within
     (begun_is (is_begun old.history old.last_round) (not (is_completed old.mode old.history old.last_round)) (not (has_check_of old.last_round (tape_at old.history at))) may.may)
-    (turns_anew (is_begun old.history old.last_round && not (is_completed old.mode old.history old.last_round)) (has_check_of old.last_round (tape_at old.history at)) may.may)) does.new_is
-goes-done old new (Damage at check) reply stands none does = subst (Goes old) (sym does.new_is) (goes_same old _ stands)
+    (turns_anew (is_begun old.history old.last_round && not (is_completed old.mode old.history old.last_round)) (has_check_of old.last_round (tape_at old.history at)) may.may)) does.1
+goes-done old new (Damage at check) reply stands none does = subst (Goes old) (sym does.1) (goes_same old _ stands)
+goes-done old new (Bar at check) reply stands none does = subst (Goes old) (sym does.1) (goes_same old _ stands)
 goes-done old new (Recover failed) reply stands none does = recovered reply does
   where
     recovered : (r : Reply) → RecoversWith old failed r new → Goes old new
@@ -425,6 +426,7 @@ goes-done old new (Recover failed) reply stands none does = recovered reply does
     recovered (Begun at check round) is = absurd is
     recovered (Turned at check round) is = absurd is
     recovered (Damaged at check) is = absurd is
+    recovered (Barred at check) is = absurd is
 
 pub goes-taken : (old new : Machine) (step : Step) (answer : Answer) → Stands old → Takes old step answer new → Goes old new
 goes-taken old new step (Done reply) stands takes = goes-done old new step reply stands takes.0 takes.1
@@ -438,6 +440,7 @@ reaches-taken old new (Check at state) answer stands takes = tt
 reaches-taken old new (Begin at state) answer stands takes = tt
 reaches-taken old new (Turn at state) answer stands takes = tt
 reaches-taken old new (Damage at check) answer stands takes = tt
+reaches-taken old new (Bar at check) answer stands takes = tt
 reaches-taken old new (Recover failed) (Refused e) stands takes = tt
 reaches-taken old new (Recover failed) (Done (Recovered plan states incarnations)) stands takes =
     All-weaker (IsSnapshotOf old.history) (IsReached old.history old.marks failed plan.value.line)
@@ -451,6 +454,7 @@ reaches-taken old new (Recover failed) (Done (Checked at check)) stands takes = 
 reaches-taken old new (Recover failed) (Done (Begun at check round)) stands takes = tt
 reaches-taken old new (Recover failed) (Done (Turned at check round)) stands takes = tt
 reaches-taken old new (Recover failed) (Done (Damaged at check)) stands takes = tt
+reaches-taken old new (Recover failed) (Done (Barred at check)) stands takes = tt
 
 -- no round is on the tapes at first
 none : (n p r : ℕ) → has_check_of r (tape_at (replicate n fresh) p) ≡ true → ⊥

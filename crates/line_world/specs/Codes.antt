@@ -20,3 +20,4 @@ refusal_code errors.NothingToTurn = 21
 refusal_code errors.WrongMode = 22
 refusal_code errors.NoMoreRounds = 23
 refusal_code errors.NoMoreIncarnations = 24
+refusal_code errors.BarNotLower = 40

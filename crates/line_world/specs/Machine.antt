@@ -1,10 +1,10 @@
--- The machine's state: what each process did, which checks are damaged, and which rounds were completed. What the links hold is read off it where they keep their order (Chandy and Lamport, ACM TOCS 3(1), 1985); else they deliver in any order, as Lai and Yang allow (Information Processing Letters 25(3), 1987), and then each holds copies.
+-- The machine's state: what each process did, which checks are damaged, where it is barred, and which rounds were completed. What the links hold is read off it where they keep their order (Chandy and Lamport, ACM TOCS 3(1), 1985); else they deliver in any order, as Lai and Yang allow (Information Processing Letters 25(3), 1987), and then each holds copies.
 use Rattle.std.specs.Prelude.{ℕ, Bool, not, ◌&&◌, List, [], ◌∷◌, ◌++◌, replicate}
 use Rattle.line_tape.specs.declared.events.Event.{Event}
 use Rattle.line_names.specs.declared.messages.MsgName.{MsgName}
 use Rattle.line_tape.specs.declared.items.Item.{Item}
 use Rattle.line_tape.specs.History.{Process, fresh}
-use Rattle.line_tape.specs.Views.{MarksView}
+use Rattle.line_tape.specs.Views.{MarksView, no_marks}
 use Rattle.line_moves.specs.declared.modes.Mode.{Mode}
 use Rattle.line_moves.specs.Listed.{Listed, is_begun, is_completed, newly_listed}
 use Rattle.line_moves.specs.Modes.{copies_in, items_in, IsFitIn}
@@ -28,7 +28,7 @@ abbrev pub start : ℕ → Mode → Machine
 start n mode = record {
   mode = mode;
   history = replicate n fresh;
-  marks = record { damaged = replicate n [] };
+  marks = no_marks n;
   last_round = 0;
   rounds = [];
   copies = copies_in mode (replicate n (replicate n []));

@@ -10,13 +10,13 @@ use Rattle.line_tape.specs.Event.{checks}
 use Rattle.line_tape.specs.History.{tape_at}
 use Rattle.line_tape.specs.Restart.{HaveFurther}
 use Rattle.line_tape.specs.Rounds.{has_check_of}
-use Rattle.line_tape.specs.Survival.{is_damaged, IsLatest}
+use Rattle.line_tape.specs.Survival.{is_barred, is_damaged, IsLatest}
 use Rattle.line_moves.specs.declared.modes.Mode.{Mode}
 use Rattle.line_moves.specs.declared.modes.Mode.TheVariants.{Fifo, Unordered}
 use Rattle.line_world.specs.declared.steps.Step.{Step}
-use Rattle.line_world.specs.declared.steps.Step.TheVariants.{Send, Deliver, Check, Begin, Turn, Damage, Recover}
+use Rattle.line_world.specs.declared.steps.Step.TheVariants.{Send, Deliver, Check, Begin, Turn, Damage, Bar, Recover}
 use Rattle.line_world.specs.declared.replies.StepError.{StepError}
-use Rattle.line_world.specs.declared.replies.StepError.TheVariants.{NoSuchProcess, TapeFull, NoSuchCheck, StateTooLong, InitialDamage, AlreadyDamaged, ToSelf, LinkEmpty, BadPick, RoundOpen, NothingToTurn, WrongMode, NoMoreRounds, NoMoreIncarnations}
+use Rattle.line_world.specs.declared.replies.StepError.TheVariants.{NoSuchProcess, TapeFull, NoSuchCheck, StateTooLong, InitialDamage, AlreadyDamaged, ToSelf, LinkEmpty, BadPick, RoundOpen, NothingToTurn, WrongMode, NoMoreRounds, NoMoreIncarnations, BarNotLower}
 use Rattle.line_moves.specs.Fates.{events_taken}
 use Rattle.line_moves.specs.Modes.{is_fifo}
 use Rattle.line_world.specs.Machine.{Machine, items_on, is_open}
@@ -104,6 +104,12 @@ refusal_of machine (Damage at check) =
     ∷ (check == 0, InitialDamage)
     ∷ (nat_lt (checks (tape_at machine.history at)) check, NoSuchCheck)
     ∷ (is_damaged machine.marks at check, AlreadyDamaged)
+    ∷ [])
+refusal_of machine (Bar at check) =
+    first_cause (
+    (is_stranger machine at, NoSuchProcess)
+    ∷ (nat_lt (checks (tape_at machine.history at)) check, NoSuchCheck)
+    ∷ (is_barred machine.marks at check, BarNotLower)
     ∷ [])
 refusal_of machine (Recover failed) = first_cause ((has_stranger machine failed, NoSuchProcess) ∷ [])
 

@@ -6,7 +6,7 @@ use Rattle.line_world.specs.declared.steps.Step.{Step}
 use Rattle.line_world.specs.declared.replies.Answer.{Answer}
 use Rattle.line_world.specs.declared.replies.Answer.TheVariants.{Done, Refused}
 use Rattle.line_world.specs.declared.replies.Reply.{Reply}
-use Rattle.line_world.specs.declared.replies.Reply.TheVariants.{Sent, Took, Marked, Stale, Repeated, Checked, Begun, Turned, Damaged, Recovered}
+use Rattle.line_world.specs.declared.replies.Reply.TheVariants.{Sent}
 use Rattle.line_world.specs.Machine.{Machine}
 use Rattle.line_world.specs.Refusals.{refusal_of, IsRefused}
 use Rattle.line_world.specs.Steps.{Does}
@@ -35,15 +35,7 @@ pub record IsParted (old : Machine) (steps more : List Step) (answers : List Ans
 -- the name that a reply tells of a message sent
 abbrev pub reply_name : Reply → Option MsgName
 reply_name (Sent message) = Some message
-reply_name (Took message forced) = None
-reply_name (Marked round forced) = None
-reply_name (Stale message) = None
-reply_name (Repeated message) = None
-reply_name (Checked at check) = None
-reply_name (Begun at check round) = None
-reply_name (Turned at check round) = None
-reply_name (Damaged at check) = None
-reply_name (Recovered plan states incarnations) = None
+reply_name reply = None
 
 -- the name that an answer tells of a message sent
 abbrev pub answer_name : Answer → Option MsgName

@@ -12,24 +12,19 @@ use Rattle.line_tape.specs.Restart.{restarted, restarted_marks, HaveFurther}
 use Rattle.line_tape.specs.Spent.{next_name}
 use Rattle.line_tape.specs.Survival.{IsLatest}
 use Rattle.line_tape.specs.Transit.{in_transit}
-use Rattle.line_tape.specs.Views.{with_mark}
+use Rattle.line_tape.specs.Views.{with_bar, with_mark}
 use Rattle.line_moves.specs.declared.fates.Fate.{Fate}
 use Rattle.line_moves.specs.declared.fates.Fate.TheVariants.{Taken as IsTaken, Stale as IsStale, Repeated as IsRepeated}
 use Rattle.line_moves.specs.declared.modes.Mode.{Mode}
 use Rattle.line_world.specs.declared.steps.Step.{Step}
-use Rattle.line_world.specs.declared.steps.Step.TheVariants.{Send, Deliver, Check, Begin, Turn, Damage, Recover}
+use Rattle.line_world.specs.declared.steps.Step.TheVariants.{Send, Deliver, Check, Begin, Turn, Damage, Bar, Recover}
 use Rattle.line_world.specs.declared.replies.Reply.{Reply}
-use Rattle.line_world.specs.declared.replies.Reply.TheVariants.{Sent, Took, Marked, Stale, Repeated, Checked, Begun, Turned, Damaged, Recovered}
+use Rattle.line_world.specs.declared.replies.Reply.TheVariants.{Sent, Took, Marked, Stale, Repeated, Checked, Begun, Turned, Damaged, Barred, Recovered}
 use Rattle.line_moves.specs.Fates.{events_taken, fate_of, forced_round, is_forced}
 use Rattle.line_moves.specs.Listed.{stays}
 use Rattle.line_world.specs.Machine.{Machine, items_on, with_copy, with_step}
 use Rattle.line_moves.specs.Moves.{next_check}
 use Rattle.line_moves.specs.Restarts.{restored_states, restarted_copies}
-
--- Send adds a send of the present incarnation, and in `Unordered` a copy
-pub record Sends (old : Machine) (from to : ℕ) (body : List ℕ) (reply : Reply) (new : Machine) : Type 0 where
-  pub reply_is : reply ≡ Sent (next_name old.history from)
-  pub new_is : new ≡ with_copy (with_step old from (SendEvent to (incarnation_at old.history from) body ∷ []) old.last_round) from to (next_name old.history from)
 
 -- what is told of a message that a delivery picks
 abbrev pub reply_of : Fate → Option ℕ → MsgName → Reply
@@ -48,26 +43,6 @@ pub record Delivers (old : Machine) (from to pick : ℕ) (state : List ℕ) (rep
   pub picked : slice_get (items_on old from to) pick ≡ Some item
   pub reply_is : reply ≡ reply_taken old.mode old.history to item
   pub new_is : new ≡ with_step old to (events_taken old.mode old.history from to state item) old.last_round
-
--- Check adds a check without a round
-pub record Checks (old : Machine) (at : ℕ) (state : List ℕ) (reply : Reply) (new : Machine) : Type 0 where
-  pub reply_is : reply ≡ Checked at (next_check old.history at)
-  pub new_is : new ≡ with_step old at (CheckEvent state None ∷ []) old.last_round
-
--- Begin adds a check of the next round
-pub record Begins (old : Machine) (at : ℕ) (state : List ℕ) (reply : Reply) (new : Machine) : Type 0 where
-  pub reply_is : reply ≡ Begun at (next_check old.history at) (old.last_round + 1)
-  pub new_is : new ≡ with_step old at (CheckEvent state (Some (old.last_round + 1)) ∷ []) (old.last_round + 1)
-
--- Turn adds a check of the round that is open
-pub record Turns (old : Machine) (at : ℕ) (state : List ℕ) (reply : Reply) (new : Machine) : Type 0 where
-  pub reply_is : reply ≡ Turned at (next_check old.history at) old.last_round
-  pub new_is : new ≡ with_step old at (CheckEvent state (Some old.last_round) ∷ []) old.last_round
-
--- Damage adds a mark
-pub record Damages (old : Machine) (at check : ℕ) (reply : Reply) (new : Machine) : Type 0 where
-  pub reply_is : reply ≡ Damaged at check
-  pub new_is : new ≡ record old { marks = with_mark old.marks at check }
 
 -- the plan is of the latest line, by any valid chain
 pub record IsPlan (machine : Machine) (failed : List Bool) (plan : Plan) : Type 0 where
@@ -101,10 +76,22 @@ RecoversWith old failed reply new = ⊥
 
 -- the step may be done with this reply, and leaves that state
 abbrev pub Does : Machine → Step → Reply → Machine → Type 0
-Does old (Send from to body) reply new = Sends old from to body reply new
+-- a send of the present incarnation, and in `Unordered` a copy
+Does old (Send from to body) reply new =
+    (reply ≡ Sent (next_name old.history from))
+    × (new ≡ with_copy (with_step old from (SendEvent to (incarnation_at old.history from) body ∷ []) old.last_round) from to (next_name old.history from))
 Does old (Deliver from to pick state) reply new = Delivers old from to pick state reply new
-Does old (Check at state) reply new = Checks old at state reply new
-Does old (Begin at state) reply new = Begins old at state reply new
-Does old (Turn at state) reply new = Turns old at state reply new
-Does old (Damage at check) reply new = Damages old at check reply new
+-- a check without a round
+Does old (Check at state) reply new =
+    (reply ≡ Checked at (next_check old.history at)) × (new ≡ with_step old at (CheckEvent state None ∷ []) old.last_round)
+-- a check of the next round
+Does old (Begin at state) reply new =
+    (reply ≡ Begun at (next_check old.history at) (old.last_round + 1))
+    × (new ≡ with_step old at (CheckEvent state (Some (old.last_round + 1)) ∷ []) (old.last_round + 1))
+-- a check of the round that is open
+Does old (Turn at state) reply new =
+    (reply ≡ Turned at (next_check old.history at) old.last_round)
+    × (new ≡ with_step old at (CheckEvent state (Some old.last_round) ∷ []) old.last_round)
+Does old (Damage at check) reply new = (reply ≡ Damaged at check) × (new ≡ record old { marks = with_mark old.marks at check })
+Does old (Bar at check) reply new = (reply ≡ Barred at check) × (new ≡ record old { marks = with_bar old.marks at check })
 Does old (Recover failed) reply new = RecoversWith old failed reply new

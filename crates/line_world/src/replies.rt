@@ -5,7 +5,7 @@ ghost use Rattle.line_world.specs.Codes.{refusal_code};
 use line_catalogue::DamageError;
 use line_names::{MsgName, ProcId};
 use line_plan::{Plan, PlanError};
-use line_tape::{LAST_INCARNATION, LAST_ROUND, MOST_EVENTS, MOST_STATE, State};
+use line_tape::{BarError, LAST_INCARNATION, LAST_ROUND, MOST_EVENTS, MOST_STATE, State};
 use std::alloc::AllocError;
 use std::error::Error;
 use std::fmt;
@@ -57,6 +57,11 @@ pub enum Reply {
         at: ProcId,
         check: u32,
     },
+    /// The check that the process is barred at now.
+    Barred {
+        at: ProcId,
+        check: u32,
+    },
     /// The plan; of each process the bytes that it goes on from, none where it stays where it stands; and its incarnation after the restart.
     Recovered {
         plan: Box<Plan>,
@@ -104,6 +109,7 @@ pub enum StepError {
     WrongMode,
     NoMoreRounds,
     NoMoreIncarnations,
+    BarNotLower,
 }
 
 impl StepError {
@@ -126,7 +132,8 @@ impl StepError {
             | StepError::NothingToTurn
             | StepError::WrongMode
             | StepError::NoMoreRounds
-            | StepError::NoMoreIncarnations => false,
+            | StepError::NoMoreIncarnations
+            | StepError::BarNotLower => false,
         }
     }
 
@@ -150,6 +157,7 @@ impl StepError {
             StepError::WrongMode => 22,
             StepError::NoMoreRounds => 23,
             StepError::NoMoreIncarnations => 24,
+            StepError::BarNotLower => 40,
         }
     }
 }
@@ -183,6 +191,9 @@ impl fmt::Display for StepError {
                     "a process that goes back has incarnation {LAST_INCARNATION}"
                 )
             }
+            StepError::BarNotLower => {
+                f.write_str("the process is barred at that check or an earlier one already")
+            }
         }
     }
 }
@@ -212,6 +223,20 @@ impl From<DamageError> for StepError {
             DamageError::NoSuchCheck => StepError::NoSuchCheck,
             DamageError::InitialDamage => StepError::InitialDamage,
             DamageError::AlreadyDamaged => StepError::AlreadyDamaged,
+        }
+    }
+}
+
+impl From<BarError> for StepError {
+    ghost use Rattle.std.specs.Prelude.{◌≡◌};
+    ghost use Rattle.line_world.specs.Marked.{bar_error};
+
+    ghost from_gives = { λ b e. e ≡ bar_error b };
+
+    fn from(error: BarError) -> StepError {
+        match error {
+            BarError::NoSuchCheck => StepError::NoSuchCheck,
+            BarError::BarNotLower => StepError::BarNotLower,
         }
     }
 }

@@ -39,6 +39,11 @@ pub enum Step {
         at: ProcId,
         check: u32,
     },
+    /// An operator bars a process: none of its choices later than this check survives, until the next recovery, for instance because its results are known to be wrong from there on. Check 0 is the initial state.
+    Bar {
+        at: ProcId,
+        check: u32,
+    },
     /// The processes of the set failed, and all go on from the latest line.
     Recover {
         failed: ProcSet,

@@ -2,7 +2,7 @@
 ghost use Rattle.std.specs.Prelude.{◌≡◌, ◌≢◌, ◌<◌, ◌↔◌, ◌⊎◌, All, AllPairs, None, length, take, slice_get, IfOk, IfErr, IsErrOf, IsTrue};
 ghost use Rattle.line_tape.specs.History.{incarnation_at};
 ghost use Rattle.line_world.specs.declared.replies.Answer.TheVariants.{Done, Refused};
-ghost use Rattle.line_world.specs.declared.steps.Step.TheVariants.{Send, Check, Damage};
+ghost use Rattle.line_world.specs.declared.steps.Step.TheVariants.{Send, Check, Damage, Bar};
 ghost use Rattle.line_moves.specs.Listed.{Listed, IsReached, IsSnapshotOf};
 ghost use Rattle.line_world.specs.Machine.{start, items_on, IsFit};
 ghost use Rattle.line_world.specs.Refusals.{refusal_of, has_stranger};
@@ -98,7 +98,7 @@ impl World {
         self.catalogue.history()
     }
 
-    /// Which checks are damaged.
+    /// Which checks are damaged, and where processes are barred.
     pub fn marks(&self) -> &Marks
         ensures { result.now ≡ self.now.marks }
     {
@@ -190,6 +190,20 @@ impl World {
         Ok(Reply::Damaged { at, check })
     }
 
+    /// Bars a process at a check.
+    fn bar(&mut self, at: ProcId, check: u32) -> Result<Reply, StepError>
+        ensures done { IfOk result (λ reply. Takes self.old (Bar at check) (Done reply) self.new) }
+        ensures refused { IfErr result (λ e. e ≢ StepError.OutOfMemory → Takes self.old (Bar at check) (Refused e) self.new) }
+        ensures memory { IsErrOf result StepError.OutOfMemory → self.new ≡ self.old }
+        ensures unrefused { IsErrOf result StepError.OutOfMemory → refusal_of self.old (Bar at check) ≡ None }
+    {
+        if at.get() >= self.catalogue.n() {
+            return Err(StepError::NoSuchProcess);
+        }
+        self.catalogue.bar(at, check)?;
+        Ok(Reply::Barred { at, check })
+    }
+
     /// The latest line that the processes could go on from, if those of the set failed. Where the checks of a listed round survive, no process falls behind its own.
     ///
     /// It costs what `line_plan::plan` does.
@@ -227,6 +241,7 @@ impl World {
             Step::Begin { at, state } => self.begin(alloc, *at, state),
             Step::Turn { at, state } => self.turn(alloc, *at, state),
             Step::Damage { at, check } => self.damage(*at, *check),
+            Step::Bar { at, check } => self.bar(*at, *check),
             Step::Recover { failed } => self.recover(alloc, failed),
         }
     }

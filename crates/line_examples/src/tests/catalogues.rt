@@ -4,7 +4,7 @@ use crate::tests::{DOMINO, ROUND, passed};
 use line_catalogue::{AddError, Catalogue, CatalogueError, DamageError, Row};
 use line_names::{Body, Choice, MsgName, ProcId, ProcSet};
 use line_plan::{Plan, PlanError, plan};
-use line_tape::{Event, History, Marks};
+use line_tape::{BarError, Event, History, Marks};
 use std::alloc::Global;
 use std::process::Abort;
 use std::test::Fail;
@@ -191,6 +191,46 @@ fn lower_choices(rt: HostRuntime) -> Result<(), Fail> {
     Ok(())
 }
 
+/// The domino, and what is answered where its second process is barred at checks 3, 1 and 2.
+fn barred_domino(alloc: Global) -> Result<(Catalogue, [Option<BarError>; 3]), Fail> {
+    let mut catalogue = catalogue_of(alloc, &DOMINO)?;
+    let second = process(1)?;
+    let mut refused = [None; 3];
+    if second.get() < catalogue.n() {
+        refused = [
+            catalogue.bar(second, 3).err(),
+            catalogue.bar(second, 1).err(),
+            catalogue.bar(second, 2).err(),
+        ];
+    }
+    Ok((catalogue, refused))
+}
+
+#[test]
+fn a_barred_process_goes_back(rt: HostRuntime) -> Result<(), Fail> {
+    let (catalogue, refused) = barred_domino(rt.alloc())?;
+    assert_eq!(rt;
+        refused,
+        [
+            Some(BarError::NoSuchCheck),
+            None,
+            Some(BarError::BarNotLower)
+        ]
+    );
+    let plan = plan(rt.alloc(), &catalogue, &failed(&[])?)?;
+    assert_eq!(rt;
+        plan.line.choices(),
+        [Choice::Check(0), Choice::Check(0)].as_slice()
+    );
+    assert_eq!(rt; (plan.sweeps, plan.certificate.len()), (2, 3));
+    let bars = format!(in rt.alloc(); "{}; {}", BarError::NoSuchCheck, BarError::BarNotLower)?;
+    assert_eq!(rt;
+        bars.as_str(),
+        "the process has no such check; the process is barred at that check or an earlier one already"
+    );
+    Ok(())
+}
+
 /// Whether the last row of a process has this place, these sends and this damage, and these lanes.
 fn ends_with(catalogue: &Catalogue, p: ProcId, row: (u32, u32, bool), lanes: &[u32]) -> bool {
     if p.get() >= catalogue.n() {
@@ -220,7 +260,7 @@ fn refusals_of_catalogues_read_well(rt: HostRuntime) -> Result<(), Fail> {
     )?;
     assert_eq!(rt;
         made.as_str(),
-        "a mark is on a check that its tape does not have; a received message has a name that its sender did not give it"
+        "a mark or a bar is on a check that its tape does not have; a received message has a name that its sender did not give it"
     );
     let added = format!(in rt.alloc(); "{}; {}", AddError::TapeFull, AddError::NamesDisagree)?;
     assert_eq!(rt;

@@ -1,4 +1,5 @@
 use Rattle.line_claims.proofs.ClaimWrittenLemmas.{check_text_again, claim_text_again}
+use Rattle.line_claims.proofs.LaterLemmas.{later_reads_the_same}
 use Rattle.line_claims.proofs.laws.claims_are_read_again.Goals as goal
 
 pub returns-clause-alone : goal.returns-clause-alone
@@ -6,3 +7,6 @@ returns-clause-alone c claim fit = claim_text_again claim fit
 
 pub returns-clause-both : goal.returns-clause-both
 returns-clause-both c history claim fit good same = check_text_again history claim fit good same
+
+pub returns-clause-later : goal.returns-clause-later
+returns-clause-later c n text claim h = later_reads_the_same n text claim h

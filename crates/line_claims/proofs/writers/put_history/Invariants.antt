@@ -2,12 +2,12 @@ use Rattle.std.proofs.Common.{drop, take}
 use Rattle.std.specs.List.{AllByRecursion}
 use Rattle.line_fields.specs.Texts.{records_text}
 use Rattle.line_claims.specs.Ranges.{FitsProcess}
-use Rattle.line_claims.specs.Records.{history_records, tapes_records}
+use Rattle.line_claims.specs.Records.{front_records, tapes_records}
 use Rattle.line_claims.proofs.PartLemmas.{IsPart}
 use Rattle.line_claims.proofs.writers.put_history.Given as goal
 
 abbrev pub invariant-loop-p : goal.invariant-loop-p
 invariant-loop-p l = record {
-  part : IsPart l.fn.writer l.writer (records_text (history_records l.history.processes)) (records_text (tapes_records l.p (drop l.p l.history.processes)));
+  part : IsPart l.fn.writer l.writer (records_text (front_records l.version l.history.processes)) (records_text (tapes_records l.p (drop l.p l.history.processes)));
   fits : AllByRecursion FitsProcess (take l.p l.history.processes);
 }

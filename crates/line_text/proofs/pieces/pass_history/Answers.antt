@@ -16,13 +16,13 @@ pub returns-in_err-put_long-clause-err : goal.returns-in_err-put_long-clause-err
 returns-in_err-put_long-clause-err g c =
     let history : List Process = c.args.history.now.processes in
     let passed_on = err_from_is_err_and c.from_residual-in_err-put_long.result c.from_residual-in_err-put_long.ensures.1 in
-    rw (passed_on.1, passed_on.2) (fails_first _ _ _ _ _ (history_record (length history)) (tapes_records 0 history) (rw c.n-n.ensures.value at c.in_ok-put_history_head.ensures.ok) c.in_err-put_long.ensures.err)
+    rw (passed_on.1, passed_on.2) (fails_first _ _ _ _ _ (history_record c.args.version (length history)) (tapes_records 0 history) (rw c.n-n.ensures.value at c.in_ok-put_history_head.ensures.ok) c.in_err-put_long.ensures.err)
 
 pub loop-p-init : goal.loop-p-init
 loop-p-init g c =
     let history : List Process = c.args.history.now.processes in
     record {
-      part = first_passed _ _ _ _ _ (history_record (length history)) (tapes_records 0 history) (rw c.n-n.ensures.value at c.in_ok-put_history_head.ensures.ok) c.in_ok-put_long.ensures.ok;
+      part = first_passed _ _ _ _ _ (history_record c.args.version (length history)) (tapes_records 0 history) (rw c.n-n.ensures.value at c.in_ok-put_history_head.ensures.ok) c.in_ok-put_long.ensures.ok;
       sound = c.in_ok-put_long.ensures.sound;
     }
 

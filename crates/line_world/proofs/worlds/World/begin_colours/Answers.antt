@@ -9,9 +9,10 @@ use Rattle.line_moves.specs.declared.modes.Mode.TheVariants.{Unordered}
 use Rattle.line_moves.specs.Listed.{Listed, newly_listed}
 use Rattle.line_moves.specs.Openings.{newly_closed, opened_by, IsSettled}
 use Rattle.line_world.specs.declared.replies.Reply.TheVariants.{Begun}
+use Rattle.line_world.specs.declared.steps.Step.TheVariants.{Begin}
 use Rattle.line_world.specs.declared.worlds.World.TheInside.{Inside}
 use Rattle.line_world.specs.Machine.{Machine}
-use Rattle.line_world.specs.Steps.{Begins}
+use Rattle.line_world.specs.Steps.{Does}
 use Rattle.line_world.proofs.DeliverLemmas.{step_seen}
 use Rattle.line_world.proofs.KnownFacts.{coloured_kept, is_coloured, may_start, IsColoured, MayStart}
 use Rattle.line_world.proofs.SeenLemmas.{seen}
@@ -86,9 +87,9 @@ returns-clause-done c =
     ∙ ap (λ (m : Mode). newly_listed m history after (last + 1)) (sym is.mode_is) in
     let next : Machine = seen w.mode c.turn_round.new.catalogue.processes c.turn_round.new.catalogue.marks (last + 1) c.turn_round.new.rounds.items w.links in (
       c.requires.passed,
-      subst (λ (v : Machine). Begins v at state (Begun at c.in_ok-check.check (last + 1)) next) c.self.view_is (record {
-        reply_is = ap (λ (k : ℕ). Begun at k (last + 1)) c.in_ok-check.ensures.check;
-        new_is = ap (λ (ls : List Listed). seen w.mode c.turn_round.new.catalogue.processes c.turn_round.new.catalogue.marks (last + 1) ls w.links) settled.listed
-            ∙ step_seen w.mode history c.turn_round.new.catalogue.processes w.catalogue.marks c.turn_round.new.catalogue.marks last (last + 1) w.rounds.items fresh w.links w.links at (e ∷ []) done c.in_ok-check.ensures.marks refl newly;
-      }),
+      subst (λ (v : Machine). Does v (Begin at state) (Begun at c.in_ok-check.check (last + 1)) next) c.self.view_is (
+        ap (λ (k : ℕ). Begun at k (last + 1)) c.in_ok-check.ensures.check,
+        ap (λ (ls : List Listed). seen w.mode c.turn_round.new.catalogue.processes c.turn_round.new.catalogue.marks (last + 1) ls w.links) settled.listed
+            ∙ step_seen w.mode history c.turn_round.new.catalogue.processes w.catalogue.marks c.turn_round.new.catalogue.marks last (last + 1) w.rounds.items fresh w.links w.links at (e ∷ []) done c.in_ok-check.ensures.marks refl newly,
+      ),
     )

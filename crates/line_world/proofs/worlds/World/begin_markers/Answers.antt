@@ -13,9 +13,10 @@ use Rattle.line_moves.specs.Openings.{OpenView, left_open, newly_closed, IsRecor
 use Rattle.line_moves.specs.Worlds.{AreRounds, IsWorld}
 use Rattle.line_moves.proofs.OpeningLemmas.{listed_snapshot}
 use Rattle.line_world.specs.declared.replies.Reply.TheVariants.{Begun}
+use Rattle.line_world.specs.declared.steps.Step.TheVariants.{Begin}
 use Rattle.line_world.specs.declared.worlds.World.TheInside.{Inside}
 use Rattle.line_world.specs.Machine.{Machine}
-use Rattle.line_world.specs.Steps.{Begins}
+use Rattle.line_world.specs.Steps.{Does}
 use Rattle.line_world.proofs.DeliverLemmas.{step_seen}
 use Rattle.line_world.proofs.KnownFacts.{is_in_order, may_start, ordered_kept, IsInOrder, MayStart}
 use Rattle.line_world.proofs.MarkerFacts.{begun_listed, begun_running, begun_settled}
@@ -88,10 +89,10 @@ returns-clause-done c =
     begun_listed Fifo history last w.running w.rounds.items is.are (may.closed Fifo is.mode_is) at state may.within round c.in_ok-begun.ensures.number
     ∙ ap (λ (m : Mode). newly_listed m history after (last + 1)) (sym is.mode_is) in (
       c.requires.passed,
-      subst (λ (v : Machine). Begins v at state (Begun at c.in_ok-begun.check (last + 1)) new) c.self.view_is (record {
-        reply_is = ap (λ (k : ℕ). Begun at k (last + 1)) c.in_ok-begun.ensures.check;
-        new_is = ap (λ (ls : List Listed). seen w.mode c.begin_round.new.catalogue.processes c.begin_round.new.catalogue.marks (last + 1) ls c.begin_round.new.links) listed
+      subst (λ (v : Machine). Does v (Begin at state) (Begun at c.in_ok-begun.check (last + 1)) new) c.self.view_is (
+        ap (λ (k : ℕ). Begun at k (last + 1)) c.in_ok-begun.ensures.check,
+        ap (λ (ls : List Listed). seen w.mode c.begin_round.new.catalogue.processes c.begin_round.new.catalogue.marks (last + 1) ls c.begin_round.new.links) listed
             ∙ step_seen w.mode history c.begin_round.new.catalogue.processes w.catalogue.marks c.begin_round.new.catalogue.marks last (last + 1) w.rounds.items fresh w.links c.begin_round.new.links at (e ∷ []) done
-            c.in_ok-begun.ensures.marks kept newly;
-      }),
+            c.in_ok-begun.ensures.marks kept newly,
+      ),
     )

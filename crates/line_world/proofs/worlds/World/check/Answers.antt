@@ -9,7 +9,7 @@ use Rattle.line_world.specs.declared.steps.Step.TheVariants.{Check}
 use Rattle.line_moves.specs.Listed.{Listed}
 use Rattle.line_world.specs.Machine.{Machine}
 use Rattle.line_world.specs.Refusals.{refusal_of}
-use Rattle.line_world.specs.Steps.{Checks}
+use Rattle.line_world.specs.Steps.{Does}
 use Rattle.line_moves.specs.Openings.{OpenView, opened}
 use Rattle.line_moves.specs.Worlds.{ArePainted, AreRounds, IsWorld}
 use Rattle.line_world.proofs.DeliverLemmas.{quiet_seen}
@@ -50,9 +50,9 @@ returns-clause-done c =
     let after : Machine = seen mode c.add_check.new.catalogue.processes c.add_check.new.catalogue.marks last rounds c.self.inside.links in
     let done : c.add_check.new.catalogue.processes ≡ with_event history c.args.at e = c.in_ok-check.ensures.checked ∙ ap (λ (bytes : List ℕ). with_event history c.args.at (CheckEvent bytes None)) c.in_ok-state.ensures in (
       none,
-      subst (λ (m : Machine). Checks m c.args.at c.args.state.now (Checked c.args.at c.in_ok-check.check) after) c.self.view_is (record {
-        reply_is = ap (λ (k : ℕ). Checked c.args.at k) c.in_ok-check.ensures.check;
-        new_is = quiet_seen mode history c.add_check.new.catalogue.processes c.self.inside.catalogue.marks c.add_check.new.catalogue.marks last rounds c.self.inside.links c.self.inside.links c.args.at (e ∷ []) done c.in_ok-check.ensures.marks refl
-            (none_listed history c.args.at e within (λ r. refl) (λ r p. refl) mode last);
-      }),
+      subst (λ (m : Machine). Does m (Check c.args.at c.args.state.now) (Checked c.args.at c.in_ok-check.check) after) c.self.view_is (
+        ap (λ (k : ℕ). Checked c.args.at k) c.in_ok-check.ensures.check,
+        quiet_seen mode history c.add_check.new.catalogue.processes c.self.inside.catalogue.marks c.add_check.new.catalogue.marks last rounds c.self.inside.links c.self.inside.links c.args.at (e ∷ []) done c.in_ok-check.ensures.marks refl
+            (none_listed history c.args.at e within (λ r. refl) (λ r p. refl) mode last),
+      ),
     )

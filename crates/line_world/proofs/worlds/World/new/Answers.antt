@@ -3,7 +3,7 @@ use Rattle.std.proofs.Common.{ℕ, List, [], None, replicate, sym, ap, ◌∙◌
 use Rattle.line_names.specs.declared.messages.MsgName.{MsgName}
 use Rattle.line_tape.specs.declared.items.Item.{Item}
 use Rattle.line_tape.specs.History.{Process, fresh}
-use Rattle.line_tape.specs.Views.{MarksView}
+use Rattle.line_tape.specs.Views.{MarksView, no_marks}
 use Rattle.line_moves.specs.declared.modes.Mode.{Mode}
 use Rattle.line_moves.specs.Listed.{Listed}
 use Rattle.line_moves.specs.Openings.{opened}
@@ -21,9 +21,9 @@ returns-clause-ok c =
     let history : List Process = replicate n fresh in
     let rounds : List Listed = c.new-4.result.items in
     let links : List (List (List Item)) = c.in_ok-links.links in
-    let marks : MarksView = record { damaged = replicate n [] } in
+    let marks : MarksView = no_marks n in
     ap (λ (h : List Process). seen mode h c.in_ok-catalogue.catalogue.marks 0 rounds links) c.in_ok-catalogue.ensures.processes
-    ∙ ap (λ (damaged : List (List ℕ)). let v : MarksView = record { damaged = damaged } in seen mode history v 0 rounds links) c.in_ok-catalogue.ensures.marks
+    ∙ ap (λ (v : MarksView). seen mode history v 0 rounds links) c.in_ok-catalogue.ensures.marks
     ∙ ap (λ (ls : List Listed). seen mode history marks 0 ls links) c.new-4.ensures
     ∙ ap (λ (queues : List (List (List Item))). seen mode history marks 0 [] queues) c.in_ok-links.ensures
     ∙ ap (λ (copies : List (List (List MsgName))). let m : Machine = record { mode = mode; history = history; marks = marks; last_round = 0; rounds = []; copies = copies } in m) (copies-start n mode)

@@ -8,7 +8,7 @@ use Rattle.line_world.specs.declared.replies.StepError.TheVariants.{OutOfMemory}
 use Rattle.line_world.specs.declared.steps.Step.TheVariants.{Send}
 use Rattle.line_world.specs.Machine.{Machine}
 use Rattle.line_world.specs.Refusals.{refusal_of}
-use Rattle.line_world.specs.Steps.{Sends}
+use Rattle.line_world.specs.Steps.{Does}
 use Rattle.line_moves.specs.Openings.{OpenView, opened}
 use Rattle.line_moves.specs.Worlds.{ArePainted, AreRounds, IsWorld}
 use Rattle.line_moves.specs.Listed.{Listed}
@@ -79,7 +79,7 @@ returns-clause-done c =
     let from_within : c.args.from < length history = omega (arith, may.named.from_within, ap (λ (m : Machine). length m.history) c.self.view_is) in
     let after : Machine = seen mode c.put_message.new.catalogue.processes c.put_message.new.catalogue.marks last rounds c.put_message.new.links in (
       none,
-      subst (λ (m : Machine). Sends m c.args.from c.args.to c.args.body.now (Sent c.in_ok-message.message) after) c.self.view_is
+      subst (λ (m : Machine). Does m (Send c.args.from c.args.to c.args.body.now) (Sent c.in_ok-message.message) after) c.self.view_is
           (Sends-seen mode history c.self.inside.catalogue.marks last rounds c.self.inside.links c.args.from c.args.to c.args.body.now c.in_ok-message.message c.put_message.new.catalogue.processes
           c.put_message.new.catalogue.marks c.put_message.new.links c.in_ok-message.ensures.name c.in_ok-message.ensures.sent c.in_ok-message.ensures.marks c.in_ok-message.ensures.put
           (none_listed history c.args.from e from_within (λ r. refl) (λ r p. refl) mode last)),

@@ -13,7 +13,7 @@ use Rattle.line_world.specs.declared.steps.Step.TheVariants.{Turn}
 use Rattle.line_world.specs.declared.worlds.World.TheInside.{Inside}
 use Rattle.line_world.specs.Machine.{Machine}
 use Rattle.line_world.specs.Refusals.{refusal_of}
-use Rattle.line_world.specs.Steps.{Turns}
+use Rattle.line_world.specs.Steps.{Does}
 use Rattle.line_world.proofs.DeliverLemmas.{step_seen}
 use Rattle.line_world.proofs.KnownFacts.{coloured_kept, may_turn_now, MayCatch}
 use Rattle.line_world.proofs.SeenLemmas.{seen}
@@ -77,9 +77,9 @@ returns-clause-done c =
     ∙ ap (λ (m : Mode). newly_listed m history after last) (sym may.coloured.mode_is) in
     let next : Machine = seen w.mode c.turn_round.new.catalogue.processes c.turn_round.new.catalogue.marks last c.turn_round.new.rounds.items w.links in (
       none,
-      subst (λ (v : Machine). Turns v at state (TurnedTo at c.in_ok-check.check last) next) c.self.view_is (record {
-        reply_is = ap (λ (k : ℕ). TurnedTo at k last) c.in_ok-check.ensures.check;
-        new_is = ap (λ (ls : List Listed). seen w.mode c.turn_round.new.catalogue.processes c.turn_round.new.catalogue.marks last ls w.links) settled.listed
-            ∙ step_seen w.mode history c.turn_round.new.catalogue.processes w.catalogue.marks c.turn_round.new.catalogue.marks last last w.rounds.items fresh w.links w.links at (e ∷ []) done c.in_ok-check.ensures.marks refl newly;
-      }),
+      subst (λ (v : Machine). Does v (Turn at state) (TurnedTo at c.in_ok-check.check last) next) c.self.view_is (
+        ap (λ (k : ℕ). TurnedTo at k last) c.in_ok-check.ensures.check,
+        ap (λ (ls : List Listed). seen w.mode c.turn_round.new.catalogue.processes c.turn_round.new.catalogue.marks last ls w.links) settled.listed
+            ∙ step_seen w.mode history c.turn_round.new.catalogue.processes w.catalogue.marks c.turn_round.new.catalogue.marks last last w.rounds.items fresh w.links w.links at (e ∷ []) done c.in_ok-check.ensures.marks refl newly,
+      ),
     )

@@ -1,0 +1,106 @@
+//! Bars: checks that processes must not go on behind.
+ghost use Rattle.std.specs.Prelude.{◌≡◌, ◌<◌, ℕ, length, map, replicate, slice_index_or, slice_set, IfOk, None, Some};
+
+use std::alloc::{AllocError, Global};
+use std::error::Error;
+use std::fmt;
+use std::marker::Model;
+
+/// The check that each process is barred at, if it is.
+#[derive(Drop)]
+pub(crate) struct Bars {
+    checks: Vec<Option<u32>>,
+}
+
+impl Model for Bars {
+    ghost use Rattle.std.specs.Prelude.{List, Option, ℕ};
+
+    ghost Value = { List (Option ℕ) };
+
+    ghost view = { λ b. b.checks.items };
+}
+
+impl Bars {
+    /// No bars yet, for `n` processes.
+    pub fn new(alloc: Global, n: u32) -> Result<Bars, AllocError>
+        ensures { IfOk result (λ bars. bars ≡ replicate n None) }
+    {
+        let mut checks = Vec::with_capacity(alloc, n as usize)?;
+        for _p in 0..n {
+            checks.push(None)?;
+        }
+        Ok(Bars { checks })
+    }
+
+    /// The check that a process is barred at.
+    pub fn at(&self, p: usize) -> Option<u32>
+        ensures { result ≡ slice_index_or self.now p None }
+    {
+        match self.checks.get(p) {
+            Some(bar) => *bar,
+            None => None,
+        }
+    }
+
+    /// Bars a process at a check, in place of the bar that it has.
+    pub fn set(&mut self, p: usize, check: u32)
+        requires { p < length self.old }
+        ensures { self.new ≡ slice_set self.old p (Some check) }
+    {
+        self.checks[p] = Some(check);
+    }
+
+    /// Takes all bars away. It takes no memory.
+    pub fn clear(&mut self)
+        ensures { self.new ≡ replicate (length self.old) None }
+    {
+        for p in 0..self.checks.len() {
+            self.checks[p] = None;
+        }
+    }
+
+    /// The same bars in memory of their own.
+    pub fn copy(&self, alloc: Global) -> Result<Bars, AllocError>
+        ensures { IfOk result (λ bars. bars ≡ self.now) }
+    {
+        let mut checks = Vec::with_capacity(alloc, self.checks.len())?;
+        for bar in &self.checks {
+            checks.push(*bar)?;
+        }
+        Ok(Bars { checks })
+    }
+}
+
+/// Why a process was not barred at a check.
+#[derive(Clone, Copy, Debug, PartialEq, Eq, Hash)]
+pub enum BarError {
+    /// The process has no such check.
+    NoSuchCheck,
+    /// The process is barred at that check or an earlier one already.
+    BarNotLower,
+}
+
+impl BarError {
+    /// The number of the refusal, as replies show it.
+    pub fn code(self) -> u32
+        ensures check { self ≡ BarError.NoSuchCheck → result ≡ 4 }
+        ensures lower { self ≡ BarError.BarNotLower → result ≡ 40 }
+    {
+        match self {
+            BarError::NoSuchCheck => 4,
+            BarError::BarNotLower => 40,
+        }
+    }
+}
+
+impl fmt::Display for BarError {
+    fn fmt<W: fmt::Write>(&self, f: &mut fmt::Formatter<W>) -> fmt::Result {
+        f.write_str(match self {
+            BarError::NoSuchCheck => "the process has no such check",
+            BarError::BarNotLower =>
+                "the process is barred at that check or an earlier one already",
+        })
+    }
+}
+
+impl Error for BarError {}
