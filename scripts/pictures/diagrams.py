@@ -7,7 +7,7 @@ from . import arrows, glyphs, lines, sentences, words
 from .frames import MARGIN, NAME, TICK, Frame, frame_of
 from .labels import Box, Label, Placed, Point, Segment, placed, wrapped
 from .legends import legend
-from .stories import Event, ListedRound, Message, Recovery
+from .stories import Bar, Event, ListedRound, Message, Recovery
 from .svg import Element, style, text
 from .views import View
 
@@ -76,7 +76,8 @@ def taken(frame: Frame) -> list[Box]:
             found += lines.recovery_boxes(frame, it)
         elif isinstance(it, Event):
             y = frame.rows[it.process]
-            found.append(Box(x - 4, y - 4, x + 4, y + 4))
+            high = glyphs.POST + 1 if isinstance(it, Bar) else 4
+            found.append(Box(x - 4, y - high, x + 4, y + high))
     found += [Box(MARGIN, y - 8, frame.start, y + 8) for y in frame.rows.values()]
     return found
 
@@ -153,6 +154,7 @@ def drawn(frame: Frame, marks: Marks) -> list[Element]:
         *(part for recovery in recoveries for part in lines.restarts(frame, recovery)),
         *squares,
         *glyphs.damages(frame),
+        *glyphs.bars(frame),
         *names(frame),
     ]
 

@@ -4,12 +4,14 @@ from collections.abc import Iterator
 
 from slow_model.texts import NOW
 
+from . import words
 from .frames import HALF, INDEX, Frame, half_width
 from .labels import Box, Label, Point, width_of
-from .stories import Check, Damage
+from .stories import Bar, Check, Damage
 from .svg import Element, text
 
 SMALL = 11.0
+POST = 7.0  # half of how high the sign of a bar is
 Span = tuple[float, float]
 
 
@@ -167,7 +169,7 @@ def word(
 
 
 def check_labels(frame: Frame) -> Iterator[Label]:
-    """The rounds of checks, which a listed round's line says too, and what was damaged."""
+    """The rounds of checks, which a listed round's line says too; damages and bars."""
     listed = {check for it in frame.view.story.rounds.values() for check in it.checks}
     for check, middle in checks_of(frame):
         if check.round:
@@ -182,6 +184,9 @@ def check_labels(frame: Frame) -> Iterator[Label]:
         if isinstance(it, Damage):
             place = frame.columns[it.place], frame.rows[it.process]
             yield word(f"checkpoint {it.check.index} damaged", "orphanword", place)
+        elif isinstance(it, Bar):
+            place = frame.columns[it.place], frame.rows[it.process]
+            yield word(f"barred at {words.place_of(it.check.index)}", "orphanword", place)
 
 
 def damages(frame: Frame) -> Iterator[Element]:
@@ -200,6 +205,25 @@ def damages(frame: Frame) -> Iterator[Element]:
                     line("scratch", (x - 4, y + 4), (x + 4, y - 4)),
                 ),
             )
+
+
+def bar_sign(middle: Point) -> tuple[Element, Element]:
+    """Two short strokes across the line of a process."""
+    x, y = middle
+    return (
+        line("scratch", (x - 2.5, y - POST), (x - 2.5, y + POST)),
+        line("scratch", (x + 2.5, y - POST), (x + 2.5, y + POST)),
+    )
+
+
+def bars(frame: Frame) -> Iterator[Element]:
+    """The sign of a bar where a process is barred."""
+    for it in frame.view.shown:
+        if isinstance(it, Bar):
+            middle = frame.columns[it.place], frame.rows[it.process]
+            title = f"Process {it.process} is barred at {words.place_of(it.check.index)}"
+            title += f"; record {it.record}"
+            yield Element("g", {}, (Element("title", {}, (title,)), *bar_sign(middle)))
 
 
 def channel_mark(middle: Point) -> Element:

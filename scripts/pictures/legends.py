@@ -8,7 +8,7 @@ from slow_model.texts import NOW
 from . import glyphs
 from .frames import HALF, INDEX, MARGIN, Frame
 from .labels import width_of
-from .stories import Message
+from .stories import Bar, Message
 from .svg import Element, text
 
 SIZE, ROW, SAMPLE = 12.0, 24.0, 40.0
@@ -69,6 +69,11 @@ def keys(frame: Frame, kinds: set[str], channels: set[Message]) -> Iterator[Key]
         yield Key((box("inround", 16, 2), box("check", 16, -2)), "checkpoint of a round")
     if any(check.damage for check in checks):
         yield Key((box("check"), *cross("scratch", 16, HALF + 3)), "damaged checkpoint")
+    if any(isinstance(it, Bar) for it in view.shown):
+        yield Key(
+            (glyphs.line("life", (0, 0), (32, 0)), *glyphs.bar_sign((16, 0))),
+            "process barred: nothing later than that checkpoint can be kept",
+        )
     yield from arrow_keys(kinds, channels)
     if view.recoveries:
         yield from recovery_keys(frame, squares)

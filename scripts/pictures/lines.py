@@ -59,8 +59,8 @@ def recovery_line(recovery: Recovery, points: list[Point]) -> Element:
 def moment(frame: Frame, recovery: Recovery) -> Iterator[Element]:
     """When a recovery happens: a thin line down, and a cross at each process that failed."""
     x = frame.columns[recovery.place]
-    failed = sentences.failed(recovery)
-    title = f"Recovery {recovery.number}, record {recovery.record}: {failed}"
+    causes = sentences.causes(recovery)
+    title = f"Recovery {recovery.number}, record {recovery.record}: {causes}"
     told = Element("title", {}, (title,))
     ends = (x, first_row(frame) - 30), (x, last_row(frame) + 24)
     yield Element("g", {}, (told, line("moment", *ends)))

@@ -13,9 +13,13 @@ from .views import View
 MOST_TOLD = 12  # so many entries are told in a picture's description
 
 
-def failed(recovery: Recovery) -> str:
-    """Who failed."""
-    return f"{words.processes(recovery.failed)} failed" if recovery.failed else "nobody failed"
+def causes(recovery: Recovery) -> str:
+    """Who failed, and who was barred if anybody was."""
+    failed = f"{words.processes(recovery.failed)} failed" if recovery.failed else "nobody failed"
+    barred = tuple(recovery.bars)
+    if not barred:
+        return failed
+    return f"{failed}, and {words.processes(barred)} {'was' if len(barred) == 1 else 'were'} barred"
 
 
 # What pictures say.
@@ -43,7 +47,7 @@ def summary(recovery: Recovery) -> str:
     if passes:
         passed += f" for {'an orphan message' if passes == 1 else 'orphan messages'}"
     again = f"{words.counted(replays, 'message')} {words.are(replays)} sent again"
-    happened = f"Recovery {recovery.number}: {failed(recovery)}; {where}, with {lost} undone."
+    happened = f"Recovery {recovery.number}: {causes(recovery)}; {where}, with {lost} undone."
     return f"{happened} {words.capital(passed)}, and {again}."
 
 
@@ -120,47 +124,69 @@ def explanation(story: Story, recovery: Recovery) -> Iterator[str]:
     yield "The recovery line:"
     yield from (f"  {goes_on(it)}" for it in recovery.line)
     yield from again(recovery)
+    if recovery.bars:
+        barred = words.capital(words.processes(tuple(recovery.bars)))
+        yield f"{barred} {words.are(len(recovery.bars))} barred no longer."
 
 
 def headline(story: Story, recovery: Recovery) -> str:
     """Which recovery it is."""
     count = len(story.recoveries)
     which = f"Recovery {recovery.number}" + (f" of {count}" if count > 1 else "")
-    return f"{which}, at record {recovery.record} of the script: {failed(recovery)}."
+    return f"{which}, at record {recovery.record} of the script: {causes(recovery)}."
 
 
 def beginning(story: Story, recovery: Recovery) -> Iterator[str]:
     """The latest choice that each process had left to begin with."""
-    if not recovery.failed:
+    back = sorted({*recovery.failed, *recovery.bars})
+    if not back:
         yield "To begin with, each process could stay where it stands."
         return
-    one = len(recovery.failed) == 1
     parts = []
-    for number, process in enumerate(recovery.failed):
+    for number, process in enumerate(back):
         first = recovery.first_ceilings[process]
         goes = "" if number else " goes back"
-        damaged = skipped(recovery, process, first)
-        parts.append(f"process {process}{goes} to {words.choice_of(first)}{damaged}")
-    cannot_stay = (
-        "A process that failed cannot stay where it stands"
-        if one
-        else "Processes that failed cannot stay where they stand"
-    )
-    yield f"{cannot_stay}: to begin with, {words.listed(parts)}."
-    if len(recovery.failed) < story.processes:
+        marks = skipped(recovery, process, first)
+        parts.append(f"process {process}{goes} to {words.choice_of(first)}{marks}")
+    yield f"{cannot_stay(recovery)}: to begin with, {words.listed(parts)}."
+    if len(back) < story.processes:
         yield "Each other process could stay where it stands."
 
 
+def cannot_stay(recovery: Recovery) -> str:
+    """What is lost to processes that failed, and to those that were barred."""
+    parts = []
+    if recovery.failed:
+        parts.append(
+            "a process that failed cannot stay where it stands"
+            if len(recovery.failed) == 1
+            else "processes that failed cannot stay where they stand"
+        )
+    if recovery.bars:
+        parts.append(
+            "a process that is barred cannot go on from anything later than its bar"
+            if len(recovery.bars) == 1
+            else "processes that are barred cannot go on from anything later than their bars"
+        )
+    return words.capital(", and ".join(parts))
+
+
 def skipped(recovery: Recovery, process: int, first: Choice) -> str:
-    """The damaged checks above the latest one that can be used."""
-    lost = [
-        it
+    """The process's bar, and the damaged checks above the latest one that can be used."""
+    bar = recovery.bars.get(process)
+    top = bar.check.index if bar else NOW
+    damaged = [
+        it.index
         for it in recovery.line[process].lost
-        if isinstance(it, Check) and it.index > first and it.damage
+        if isinstance(it, Check) and first < it.index <= top and it.damage
     ]
-    if not lost:
-        return ""
-    return f" (its {words.checks([it.index for it in lost])} {words.are(len(lost))} damaged)"
+    told = []
+    if bar:
+        told.append(f"it is barred {'there' if top == first else f'at its {words.checks([top])}'}")
+    if damaged:
+        its = "that" if damaged == [top] else f"its {words.checks(damaged)}"
+        told.append(f"{its} {words.are(len(damaged))} damaged")
+    return f" ({', and '.join(told)})" if told else ""
 
 
 def entries(recovery: Recovery) -> Iterator[str]:

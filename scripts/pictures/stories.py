@@ -69,6 +69,13 @@ class Damage(Event):
     check: Check
 
 
+@dataclass(slots=True, kw_only=True, eq=False)
+class Bar(Event):
+    """A process was barred at a check: it goes on from nothing later. It is no event of a tape."""
+
+    check: Check
+
+
 @dataclass(frozen=True, slots=True, eq=False)
 class Restart:
     """Where a process goes on from, and the events that this takes off its tape."""
@@ -96,12 +103,16 @@ class Pass:
 
 @dataclass(slots=True, kw_only=True, eq=False)
 class Recovery:
-    """A recovery: its number from 1, who failed, the line, the certificate and the replays."""
+    """A recovery: its number from 1, who failed, the line, the certificate and the replays.
+
+    `bars` has the bar of each process that was barred by then, in the order of the processes.
+    """
 
     place: int
     record: int
     number: int
     failed: tuple[int, ...]
+    bars: dict[int, Bar]
     line: list[Restart]
     passes: list[Pass]
     replays: list[Message]
@@ -142,6 +153,7 @@ class Teller:
         self.checks: list[list[Check]] = [[check] for check in initial]
         self.of_round: dict[tuple[int, int], Check] = {}
         self.messages: dict[Name, Message] = {}
+        self.bars: dict[int, Bar] = {}
 
     def tell(self, command: Command, reply: list[Fields]) -> None:
         """Adds what a command did."""
@@ -159,6 +171,8 @@ class Teller:
             self.add_check(command, int(values[0]), int(values[1]), number, command.fields[1])
         elif answer == "damaged":
             self.tell_damage(command, int(values[0]), int(values[1]))
+        elif answer == "barred":
+            self.tell_bar(command, int(values[0]), int(values[1]))
         elif answer == "recovered":
             self.tell_recovery(command, reply[1:])
         elif answer == "rounds":
@@ -222,6 +236,11 @@ class Teller:
         check.damage = Damage(*self.at(command, process), check=check)
         self.add(check.damage)
 
+    def tell_bar(self, command: Command, process: int, index: int) -> None:
+        bar = Bar(*self.at(command, process), check=self.checks[process][index])
+        self.bars[process] = bar
+        self.add(bar)
+
     def tell_rounds(self, records: Iterable[Fields]) -> None:
         """Keeps each round that is listed for the first time."""
         checks: dict[int, tuple[Check, ...]] = {}
@@ -239,7 +258,7 @@ class Teller:
             self.story.rounds.setdefault(number, listed)
 
     def tell_recovery(self, command: Command, records: list[Fields]) -> None:
-        """Adds a recovery, and takes off the tapes what stands after its line."""
+        """Adds a recovery, and takes off the tapes what stands after its line, and all bars."""
         recoveries = self.story.recoveries
         failed = tuple(sorted(set(map(int, command.fields))))
         recovery = Recovery(
@@ -247,6 +266,7 @@ class Teller:
             record=command.record,
             number=len(recoveries) + 1,
             failed=failed,
+            bars=dict(sorted(self.bars.items())),
             line=[],
             passes=[],
             replays=[],
@@ -261,6 +281,7 @@ class Teller:
         names = [name_of(values) for kind, *values in records if kind == "replay"]
         recovery.replays = [self.messages[name] for name in names]
         recovery.line = [self.restarted(values, recovery) for values in lines]
+        self.bars.clear()
         self.story.events.append(recovery)
         recoveries.append(recovery)
 
@@ -289,7 +310,7 @@ class Teller:
             while tape and tape[-1].place > check.place:
                 event = tape.pop()
                 event.cut_by = recovery
-                if not isinstance(event, Damage):
+                if not isinstance(event, (Damage, Bar)):
                     lost.append(event)
             del checks[int(choice) + 1 :]
         return Restart(process, choice, int(values[2]), values[3], check, tuple(reversed(lost)))

@@ -17,6 +17,7 @@ ANSWERS = {
     "begun",
     "turned",
     "damaged",
+    "barred",
     "recovered",
     "rounds",
     "history",

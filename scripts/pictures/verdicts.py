@@ -15,12 +15,16 @@ MOST_NAMED = 6  # so many messages are listed
 
 @dataclass(frozen=True)
 class Tape:
-    """What is asked of a tape: where its checks stand, its sends by number, and its receipts."""
+    """What is asked of a tape: where its checks stand, its sends by number, and its receipts.
+
+    `bar` is the check that the process is barred at, or NOW.
+    """
 
     checks: tuple[int, ...]
     sends: tuple[tuple[int, Name], ...]
     receipts: tuple[tuple[int, Name], ...]
     surviving: tuple[Choice, ...]
+    bar: Choice
 
     def place(self, choice: Choice) -> float:
         """How many events stand before a choice that the tape has."""
@@ -56,9 +60,10 @@ def tapes_of(claim: Claim) -> list[Tape]:
             (place, Name(p, it.incarnation, number)) for number, (place, it) in enumerate(sends)
         )
         receipts = tuple((place, it.message) for place, it in placed if isinstance(it, Recv))
-        whole = [check for check in range(1, len(checks) + 1) if (p, check) not in claim.marks]
-        surviving = (0, *whole, *(() if p in claim.failed else (NOW,)))
-        found.append(Tape(checks, named, receipts, surviving))
+        later = [*range(1, len(checks) + 1), *(() if p in claim.failed else (NOW,))]
+        surviving = (0, *(choice for choice in later if claim.marks.allow(p, choice)))
+        bar = claim.marks.bars.get(p, NOW)
+        found.append(Tape(checks, named, receipts, surviving, bar))
     return found
 
 
@@ -109,14 +114,16 @@ def entries(
 
 
 def claimed(claim: Claim) -> Iterator[str]:
-    """Who failed, what is damaged, and the line."""
+    """Who failed, what is damaged, who is barred, and the line."""
     failed = sorted(claim.failed)
     parts = [f"{words.processes(failed)} failed" if failed else "nobody failed"]
     by_process: dict[int, list[int]] = {}
-    for p, check in sorted(claim.marks):
+    for p, check in sorted(claim.marks.damaged):
         by_process.setdefault(p, []).append(check)
     for p, checks in by_process.items():
         parts.append(f"{words.checks(checks)} of process {p} {words.are(len(checks))} damaged")
+    for p, check in sorted(claim.marks.bars.items()):
+        parts.append(f"process {p} is barred at {words.choice_of(check)}")
     stands = [f"process {p} {words.at_choice(choice)}" for p, choice in enumerate(claim.line)]
     line = f"The latest line that can be gone on from is then {words.listed(stands)}."
     yield f"The claim: {words.listed(parts)}. {line}"
@@ -154,6 +161,9 @@ def not_top(entry: Entry, tape: Tape, ceiling: Choice) -> str:
         return f"{left}, and that has to be given up before {words.choice_of(entry.choice)}"
     if entry.choice in tape.surviving:
         gone = f"{words.choice_of(entry.choice)} is given up already"
+    elif entry.choice > tape.bar:
+        bar = f"process {entry.at} is barred at {words.choice_of(tape.bar)}"
+        gone = f"{bar}, and {words.choice_of(entry.choice)} is later than that"
     elif entry.choice == NOW:
         gone = f"process {entry.at} failed, and where it stands is lost"
     else:
@@ -204,7 +214,8 @@ def misshapen(claim: Claim) -> str:
             f"{words.counted(count, 'process', 'processes')}"
         )
     checks = [len([it for it in tape if isinstance(it, Check)]) for tape in history.tapes]
-    named = [("said to be damaged", p, check) for p, check in sorted(claim.marks)]
+    named = [("said to be damaged", p, check) for p, check in sorted(claim.marks.damaged)]
+    named += [("said to be a bar", p, check) for p, check in sorted(claim.marks.bars.items())]
     named += [("in the line", p, choice) for p, choice in enumerate(claim.line)]
     named += [("passed over in an entry", entry.at, entry.choice) for entry in claim.entries]
     for what, p, choice in named:

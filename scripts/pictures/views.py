@@ -62,13 +62,15 @@ def crossing(recovery: Recovery) -> list[Message]:
 
 
 def spoken_of(recovery: Recovery) -> Iterator[list[Event]]:
-    """What a recovery speaks of, in groups: the entries in order, damaged checks, replays."""
+    """What a recovery speaks of, in groups: the entries in order, marks on checks, replays."""
     for entry in recovery.passes:
         yield [entry.message, entry.receipt, *([entry.check] if entry.check else [])]
     for restart in recovery.line:
         for check in restart.lost:
             if isinstance(check, Check) and check.damage:
                 yield [check, check.damage]
+    for bar in recovery.bars.values():
+        yield [*([bar.check] if bar.check.index else []), bar]
     for message in crossing(recovery):
         yield [message, *(it for it in message.receipts if recovery in (it.cut_by, it.source))]
 
@@ -80,7 +82,7 @@ def told_of(recovery: Recovery, chosen: set[int], most: int) -> tuple[set[int], 
     older than all of that.
     """
     found: set[int] = {recovery.place}
-    records, concerned = {recovery.record}, set(recovery.failed)
+    records, concerned = {recovery.record}, {*recovery.failed, *recovery.bars}
     for group in spoken_of(recovery):
         if not chosen.intersection(it.process for it in group):
             continue

@@ -26,6 +26,11 @@ def choice_at(process: int, choice: Choice) -> str:
     )
 
 
+def place_of(index: int) -> str:
+    """A check of a process that need not be named."""
+    return f"checkpoint {index}" if index else "its initial state"
+
+
 def at_choice(choice: Choice) -> str:
     """Where a process that was named before is, with a choice."""
     return choice_of(choice) if choice == NOW else f"at {choice_of(choice)}"
