@@ -6,7 +6,7 @@ from typing import Any
 
 from .histories import Check, Entry, Event, History, Line, Mark, Marks, Name, Recv, Send
 from .texts import (
-    MOST_BODY, MOST_EVENTS, MOST_PROCESSES, MOST_STATE, NAMES, Answer, Fault, Record, choice,
+    MOST_BODY, MOST_EVENTS, MOST_PROCESSES, MOST_STATE, NAMES, NOW, Answer, Fault, Record, choice,
     fields_of, first_record, hexadecimal, incarnation, number, numbered, records_of, round_number,
     round_or_none, told, want, written,
 )
@@ -18,6 +18,7 @@ READERS: dict[str, list[Callable[[str], Any]]] = {
     "check": [hexadecimal, round_or_none],
     "mark": [number, round_number],
     "damage": [number, number],
+    "bar": [number, number],
     "pass": [number, choice, number, incarnation, number],
     "end": [],
 }
@@ -25,20 +26,22 @@ READERS: dict[str, list[Callable[[str], Any]]] = {
 
 @dataclass
 class Claim:
-    """That a line is the latest of a history, for some damage marks and a failed set.
+    """That a line is the latest of a history, for some marks and a failed set.
 
     The entries show it.
     """
     history: History
-    marks: Marks = field(default_factory=set)
+    marks: Marks = field(default_factory=Marks)
     failed: set[int] = field(default_factory=set)
     line: Line = field(default_factory=list)
     entries: list[Entry] = field(default_factory=list)
 
     def records(self) -> Iterator[Record]:
-        yield from self.history.records()
-        for p, check in sorted(self.marks):
+        yield from self.history.records(2 if self.marks.bars else 1)
+        for p, check in sorted(self.marks.damaged):
             yield "damage", p, check
+        for p, check in sorted(self.marks.bars.items()):
+            yield "bar", p, check
         yield "failed", *sorted(self.failed)
         yield "line", *self.line
         for at, passed, message in self.entries:
@@ -50,7 +53,8 @@ class Claim:
         return (
             len(self.line) == len(self.history.tapes)
             and all(has(p, passed) for p, passed in enumerate(self.line))
-            and all(has(p, check) for p, check in self.marks)
+            and all(has(p, check) for p, check in self.marks.damaged)
+            and all(p < len(self.line) and has(p, check) for p, check in self.marks.bars.items())
             and all(has(entry.at, entry.choice) for entry in self.entries)
         )
 
@@ -75,8 +79,8 @@ class Claim:
 class Reading:
     """What was read of a check text among n processes, and the part that its last record stands in."""
 
-    def __init__(self, n: int) -> None:
-        self.n, self.part = n, "tapes"
+    def __init__(self, version: int, n: int) -> None:
+        self.version, self.n, self.part = version, n, "tapes"
         self.claim = Claim(History(0))
         self.tapes = self.claim.history.tapes
 
@@ -87,8 +91,12 @@ class Reading:
             return self.part == "tapes" and not has_all
         if kind in ("send", "recv", "check", "mark"):
             return self.part == "tapes" and len(self.tapes) > 0
-        if kind in ("damage", "failed"):
+        if kind == "damage":
             return self.part in ("tapes", "damages") and has_all
+        if kind == "bar" and self.version == 1:
+            return False
+        if kind in ("bar", "failed"):
+            return self.part in ("tapes", "damages", "bars") and has_all
         return self.part == {"line": "failed", "pass": "line", "end": "line"}.get(kind)
 
     def read(self, fields: Sequence[str]) -> None:
@@ -128,9 +136,15 @@ class Reading:
     def read_damage(self, p: int, check: int) -> None:
         self.known(p)
         want(check != 0, 7)
-        want((p, check) not in self.claim.marks, 8)
-        self.claim.marks.add((p, check))
+        want((p, check) not in self.claim.marks.damaged, 8)
+        self.claim.marks.damaged.add((p, check))
         self.part = "damages"
+
+    def read_bar(self, p: int, check: int) -> None:
+        self.known(p)
+        want(check < self.claim.marks.bars.get(p, NOW), 40)
+        self.claim.marks.bars[p] = check
+        self.part = "bars"
 
     def read_failed(self, *failed: int) -> None:
         self.known(*failed)
@@ -161,7 +175,7 @@ def readers_of(kind: str, width: int) -> Sequence[Callable[[str], Any]]:
 
 def read_claim(text: bytes) -> Claim:
     records = records_of(text)
-    reading = Reading(numbered(1, first_record, records[0], "history", 3))
+    reading = Reading(*numbered(1, first_record, records[0], "history", 3, 2))
     for i, fields in enumerate(records[1:], 2):
         numbered(i, reading.read, fields)
     if reading.part != "end":

@@ -1,12 +1,13 @@
 """Histories, lines, what survives, plans, and rounds: the definitions, asked of lists of events.
 
 A choice of a process is the index of a check, 0 for the initial state, or NOW. A line is a list
-of choices, one for each process. Damage marks are a set of processes with a check each.
+of choices, one for each process.
 """
 
 import itertools
 import math
 from collections.abc import Iterable, Iterator, Sequence
+from dataclasses import dataclass, field
 from typing import NamedTuple, TypeVar
 
 from .texts import NOW, Record
@@ -58,10 +59,19 @@ Event = Send | Recv | Check | Mark
 Kind = TypeVar("Kind", Send, Recv, Check, Mark)
 # What a link holds.
 Item = Name | Marker
-# A process with a check, for each damaged one.
-Marks = set[tuple[int, int]]
 # A choice for each process.
 Line = list[int]
+
+
+@dataclass
+class Marks:
+    """A process with a check for each damaged one, and the check that a process is barred at."""
+    damaged: set[tuple[int, int]] = field(default_factory=set)
+    bars: dict[int, int] = field(default_factory=dict)
+
+    def allow(self, p: int, choice: int) -> bool:
+        """Whether a choice is not damaged, and not later than its process's bar."""
+        return (p, choice) not in self.damaged and choice <= self.bars.get(p, NOW)
 
 
 def among(kind: type[Kind], events: Iterable[Event]) -> list[Kind]:
@@ -148,12 +158,12 @@ class History:
     def next_lower(self, marks: Marks, p: int, choice: int) -> int:
         """The latest surviving choice before a choice."""
         checks = range(self.checks(p) if choice == NOW else choice - 1, 0, -1)
-        return next((check for check in checks if (p, check) not in marks), 0)
+        return next((check for check in checks if marks.allow(p, check)), 0)
 
     def latest_choices(self, marks: Marks, failed: Iterable[int]) -> Line:
         """The latest surviving choice of each process."""
-        gone = set(failed)
-        return [self.next_lower(marks, p, NOW) if p in gone else NOW for p in self.processes()]
+        stays = {p for p in self.processes() if p not in set(failed) and marks.allow(p, NOW)}
+        return [NOW if p in stays else self.next_lower(marks, p, NOW) for p in self.processes()]
 
     def plan(self, marks: Marks, failed: Iterable[int]) -> tuple[Line, list[Entry], int]:
         """The planned line, the entries of its certificate, and the number of sweeps.
@@ -177,8 +187,8 @@ class History:
 
     def surviving(self, marks: Marks, failed: set[int], p: int) -> list[int]:
         """All surviving choices of a process."""
-        checks = [check for check in range(1, self.checks(p) + 1) if (p, check) not in marks]
-        return [0, *checks, *([] if p in failed else [NOW])]
+        later = [*range(1, self.checks(p) + 1), *([] if p in failed else [NOW])]
+        return [0, *(choice for choice in later if marks.allow(p, choice))]
 
     def check_by_all_lines(self, marks: Marks, failed: set[int], line: Line) -> None:
         """Tries every line of surviving choices, where they are few.
@@ -285,9 +295,9 @@ class History:
 
     # As records.
 
-    def records(self) -> Iterator[Record]:
+    def records(self, version: int = 1) -> Iterator[Record]:
         """The records of the history."""
-        yield "history", 1, len(self.tapes)
+        yield "history", version, len(self.tapes)
         for p in self.processes():
             yield "tape", p, self.incarnations[p]
             for event in self.tapes[p]:

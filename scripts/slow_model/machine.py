@@ -20,12 +20,12 @@ class Round(NamedTuple):
 
 
 class World:
-    """A history, damage marks, the last round begun, listed rounds, and copies without order."""
+    """A history, marks, the last round begun, listed rounds, and copies without order."""
 
     def __init__(self, n: int, mode: str) -> None:
         self.n, self.is_fifo = n, mode == "fifo"
         self.history = History(n)
-        self.marks: Marks = set()
+        self.marks = Marks()
         self.begun = 0
         self.listed: list[Round] = []
         self.copies: dict[tuple[int, int], list[Name]] = {}
@@ -145,9 +145,16 @@ class World:
         self.known(at)
         refuse(7, check == 0)
         refuse(4, not self.history.has_choice(at, check))
-        refuse(8, (at, check) in self.marks)
-        self.marks.add((at, check))
+        refuse(8, (at, check) in self.marks.damaged)
+        self.marks.damaged.add((at, check))
         return [("damaged", at, check)]
+
+    def bar(self, at: int, check: int) -> Records:
+        self.known(at)
+        refuse(4, not self.history.has_choice(at, check))
+        refuse(40, check >= self.marks.bars.get(at, NOW))
+        self.marks.bars[at] = check
+        return [("barred", at, check)]
 
     def recover(self, *failed: int) -> Records:
         self.known(*failed)
@@ -158,7 +165,7 @@ class World:
         replays = self.history.in_transit(line)
         states = [self.history.stored(p, line[p]) for p in range(self.n)]
         self.history.restart(line)
-        self.marks = {(p, check) for p, check in self.marks if check <= line[p]}
+        self.marks = Marks({(p, check) for p, check in self.marks.damaged if check <= line[p]})
         self.listed = [
             listed for listed in self.listed
             if all(check <= line[p] for p, check in enumerate(listed.checks))

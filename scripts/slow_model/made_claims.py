@@ -19,7 +19,9 @@ def some_check_text(chance: Random) -> bytes:
     failed = {p for p in player.processes(0, 1, 1, 2, 3) if p < player.n}
     claim = Claim(player.world.history, player.world.marks, failed)
     if one_in(chance, 2):
-        claim.marks = claim.marks | {(p, claim.history.checks(p)) for p in failed if claim.history.checks(p)}
+        claim.marks.damaged |= {(p, claim.history.checks(p)) for p in failed if claim.history.checks(p)}
+    if one_in(chance, 4):
+        other_bar(chance, claim)
     if one_in(chance, 4):
         for _ in range(chance.choice([1, 2, 3])):
             other_event(chance, claim)
@@ -32,6 +34,8 @@ def some_check_text(chance: Random) -> bytes:
     if one_in(chance, 8):
         past_limits(chance, claim)
     records = list(claim.records())
+    if one_in(chance, 10):
+        records[0] = ("history", chance.choice([1, 2, 2]), player.n)
     if one_in(chance, 80):
         records[0] = odd_first(chance, "history", player.n)
     return text_of(chance, records, one_in(chance, 3))
@@ -146,7 +150,15 @@ def other_failed(chance: Random, claim: Claim) -> None:
 def other_marks(chance: Random, claim: Claim) -> None:
     p = some_process(chance, claim)
     checks = claim.history.checks(p)
-    claim.marks = claim.marks ^ {(p, chance.choice([checks, chance.randint(1, checks + 1), chance.randint(0, checks)]))}
+    claim.marks.damaged ^= {(p, chance.choice([checks, chance.randint(1, checks + 1), chance.randint(0, checks)]))}
+
+
+def other_bar(chance: Random, claim: Claim) -> None:
+    """A process barred elsewhere, or no more; one in six bars is at no check."""
+    p = some_process(chance, claim)
+    if claim.marks.bars.pop(p, None) is None or one_in(chance, 2):
+        checks = claim.history.checks(p)
+        claim.marks.bars[p] = checks + 1 if one_in(chance, 6) else chance.randint(0, checks)
 
 
 def other_event(chance: Random, claim: Claim) -> None:
@@ -180,7 +192,7 @@ def other_event(chance: Random, claim: Claim) -> None:
 
 CHANGES = [
     drop_entry, double_entry, exchange_entries, other_entry, other_entry, moved_line, moved_line, one_too_low,
-    one_too_low, other_failed, other_marks, other_event,
+    one_too_low, other_failed, other_marks, other_bar, other_event,
 ]
 
 
@@ -194,7 +206,9 @@ def past_limits(chance: Random, claim: Claim) -> None:
     if one_in(chance, 3):
         claim.failed = claim.failed | {n}
     if one_in(chance, 3):
-        claim.marks = claim.marks | {chance.choice([(n, 0), (n, 1), (0, 0), (0, 2**32)])}
+        claim.marks.damaged |= {chance.choice([(n, 0), (n, 1), (0, 0), (0, 2**32)])}
+    if one_in(chance, 6):
+        claim.marks.bars |= chance.choice([{n: 0}, {0: 2**32}, {0: 2**32 - 1}])
     if claim.entries and one_in(chance, 3):
         i = chance.randrange(len(claim.entries))
         entry, message = claim.entries[i], claim.entries[i].message

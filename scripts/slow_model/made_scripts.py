@@ -12,14 +12,14 @@ from .texts import Record, shown
 
 # How often each kind of command comes. A relay is a message, its receipt, and a check after it.
 TALK = {
-    "send": 30, "deliver": 40, "check": 14, "damage": 3, "recover": 2, "begin": 4, "turn": 3, "rounds": 2, "history": 1,
+    "send": 30, "deliver": 40, "check": 14, "damage": 3, "bar": 2, "recover": 2, "begin": 4, "turn": 3, "rounds": 2, "history": 1,
     "bundle": 1,
 }
 ROUNDS = {
-    "send": 16, "deliver": 56, "check": 5, "damage": 2, "recover": 2, "begin": 8, "turn": 6, "rounds": 3, "bundle": 1,
+    "send": 16, "deliver": 56, "check": 5, "damage": 2, "bar": 1, "recover": 2, "begin": 8, "turn": 6, "rounds": 3, "bundle": 1,
 }
 DOMINOES = {
-    "relay": 40, "send": 18, "deliver": 22, "check": 8, "damage": 4, "recover": 1, "begin": 3, "turn": 2, "bundle": 1,
+    "relay": 40, "send": 18, "deliver": 22, "check": 8, "damage": 4, "bar": 2, "recover": 1, "begin": 3, "turn": 2, "bundle": 1,
 }
 LENGTHS = [0, 3, 10, 30, 30, 60, 60, 90]
 PROCESSES = [1, *[2] * 6, *[3] * 6, 4, 4, 5]
@@ -81,7 +81,8 @@ class Player:
             return b"c" * self.chance.choice([64, 65, 65, 4096, 4097, 4097])
         return self.chance.choice([b"", b"a", b"\x00\xff", b"\xa0\xb1", b"b" * self.chance.randrange(4)])
 
-    def damaged(self) -> tuple[int, int]:
+    def known_check(self) -> tuple[int, int]:
+        """A process and a check of it, most often the last one."""
         at = self.process()
         checks = self.world.history.checks(at) if at < self.n else 0
         return at, self.chance.choice([checks, checks, self.chance.randint(0, checks + 1)])
@@ -103,8 +104,8 @@ class Player:
             return kind, *self.pair(), self.state()
         if kind in ("check", "begin", "turn"):
             return kind, self.process(), self.state()
-        if kind == "damage":
-            return kind, *self.damaged()
+        if kind in ("damage", "bar"):
+            return kind, *self.known_check()
         return kind, *(self.processes(0, 1, 1, 2, 3) if kind in ("recover", "bundle") else [])
 
     def relay(self) -> Record:

@@ -14,7 +14,7 @@ ODD_FIELDS = [
     ODD_NUMBERS,
     ["", "-", "now", "00", "007", "+1", "-1", " 1", "1 ", "1.", "0x61", "0" * 5000 + "1", "fifo", "unordered", "lifo"],
     ["6", "61", "6g", "AB", "61" * 64, "61" * 65, "61" * 4096, "61" * 4097],
-    ["world", "history", "tape", "send", "recv", "deliver", "check", "mark", "begin", "turn", "damage", "recover",
+    ["world", "history", "tape", "send", "recv", "deliver", "check", "mark", "begin", "turn", "damage", "bar", "recover",
      "rounds", "bundle", "failed", "line", "pass", "end", "Send"],
 ]
 ODD_BYTES = b",\n\r\"0x-9 ~\x7f\xff\x00now"
@@ -41,7 +41,7 @@ def loosely(chance: Random, field: Any) -> str:
 def odd_first(chance: Random, kind: str, n: int, *mode: str) -> Record:
     """A first record that may have another version, number of processes or mode."""
     other_mode = [chance.choice([field, "lifo", ""]) for field in mode]
-    return kind, chance.choice([1, 1, 0, 3]), chance.choice([n, n + 1, 0, 64, 65, 2**32]), *other_mode
+    return kind, chance.choice([1, 1, 0, 2, 3]), chance.choice([n, n + 1, 0, 64, 65, 2**32]), *other_mode
 
 
 def text_of(chance: Random, values: Iterable[Record], is_changed: bool) -> bytes:

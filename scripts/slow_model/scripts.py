@@ -18,6 +18,7 @@ READERS: dict[str, list[Callable[[str], Any]]] = {
     "begin": [number, hexadecimal],
     "turn": [number, hexadecimal],
     "damage": [number, number],
+    "bar": [number, number],
     "rounds": [],
     "history": [],
 }
@@ -26,7 +27,7 @@ METHODS = {"history": "history_text"}  # where the world's method has another na
 
 
 def world_of(fields: Sequence[str]) -> tuple[int, str]:
-    n = first_record(fields, "world", 4)
+    _version, n = first_record(fields, "world", 4, 1)
     want(fields[3] in ("fifo", "unordered"), 32)
     return n, fields[3]
 

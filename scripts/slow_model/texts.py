@@ -10,7 +10,7 @@ NAMES = {
     12: "NotReceived", 13: "NotOrphan", 14: "LineDiffers", 15: "NotConsistent", 16: "BadShape",
     17: "ToSelf", 18: "LinkEmpty", 19: "BadPick", 20: "RoundOpen", 21: "NothingToTurn",
     22: "WrongMode", 23: "NoMoreRounds", 24: "NoMoreIncarnations", 32: "BadRecord",
-    33: "BadNumber", 34: "NoWorld", 35: "BadVersion",
+    33: "BadNumber", 34: "NoWorld", 35: "BadVersion", 40: "BarNotLower",
 }
 NOW = 2**100  # the choice that is later than every check
 MOST_PROCESSES, MOST_BODY, MOST_STATE, MOST_EVENTS = 64, 64, 4096, 1_000_000
@@ -111,14 +111,14 @@ def fields_of(readers: Sequence[Callable[[str], Any]], fields: Sequence[str]) ->
     return [reader(field) for reader, field in zip(readers, fields)]
 
 
-def first_record(fields: Sequence[str], kind: str, width: int) -> int:
-    """The number of processes of a first record, whose other fields are its kind and its version."""
+def first_record(fields: Sequence[str], kind: str, width: int, last: int) -> tuple[int, int]:
+    """The version of a first record, up to the last that there is, and its number of processes."""
     want(fields[0] == kind, 34)
     want(len(fields) == width, 32)
     version, n = number(fields[1]), number(fields[2])
-    want(version == 1, 35)
+    want(1 <= version <= last, 35)
     want(1 <= n <= MOST_PROCESSES, 6)
-    return n
+    return version, n
 
 
 # Writing.
