@@ -43,6 +43,7 @@ CALLS = {
     "restart": (20, "s"),
     "keep": (20, "s"),
     "note": (21, "bcd"),
+    "bar": (22, "ab"),
 }
 # How many bits each of the four numbers has, and where they lie in a word.
 ROOM = {"a": (8, 48), "b": (8, 40), "c": (20, 20), "d": (20, 0)}
@@ -142,6 +143,8 @@ ROWS = [
     row("a round, dominoes and a recovery", "world", 2, FIFO,
         f"{SNAPSHOT} / plan,0 / recover,0 / send,0,1,64 / deliver,0,1,0,"),
     row("the same, and a damaged check", "world", 2, FIFO, f"{SNAPSHOT} / damage,1,1 / recover,0"),
+    row("the same, and a barred process", "world", 2, FIFO,
+        f"{SNAPSHOT} / bar,1,2 / bar,1,3 / bar,1,9 / plan / recover / recover"),
     row("the same, by colours", "world", 2, UNORDERED,
         "begin,0,a1 / send,0,1,61 / deliver,0,1,0,b1 / check,1,b2 / send,1,0,62 / deliver,1,0,0,"
         " / check,0,a2 / begin,1,b3 / turn,0,a3 / plan,0,1 / recover,0 / deliver,0,1,0,"),
@@ -194,7 +197,7 @@ def runs_of(rows: list[Row]) -> Iterator[Row]:
 def is_call(record: str, n: int) -> bool:
     """Whether a record of a script is a call whose numbers fit in a word."""
     name, *fields = record.split(",")
-    if name not in ("send", "deliver", "check", "begin", "turn", "damage", "recover"):
+    if name not in ("send", "deliver", "check", "begin", "turn", "damage", "bar", "recover"):
         return False
     form = CALLS[name][1]
     if form == "s":
