@@ -29,7 +29,7 @@ mode_again : (mode : Mode) → mode_named (mode_text mode) ≡ Ok mode
 mode_again Fifo = refl
 mode_again Unordered = refl
 
-world_again : (n : ℕ) (mode : Mode) → 1 ≤ n → n ≤ MOST_PROCESSES → world_of (world_record n mode) ≡ Ok (record { n = n; mode = mode })
+world_again : (n : ℕ) (mode : Mode) → 1 ≤ n → n ≤ MOST_PROCESSES → world_of (world_record n mode) ≡ Ok (n, mode)
 unfolding world_of
 world_again n mode some few =
     rw (plain_again 1 (omega arith), plain_again n (omega arith), le-leb 1 n some, le-leb n MOST_PROCESSES few, mode_again mode) refl

@@ -19,7 +19,7 @@ unfolding script_of
 rows_faults [] = code_is_of_text 1 faults.NoWorld
 rows_faults (first ∷ rest) =
     both_faults (numbered 1 (world_of first)) _ (numbered_faults 1 (world_of first))
-    (λ world. both_faults (commands_from world.n 2 rest) _ (commands_faults world.n 2 rest) (λ commands. tt))
+    (λ world. both_faults (commands_from world.0 2 rest) _ (commands_faults world.0 2 rest) (λ commands. tt))
 
 pub script_faults : (text : List ℕ) → OnlyOfText (script_of_text text)
 unfolding script_of_text

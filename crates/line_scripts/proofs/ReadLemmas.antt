@@ -7,7 +7,7 @@ use Rattle.line_fields.specs.Faults.{code_of}
 use Rattle.line_fields.specs.Fields.{◌>>=◌}
 use Rattle.line_fields.specs.Records.{Record, records_of_text}
 use Rattle.line_scripts.specs.declared.commands.Command.{Command}
-use Rattle.line_scripts.specs.declared.commands.World.{World}
+use Rattle.line_moves.specs.declared.modes.Mode.{Mode}
 use Rattle.line_claims.specs.declared.faults.TextFault.{TextFault}
 use Rattle.line_claims.specs.declared.faults.TextError.{TextError}
 use Rattle.line_claims.specs.declared.faults.TextError.TheVariants as errors
@@ -23,15 +23,15 @@ unfolding script_of_text script_of
 no_records text h e = rw h (ap script_of e)
 
 -- the script of these commands and those that are still to come
-abbrev pub with_front : World → List Command → Result (List Command) TextFault → Result Script TextFault
-with_front w front read = read >>= λ others. Ok (record { n = w.n; mode = w.mode; commands = front ++ others })
+abbrev pub with_front : ℕ × Mode → List Command → Result (List Command) TextFault → Result Script TextFault
+with_front w front read = read >>= λ others. Ok (record { n = w.0; mode = w.1; commands = front ++ others })
 
-first_is : (r : Record) (rest : List Record) (w : World) → numbered 1 (world_of r) ≡ Ok w → script_of (r ∷ rest) ≡ with_front w [] (commands_from w.n 2 rest)
+first_is : (r : Record) (rest : List Record) (w : ℕ × Mode) → numbered 1 (world_of r) ≡ Ok w → script_of (r ∷ rest) ≡ with_front w [] (commands_from w.0 2 rest)
 unfolding script_of
 first_is r rest w h = rw h refl
 
-pub started : (text : List ℕ) (r : Record) (rest : List Record) (w : World) → is_input_text text ≡ true → records_of_text text ≡ r ∷ rest → numbered 1 (world_of r) ≡ Ok w
-    → script_of_text text ≡ with_front w [] (commands_from w.n 2 rest)
+pub started : (text : List ℕ) (r : Record) (rest : List Record) (w : ℕ × Mode) → is_input_text text ≡ true → records_of_text text ≡ r ∷ rest → numbered 1 (world_of r) ≡ Ok w
+    → script_of_text text ≡ with_front w [] (commands_from w.0 2 rest)
 unfolding script_of_text
 started text r rest w h e k = rw h (ap script_of e ∙ first_is r rest w k)
 
@@ -58,28 +58,28 @@ stops_at : (n i : ℕ) (r : Record) (rest : List Record) (f : TextFault) → num
 unfolding commands_from
 stops_at n i r rest f h = rw h refl
 
-one_more : (w : World) (front : List Command) (c : Command) (read : Result (List Command) TextFault) → with_front w front (read >>= λ others. Ok (c ∷ others)) ≡ with_front w (front ++ (c ∷ [])) read
+one_more : (w : ℕ × Mode) (front : List Command) (c : Command) (read : Result (List Command) TextFault) → with_front w front (read >>= λ others. Ok (c ∷ others)) ≡ with_front w (front ++ (c ∷ [])) read
 one_more w front c (Ok others) =
-    let P : List Command → Result Script TextFault = λ cs. Ok (record { n = w.n; mode = w.mode; commands = cs }) in
+    let P : List Command → Result Script TextFault = λ cs. Ok (record { n = w.0; mode = w.1; commands = cs }) in
     ap P (sym (append_assoc front (c ∷ []) others))
 one_more w front c (Err f) = refl
 
 -- the last record was read
-pub ended_at : (w : World) (front : List Command) (i : ℕ) (rows : List Record) (total : Result Script TextFault) → rows ≡ []
-    → total ≡ with_front w front (commands_from w.n i rows) → total ≡ Ok (record { n = w.n; mode = w.mode; commands = front })
+pub ended_at : (w : ℕ × Mode) (front : List Command) (i : ℕ) (rows : List Record) (total : Result Script TextFault) → rows ≡ []
+    → total ≡ with_front w front (commands_from w.0 i rows) → total ≡ Ok (record { n = w.0; mode = w.1; commands = front })
 ended_at w front i rows total e k =
-    let P : List Command → Result Script TextFault = λ cs. Ok (record { n = w.n; mode = w.mode; commands = cs }) in
-    k ∙ ap (with_front w front) (no_more w.n i rows e) ∙ ap P (append-nil front)
+    let P : List Command → Result Script TextFault = λ cs. Ok (record { n = w.0; mode = w.1; commands = cs }) in
+    k ∙ ap (with_front w front) (no_more w.0 i rows e) ∙ ap P (append-nil front)
 
 -- one more record was read
-pub read_more : (w : World) (front : List Command) (i : ℕ) (rows : List Record) (r : Record) (rest : List Record) (c : Command) (total : Result Script TextFault) → rows ≡ r ∷ rest
-    → numbered i (command_of w.n r) ≡ Ok c → total ≡ with_front w front (commands_from w.n i rows) → total ≡ with_front w (front ++ (c ∷ [])) (commands_from w.n (i + 1) rest)
+pub read_more : (w : ℕ × Mode) (front : List Command) (i : ℕ) (rows : List Record) (r : Record) (rest : List Record) (c : Command) (total : Result Script TextFault) → rows ≡ r ∷ rest
+    → numbered i (command_of w.0 r) ≡ Ok c → total ≡ with_front w front (commands_from w.0 i rows) → total ≡ with_front w (front ++ (c ∷ [])) (commands_from w.0 (i + 1) rest)
 read_more w front i rows r rest c total e h k =
-    k ∙ ap (λ (rs : List Record). with_front w front (commands_from w.n i rs)) e ∙ ap (with_front w front) (first_command w.n i r rest c h) ∙ one_more w front c (commands_from w.n (i + 1) rest)
+    k ∙ ap (λ (rs : List Record). with_front w front (commands_from w.0 i rs)) e ∙ ap (with_front w front) (first_command w.0 i r rest c h) ∙ one_more w front c (commands_from w.0 (i + 1) rest)
 
 -- a record has a fault
-pub stopped : (w : World) (front : List Command) (i : ℕ) (rows : List Record) (r : Record) (rest : List Record) (e : TextError) (total : Result Script TextFault) → rows ≡ r ∷ rest
-    → FailsText e (numbered i (command_of w.n r)) → total ≡ with_front w front (commands_from w.n i rows) → FailsText e total
+pub stopped : (w : ℕ × Mode) (front : List Command) (i : ℕ) (rows : List Record) (r : Record) (rest : List Record) (e : TextError) (total : Result Script TextFault) → rows ≡ r ∷ rest
+    → FailsText e (numbered i (command_of w.0 r)) → total ≡ with_front w front (commands_from w.0 i rows) → FailsText e total
 stopped w front i rows r rest errors.OutOfMemory total s h k = tt
 stopped w front i rows r rest (errors.Fault f) total s h k =
-    k ∙ ap (λ (rs : List Record). with_front w front (commands_from w.n i rs)) s ∙ ap (with_front w front) (stops_at w.n i r rest f h)
+    k ∙ ap (λ (rs : List Record). with_front w front (commands_from w.0 i rs)) s ∙ ap (with_front w front) (stops_at w.0 i r rest f h)

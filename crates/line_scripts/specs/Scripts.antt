@@ -16,7 +16,6 @@ use Rattle.line_world.specs.declared.steps.Step.{Step}
 use Rattle.line_world.specs.declared.steps.Step.TheVariants.{Send, Deliver, Check, Begin, Turn, Damage, Bar, Recover}
 use Rattle.line_scripts.specs.declared.commands.Command.{Command}
 use Rattle.line_scripts.specs.declared.commands.Command.TheVariants.{Bundle, Do, History, Refused, Rounds}
-use Rattle.line_scripts.specs.declared.commands.World.{World}
 use Rattle.line_claims.specs.declared.faults.TextFault.{TextFault}
 use Rattle.line_claims.specs.Numbers.{numbers, plain}
 use Rattle.line_claims.specs.Reads.{fault_at, numbered}
@@ -33,8 +32,8 @@ mode_named text =
     else if bytes_eq text (codes "unordered") then Ok Unordered
     else Err faults.BadRecord
 
--- world,1,N,MODE
-unfoldable pub world_of : Record → Result World Fault
+-- world,1,N,MODE: the number of processes, and how links deliver
+unfoldable pub world_of : Record → Result (ℕ × Mode) Fault
 world_of r = do
   first ← want (bytes_eq (field r 0) (codes "world")) faults.NoWorld
   long ← want (length r == 4) faults.BadRecord
@@ -43,7 +42,7 @@ world_of r = do
   known ← want (version == 1) faults.BadVersion
   within ← want (nat_le 1 n && nat_le n MOST_PROCESSES) faults.BadCount
   mode ← mode_named (field r 3)
-  Ok (record { n = n; mode = mode })
+  Ok (n, mode)
 
 -- a command that is refused, before any step
 abbrev pub refused : Fault → Command
@@ -112,8 +111,8 @@ unfoldable pub script_of : List Record → Result Script TextFault
 script_of [] = Err (fault_at 1 faults.NoWorld)
 script_of (first ∷ rest) = do
   world ← numbered 1 (world_of first)
-  commands ← commands_from world.n 2 rest
-  Ok (record { n = world.n; mode = world.mode; commands = commands })
+  commands ← commands_from world.0 2 rest
+  Ok (record { n = world.0; mode = world.1; commands = commands })
 
 -- the script that a text spells
 unfoldable pub script_of_text : List ℕ → Result Script TextFault

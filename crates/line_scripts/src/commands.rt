@@ -32,13 +32,6 @@ pub enum Command {
     Refused(u32),
 }
 
-/// What the first record says.
-#[derive(Clone, Copy, Debug, PartialEq, Eq)]
-pub(crate) struct World {
-    pub n: u32,
-    pub mode: Mode,
-}
-
 // A command that is refused, before any step.
 fn refused(fault: Fault) -> Bare
     ensures { result ≡ Bare.Refused (code_of fault) }
@@ -65,11 +58,11 @@ fn mode_named(text: &[u8]) -> Result<Mode, Fault>
     }
 }
 
-/// What the first record says, or its first fault.
+/// The number of processes and how links deliver, as the first record says, or its first fault.
 #[tactic(auto, unfolding(crate::specs::Scripts::world_of))]
-pub(crate) fn world_of(row: &Row) -> Result<World, Fault>
+pub(crate) fn world_of(row: &Row) -> Result<(u32, Mode), Fault>
     ensures exact { result ≡ spec.world_of row.now }
-    ensures within { IfOk result (λ world. (1 ≤ world.n) × (world.n ≤ MOST_PROCESSES)) }
+    ensures within { IfOk result (λ world. (1 ≤ world.0) × (world.0 ≤ MOST_PROCESSES)) }
 {
     want(row.field(0) == b"world".as_slice(), Fault::NoWorld)?;
     want(row.len() == 4, Fault::BadRecord)?;
@@ -78,7 +71,7 @@ pub(crate) fn world_of(row: &Row) -> Result<World, Fault>
     want(version == 1, Fault::BadVersion)?;
     want(1 <= n && n as usize <= MOST_PROCESSES, Fault::BadCount)?;
     let mode = mode_named(row.field(3))?;
-    Ok(World { n, mode })
+    Ok((n, mode))
 }
 
 #[tactic(auto, unfolding(crate::specs::Scripts::send_of, line_fields::specs::Shapes::three))]

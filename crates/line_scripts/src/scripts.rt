@@ -8,7 +8,7 @@ ghost use Rattle.line_claims.specs.Reads as reads;
 ghost use Rattle.line_scripts.specs.Keeping.{MayHave, with_bytes};
 ghost use Rattle.line_scripts.specs.Reads.{seen, seen_kept};
 
-use crate::commands::{Command, World, command_of, world_of};
+use crate::commands::{Command, command_of, world_of};
 use crate::keeping::{Bare, Commands, keep};
 use line_claims::{TextError, TextFault, error_at, fault_at, told};
 use line_fields::{Fault, RecordReader, Row, is_plain};
@@ -37,10 +37,10 @@ pub struct KeptScript {
     pub commands: Commands,
 }
 
-// What the first record says.
-fn world_at(row: &Row) -> Result<World, TextError>
+// The number of processes and how links deliver, as the first record says.
+fn world_at(row: &Row) -> Result<(u32, Mode), TextError>
     ensures exact { Yields (λ world. world) result (reads.numbered 1 (spec.world_of row.now)) }
-    ensures within { IfOk result (λ world. (1 ≤ world.n) × (world.n ≤ MOST_PROCESSES)) }
+    ensures within { IfOk result (λ world. (1 ≤ world.0) × (world.0 ≤ MOST_PROCESSES)) }
 {
     match world_of(row) {
         Ok(world) => Ok(world),
@@ -80,7 +80,7 @@ fn read(alloc: Global, text: &[u8]) -> Result<KeptScript, TextError>
     if !records.next_row(&mut row)? {
         return Err(fault_at(1, Fault::NoWorld));
     }
-    let world = world_at(&row)?;
+    let (n, mode) = world_at(&row)?;
     let mut kept = Vec::new(alloc);
     let mut bytes = Vec::new(alloc);
     let mut own = Vec::new(alloc);
@@ -88,12 +88,12 @@ fn read(alloc: Global, text: &[u8]) -> Result<KeptScript, TextError>
     'records: loop {
         if !records.next_row(&mut row)? {
             return Ok(KeptScript {
-                n: world.n,
-                mode: world.mode,
+                n,
+                mode,
                 commands: Commands::of(kept, bytes),
             });
         }
-        let command = command_at(alloc, world.n, record_number, &row, &mut own)?;
+        let command = command_at(alloc, n, record_number, &row, &mut own)?;
         keep(&mut kept, &mut bytes, command, &own)?;
         record_number += 1;
     }

@@ -14,11 +14,11 @@ returns-then-not-branch-clause-exact c =
     let none = rw c.if-not-branch.true at c.in_ok-next_row.ensures.ok in
     rw c.fault_at-then-not-branch.ensures (no_records _ (sym c.is_plain.ensures ∙ c.if-not-is_plain.false) (sym c.open-records.ensures.records ∙ none.0))
 
-pub returns-in_err-world-clause-exact : goal.returns-in_err-world-clause-exact
-returns-in_err-world-clause-exact c =
-    let p = err_from_is_err_and c.from_residual-in_err-world.result c.from_residual-in_err-world.ensures.1 in
+pub returns-in_err-n-clause-exact : goal.returns-in_err-n-clause-exact
+returns-in_err-n-clause-exact c =
+    let p = err_from_is_err_and c.from_residual-in_err-n.result c.from_residual-in_err-n.ensures.1 in
     let row = rw c.if-not-branch.false at c.in_ok-next_row.ensures.ok in
-    rw (p.1, p.2) (not_started _ _ _ _ (sym c.is_plain.ensures ∙ c.if-not-is_plain.false) (sym c.open-records.ensures.records ∙ row) c.in_err-world.ensures.exact)
+    rw (p.1, p.2) (not_started _ _ _ _ (sym c.is_plain.ensures ∙ c.if-not-is_plain.false) (sym c.open-records.ensures.records ∙ row) c.in_err-n.ensures.exact)
 
 pub records-init : goal.records-init
 records-init c =
@@ -30,7 +30,7 @@ records-init c =
       counts = omega (arith, ap length none);
       room = omega (arith, one, few);
       packed = rw c.new-kept.ensures.items c.new-bytes.ensures.items;
-      so_far = rw none (started _ _ _ _ (sym c.is_plain.ensures ∙ c.if-not-is_plain.false) (sym c.open-records.ensures.records ∙ row) c.in_ok-world.ensures.exact);
+      so_far = rw none (started _ _ _ _ (sym c.is_plain.ensures ∙ c.if-not-is_plain.false) (sym c.open-records.ensures.records ∙ row) c.in_ok-n.ensures.exact);
     }
 
 pub returns-then-not-branch-2-clause-exact : goal.returns-then-not-branch-2-clause-exact

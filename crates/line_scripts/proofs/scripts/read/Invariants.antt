@@ -9,7 +9,7 @@ invariant-records l = record {
   counts : (l.record_number ≡ length (unpacked l.kept.items l.bytes.items) + 2);
   room : (l.record_number + length l.records < 2 ^ 64);
   packed : ArePacked l.kept.items l.bytes.items;
-  so_far : (script_of_text l.text ≡ with_front l.world (unpacked l.kept.items l.bytes.items) (commands_from l.world.n l.record_number l.records));
+  so_far : (script_of_text l.text ≡ with_front (l.n, l.mode) (unpacked l.kept.items l.bytes.items) (commands_from l.n l.record_number l.records));
 }
 
 abbrev pub decreases-records : goal.decreases-records
