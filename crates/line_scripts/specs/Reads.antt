@@ -1,4 +1,6 @@
--- A script that was read.
+-- A script that was read, and the faults that a script has.
+use Rattle.std.specs.Prelude.{◌<◌}
+use Rattle.line_claims.specs.declared.faults.TextFault.{TextFault}
 use Rattle.line_scripts.specs.declared.scripts.KeptScript as kept
 use Rattle.line_scripts.specs.declared.scripts.Script as made
 use Rattle.line_scripts.specs.Scripts.{Script}
@@ -10,3 +12,7 @@ seen script = record { n = script.n; mode = script.mode; commands = script.comma
 -- the same of a script in little memory
 abbrev pub seen_kept : kept.KeptScript → Script
 seen_kept script = record { n = script.n; mode = script.mode; commands = script.commands }
+
+-- the fault is one that scripts have, by its number
+abbrev pub IsOfScript : TextFault → Type 0
+IsOfScript fault = (0 < fault.code) × (fault.code < 36)

@@ -3,10 +3,10 @@
 ghost use Rattle.std.specs.Prelude.{◌≡◌, ◌+◌, ◌^◌, ◌≤◌, ◌<◌, ◌⊎◌, length, IfErr, IfOk};
 ghost use Rattle.line_names.specs.declared.limits.TheConstants.{MOST_PROCESSES};
 ghost use Rattle.line_scripts.specs.Scripts as spec;
-ghost use Rattle.line_claims.specs.Reads.{IsOfText, Reads, Yields, no_memory};
+ghost use Rattle.line_claims.specs.Reads.{Reads, Yields, no_memory};
 ghost use Rattle.line_claims.specs.Reads as reads;
 ghost use Rattle.line_scripts.specs.Keeping.{MayHave, with_bytes};
-ghost use Rattle.line_scripts.specs.Reads.{seen, seen_kept};
+ghost use Rattle.line_scripts.specs.Reads.{IsOfScript, seen, seen_kept};
 
 use crate::commands::{Command, command_of, world_of};
 use crate::keeping::{Bare, Commands, keep};
@@ -103,7 +103,7 @@ fn read(alloc: Global, text: &[u8]) -> Result<KeptScript, TextError>
 /// message or state. What it refuses, and how, is as of `read_script`.
 pub fn keep_script(alloc: Global, text: &[u8]) -> Result<KeptScript, TextFault>
     ensures exact { Reads seen_kept result (spec.script_of_text text.now) }
-    ensures codes { IfErr result (λ fault. (fault ≡ no_memory) ⊎ IsOfText fault) }
+    ensures codes { IfErr result (λ fault. (fault ≡ no_memory) ⊎ IsOfScript fault) }
     ensures within { IfOk result (λ script. (1 ≤ script.n) × (script.n ≤ MOST_PROCESSES)) }
     ensures few { IfOk result (λ script. length script.commands + 2 < 2 ^ 64) }
 {
@@ -135,7 +135,7 @@ fn all_of(alloc: Global, mut commands: Commands) -> Result<Vec<Command>, AllocEr
 /// the fault 0 of record 0. It takes time and memory in proportion to the text.
 pub fn read_script(alloc: Global, text: &[u8]) -> Result<Script, TextFault>
     ensures exact { Reads seen result (spec.script_of_text text.now) }
-    ensures codes { IfErr result (λ fault. (fault ≡ no_memory) ⊎ IsOfText fault) }
+    ensures codes { IfErr result (λ fault. (fault ≡ no_memory) ⊎ IsOfScript fault) }
     ensures within { IfOk result (λ script. (1 ≤ script.n) × (script.n ≤ MOST_PROCESSES)) }
     ensures few { IfOk result (λ script. length script.commands.items + 2 < 2 ^ 64) }
 {

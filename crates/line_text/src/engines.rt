@@ -8,7 +8,7 @@ ghost use Rattle.line_replies.specs.Rounds.{rounds_records};
 ghost use Rattle.line_names.specs.declared.limits.TheConstants.{MOST_PROCESSES};
 ghost use Rattle.line_claims.specs.Reads.{IsOfText, no_memory};
 ghost use Rattle.line_text.specs.declared.ends.TheConstants.{READ_FAULT, WRITE_FAULT};
-ghost use Rattle.line_scripts.specs.Reads.{seen_kept};
+ghost use Rattle.line_scripts.specs.Reads.{IsOfScript, seen_kept};
 ghost use Rattle.line_replies.specs.Replies.{refused as refused_record};
 ghost use Rattle.line_text.specs.Inputs.{HearsEnd};
 ghost use Rattle.line_text.specs.Pieces.{Halts, IsBlamed, PutsButEnd};
@@ -304,7 +304,7 @@ fn script_of<S: Source>(alloc: Global, source: &mut S) -> Result<KeptScript, Tex
         → (text : List ℕ) × GivesAll text (S.left source.old) (S.left source.new) (S.given source.old) (S.given source.new) × (script_of_text text ≡ Err fault)) }
     ensures read { IfErr result (λ fault. fault.code ≡ READ_FAULT
         → (S.faults source.new ≡ one_more (S.faults source.old)) ⊎ IsTooLong (S.left source.old) (S.given source.old) (S.given source.new)) }
-    ensures codes { IfErr result (λ fault. (fault ≡ no_memory) ⊎ (fault ≡ record { record_number = 0; code = READ_FAULT }) ⊎ IsOfText fault) }
+    ensures codes { IfErr result (λ fault. (fault ≡ no_memory) ⊎ (fault ≡ record { record_number = 0; code = READ_FAULT }) ⊎ IsOfScript fault) }
     ensures heard { OnOk result (S.faults source.new ≡ S.faults source.old) }
     ensures told { IfErr result (λ fault. fault.code ≢ READ_FAULT → S.faults source.new ≡ S.faults source.old) }
     ensures ended { HearsEnd result (S.ends source.old) (S.ends source.new) }
@@ -354,7 +354,7 @@ pub fn run_text<S: Source, K: Sink>(
         × spec.StopsText text fault.record_number (K.taken sink.old) (K.taken sink.new))) }
 
     // There are no other faults, a sound sink is not blamed, and no failure of the source is passed over.
-    ensures codes { IfErr result (λ fault. (fault.code ≤ WRITE_FAULT) ⊎ IsOfText fault) }
+    ensures codes { IfErr result (λ fault. fault.code ≤ WRITE_FAULT) }
     ensures sound { OnOk result (K.faults sink.new ≡ K.faults sink.old) }
     ensures heard { OnOk result (S.faults source.new ≡ S.faults source.old) }
     ensures told { IfErr result (λ fault. fault.code ≢ READ_FAULT → S.faults source.new ≡ S.faults source.old) }
