@@ -133,14 +133,14 @@ front_again version history more fit ends =
 
 -- its first record announces it
 pub first_again : (version : ℕ) (history : List Process) (more : List Record) → IsVersion version → IsHistoryInRange history
-    → head_in (front_records version history ++ more) ≡ Ok (record { version = version; n = length history })
+    → head_in (front_records version history ++ more) ≡ Ok (version, length history)
 first_again version history more known fit = rw (head_again version (length history) known fit.some fit.few) refl
 
 pub history_again : (version : ℕ) (history : List Process) → IsVersion version → IsHistoryInRange history → history_of (front_records version history) ≡ Ok history
 unfolding history_of
 history_again version history known fit =
     let records : List Record = front_records version history in
-    let head : head_in records ≡ Ok (record { version = version; n = length history }) = rw (head_again version (length history) known fit.some fit.few) refl in
+    let head : head_in records ≡ Ok (version, length history) = rw (head_again version (length history) known fit.some fit.few) refl in
     let read = front_again version history [] fit refl in
     let whole : front_of (length history) records ≡ Ok (part_to history read.0 []) = ap (front_of (length history)) (sym (append-nil records)) ∙ read.1 in
     rw (head, whole) refl

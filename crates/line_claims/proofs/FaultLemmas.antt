@@ -105,7 +105,7 @@ history_faults : (records : List Record) → OnlyOfText (history_of records)
 unfolding history_of
 history_faults records =
     both_faults (head_in records) _ (head_faults records)
-    (λ head. both_faults (front_of head.n records) _ (front_of_faults head.n records)
+    (λ head. both_faults (front_of head.1 records) _ (front_of_faults head.1 records)
     (λ front. both_faults (numbered front.number (want (is_none front.left) faults.BadRecord)) _ (numbered_faults front.number (want (is_none front.left) faults.BadRecord)) (λ ended. tt)))
 
 certificate_faults : (version n : ℕ) (records : List Record) → OnlyOfText (certificate_of version n records)
@@ -116,8 +116,8 @@ check_faults : (records : List Record) → OnlyOfText (check_of records)
 unfolding check_of
 check_faults records =
     both_faults (head_in records) _ (head_faults records)
-    (λ head. both_faults (front_of head.n records) _ (front_of_faults head.n records)
-    (λ front. both_faults (claim_from head.version head.n front.number front.left) _ (claim_faults head.version head.n front.number front.left) (λ claim. tt)))
+    (λ head. both_faults (front_of head.1 records) _ (front_of_faults head.1 records)
+    (λ front. both_faults (claim_from head.0 head.1 front.number front.left) _ (claim_faults head.0 head.1 front.number front.left) (λ claim. tt)))
 
 -- of the records of a text
 pub records_faults : (text : List ℕ) → OnlyOfText (records_in text)

@@ -43,7 +43,7 @@ round_or_none_again (Some r) h =
     let high : r ≤ LAST_ROUND = h.1 in
     rw (not_word r (codes "-") (omega arith) refl, round_again r low high) refl
 
-pub head_again : (version n : ℕ) → IsVersion version → 1 ≤ n → n ≤ MOST_PROCESSES → head_of (history_record version n) ≡ Ok (record { version = version; n = n })
+pub head_again : (version n : ℕ) → IsVersion version → 1 ≤ n → n ≤ MOST_PROCESSES → head_of (history_record version n) ≡ Ok (version, n)
 unfolding head_of two
 head_again version n known low high =
     let first : 1 ≤ version = known.0 in

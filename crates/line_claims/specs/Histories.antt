@@ -9,7 +9,6 @@ use Rattle.line_fields.specs.Shapes.{two}
 use Rattle.line_tape.specs.declared.limits.TheConstants.{MOST_EVENTS}
 use Rattle.line_tape.specs.History.{Process, fresh, tape_at, with_event, with_incarnation}
 use Rattle.line_claims.specs.declared.faults.TextFault.{TextFault}
-use Rattle.line_claims.specs.declared.histories.Head.{Head}
 use Rattle.line_claims.specs.declared.histories.TheConstants.{LAST_VERSION}
 use Rattle.line_claims.specs.Events.{is_event, event_of}
 use Rattle.line_claims.specs.Numbers.{plain, incarnation}
@@ -20,15 +19,15 @@ use Rattle.line_claims.specs.Reads.{numbered}
 abbrev pub IsVersion : ℕ → Type 0
 IsVersion version = (1 ≤ version) × (version ≤ LAST_VERSION)
 
--- history,V,N
-unfoldable pub head_of : Record → Result Head Fault
+-- history,V,N: the version and the number of processes
+unfoldable pub head_of : Record → Result (ℕ × ℕ) Fault
 head_of = two plain plain (λ version n. do
   known ← want (nat_le 1 version && nat_le version LAST_VERSION) faults.BadVersion
   within ← want (nat_le 1 n && nat_le n MOST_PROCESSES) faults.BadCount
-  Ok (record { version = version; n = n }))
+  Ok (version, n))
 
 -- the version and the number of processes that the first record announces
-abbrev pub head_in : List Record → Result Head TextFault
+abbrev pub head_in : List Record → Result (ℕ × ℕ) TextFault
 head_in records = numbered 1 (want (begins (named (codes "history")) records) faults.NoWorld >>= λ it. head_of (first records))
 
 -- tape,P,INC of process p

@@ -19,7 +19,7 @@ records_in text = if is_input_text text then Ok (records_of_text text) else Err 
 unfoldable pub history_of : List Record → Result (List Process) TextFault
 history_of records = do
   head ← head_in records
-  front ← front_of head.n records
+  front ← front_of head.1 records
   ended ← numbered front.number (want (is_none front.left) faults.BadRecord)
   Ok front.value
 
@@ -40,8 +40,8 @@ seen_check text = record { history = text.history.processes; claim = seen text.c
 unfoldable pub check_of : List Record → Result Check TextFault
 check_of records = do
   head ← head_in records
-  front ← front_of head.n records
-  claim ← claim_from head.version head.n front.number front.left
+  front ← front_of head.1 records
+  claim ← claim_from head.0 head.1 front.number front.left
   Ok (record { history = front.value; claim = claim })
 
 -- the history that a text spells

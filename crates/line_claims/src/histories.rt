@@ -20,20 +20,11 @@ use std::alloc::Global;
 /// The latest version of texts.
 pub(crate) const LAST_VERSION: u32 = 2;
 
-/// What the first record of a text announces.
-#[derive(Clone, Copy)]
-pub(crate) struct Head {
-    /// The version of the text.
-    pub version: u32,
-    /// How many processes there are.
-    pub n: u32,
-}
-
-/// What `history,V,N` announces.
+/// The version and the number of processes that `history,V,N` announces.
 #[tactic(auto, unfolding(crate::specs::Histories::head_of, line_fields::specs::Shapes::two))]
-pub(crate) fn head_of(row: &Row) -> Result<Head, Fault>
+pub(crate) fn head_of(row: &Row) -> Result<(u32, u32), Fault>
     ensures exact { result ≡ spec.head_of row.now }
-    ensures within { IfOk result (λ head. (1 ≤ head.n) × (head.n ≤ MOST_PROCESSES)) }
+    ensures within { IfOk result (λ head. (1 ≤ head.1) × (head.1 ≤ MOST_PROCESSES)) }
 {
     want(row.len() == 3, Fault::BadRecord)?;
     let version = plain(row, 1)?;
@@ -41,7 +32,7 @@ pub(crate) fn head_of(row: &Row) -> Result<Head, Fault>
     let known = 1 <= version && version <= LAST_VERSION;
     want(known, Fault::BadVersion)?;
     want(1 <= n && n as usize <= MOST_PROCESSES, Fault::BadCount)?;
-    Ok(Head { version, n })
+    Ok((version, n))
 }
 
 // Begins the tape of a process, by `tape,P,INC`.

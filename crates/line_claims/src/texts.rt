@@ -11,7 +11,7 @@ ghost use Rattle.line_claims.specs.Texts as spec;
 use crate::claims::{Claim, read_claim};
 use crate::cursors::Cursor;
 use crate::faults::{TextError, TextFault, fault_at, told};
-use crate::histories::{Head, head_of, read_tapes};
+use crate::histories::{head_of, read_tapes};
 use line_fields::{Fault, is_plain};
 use line_names::MOST_PROCESSES;
 use line_tape::History;
@@ -38,10 +38,10 @@ fn open(alloc: Global, text: &[u8]) -> Result<Cursor<'_>, TextError>
     Ok(cursor)
 }
 
-// What the first record announces.
-fn read_first(cursor: &Cursor<'_>) -> Result<Head, TextError>
+// The version and the number of processes that the first record announces.
+fn read_first(cursor: &Cursor<'_>) -> Result<(u32, u32), TextError>
     ensures exact { Yields (λ head. head) result (head_in cursor.now.left) }
-    ensures within { IfOk result (λ head. (1 ≤ head.n) × (head.n ≤ MOST_PROCESSES) × (cursor.now.left ≢ [])) }
+    ensures within { IfOk result (λ head. (1 ≤ head.1) × (head.1 ≤ MOST_PROCESSES) × (cursor.now.left ≢ [])) }
 {
     let Some(row) = cursor.named(b"history") else {
         return Err(fault_at(1, Fault::NoWorld));
@@ -70,8 +70,8 @@ fn history_in(alloc: Global, text: &[u8]) -> Result<History, TextError>
     ensures { Yields (λ history. history.processes) result (spec.history_of_text text.now) }
 {
     let mut cursor = open(alloc, text)?;
-    let head = read_first(&cursor)?;
-    let history = read_front(alloc, head.n, &mut cursor)?;
+    let (_, n) = read_first(&cursor)?;
+    let history = read_front(alloc, n, &mut cursor)?;
     if cursor.row().is_some() {
         return Err(fault_at(cursor.number(), Fault::BadRecord));
     }
@@ -92,9 +92,9 @@ fn check_in(alloc: Global, text: &[u8]) -> Result<CheckText, TextError>
     ensures { Yields spec.seen_check result (spec.check_of_text text.now) }
 {
     let mut cursor = open(alloc, text)?;
-    let head = read_first(&cursor)?;
-    let history = read_front(alloc, head.n, &mut cursor)?;
-    let claim = read_claim(alloc, head.version, head.n, &mut cursor)?;
+    let (version, n) = read_first(&cursor)?;
+    let history = read_front(alloc, n, &mut cursor)?;
+    let claim = read_claim(alloc, version, n, &mut cursor)?;
     Ok(CheckText { history, claim })
 }
 
