@@ -1,5 +1,5 @@
 -- A fault of a history or of a claim is one of the text.
-use Rattle.std.proofs.Common.{cond, inl, inr, ◌≡◌, ◌⊎◌, ℕ, zero, suc, ◌+◌, List, [], ◌∷◌, drop, length, Result, Ok, Err, true, false, refl, subst, arith}
+use Rattle.std.proofs.Common.{cond, inl, inr, ◌≡◌, ◌⊎◌, ℕ, zero, suc, ◌+◌, List, [], ◌∷◌, drop, Result, Ok, Err, true, false, refl, subst, arith}
 use Rattle.std.specs.Prelude.{Bool, IfErr, codes, replicate}
 use Rattle.line_fields.specs.declared.faults.Fault.{Fault}
 use Rattle.line_fields.specs.declared.faults.Fault.TheVariants as faults
