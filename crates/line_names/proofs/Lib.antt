@@ -1,2 +1,3 @@
 pub mod SetLemmas
 pub mod NameLemmas
+pub mod BitLemmas

@@ -1,5 +1,6 @@
 //! Processes and sets of them.
 ghost use Rattle.std.specs.Prelude.{◌≡◌, ◌≢◌, ◌<◌, ◌≤◌, ◌↔◌, ℕ, false, IsTrue, OkIff};
+ghost use Rattle.std.specs.Int.{bit_at};
 ghost use Rattle.line_names.specs.Sets.{nobody, with_member, is_member};
 
 use crate::limits::MOST_PROCESSES;
@@ -79,20 +80,38 @@ impl fmt::Display for ProcIdError {
 
 impl Error for ProcIdError {}
 
-/// A set of processes, as the failed ones.
+/// How many words a set of processes has.
+const WORDS: usize = 4;
+
+const _: () = prove!(WORDS * 64 == MOST_PROCESSES);
+
+/// What a word has of its bits from place `i` on.
+fn bits_from(word: u64, i: u32) -> u64
+    ensures { (result ≡ 0) ↔ ((j : ℕ) → i ≤ j → j < 64 → bit_at word j ≡ 0) }
+{
+    if i < 64 { word >> i } else { 0 }
+}
+
+/// A set of processes, as the failed ones, of one bit for each that there may be.
 #[derive(Clone, Copy, Debug, PartialEq, Eq)]
 pub struct ProcSet {
-    members: [bool; MOST_PROCESSES],
+    words: [u64; WORDS],
 }
 
 impl Model for ProcSet {
     ghost use Rattle.std.specs.Prelude.{Bool, List};
+    ghost use Rattle.line_names.specs.declared.processes.TheConstants.{WORDS};
+    ghost use Rattle.line_names.specs.Bits.{AreWords, members_of, words_of};
 
     ghost Value = { List Bool };
 
-    ghost view = { λ s. s.members };
+    ghost view = { λ s. members_of s.words };
 
-    ghost inverse = { λ members. record { members = members } };
+    ghost invariant = { λ s. AreWords WORDS s.words };
+
+    ghost inverse = { λ members. record { words = words_of WORDS members } };
+
+    ghost inverse_ok = { λ s known i. record { words = known.again i } };
 }
 
 impl ProcSet {
@@ -101,9 +120,7 @@ impl ProcSet {
         ensures value { result ≡ nobody }
         ensures none { (q : ℕ) → is_member result q ≡ false }
     {
-        ProcSet {
-            members: [false; MOST_PROCESSES],
-        }
+        ProcSet { words: [0; WORDS] }
     }
 
     /// The set with one more process; with a member of it, the set as it is.
@@ -112,24 +129,26 @@ impl ProcSet {
         ensures member { IsTrue (is_member result p) }
         ensures others { (q : ℕ) → q ≢ p → is_member result q ≡ is_member self q }
     {
-        let mut members = self.members;
-        members[p.get() as usize] = true;
-        ProcSet { members }
+        let mut words = self.words;
+        let p = p.get();
+        words[p as usize / 64] |= 1 << (p % 64);
+        ProcSet { words }
     }
 
     /// Whether the process is in the set.
     pub fn has(&self, p: ProcId) -> bool
         ensures { result ≡ is_member self.now p }
     {
-        self.members[p.get() as usize]
+        let p = p.get();
+        (self.words[p as usize / 64] >> (p % 64)) & 1 == 1
     }
 
     /// Whether each process of the set is below `n`.
     pub fn is_below(&self, n: u32) -> bool
         ensures { IsTrue result ↔ ((q : ℕ) → IsTrue (is_member self.now q) → q < n) }
     {
-        for q in n as usize..MOST_PROCESSES {
-            if self.members[q] {
+        for k in 0..WORDS {
+            if bits_from(self.words[k], n.saturating_sub(k as u32 * 64)) != 0 {
                 return false;
             }
         }

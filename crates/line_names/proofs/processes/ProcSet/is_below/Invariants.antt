@@ -1,7 +1,7 @@
-use Rattle.std.proofs.Common.{ℕ, ◌<◌}
+use Rattle.std.proofs.Common.{ℕ, ◌<◌, ◌*◌}
 use Rattle.std.specs.Prelude.{IsTrue}
-use Rattle.line_names.specs.Sets.{is_member}
+use Rattle.line_names.specs.Bits.{has_bit}
 use Rattle.line_names.proofs.processes.ProcSet.is_below.Given as goal
 
-abbrev pub invariant-loop-q : goal.invariant-loop-q
-invariant-loop-q l = (p : ℕ) → p < l.q → IsTrue (is_member l.self p) → p < l.n
+abbrev pub invariant-loop-k : goal.invariant-loop-k
+invariant-loop-k l = (p : ℕ) → p < 64 * l.k → IsTrue (has_bit l.self-inside.words p) → p < l.n
