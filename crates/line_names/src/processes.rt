@@ -145,7 +145,8 @@ impl ProcSet {
 
     /// Whether each process of the set is below `n`.
     pub fn is_below(&self, n: u32) -> bool
-        ensures { IsTrue result ↔ ((q : ℕ) → IsTrue (is_member self.now q) → q < n) }
+        ensures value { IsTrue result ↔ ((q : ℕ) → IsTrue (is_member self.now q) → q < n) }
+        ensures few { (q : ℕ) → IsTrue (is_member self.now q) → q < MOST_PROCESSES }
     {
         for k in 0..WORDS {
             if bits_from(self.words[k], n.saturating_sub(k as u32 * 64)) != 0 {
