@@ -12,8 +12,8 @@ use crate::gates::Gate;
 use crate::orders::Order;
 use crate::refusals::{DrillError, DrillWhy, of_no_order};
 use crate::workers::follow;
-use line_names::{MOST_PROCESSES, ProcSet};
-use line_posts::{GatherWhy, Gathered, MOST_CAPACITY, Post, fleet, gather};
+use line_names::ProcSet;
+use line_posts::{GatherWhy, Gathered, MOST_CAPACITY, MOST_WORKERS, Post, fleet, gather};
 use std::alloc::Global;
 use std::snapshot::Snapshot;
 use std::sync::Wait;
@@ -109,8 +109,8 @@ fn all_at_once<G: Gate, R: Threads + Wait + Sync>(
     )
 }
 
-/// Drills a worker for each script, 1 to 64 of them, each in a thread of its own and over rings of
-/// this capacity, and gathers what they did, nobody having failed.
+/// Drills a worker for each script, 1 to `MOST_WORKERS` of them, each in a thread of its own and over
+/// rings of this capacity, and gathers what they did, nobody having failed.
 ///
 /// Before each order a worker asks the gate, at most `turns` times. A Send that finds no free slot,
 /// and a Receive that finds nothing there, are tried at most `turns` times too. After each order the
@@ -132,18 +132,18 @@ pub fn drill<G: Gate, R: Threads + Wait + Sync>(
     ensures scripted { IfOk result (λ g. (q : ℕ)
         → IsScripted (scripts_of scripts.now) q (tape_at g.processes q)) }
     ensures scripts { OnOk result ((1 ≤ length scripts.now)
-        × (length scripts.now ≤ MOST_PROCESSES)) }
+        × (length scripts.now ≤ MOST_WORKERS)) }
     ensures capacity { OnOk result ((1 ≤ capacity) × (capacity ≤ MOST_CAPACITY)) }
 
     // The refusals.
     ensures bad_count { IsErrOf result (of_no_order DrillWhy.BadCount)
-        ↔ ((length scripts.now ≡ 0) ⊎ (MOST_PROCESSES < length scripts.now)) }
+        ↔ ((length scripts.now ≡ 0) ⊎ (MOST_WORKERS < length scripts.now)) }
     ensures bad_capacity { IsErrOf result (of_no_order DrillWhy.BadCapacity)
-        ↔ ((length scripts.now ≢ 0) × (length scripts.now ≤ MOST_PROCESSES)
+        ↔ ((length scripts.now ≢ 0) × (length scripts.now ≤ MOST_WORKERS)
         × ((capacity ≡ 0) ⊎ (MOST_CAPACITY < capacity))) }
     ensures fault { IfErr result (λ e. IsFault (scripts_of scripts.now) e) }
 {
-    if scripts.len() > MOST_PROCESSES {
+    if scripts.len() > MOST_WORKERS {
         return Err(of_no_order(DrillWhy::BadCount));
     }
     let (collector, posts) = fleet(alloc, scripts.len() as u32, capacity)?;

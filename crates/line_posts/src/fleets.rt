@@ -12,13 +12,14 @@ ghost use Rattle.line_posts.specs.Openings.{AreOpened, ArePlain};
 ghost use Rattle.line_posts.specs.Fleets.{AreAllMade};
 
 use crate::collectors::{Collector, open_collector};
+use crate::limits::{MOST_CAPACITY, MOST_WORKERS};
 use crate::parcels::Parcel;
 use crate::posts::{Post, open_post};
 use crate::refusals::FleetError;
 use crate::replays::replays_to;
 use line_catalogue::Catalogue;
 use line_journals::Journal;
-use line_names::{MOST_PROCESSES, ProcId};
+use line_names::ProcId;
 use line_rings::{Rings, make_rings};
 use line_tape::{Event, History};
 use rtrb::{Consumer, Producer};
@@ -66,9 +67,6 @@ fn make_posts(
     Ok(posts)
 }
 
-/// The greatest capacity of a ring.
-pub const MOST_CAPACITY: usize = 1_024;
-
 /// Workers that begin a generation, and the other ends of their report lines.
 #[derive(Drop)]
 pub(crate) struct Opened {
@@ -97,8 +95,9 @@ pub(crate) fn open_all(
     Ok(Opened { posts, lines })
 }
 
-/// A first generation of `n` workers with no event yet, its collector, and a ring of this capacity
-/// from each worker to each and from each to the collector.
+/// A first generation of `n` workers with no event yet, 1 to `MOST_WORKERS` of them, its collector,
+/// and a ring of this capacity, 1 to `MOST_CAPACITY`, from each worker to each and from each to the
+/// collector.
 ///
 /// It makes n² rings for messages, one from each worker to itself among them, which stays empty.
 pub fn fleet(alloc: Global, n: u32, capacity: usize) -> Result<(Collector, Vec<Post>), FleetError>
@@ -109,11 +108,11 @@ pub fn fleet(alloc: Global, n: u32, capacity: usize) -> Result<(Collector, Vec<P
     ensures generation { IfOk result (λ r. IsGeneration r.1.items × AreLined r.0 r.1.items) }
 
     // The refusals, in their order.
-    ensures count { IsErrOf result FleetError.BadCount ↔ ((n ≡ 0) ⊎ (MOST_PROCESSES < n)) }
+    ensures count { IsErrOf result FleetError.BadCount ↔ ((n ≡ 0) ⊎ (MOST_WORKERS < n)) }
     ensures capacity { IsErrOf result FleetError.BadCapacity
-        ↔ ((n ≢ 0) × (n ≤ MOST_PROCESSES) × ((capacity ≡ 0) ⊎ (MOST_CAPACITY < capacity))) }
+        ↔ ((n ≢ 0) × (n ≤ MOST_WORKERS) × ((capacity ≡ 0) ⊎ (MOST_CAPACITY < capacity))) }
 {
-    if n == 0 || n as usize > MOST_PROCESSES {
+    if n == 0 || n as usize > MOST_WORKERS {
         return Err(FleetError::BadCount);
     }
     if capacity == 0 || capacity > MOST_CAPACITY {

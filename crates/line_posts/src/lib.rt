@@ -7,6 +7,7 @@ mod fleets;
 mod further;
 mod gathering;
 mod laws;
+mod limits;
 mod markers;
 mod parcels;
 mod posts;
@@ -19,9 +20,10 @@ mod restarts;
 mod rounds;
 
 pub use collectors::Collector;
-pub use fleets::{MOST_CAPACITY, fleet};
+pub use fleets::fleet;
 pub use gathering::{GatherRefused, Gathered, gather};
 pub use laws::generations_last;
+pub use limits::{MOST_CAPACITY, MOST_WORKERS};
 pub use posts::Post;
 pub use receiving::Received;
 pub use refusals::{

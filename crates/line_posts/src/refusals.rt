@@ -33,7 +33,7 @@ impl fmt::Display for FleetError {
     fn fmt<W: fmt::Write>(&self, f: &mut fmt::Formatter<W>) -> fmt::Result {
         f.write_str(match self {
             FleetError::OutOfMemory => "out of memory",
-            FleetError::BadCount => "the number of processes is not from 1 to 64",
+            FleetError::BadCount => "the number of workers is not from 1 to 64",
             FleetError::BadCapacity => "the capacity is not from 1 to 1,024",
         })
     }

@@ -4,8 +4,8 @@ ghost use Rattle.line_posts.specs.Collected.{HasCollectedMore};
 ghost use Rattle.line_posts.specs.Generations.{IsSamePost};
 
 use crate::crews::Work;
-use line_names::{Body, MOST_PROCESSES, ProcId};
-use line_posts::{Collector, Post, ReceiveWhy, SendWhy};
+use line_names::{Body, ProcId};
+use line_posts::{Collector, MOST_WORKERS, Post, ReceiveWhy, SendWhy};
 use line_tape::State;
 use std::alloc::Global;
 use std::thread::yield_now;
@@ -158,7 +158,7 @@ impl Exchange {
 
 /// Sends to a worker, and to itself nothing; false where it was refused.
 fn send_other(post: &mut Post, q: u32, n: u32, body: &Body) -> bool
-    requires { n ≤ MOST_PROCESSES }
+    requires { n ≤ MOST_WORKERS }
     ensures { IsSamePost post.old post.new }
 {
     if q == post.number() {
@@ -172,7 +172,7 @@ fn send_other(post: &mut Post, q: u32, n: u32, body: &Body) -> bool
 
 /// Receives of a worker, and of itself nothing; false where it was refused.
 fn receive_other(alloc: Global, post: &mut Post, p: u32, n: u32) -> bool
-    requires { n ≤ MOST_PROCESSES }
+    requires { n ≤ MOST_WORKERS }
     ensures { IsSamePost post.old post.new }
 {
     if p == post.number() {
@@ -186,7 +186,7 @@ fn receive_other(alloc: Global, post: &mut Post, p: u32, n: u32) -> bool
 
 /// Sends a message to each other one of `n`; false where one was refused.
 fn send_each(post: &mut Post, n: u32, body: &Body) -> bool
-    requires { n ≤ MOST_PROCESSES }
+    requires { n ≤ MOST_WORKERS }
     ensures { IsSamePost post.old post.new }
 {
     for q in 0..n {
@@ -199,7 +199,7 @@ fn send_each(post: &mut Post, n: u32, body: &Body) -> bool
 
 /// Receives a message of each other one of `n`; false where one was refused.
 fn receive_each(alloc: Global, post: &mut Post, n: u32) -> bool
-    requires { n ≤ MOST_PROCESSES }
+    requires { n ≤ MOST_WORKERS }
     ensures { IsSamePost post.old post.new }
 {
     for p in 0..n {
@@ -218,7 +218,7 @@ impl Work for Exchange {
         let Ok(body) = Body::try_new(&[7; 40]) else {
             return post;
         };
-        if post.n() > MOST_PROCESSES {
+        if post.n() > MOST_WORKERS {
             return post;
         }
         let n = post.n() as u32;

@@ -3,8 +3,8 @@ ghost use Rattle.line_posts.specs.Collected.{HasCollectedMore};
 ghost use Rattle.line_posts.specs.Generations.{IsSamePost};
 
 use crate::crews::Work;
-use line_names::{Body, MOST_PROCESSES, ProcId};
-use line_posts::{Collector, Post};
+use line_names::{Body, ProcId};
+use line_posts::{Collector, MOST_WORKERS, Post};
 use line_tape::State;
 use std::alloc::Global;
 use std::thread::yield_now;
@@ -27,7 +27,7 @@ impl Routine {
 /// The worker after this one and the one before it, round in a circle.
 fn neighbours(post: &Post) -> Option<(ProcId, ProcId)> {
     let n = post.n();
-    if n == 0 || n > MOST_PROCESSES {
+    if n == 0 || n > MOST_WORKERS {
         return None;
     }
     let n = n as u32;

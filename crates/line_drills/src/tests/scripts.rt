@@ -3,6 +3,7 @@ ghost use Rattle.std.specs.Prelude.{◌≤◌};
 
 use crate::Order;
 use line_names::{Body, ProcId};
+use line_posts::MOST_WORKERS;
 use line_tape::State;
 use std::alloc::{AllocError, Global};
 use std::test::Fail;
@@ -58,7 +59,7 @@ pub fn pair(alloc: Global, first: Vec<Order>, second: Vec<Order>) -> Result<Vec<
 /// So many workers that each send to the next, receive from the one before, and take a check,
 /// round in a circle.
 pub fn ring(alloc: Global, n: u32) -> Result<Vec<Vec<Order>>, Fail>
-    requires { n ≤ 64 }
+    requires { n ≤ MOST_WORKERS }
 {
     let mut scripts = Vec::new(alloc);
     for p in 0..n {
