@@ -15,6 +15,7 @@ mod judgements;
 mod laws;
 mod numbers;
 mod texts;
+mod versions;
 mod writers;
 
 pub use claims::Claim;
@@ -27,4 +28,5 @@ pub use judgements::{
 pub use laws::{claims_are_read_again, histories_are_read_again};
 pub use numbers::{plain, want};
 pub use texts::{CheckText, read_certificate, read_check_text, read_history};
+pub use versions::{LAST_VERSION, MOST_IN_FIRST_VERSION, earliest_version, most_in};
 pub use writers::{put_event, put_history, put_history_head, put_tape_head, write_history};
