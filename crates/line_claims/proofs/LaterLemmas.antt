@@ -1,6 +1,6 @@
 -- What version 1 reads, version 2 reads the same.
-use Rattle.std.proofs.Common.{cond, ◌≡◌, ℕ, ◌+◌, ◌&&◌, Bool, true, false, List, [], ◌∷◌, length, Result, Ok, Err, refl, sym, ap, ◌∙◌, arith, le-leb}
-use Rattle.std.specs.Prelude.{codes, drop, nat_le}
+use Rattle.std.proofs.Common.{cond, ◌≡◌, ◌≤◌, ℕ, ◌+◌, ◌&&◌, Bool, true, false, List, [], ◌∷◌, length, Result, Ok, Err, refl, sym, ap, ◌∙◌, arith, le-leb}
+use Rattle.std.specs.Prelude.{codes, decimal, drop, nat_le}
 use Rattle.std.specs.Str.{bytes_eq}
 use Rattle.std.proofs.lemmas.Bool.{leb-true}
 use Rattle.std.proofs.lemmas.Slice.Eq.{bytes_eq-Decides}
@@ -9,16 +9,23 @@ use Rattle.line_fields.specs.Fields.{◌>>=◌, want}
 use Rattle.line_fields.specs.declared.faults.Fault.{Fault}
 use Rattle.line_fields.specs.declared.faults.Fault.TheVariants as faults
 use Rattle.line_fields.specs.Records.{Record, field}
+use Rattle.line_fields.specs.Shapes.{two}
+use Rattle.line_tape.specs.History.{Process}
 use Rattle.line_tape.specs.Views.{MarksView, no_marks}
 use Rattle.line_claims.specs.declared.faults.TextFault.{TextFault}
+use Rattle.line_claims.specs.declared.numbers.TheConstants.{MOST_NUMBER}
+use Rattle.line_claims.specs.declared.versions.TheConstants.{LAST_VERSION}
 use Rattle.line_claims.specs.Claims.{Claim, claim_from, is_bar, is_none}
 use Rattle.line_claims.specs.Entries.{bar_of, damage_of, end_of, entry_of, failed_of, line_of}
-use Rattle.line_claims.specs.Numbers.{choices}
+use Rattle.line_claims.specs.Histories.{front_of, head_in, head_of}
+use Rattle.line_claims.specs.Numbers.{choices, plain}
 use Rattle.line_claims.specs.Parts.{Part, begins, first, many, named, one}
 use Rattle.line_claims.specs.Reads.{numbered}
-use Rattle.line_claims.specs.Texts.{certificate_of, certificate_of_text, records_in}
-use Rattle.line_claims.specs.Versions.{most_in}
+use Rattle.line_claims.specs.Records.{in_version}
+use Rattle.line_claims.specs.Texts.{Check, certificate_of, certificate_of_text, check_of, check_of_text, history_of, history_of_text, records_in}
+use Rattle.line_claims.specs.Versions.{IsVersion, most_in}
 use Rattle.line_claims.proofs.AgainLemmas.{part_to}
+use Rattle.line_claims.proofs.SpellLemmas.{plain_again}
 use Rattle.line_claims.proofs.VersionLemmas.{more_room}
 
 -- ---- reads of which each part reads the same
@@ -129,3 +136,93 @@ same_certificate n records claim h = same_claim 1 n 1 records claim refl h
 pub later_reads_the_same : (n : ℕ) (text : List ℕ) (claim : Claim) → certificate_of_text 1 n text ≡ Ok claim → certificate_of_text 2 n text ≡ Ok claim
 later_reads_the_same n text claim h =
     then_later (records_in text) (records_in text) (certificate_of 1 n) (certificate_of 2 n) claim (λ records k. k) (λ records k. same_certificate n records claim k) h
+
+-- ---- a history, alone and with a claim
+
+-- a number of processes in a text of that version
+abbrev counted : ℕ → ℕ → Result (ℕ × ℕ) Fault
+counted version n = want (nat_le 1 n && nat_le n (most_in version)) faults.BadCount >>= λ within. Ok (version, n)
+
+head_is : (version : ℕ) (number : List ℕ) → IsVersion version → head_of (codes "history" ∷ decimal version ∷ number ∷ []) ≡ (plain number >>= counted version)
+unfolding head_of two
+head_is version number known =
+    let low : 1 ≤ version = known.0 in
+    let high : version ≤ LAST_VERSION = known.1 in
+    let wide : version ≤ MOST_NUMBER = omega arith in
+    rw (plain_again version wide, le-leb 1 version low, le-leb version LAST_VERSION high) refl
+
+-- what it is in version 1 it is in version 2
+count_later : (n : ℕ) (b : Bool) (x : ℕ × ℕ) → (nat_le 1 n && nat_le n (most_in 1)) ≡ b → (want b faults.BadCount >>= λ within. Ok (1, n)) ≡ Ok x → (x.0 ≡ 1) × (counted 2 n ≡ Ok (2, x.1))
+count_later n true x is h =
+    let same : x ≡ (1, n) = cc in
+    let room : nat_le n (most_in 1) ≡ true → nat_le n (most_in 2) ≡ true = λ few. le-leb n (most_in 2) (omega (arith, leb-true n (most_in 1) few, more_room)) in
+    let within : (nat_le 1 n && nat_le n (most_in 2)) ≡ true = and_later (nat_le 1 n) _ _ room is in
+    let P : ℕ × ℕ → Result (ℕ × ℕ) Fault = λ y. Ok (2, y.1) in
+    (ap (λ (y : ℕ × ℕ). y.0) same, rw within (ap P (sym same)))
+count_later n false x is h = cc
+
+plain_later : (read : Result ℕ Fault) (x : ℕ × ℕ) → (read >>= counted 1) ≡ Ok x → (x.0 ≡ 1) × ((read >>= counted 2) ≡ Ok (2, x.1))
+plain_later (Ok n) x h = count_later n (nat_le 1 n && nat_le n (most_in 1)) x refl h
+plain_later (Err fault) x h = cc
+
+numbered_ok : {A : Type 0} (i : ℕ) (read : Result A Fault) (x : A) → numbered i read ≡ Ok x → read ≡ Ok x
+numbered_ok i (Ok y) x h = cc
+numbered_ok i (Err fault) x h = cc
+
+-- the first record of version 1, with another version
+head_later : (number : List ℕ) (rest : List Record) (x : ℕ × ℕ) → head_in (in_version 1 number rest) ≡ Ok x → (x.0 ≡ 1) × (head_in (in_version 2 number rest) ≡ Ok (2, x.1))
+head_later number rest x h =
+    let read : (plain number >>= counted 1) ≡ Ok x = sym (head_is 1 number (omega arith, omega arith)) ∙ numbered_ok 1 (head_of (codes "history" ∷ decimal 1 ∷ number ∷ [])) x h in
+    let both = plain_later (plain number) x read in
+    (both.0, ap (numbered 1) (head_is 2 number (omega arith, omega arith) ∙ both.1))
+
+history_with : (number : List ℕ) (rest : List Record) (head : Result (ℕ × ℕ) TextFault) (history : List Process) → head_in (in_version 1 number rest) ≡ head
+    → (head >>= λ x. front_of x.1 (in_version 1 number rest) >>= λ front. numbered front.number (want (is_none front.left) faults.BadRecord) >>= λ ended. Ok front.value) ≡ Ok history
+    → history_of (in_version 2 number rest) ≡ Ok history
+unfolding history_of front_of
+history_with number rest (Ok x) history is h = rw (head_later number rest x is).1 h
+history_with number rest (Err fault) history is h = cc
+
+pub history_later : (number : List ℕ) (rest : List Record) (history : List Process) → history_of (in_version 1 number rest) ≡ Ok history → history_of (in_version 2 number rest) ≡ Ok history
+unfolding history_of
+history_later number rest history h = history_with number rest (head_in (in_version 1 number rest)) history refl h
+
+-- a claim behind a history
+abbrev with_claim : ℕ → ℕ → Part (List Process) → Result Check TextFault
+with_claim version n front = do
+  claim ← claim_from version n front.number front.left
+  Ok (record { history = front.value; claim = claim })
+
+same_with_claim : (version n : ℕ) (check : Check) (front : Part (List Process)) → version ≡ 1 → with_claim version n front ≡ Ok check → with_claim 2 n front ≡ Ok check
+same_with_claim version n check front is h =
+    let made : Claim → Result Check TextFault = λ claim. Ok (record { history = front.value; claim = claim }) in
+    then_later (claim_from version n front.number front.left) (claim_from 2 n front.number front.left) made made check (λ claim k. same_claim version n front.number front.left claim is k) (λ claim k. k) h
+
+check_with : (number : List ℕ) (rest : List Record) (head : Result (ℕ × ℕ) TextFault) (check : Check) → head_in (in_version 1 number rest) ≡ head
+    → (head >>= λ x. front_of x.1 (in_version 1 number rest) >>= with_claim x.0 x.1) ≡ Ok check → check_of (in_version 2 number rest) ≡ Ok check
+unfolding check_of front_of
+check_with number rest (Ok x) check is h =
+    let head = head_later number rest x is in
+    let front : Result (Part (List Process)) TextFault = front_of x.1 (in_version 1 number rest) in
+    rw head.1 (then_later front front (with_claim x.0 x.1) (with_claim 2 x.1) check (λ y k. k) (λ y k. same_with_claim x.0 x.1 check y head.0 k) h)
+check_with number rest (Err fault) check is h = cc
+
+pub check_later : (number : List ℕ) (rest : List Record) (check : Check) → check_of (in_version 1 number rest) ≡ Ok check → check_of (in_version 2 number rest) ≡ Ok check
+unfolding check_of
+check_later number rest check h = check_with number rest (head_in (in_version 1 number rest)) check refl h
+
+-- two texts of such records
+texts_later : {A : Type 0} (text later : Result (List Record) TextFault) (one two : List Record) (spelt : List Record → Result A TextFault) (x : A)
+    → text ≡ Ok one → later ≡ Ok two → (spelt one ≡ Ok x → spelt two ≡ Ok x) → (text >>= spelt) ≡ Ok x → (later >>= spelt) ≡ Ok x
+texts_later text later one two spelt x is also same h =
+    ap (λ (read : Result (List Record) TextFault). read >>= spelt) also ∙ same (sym (ap (λ (read : Result (List Record) TextFault). read >>= spelt) is) ∙ h)
+
+pub history_text_later : (number : List ℕ) (rest : List Record) (text later : List ℕ) (history : List Process)
+    → records_in text ≡ Ok (in_version 1 number rest) → records_in later ≡ Ok (in_version 2 number rest) → history_of_text text ≡ Ok history → history_of_text later ≡ Ok history
+history_text_later number rest text later history is also h =
+    texts_later (records_in text) (records_in later) (in_version 1 number rest) (in_version 2 number rest) history_of history is also (history_later number rest history) h
+
+pub check_text_later : (number : List ℕ) (rest : List Record) (text later : List ℕ) (check : Check)
+    → records_in text ≡ Ok (in_version 1 number rest) → records_in later ≡ Ok (in_version 2 number rest) → check_of_text text ≡ Ok check → check_of_text later ≡ Ok check
+check_text_later number rest text later check is also h =
+    texts_later (records_in text) (records_in later) (in_version 1 number rest) (in_version 2 number rest) check_of check is also (check_later number rest check) h

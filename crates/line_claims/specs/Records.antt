@@ -57,6 +57,10 @@ tapes_records p (process ∷ others) = tape_records p process ++ tapes_records (
 abbrev pub history_record : ℕ → ℕ → Record
 history_record version n = codes "history" ∷ decimal version ∷ decimal n ∷ []
 
+-- history,V,N with any text for N, and the records behind it
+abbrev pub in_version : ℕ → List ℕ → List Record → List Record
+in_version version number rest = (codes "history" ∷ decimal version ∷ number ∷ []) ∷ rest
+
 -- a history, in a text of that version
 abbrev pub front_records : ℕ → List Process → List Record
 front_records version history = history_record version (length history) ∷ tapes_records 0 history
