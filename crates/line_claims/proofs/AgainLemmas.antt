@@ -14,11 +14,12 @@ use Rattle.line_tape.specs.History.{Process, fresh, tape_at, with_event, with_in
 use Rattle.line_claims.specs.declared.faults.TextFault.{TextFault}
 use Rattle.line_claims.specs.declared.numbers.TheConstants.{MOST_NUMBER}
 use Rattle.line_claims.specs.Events.{is_event}
-use Rattle.line_claims.specs.Histories.{IsVersion, event_at, front_of, head_in, tape_from, tape_of, tapes_from}
+use Rattle.line_claims.specs.Histories.{event_at, front_of, head_in, tape_from, tape_of, tapes_from}
 use Rattle.line_claims.specs.Parts.{Part, begins, many, named, one}
 use Rattle.line_claims.specs.Ranges.{IsHistoryInRange, IsInRange, IsTapeInRange}
 use Rattle.line_claims.specs.Records.{event_record, front_records, tape_record, tapes_records}
 use Rattle.line_claims.specs.Texts.{history_of}
+use Rattle.line_claims.specs.Versions.{IsVersion, most_in}
 use Rattle.line_claims.proofs.ReadingLemmas.{first_more, many_end}
 use Rattle.line_claims.proofs.SpellLemmas.{event_again, event_is_event, head_again, tape_again}
 
@@ -132,15 +133,15 @@ front_again version history more fit ends =
     tapes_again n [] history (replicate n fresh) 0 2 more ends refl refl none fit.few fit.tapes
 
 -- its first record announces it
-pub first_again : (version : ℕ) (history : List Process) (more : List Record) → IsVersion version → IsHistoryInRange history
+pub first_again : (version : ℕ) (history : List Process) (more : List Record) → IsVersion version → IsHistoryInRange history → length history ≤ most_in version
     → head_in (front_records version history ++ more) ≡ Ok (version, length history)
-first_again version history more known fit = rw (head_again version (length history) known fit.some fit.few) refl
+first_again version history more known fit room = rw (head_again version (length history) known fit.some room) refl
 
-pub history_again : (version : ℕ) (history : List Process) → IsVersion version → IsHistoryInRange history → history_of (front_records version history) ≡ Ok history
+pub history_again : (version : ℕ) (history : List Process) → IsVersion version → IsHistoryInRange history → length history ≤ most_in version → history_of (front_records version history) ≡ Ok history
 unfolding history_of
-history_again version history known fit =
+history_again version history known fit room =
     let records : List Record = front_records version history in
-    let head : head_in records ≡ Ok (version, length history) = rw (head_again version (length history) known fit.some fit.few) refl in
+    let head : head_in records ≡ Ok (version, length history) = rw (head_again version (length history) known fit.some room) refl in
     let read = front_again version history [] fit refl in
     let whole : front_of (length history) records ≡ Ok (part_to history read.0 []) = ap (front_of (length history)) (sym (append-nil records)) ∙ read.1 in
     rw (head, whole) refl

@@ -21,6 +21,7 @@ use Rattle.line_claims.specs.Events.{is_event}
 use Rattle.line_claims.specs.Parts.{Part, begins, many, named}
 use Rattle.line_claims.specs.Ranges.{AreMarks, IsBar, IsClaimInRange, IsEntryInRange}
 use Rattle.line_claims.specs.Records.{bar_record, bars_records, claim_records, damage_record, damages_records, end_record, failed_record, judged_records, line_record, pass_record, version_of}
+use Rattle.line_claims.specs.Versions.{earliest_version}
 use Rattle.line_claims.proofs.AgainLemmas.{one_again, part_to}
 use Rattle.line_claims.proofs.EntryAgainLemmas.{bar_again, damage_again, entry_again, failed_again, line_again}
 use Rattle.line_claims.proofs.ReadingLemmas.{first_more, many_end}
@@ -102,9 +103,9 @@ bars_from version n marks i records = many (is_bar version) (bar_of n) marks i r
 abbrev Knows : ℕ → List (Option ℕ) → Type 0
 Knows version bars = list_any is_some bars ≡ true → (version == 2) ≡ true
 
-two_if : (b : Bool) → b ≡ true → (cond b 2 1 == 2) ≡ true
-two_if true h = refl
-two_if false h = cc
+two_if : (b : Bool) (later : ℕ) → b ≡ true → (cond b 2 later == 2) ≡ true
+two_if true later h = refl
+two_if false later h = cc
 
 -- the bars of processes are read one after another
 bars_again : (version n : ℕ) (damaged : List (List ℕ)) (done rest : List (Option ℕ)) (p i : ℕ) (more : List Record) → n ≤ MOST_PROCESSES → p ≡ length done → length done + length rest ≤ n
@@ -171,11 +172,11 @@ claim_again claim i fit =
     ∙ ap (marks_from n (marks_of free (replicate n [])) i) (append_assoc (damages_records 0 damaged) (bars_records 0 bars) judged)
     ∙ marked.1 ∙ many_end (named (codes "damage")) (damage_of n) (marks_of free damaged) marked.0 barred (bars_end_damage 0 n bars claim.failed claim.line claim.certificate) in
     let all : 0 + length bars ≤ n = omega (arith, same) in
-    let told = bars_again version n damaged [] bars 0 marked.0 judged few refl all fit.bars (λ some. two_if (list_any is_some bars) some) in
+    let told = bars_again version n damaged [] bars 0 marked.0 judged few refl all fit.bars (λ some. two_if (list_any is_some bars) (earliest_version n) some) in
     let marks : bars_from version n (marks_of free damaged) marked.0 barred ≡ Ok (part_to claim.marks told.0 judged)
     = told.1 ∙ many_end (is_bar version) (bar_of n) claim.marks told.0 judged (and_false (version == 2)) in
     let failed = one_again (codes "failed") (failed_of n) told.0 (failed_record n claim.failed) (line_record claim.line ∷ passes) claim.failed refl (failed_again n claim.failed fit.few fit.whole fit.there) in
-    let line = one_again (codes "line") line_of (told.0 + 1) (line_record claim.line) passes claim.line refl (line_again claim.line fit.some fit.short fit.choices) in
+    let line = one_again (codes "line") (line_of version) (told.0 + 1) (line_record claim.line) passes claim.line refl (line_again version claim.line fit.some fit.short fit.choices) in
     let listed = passes_again n [] claim.certificate (end_record ∷ []) ((told.0 + 1) + 1) fit.few fit.entries in
     let entries : entries_from n [] ((told.0 + 1) + 1) passes ≡ Ok (part_to claim.certificate listed.0 (end_record ∷ []))
     = listed.1 ∙ many_end (named (codes "pass")) (entry_of n) claim.certificate listed.0 (end_record ∷ []) refl in

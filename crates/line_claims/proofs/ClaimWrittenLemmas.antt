@@ -1,5 +1,5 @@
 -- The records of a claim have plain fields, and the text of a history and a claim on it is read again.
-use Rattle.std.proofs.Common.{cond, ◌≡◌, ◌≤◌, ◌<◌, ℕ, ◌+◌, ◌^◌, Bool, true, false, Option, Some, None, List, [], ◌∷◌, ◌++◌, length, Ok, refl, sym, arith}
+use Rattle.std.proofs.Common.{◌≡◌, ◌≤◌, ◌<◌, ℕ, ◌+◌, ◌^◌, true, Option, Some, None, List, [], ◌∷◌, ◌++◌, length, Ok, refl, sym, arith}
 use Rattle.std.specs.Prelude.{decimal, map}
 use Rattle.std.specs.List.{AllByRecursion, list_all, list_any}
 use Rattle.std.specs.Option.{is_some}
@@ -15,13 +15,14 @@ use Rattle.line_fields.proofs.ReadAgain.{written_is_input, written_is_read}
 use Rattle.line_tape.specs.History.{Process}
 use Rattle.line_claims.specs.declared.numbers.TheConstants.{MOST_NUMBER}
 use Rattle.line_claims.specs.Claims.{Claim}
-use Rattle.line_claims.specs.Histories.{IsVersion}
 use Rattle.line_claims.specs.Ranges.{AreMarks, IsBar, IsChoice, IsClaimInRange, IsEntryInRange, IsHistoryInRange}
 use Rattle.line_claims.specs.Records.{bars_records, choice_text, claim_records, damage_record, damages_records, end_record, front_records, judged_records, marks_records, members, pass_record, version_of}
 use Rattle.line_claims.specs.Texts.{certificate_of, certificate_of_text, check_of, check_of_text}
+use Rattle.line_claims.specs.Versions.{IsVersion, most_in}
 use Rattle.line_claims.proofs.AgainLemmas.{first_again, front_again}
 use Rattle.line_claims.proofs.ClaimAgainLemmas.{claim_again, claim_ends_front}
 use Rattle.line_claims.proofs.EntryAgainLemmas.{members_below}
+use Rattle.line_claims.proofs.VersionLemmas.{version_has_room, version_is_known}
 use Rattle.line_claims.proofs.WrittenLemmas.{history_is_written}
 use Rattle.line_tape.specs.declared.limits.TheConstants.{LAST_INCARNATION}
 
@@ -96,20 +97,19 @@ claim_text_again claim fit =
     let written = claim_is_written claim fit in
     rw (written_is_input (claim_records claim) written, written_is_read (claim_records claim) written) (claim_again claim 1 fit)
 
-version_is_known : (b : Bool) → IsVersion (cond b 2 1)
-version_is_known true = (omega arith, omega arith)
-version_is_known false = (omega arith, omega arith)
-
 -- a history and a claim on it are read again
 pub check_text_again : (history : List Process) (claim : Claim) → IsHistoryInRange history → IsClaimInRange claim → length claim.marks.damaged ≡ length history
     → check_of_text (records_text (front_records (version_of claim.marks) history ++ claim_records claim)) ≡ Ok (record { history = history; claim = claim })
 unfolding check_of
 check_text_again history claim fit good same =
     let version : ℕ = version_of claim.marks in
-    let known : IsVersion version = version_is_known (list_any is_some claim.marks.bars) in
+    let n : ℕ = length claim.marks.damaged in
+    let known : IsVersion version = version_is_known (list_any is_some claim.marks.bars) n in
+    let wide : n ≤ most_in version = version_has_room (list_any is_some claim.marks.bars) n good.few in
+    let room : length history ≤ most_in version = omega (arith, wide, same) in
     let records : List Record = front_records version history ++ claim_records claim in
     let written : list_all is_written records ≡ true = rw (list_all-append is_written (front_records version history) (claim_records claim), history_is_written version history known fit, claim_is_written claim good) refl in
-    let head = first_again version history (claim_records claim) known fit in
+    let head = first_again version history (claim_records claim) known fit room in
     let front = front_again version history (claim_records claim) fit (claim_ends_front claim) in
     let rest = claim_again claim front.0 good in
     rw (written_is_input records written, written_is_read records written, head, front.1, sym same, rest) refl

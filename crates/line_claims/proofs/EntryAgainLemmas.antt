@@ -20,6 +20,7 @@ use Rattle.line_claims.specs.Entries.{bar_of, barred, damage_of, entry_of, faile
 use Rattle.line_claims.specs.Numbers.{choice, choices, numbers}
 use Rattle.line_claims.specs.Ranges.{IsChoice, IsEntryInRange}
 use Rattle.line_claims.specs.Records.{bar_record, choice_text, damage_record, failed_record, line_record, members, pass_record}
+use Rattle.line_claims.specs.Versions.{most_in}
 use Rattle.line_claims.proofs.SpellLemmas.{incarnation_again, not_word, plain_again}
 
 pub damage_again : (n p check : ℕ) (marks : MarksView) → n ≤ MOST_PROCESSES → p < n → 1 ≤ check → check ≤ MOST_NUMBER → is_damaged marks p check ≡ false
@@ -43,13 +44,13 @@ unfolding choices
 choices_again [] fit = refl
 choices_again (c ∷ others) fit = rw (choice_again c fit.0, choices_again others fit.1) refl
 
-pub line_again : (line : List Choice) → 1 ≤ length line → length line ≤ MOST_PROCESSES → AllByRecursion IsChoice line → line_of (line_record line) ≡ Ok line
+pub line_again : (version : ℕ) (line : List Choice) → 1 ≤ length line → length line ≤ most_in version → AllByRecursion IsChoice line → line_of version (line_record line) ≡ Ok line
 unfolding line_of
-line_again line some short fit =
+line_again version line some short fit =
     let width : length (line_record line) ≡ length line + 1 = omega (arith, length-map line choice_text) in
     let low : 2 ≤ length (line_record line) = omega arith in
-    let high : length (line_record line) ≤ MOST_PROCESSES + 1 = omega arith in
-    rw (le-leb 2 (length (line_record line)) low, le-leb (length (line_record line)) (MOST_PROCESSES + 1) high, choices_again line fit) refl
+    let high : length (line_record line) ≤ most_in version + 1 = omega arith in
+    rw (le-leb 2 (length (line_record line)) low, le-leb (length (line_record line)) (most_in version + 1) high, choices_again line fit) refl
 
 pass_again : (n : ℕ) (entry : Passed) → n ≤ MOST_PROCESSES → IsEntryInRange n entry → passed_of n (pass_record entry) ≡ Ok entry
 unfolding passed_of five

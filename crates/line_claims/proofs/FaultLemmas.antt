@@ -96,7 +96,7 @@ claim_faults version n i records =
     both_faults (many (named (codes "damage")) (damage_of n) (no_marks n) i records) _ (many_faults (named (codes "damage")) (damage_of n) (no_marks n) i records)
     (λ damage. both_faults (many (is_bar version) (bar_of n) damage.value damage.number damage.left) _ (many_faults (is_bar version) (bar_of n) damage.value damage.number damage.left)
     (λ marks. both_faults (one (codes "failed") (failed_of n) marks.number marks.left) _ (one_faults (codes "failed") (failed_of n) marks.number marks.left)
-    (λ failed. both_faults (one (codes "line") line_of failed.number failed.left) _ (one_faults (codes "line") line_of failed.number failed.left)
+    (λ failed. both_faults (one (codes "line") (line_of version) failed.number failed.left) _ (one_faults (codes "line") (line_of version) failed.number failed.left)
     (λ line. both_faults (many (named (codes "pass")) (entry_of n) [] line.number line.left) _ (many_faults (named (codes "pass")) (entry_of n) [] line.number line.left)
     (λ entries. both_faults (one (codes "end") end_of entries.number entries.left) _ (one_faults (codes "end") end_of entries.number entries.left)
     (λ end. both_faults (numbered end.number (want (is_none end.left) faults.BadRecord)) _ (numbered_faults end.number (want (is_none end.left) faults.BadRecord)) (λ last. tt)))))))

@@ -9,5 +9,6 @@ pub mod MemoryLemmas
 pub mod PartLemmas
 pub mod ReadingLemmas
 pub mod SpellLemmas
+pub mod VersionLemmas
 pub mod WriteLemmas
 pub mod WrittenLemmas

@@ -10,11 +10,11 @@ use Rattle.line_fields.proofs.ReadAgain.{written_is_input, written_is_read}
 use Rattle.line_tape.specs.declared.events.Event.{Event}
 use Rattle.line_tape.specs.declared.events.Event.TheVariants.{Send, Recv, Check, Mark}
 use Rattle.line_tape.specs.History.{Process}
-use Rattle.line_claims.specs.declared.histories.TheConstants.{LAST_VERSION}
-use Rattle.line_claims.specs.Histories.{IsVersion}
+use Rattle.line_claims.specs.declared.versions.TheConstants.{LAST_VERSION}
 use Rattle.line_claims.specs.Ranges.{FitsMemory, FitsProcess, FitsWords, IsHistoryInRange}
 use Rattle.line_claims.specs.Records.{event_record, front_records, tape_records, tapes_records}
 use Rattle.line_claims.specs.Texts.{history_of_text}
+use Rattle.line_claims.specs.Versions.{IsVersion, most_in}
 use Rattle.line_claims.proofs.AgainLemmas.{history_again}
 use Rattle.line_claims.proofs.MemoryLemmas.{history_fits, records_apart}
 
@@ -73,10 +73,10 @@ memory_is_written version history known fit =
 pub history_is_written : (version : ℕ) (history : List Process) → IsVersion version → IsHistoryInRange history → list_all is_written (front_records version history) ≡ true
 history_is_written version history known fit = memory_is_written version history known (history_fits history fit)
 
-pub text_again : (version : ℕ) (history : List Process) → IsVersion version → IsHistoryInRange history → history_of_text (records_text (front_records version history)) ≡ Ok history
-text_again version history known fit =
+pub text_again : (version : ℕ) (history : List Process) → IsVersion version → IsHistoryInRange history → length history ≤ most_in version → history_of_text (records_text (front_records version history)) ≡ Ok history
+text_again version history known fit room =
     let written = history_is_written version history known fit in
-    rw (written_is_input (front_records version history) written, written_is_read (front_records version history) written) (history_again version history known fit)
+    rw (written_is_input (front_records version history) written, written_is_read (front_records version history) written) (history_again version history known fit room)
 
 -- the records of a history are read from its text
 records_again : (version : ℕ) (history : List Process) → IsVersion version → FitsMemory history → records_of_text (records_text (front_records version history)) ≡ front_records version history

@@ -38,7 +38,7 @@ claim_from version n i records = do
   damage ← many (named (codes "damage")) (damage_of n) (no_marks n) i records
   marks ← many (is_bar version) (bar_of n) damage.value damage.number damage.left
   failed ← one (codes "failed") (failed_of n) marks.number marks.left
-  line ← one (codes "line") line_of failed.number failed.left
+  line ← one (codes "line") (line_of version) failed.number failed.left
   entries ← many (named (codes "pass")) (entry_of n) [] line.number line.left
   end ← one (codes "end") end_of entries.number entries.left
   last ← numbered end.number (want (is_none end.left) faults.BadRecord)

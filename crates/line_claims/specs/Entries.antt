@@ -3,7 +3,6 @@ use Rattle.std.specs.Prelude.{ℕ, ◌+◌, ◌==◌, ◌&&◌, not, Bool, List,
 use Rattle.std.specs.List.{list_all}
 use Rattle.line_names.specs.declared.certificates.Passed.{Passed}
 use Rattle.line_names.specs.declared.choices.Choice.{Choice}
-use Rattle.line_names.specs.declared.limits.TheConstants.{MOST_PROCESSES}
 use Rattle.line_names.specs.Sets.{nobody, with_member}
 use Rattle.line_fields.specs.declared.faults.Fault.{Fault}
 use Rattle.line_fields.specs.declared.faults.Fault.TheVariants as faults
@@ -13,6 +12,7 @@ use Rattle.line_fields.specs.Shapes.{two, five}
 use Rattle.line_tape.specs.Survival.{is_barred, is_damaged}
 use Rattle.line_tape.specs.Views.{MarksView, with_bar, with_mark}
 use Rattle.line_claims.specs.Numbers.{plain, incarnation, choice, choices, numbers, process}
+use Rattle.line_claims.specs.Versions.{most_in}
 
 -- one mark more, of no initial state and not there yet
 unfoldable pub marked : MarksView → ℕ → ℕ → Result MarksView Fault
@@ -40,9 +40,9 @@ failed_of n r = do
   there ← want (list_all (λ p. nat_lt p n) failed) faults.NoSuchProcess
   Ok (fold with_member nobody failed)
 
--- line,CHOICE,..: 1 choice to as many as there may be processes
-unfoldable pub line_of : Record → Result (List Choice) Fault
-line_of r = want (nat_le 2 (length r) && nat_le (length r) (MOST_PROCESSES + 1)) faults.BadRecord >>= λ long. choices (drop 1 r)
+-- line,CHOICE,..: 1 choice to as many as a text of that version may have processes
+unfoldable pub line_of : ℕ → Record → Result (List Choice) Fault
+line_of version r = want (nat_le 2 (length r) && nat_le (length r) (most_in version + 1)) faults.BadRecord >>= λ long. choices (drop 1 r)
 
 -- pass,P,CHOICE,FROM,INC,NUMBER
 unfoldable pub passed_of : ℕ → Record → Result Passed Fault

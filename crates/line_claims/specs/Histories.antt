@@ -1,6 +1,5 @@
 -- Which history a list of records spells, and the first fault where it spells none.
-use Rattle.std.specs.Prelude.{ℕ, zero, suc, ◌+◌, ◌≤◌, nat_le, nat_lt, ◌==◌, ◌&&◌, List, drop, length, replicate, Result, Ok, codes}
-use Rattle.line_names.specs.declared.limits.TheConstants.{MOST_PROCESSES}
+use Rattle.std.specs.Prelude.{ℕ, zero, suc, ◌+◌, nat_le, nat_lt, ◌==◌, ◌&&◌, List, drop, length, replicate, Result, Ok, codes}
 use Rattle.line_fields.specs.declared.faults.Fault.{Fault}
 use Rattle.line_fields.specs.declared.faults.Fault.TheVariants as faults
 use Rattle.line_fields.specs.Fields.{◌>>=◌, want}
@@ -9,21 +8,18 @@ use Rattle.line_fields.specs.Shapes.{two}
 use Rattle.line_tape.specs.declared.limits.TheConstants.{MOST_EVENTS}
 use Rattle.line_tape.specs.History.{Process, fresh, tape_at, with_event, with_incarnation}
 use Rattle.line_claims.specs.declared.faults.TextFault.{TextFault}
-use Rattle.line_claims.specs.declared.histories.TheConstants.{LAST_VERSION}
+use Rattle.line_claims.specs.declared.versions.TheConstants.{LAST_VERSION}
 use Rattle.line_claims.specs.Events.{is_event, event_of}
 use Rattle.line_claims.specs.Numbers.{plain, incarnation}
 use Rattle.line_claims.specs.Parts.{Part, begins, first, many, named, one}
 use Rattle.line_claims.specs.Reads.{numbered}
-
--- the versions of texts
-abbrev pub IsVersion : ℕ → Type 0
-IsVersion version = (1 ≤ version) × (version ≤ LAST_VERSION)
+use Rattle.line_claims.specs.Versions.{most_in}
 
 -- history,V,N: the version and the number of processes
 unfoldable pub head_of : Record → Result (ℕ × ℕ) Fault
 head_of = two plain plain (λ version n. do
   known ← want (nat_le 1 version && nat_le version LAST_VERSION) faults.BadVersion
-  within ← want (nat_le 1 n && nat_le n MOST_PROCESSES) faults.BadCount
+  within ← want (nat_le 1 n && nat_le n (most_in version)) faults.BadCount
   Ok (version, n))
 
 -- the version and the number of processes that the first record announces

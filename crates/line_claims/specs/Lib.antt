@@ -10,3 +10,4 @@ pub mod Ranges
 pub mod Reads
 pub mod Records
 pub mod Texts
+pub mod Versions

@@ -12,6 +12,8 @@ use Rattle.line_tape.specs.declared.limits.TheConstants.{LAST_INCARNATION, MOST_
 use Rattle.line_tape.specs.History.{Process}
 use Rattle.line_claims.specs.declared.numbers.TheConstants.{MOST_NUMBER}
 use Rattle.line_claims.specs.Claims.{Claim}
+use Rattle.line_claims.specs.Records.{version_of}
+use Rattle.line_claims.specs.Versions.{most_in}
 
 -- bytes, and at most so many
 pub record AreBytes (most : ℕ) (bytes : List ℕ) : Type 0 where
@@ -92,7 +94,7 @@ abbrev pub IsBar : Option ℕ → Type 0
 IsBar None = Unit {0}
 IsBar (Some check) = check ≤ MOST_NUMBER
 
--- a claim, on a history of as many processes as it has lists of marks
+-- a claim, on a history of as many processes as it has lists of marks, whose line is no longer than its version allows
 pub record IsClaimInRange (claim : Claim) : Type 0 where
   pub few : length claim.marks.damaged ≤ MOST_PROCESSES
   pub marks : AllByRecursion (AreMarks []) claim.marks.damaged
@@ -101,6 +103,6 @@ pub record IsClaimInRange (claim : Claim) : Type 0 where
   pub whole : length claim.failed ≡ MOST_PROCESSES
   pub there : (p : ℕ) → length claim.marks.damaged ≤ p → is_member claim.failed p ≡ false
   pub some : 1 ≤ length claim.line
-  pub short : length claim.line ≤ MOST_PROCESSES
+  pub short : length claim.line ≤ most_in (version_of claim.marks)
   pub choices : AllByRecursion IsChoice claim.line
   pub entries : AllByRecursion (IsEntryInRange (length claim.marks.damaged)) claim.certificate

@@ -17,6 +17,7 @@ use Rattle.line_tape.specs.Survival.{is_damaged}
 use Rattle.line_tape.specs.Views.{MarksView, bar_at}
 use Rattle.line_claims.specs.Claims.{Claim}
 use Rattle.line_claims.specs.Numbers.{none_text, now_text}
+use Rattle.line_claims.specs.Versions.{earliest_version}
 
 -- a number, or `-` where there is none
 abbrev pub number_text : Option ℕ → List ℕ
@@ -56,13 +57,17 @@ tapes_records p (process ∷ others) = tape_records p process ++ tapes_records (
 abbrev pub history_record : ℕ → ℕ → Record
 history_record version n = codes "history" ∷ decimal version ∷ decimal n ∷ []
 
+-- history,V,N with any text for N, and the records behind it
+abbrev pub in_version : ℕ → List ℕ → List Record → List Record
+in_version version number rest = (codes "history" ∷ decimal version ∷ number ∷ []) ∷ rest
+
 -- a history, in a text of that version
 abbrev pub front_records : ℕ → List Process → List Record
 front_records version history = history_record version (length history) ∷ tapes_records 0 history
 
--- a history alone, which is of version 1
+-- a history alone, in the earliest version that may have so many processes
 abbrev pub history_records : List Process → List Record
-history_records history = front_records 1 history
+history_records history = front_records (earliest_version (length history)) history
 
 -- damage,P,C
 abbrev pub damage_record : ℕ → ℕ → Record
@@ -91,9 +96,9 @@ bars_records p (bar ∷ others) = bar_records p bar ++ bars_records (p + 1) othe
 abbrev pub marks_records : MarksView → List Record
 marks_records marks = damages_records 0 marks.damaged ++ bars_records 0 marks.bars
 
--- the version of a text that tells of marks: 2 where a process is barred, and else 1
+-- the version of a text that tells of the marks of processes: 2 where one is barred, and else the earliest that may have so many
 abbrev pub version_of : MarksView → ℕ
-version_of marks = if list_any is_some marks.bars then 2 else 1
+version_of marks = if list_any is_some marks.bars then 2 else earliest_version (length marks.damaged)
 
 -- the processes of a set, of the first n
 abbrev pub members : ℕ → List Bool → List ℕ

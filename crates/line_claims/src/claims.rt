@@ -86,16 +86,16 @@ fn read_failed(n: u32, cursor: &mut Cursor<'_>) -> Result<ProcSet, TextError>
     Ok(failed)
 }
 
-// Its line.
+// Its line, in a text of that version.
 #[tactic(auto, unfolding(crate::specs::Parts::one))]
-fn read_line(cursor: &mut Cursor<'_>) -> Result<Line, TextError>
+fn read_line(version: u32, cursor: &mut Cursor<'_>) -> Result<Line, TextError>
     ensures { Leaves (λ line. line) result
-        (one (codes "line") entries.line_of cursor.old.number cursor.old.left) cursor.new }
+        (one (codes "line") (entries.line_of version) cursor.old.number cursor.old.left) cursor.new }
 {
     let Some(row) = cursor.named(b"line") else {
         return Err(fault_at(cursor.number(), Fault::BadRecord));
     };
-    let line = match line_of(row) {
+    let line = match line_of(version, row) {
         Ok(line) => line,
         Err(fault) => return Err(fault_at(cursor.number(), fault)),
     };
@@ -149,7 +149,7 @@ pub(crate) fn read_claim(
     let mut marks = read_damage(alloc, n, cursor)?;
     read_bars(version, n, &mut marks, cursor)?;
     let failed = read_failed(n, cursor)?;
-    let line = read_line(cursor)?;
+    let line = read_line(version, cursor)?;
     let certificate = read_entries(alloc, n, cursor)?;
     read_end(cursor)?;
     if cursor.row().is_some() {

@@ -7,8 +7,9 @@ ghost use Rattle.line_claims.specs.Numbers.{choices};
 ghost use Rattle.line_claims.specs.Reads.{Steps};
 
 use crate::numbers::{choice, incarnation, plain, process, want};
+use crate::versions::most_in;
 use line_fields::{Fault, ReadError, Row};
-use line_names::{Certificate, Line, MOST_PROCESSES, MsgName, Passed, ProcId, ProcSet};
+use line_names::{Certificate, Line, MsgName, Passed, ProcId, ProcSet};
 use line_tape::{BarError, MarkError, Marks};
 
 /// Adds the mark of `damage,P,C`.
@@ -87,13 +88,11 @@ fn choices_of(row: &Row) -> Result<Line, Fault>
 
 /// The choices of `line,CHOICE,..`.
 #[tactic(auto, unfolding(crate::specs::Entries::line_of))]
-pub(crate) fn line_of(row: &Row) -> Result<Line, Fault>
-    ensures { result ≡ spec.line_of row.now }
+pub(crate) fn line_of(version: u32, row: &Row) -> Result<Line, Fault>
+    ensures { result ≡ spec.line_of version row.now }
 {
-    want(
-        2 <= row.len() && row.len() <= MOST_PROCESSES + 1,
-        Fault::BadRecord,
-    )?;
+    let most = most_in(version) as usize;
+    want(2 <= row.len() && row.len() <= most + 1, Fault::BadRecord)?;
     choices_of(row)
 }
 

@@ -12,13 +12,11 @@ use crate::cursors::Cursor;
 use crate::events::event_of;
 use crate::faults::{TextError, error_at, fault_at};
 use crate::numbers::{incarnation, plain, want};
+use crate::versions::{LAST_VERSION, most_in};
 use line_fields::{Fault, ReadError, Row};
-use line_names::{MOST_PROCESSES, ProcId};
+use line_names::ProcId;
 use line_tape::{CountError, History, HistoryError, MOST_EVENTS};
 use std::alloc::Global;
-
-/// The latest version of texts.
-pub(crate) const LAST_VERSION: u32 = 2;
 
 /// The version and the number of processes that `history,V,N` announces.
 #[tactic(auto, unfolding(crate::specs::Histories::head_of, line_fields::specs::Shapes::two))]
@@ -31,7 +29,7 @@ pub(crate) fn head_of(row: &Row) -> Result<(u32, u32), Fault>
     let n = plain(row, 2)?;
     let known = 1 <= version && version <= LAST_VERSION;
     want(known, Fault::BadVersion)?;
-    want(1 <= n && n as usize <= MOST_PROCESSES, Fault::BadCount)?;
+    want(1 <= n && n <= most_in(version), Fault::BadCount)?;
     Ok((version, n))
 }
 

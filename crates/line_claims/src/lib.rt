@@ -15,6 +15,7 @@ mod judgements;
 mod laws;
 mod numbers;
 mod texts;
+mod versions;
 mod writers;
 
 pub use claims::Claim;
@@ -24,7 +25,8 @@ pub use judgements::{
     put_bar_of, put_check_text, put_damage, put_end, put_failed, put_judged, put_line, put_pass,
     version_of,
 };
-pub use laws::{claims_are_read_again, histories_are_read_again};
+pub use laws::{claims_are_read_again, histories_are_read_again, version_2_reads_version_1};
 pub use numbers::{plain, want};
 pub use texts::{CheckText, read_certificate, read_check_text, read_history};
+pub use versions::{LAST_VERSION, MOST_IN_FIRST_VERSION, earliest_version, most_in};
 pub use writers::{put_event, put_history, put_history_head, put_tape_head, write_history};

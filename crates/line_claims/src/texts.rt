@@ -3,10 +3,11 @@
 ghost use Rattle.std.specs.Prelude.{◌≡◌, ◌≢◌, ◌≤◌, ◌⊎◌, [], IfErr, IfOk};
 ghost use Rattle.line_names.specs.declared.limits.TheConstants.{MOST_PROCESSES};
 ghost use Rattle.line_claims.specs.Claims as claims;
-ghost use Rattle.line_claims.specs.Histories.{IsVersion, front_of, head_in};
+ghost use Rattle.line_claims.specs.Histories.{front_of, head_in};
 ghost use Rattle.line_claims.specs.Parts.{Leaves};
 ghost use Rattle.line_claims.specs.Reads.{IsOfText, Reads, Yields, no_memory};
 ghost use Rattle.line_claims.specs.Texts as spec;
+ghost use Rattle.line_claims.specs.Versions.{IsVersion};
 
 use crate::claims::{Claim, read_claim};
 use crate::cursors::Cursor;
@@ -100,8 +101,8 @@ fn check_in(alloc: Global, text: &[u8]) -> Result<CheckText, TextError>
 
 /// The history that a text spells.
 ///
-/// The first record tells the version, 1 or 2, which makes no difference to a history, and how many
-/// processes there are. Their tapes follow in order, each with its
+/// The first record tells the version, 1 or 2, and how many processes there are: at most 64 in version 1,
+/// which is the one difference between the versions of a history. Their tapes follow in order, each with its
 /// events. The events need not fit together: it asks only that each number keeps to its range, that the
 /// processes are there, and that bodies, states and tapes keep to their limits.
 ///
@@ -124,7 +125,7 @@ pub fn read_history(alloc: Global, text: &[u8]) -> Result<History, TextFault>
 /// behind its history, with its records numbered from 1. Version 1 knows no bars.
 ///
 /// It asks nothing of a history: a mark, a bar or a choice may be of a check that isn't there, and the line
-/// may have any number of choices that a line can have.
+/// may have any number of choices up to the greatest number of processes of a text of that version.
 ///
 /// Refused as a history is; a missing end is a fault of the record that would follow the last. It
 /// takes time and memory in proportion to the text, and for a mark of damage the logarithm of those

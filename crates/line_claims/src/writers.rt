@@ -9,6 +9,7 @@ ghost use Rattle.line_claims.specs.Ranges.{AreRoundsInRange, FitsMemory, FitsPro
 ghost use Rattle.line_claims.specs.Records as spec;
 ghost use Rattle.line_claims.specs.Texts.{history_of_text};
 
+use crate::versions::earliest_version;
 use line_fields::{Draft, RecordWriter};
 use line_names::{Body, Choice, MsgName, ProcId};
 use line_tape::{Event, History, State};
@@ -192,7 +193,7 @@ fn put_tape_of(
 }
 
 /// Writes `history,V,N`, which the tapes of N processes follow, behind the records that were written
-/// before. The version V is 1, or 2 where bars are to follow the history.
+/// before. The version V is 1, or 2 where bars are to follow the history or N is above 64.
 ///
 /// Where a growth is refused, the text stays as it was.
 pub fn put_history_head(
@@ -238,8 +239,8 @@ pub fn put_history(
     Ok(())
 }
 
-/// The text of a history, of version 1. `read_history` takes it back where the rounds of the history are from 1 to
-/// 65,535.
+/// The text of a history, of version 1 where it has at most 64 processes and else of version 2. `read_history`
+/// takes it back where the rounds of the history are from 1 to 65,535.
 pub fn write_history(alloc: Global, history: &History) -> Result<Vec<u8>, AllocError>
     ensures text { IfOk result (λ text. text.items ≡ records_text (spec.history_records history.now.processes)) }
     ensures again { IfOk result (λ text. AreRoundsInRange history.now.processes → history_of_text text.items ≡ Ok history.now.processes) }
@@ -249,6 +250,7 @@ pub fn write_history(alloc: Global, history: &History) -> Result<Vec<u8>, AllocE
 {
     let mut draft = Draft::new(alloc);
     let mut writer = RecordWriter::new(alloc);
-    put_history(&mut writer, &mut draft, 1, history)?;
+    let version = earliest_version(history.n());
+    put_history(&mut writer, &mut draft, version, history)?;
     Vec::from_slice(alloc, writer.text())
 }

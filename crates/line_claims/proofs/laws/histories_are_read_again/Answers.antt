@@ -3,7 +3,7 @@ use Rattle.line_claims.proofs.WrittenLemmas.{one_history, text_again}
 use Rattle.line_claims.proofs.laws.histories_are_read_again.Goals as goal
 
 pub returns-clause-same : goal.returns-clause-same
-returns-clause-same c version history known fit = text_again version history known fit
+returns-clause-same c version history known fit room = text_again version history known fit room
 
 pub returns-clause-records : goal.returns-clause-records
 returns-clause-records c version later history other fit good same = records_apart version later history other fit good same

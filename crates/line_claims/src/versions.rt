@@ -1,0 +1,39 @@
+//! The versions of texts, and how many processes a text of each may have.
+
+ghost use Rattle.std.specs.Prelude.{◌≡◌, ◌≤◌};
+ghost use Rattle.line_names.specs.declared.limits.TheConstants.{MOST_PROCESSES};
+ghost use Rattle.line_claims.specs.Versions as spec;
+
+use line_names::MOST_PROCESSES;
+
+/// The latest version of texts. The earliest is 1.
+pub const LAST_VERSION: u32 = 2;
+
+/// The greatest number of processes of a text of version 1, and of choices of a line in it. A text of
+/// version 2 may have as many processes as there may be.
+pub const MOST_IN_FIRST_VERSION: u32 = 64;
+
+/// The greatest number of processes that a text of that version may have, and of choices that a line in it
+/// may have.
+#[tactic(auto, unfolding(crate::specs::Versions::most_in))]
+pub fn most_in(version: u32) -> u32
+    ensures value { result ≡ spec.most_in version }
+    ensures few { result ≤ MOST_PROCESSES }
+{
+    if version == 1 {
+        MOST_IN_FIRST_VERSION
+    } else {
+        MOST_PROCESSES as u32
+    }
+}
+
+/// The version of a text that is written for `n` processes and needs nothing else of a later one: 1 for at
+/// most 64, and else 2.
+#[tactic(auto, unfolding(crate::specs::Versions::earliest_version, crate::specs::Versions::most_in))]
+pub fn earliest_version(n: u32) -> u32
+    ensures value { result ≡ spec.earliest_version n }
+    ensures known { spec.IsVersion result }
+    ensures room { n ≤ MOST_PROCESSES → n ≤ spec.most_in result }
+{
+    if n <= MOST_IN_FIRST_VERSION { 1 } else { 2 }
+}
