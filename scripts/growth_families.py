@@ -3,7 +3,9 @@
 from collections.abc import Callable, Iterator
 from typing import NamedTuple
 
-MOST_PROCESSES = 64
+from slow_model.texts import MOST_PROCESSES, earliest_version
+
+MANY = 64  # processes of the families that are about many of them
 
 
 class Family(NamedTuple):
@@ -15,6 +17,11 @@ class Family(NamedTuple):
 
 
 # The families. Each takes its size m and gives the records.
+
+
+def first_of(n: int, mode: str) -> str:
+    """The first record of a script of so many processes."""
+    return f"world,{earliest_version(n)},{n},{mode}"
 
 
 def repeated(first: str, part: list[str], last: list[str]) -> Callable[[int], Iterator[str]]:
@@ -38,22 +45,22 @@ def rounds_in_transit(m: int) -> Iterator[str]:
 
 def rounds_of_many(m: int) -> Iterator[str]:
     """Rounds of colours among 64 processes, without a message."""
-    yield f"world,1,{MOST_PROCESSES},unordered"
+    yield f"world,1,{MANY},unordered"
     for _ in range(m):
         yield "begin,0,"
-        for p in range(1, MOST_PROCESSES):
+        for p in range(1, MANY):
             yield f"turn,{p},"
 
 
 def markers_of_many(m: int) -> Iterator[str]:
     """Rounds of markers among 64 processes, without a message."""
-    yield f"world,1,{MOST_PROCESSES},fifo"
+    yield f"world,1,{MANY},fifo"
     for _ in range(m):
         yield "begin,0,"
-        for p in range(1, MOST_PROCESSES):
+        for p in range(1, MANY):
             yield f"deliver,0,{p},0,"
-        for p in range(1, MOST_PROCESSES):
-            for q in range(MOST_PROCESSES):
+        for p in range(1, MANY):
+            for q in range(MANY):
                 if p != q:
                     yield f"deliver,{p},{q},0,"
 
@@ -67,10 +74,9 @@ def marks(m: int) -> Iterator[str]:
     yield from ["recover"] * m
 
 
-def work_of_many(mode: str, events: int) -> Iterator[str]:
-    """So many events of 64 processes in a ring: messages, and checks after each eighth turn."""
-    n = MOST_PROCESSES
-    yield f"world,1,{n},{mode}"
+def work_of_many(n: int, mode: str, events: int) -> Iterator[str]:
+    """So many events of n processes in a ring: messages, and checks after each eighth turn."""
+    yield first_of(n, mode)
     turns = events * 8 // (n * 17)
     for turn in range(turns):
         for p in range(n):
@@ -81,14 +87,46 @@ def work_of_many(mode: str, events: int) -> Iterator[str]:
             yield from (f"check,{p},00" for p in range(n))
 
 
-def idle(mode: str, events: int) -> Callable[[int], Iterator[str]]:
-    """Recoveries of nobody among 64 processes, behind so many events."""
+def idle(n: int, mode: str, events: int) -> Callable[[int], Iterator[str]]:
+    """Recoveries of nobody among n processes, behind so many events."""
 
     def records(m: int) -> Iterator[str]:
-        yield from work_of_many(mode, events)
+        yield from work_of_many(n, mode, events)
         yield from ["recover"] * m
 
     return records
+
+
+def ring_of(m: int) -> Iterator[str]:
+    """A ring of m processes with as much work for each, and one that fails at the end."""
+    yield from work_of_many(m, "fifo", m * 1_000)
+    yield "recover,0"
+
+
+def recoveries_of(m: int) -> Iterator[str]:
+    """Recoveries of nobody, the same number among m processes."""
+    yield from idle(m, "fifo", 0)(10_000)
+
+
+def markers_of(m: int) -> Iterator[str]:
+    """Rounds of markers among m processes: a round has a marker for each two of them."""
+    yield first_of(m, "fifo")
+    for _ in range(4):
+        yield "begin,0,"
+        yield from (f"deliver,0,{p},0," for p in range(1, m))
+        yield from (f"deliver,{p},{q},0," for p in range(1, m) for q in range(m) if p != q)
+
+
+def claims_of(m: int) -> Iterator[str]:
+    """A check text of m processes: each has received from each other one, and stays."""
+    yield f"history,{earliest_version(m)},{m}"
+    for p in range(m):
+        yield f"tape,{p},0"
+        yield from (f"send,{q},0," for q in range(m) if q != p)
+        # The number of q's send to p among those of q, which has none to itself.
+        yield from (f"recv,{q},0,{p - (q < p)}" for q in range(m) if q != p)
+        yield "check,,-"
+    yield from ["failed", "line" + ",now" * m, "end"]
 
 
 def domino(m: int) -> Iterator[str]:
@@ -147,12 +185,12 @@ def receipts(numbers: Callable[[int], Iterator[int]]) -> Callable[[int], Iterato
 
 def receipts_of_incarnations(m: int) -> Iterator[str]:
     """A check text of receipts that differ in sender and incarnation alone."""
-    yield from [f"history,1,{MOST_PROCESSES}", "tape,0,0"]
+    yield from [f"history,1,{MANY}", "tape,0,0"]
     for k in range(m):
-        yield f"recv,{k % MOST_PROCESSES},{k // MOST_PROCESSES},0"
-    for p in range(1, MOST_PROCESSES):
+        yield f"recv,{k % MANY},{k // MANY},0"
+    for p in range(1, MANY):
         yield f"tape,{p},0"
-    yield from ["failed", "line" + ",now" * MOST_PROCESSES, "end"]
+    yield from ["failed", "line" + ",now" * MANY, "end"]
 
 
 def received_low_bits(m: int) -> Iterator[str]:
@@ -201,11 +239,11 @@ checks_failed = repeated("world,1,2,fifo", ["check,0,"], ["recover,0"])
 # Messages that are taken, and as many recoveries of nobody.
 delivered = repeated("world,1,2,fifo", ["send,0,1,", "deliver,0,1,0,"], ["recover"])
 # Rounds of markers that are begun among 64 processes, each given up by a recovery.
-rounds_begun = repeated(f"world,1,{MOST_PROCESSES},fifo", ["begin,0,", "recover"], [])
+rounds_begun = repeated(f"world,1,{MANY},fifo", ["begin,0,", "recover"], [])
 # Recoveries of 64 processes that do nothing else, on links in order.
-recoveries = repeated(f"world,1,{MOST_PROCESSES},fifo", [], ["recover"])
+recoveries = repeated(f"world,1,{MANY},fifo", [], ["recover"])
 # The same on links without an order.
-recoveries_unordered = repeated(f"world,1,{MOST_PROCESSES},unordered", [], ["recover"])
+recoveries_unordered = repeated(f"world,1,{MANY},unordered", [], ["recover"])
 
 FAMILIES: dict[str, Family] = {
     "undelivered": Family("run", 2_000, undelivered),
@@ -232,4 +270,9 @@ FAMILIES: dict[str, Family] = {
     "received_low_bits": Family("run", 900_000, received_low_bits),
     "work_in_order": Family("run", 1_000_000, work("fifo")),
     "work_unordered": Family("run", 1_000_000, work("unordered")),
+    # The size of these is the number of processes.
+    "ring_of": Family("run", MOST_PROCESSES, ring_of),
+    "recoveries_of": Family("run", MOST_PROCESSES, recoveries_of),
+    "markers_of": Family("run", MOST_PROCESSES, markers_of),
+    "claims_of": Family("check", MOST_PROCESSES, claims_of),
 }

@@ -5,15 +5,17 @@ import random
 from collections.abc import Iterator
 from typing import TypeVar
 
+from slow_model.texts import earliest_version
+
 Item = TypeVar("Item")
 # Two processes.
 Pair = tuple[int, int]
 
 
-def ring(most: int) -> Iterator[str]:
-    """8 processes send round a ring, on links in order, with checks; at the end one fails."""
-    n, chance = 8, random.Random("ring")
-    yield f"world,1,{n},fifo"
+def ring(most: int, n: int = 8) -> Iterator[str]:
+    """n processes send round a ring, on links in order, with checks; at the end one fails."""
+    chance = random.Random("ring")
+    yield f"world,{earliest_version(n)},{n},fifo"
     for turn in range(most // (2 * n + 1)):
         for p in range(n):
             yield f"send,{p},{(p + 1) % n},{chance.randbytes(8).hex()}"
@@ -25,6 +27,11 @@ def ring(most: int) -> Iterator[str]:
     yield "send,3,4,"
     yield "deliver,3,4,0,"
     yield "recover,3"
+
+
+def great_ring(most: int) -> Iterator[str]:
+    """256 processes send round a ring."""
+    return ring(most, 256)
 
 
 def rounds(most: int) -> Iterator[str]:
@@ -164,6 +171,7 @@ def domino(most: int) -> Iterator[str]:
 
 INPUTS = {
     "ring": (ring, "run"),
+    "great-ring": (great_ring, "run"),
     "rounds": (rounds, "run"),
     "colours": (colours, "run"),
     "domino": (domino, "check"),

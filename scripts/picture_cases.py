@@ -8,6 +8,7 @@ from xml.etree import ElementTree
 
 from pictures import drawing, labels, stories, svg, texts, views
 from slow_model import scripts
+from slow_model.texts import earliest_version
 
 TOP = pathlib.Path(__file__).resolve().parent.parent
 EXAMPLES = TOP / "examples"
@@ -38,7 +39,7 @@ def stories_of_examples() -> dict[str, stories.Story]:
 def long_script(processes: int, records: int) -> bytes:
     """Messages among many processes, checks, and a failure at the end that takes many back."""
     chance = random.Random("pictures")
-    lines, waiting = [f"world,1,{processes},fifo"], []
+    lines, waiting = [f"world,{earliest_version(processes)},{processes},fifo"], []
     while len(lines) < records - 1:
         kind = chance.random()
         if kind < 0.46:

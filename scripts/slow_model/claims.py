@@ -6,8 +6,8 @@ from typing import Any
 
 from .histories import Check, Entry, Event, History, Line, Mark, Marks, Name, Recv, Send
 from .texts import (
-    MOST_BODY, MOST_EVENTS, MOST_PROCESSES, MOST_STATE, NAMES, NOW, Answer, Fault, Record, choice,
-    fields_of, first_record, hexadecimal, incarnation, number, numbered, records_of, round_number,
+    MOST_BODY, MOST_EVENTS, MOST_STATE, NAMES, NOW, Answer, Fault, Record, choice, fields_of,
+    first_record, hexadecimal, incarnation, most_in, number, numbered, records_of, round_number,
     round_or_none, told, want, written,
 )
 
@@ -37,7 +37,7 @@ class Claim:
     entries: list[Entry] = field(default_factory=list)
 
     def records(self) -> Iterator[Record]:
-        yield from self.history.records(2 if self.marks.bars else 1)
+        yield from self.history.records(2 if self.marks.bars else self.history.version())
         for p, check in sorted(self.marks.damaged):
             yield "damage", p, check
         for p, check in sorted(self.marks.bars.items()):
@@ -102,7 +102,16 @@ class Reading:
     def read(self, fields: Sequence[str]) -> None:
         kind, rest = fields[0], fields[1:]
         want(self.may_stand(kind), 32)
-        getattr(self, f"read_{kind}")(*fields_of(readers_of(kind, len(rest)), rest))
+        getattr(self, f"read_{kind}")(*fields_of(self.readers_of(kind, len(rest)), rest))
+
+    def readers_of(self, kind: str, width: int) -> Sequence[Callable[[str], Any]]:
+        """What reads the fields of a record of that many."""
+        if kind == "failed":
+            return [number] * width
+        if kind == "line":
+            want(1 <= width <= most_in(self.version), 32)
+            return [choice] * width
+        return READERS[kind]
 
     def known(self, *processes: int) -> None:
         want(all(p < self.n for p in processes), 1)
@@ -163,19 +172,9 @@ class Reading:
         self.part = "end"
 
 
-def readers_of(kind: str, width: int) -> Sequence[Callable[[str], Any]]:
-    """What reads the fields of a record of that many."""
-    if kind == "failed":
-        return [number] * width
-    if kind == "line":
-        want(1 <= width <= MOST_PROCESSES, 32)
-        return [choice] * width
-    return READERS[kind]
-
-
 def read_claim(text: bytes) -> Claim:
     records = records_of(text)
-    reading = Reading(*numbered(1, first_record, records[0], "history", 3, 2))
+    reading = Reading(*numbered(1, first_record, records[0], "history", 3))
     for i, fields in enumerate(records[1:], 2):
         numbered(i, reading.read, fields)
     if reading.part != "end":

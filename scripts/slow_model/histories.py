@@ -10,7 +10,7 @@ from collections.abc import Iterable, Iterator, Sequence
 from dataclasses import dataclass, field
 from typing import NamedTuple, TypeVar
 
-from .texts import NOW, Record
+from .texts import NOW, Record, earliest_version
 
 # A plan is compared with all lines of surviving choices where there are no more than these.
 MOST_LINES = 500
@@ -295,8 +295,12 @@ class History:
 
     # As records.
 
-    def records(self, version: int = 1) -> Iterator[Record]:
-        """The records of the history."""
+    def version(self) -> int:
+        """The version that the history is written in by itself."""
+        return earliest_version(len(self.tapes))
+
+    def records(self, version: int) -> Iterator[Record]:
+        """The records of the history, in a version."""
         yield "history", version, len(self.tapes)
         for p in self.processes():
             yield "tape", p, self.incarnations[p]

@@ -190,7 +190,7 @@ class World:
         return records
 
     def history_text(self) -> Records:
-        return list(self.history.records())
+        return list(self.history.records(self.history.version()))
 
     def bundle(self, *failed: int) -> Records:
         self.known(*failed)

@@ -34,7 +34,7 @@ def some_check_text(chance: Random) -> bytes:
     if one_in(chance, 8):
         past_limits(chance, claim)
     records = list(claim.records())
-    if one_in(chance, 10):
+    if one_in(chance, 5):
         records[0] = ("history", chance.choice([1, 2, 2]), player.n)
     if one_in(chance, 80):
         records[0] = odd_first(chance, "history", player.n)
@@ -56,6 +56,10 @@ def some_chain(chance: Random, claim: Claim) -> None:
 
 
 def some_process(chance: Random, claim: Claim) -> int:
+    """Any process; of many most often one that did something."""
+    busy = [p for p, tape in enumerate(claim.history.tapes) if tape]
+    if len(claim.history.tapes) > 8 and busy and not one_in(chance, 4):
+        return chance.choice(busy)
     return chance.randrange(len(claim.history.tapes))
 
 
@@ -122,12 +126,14 @@ def other_entry(chance: Random, claim: Claim) -> None:
 
 
 def moved_line(chance: Random, claim: Claim) -> None:
-    """A choice of the line moved up or down; or a choice too few or too many."""
+    """A choice of the line moved up or down; or choices too few or too many."""
     if one_in(chance, 12):
-        claim.line = claim.line[:-1] if one_in(chance, 2) and len(claim.line) > 1 else [*claim.line, 0]
+        before = len(claim.line)
+        many = chance.choice([max(before - 1, 1), before + 1, before + 1, 64, 65, 256, 257])
+        claim.line = [*claim.line, *[0] * many][:many]
         return
-    p = chance.randrange(len(claim.line))
-    if p < len(claim.history.tapes):
+    p = some_process(chance, claim)
+    if p < len(claim.line):
         claim.line[p] = near_choice(chance, claim, p, claim.line[p])
 
 

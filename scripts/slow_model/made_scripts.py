@@ -8,7 +8,7 @@ from .histories import Item
 from .machine import World
 from .made_texts import odd_first, one_in, text_of
 from .scripts import answer, command_of
-from .texts import Record, shown
+from .texts import Record, earliest_version, shown
 
 # How often each kind of command comes. A relay is a message, its receipt, and a check after it.
 TALK = {
@@ -23,6 +23,8 @@ DOMINOES = {
 }
 LENGTHS = [0, 3, 10, 30, 30, 60, 60, 90]
 PROCESSES = [1, *[2] * 6, *[3] * 6, 4, 4, 5]
+MANY_PROCESSES = [63, 64, 65, 65, 66, 128, 255, 256, 256]
+BUSY = 4  # among many processes, so many do all that is done
 CARE = 90  # one in so many values is an odd one; in a careless command every other one
 
 
@@ -31,27 +33,31 @@ class Player:
 
     def __init__(self, chance: Random, moods: Sequence[dict[str, int]]) -> None:
         self.chance = chance
-        self.n = chance.choice([63, 64] if one_in(chance, 100) else PROCESSES)
+        self.n = chance.choice(MANY_PROCESSES if one_in(chance, 40) else PROCESSES)
         self.mode = chance.choice(["fifo", "unordered"])
         self.world = World(self.n, self.mode)
         self.commands: list[Record] = []
         self.care = CARE
-        self.holder = 0  # the process that the last relay went to
+        # The last process is always among the busy ones; of few processes all are.
+        self.busy = [*chance.sample(range(self.n - 1), min(self.n - 1, BUSY)), self.n - 1]
+        self.holder = chance.choice(self.busy)  # the process that the last relay went to
         self.weights = chance.choice(moods)
 
     def is_odd(self) -> bool:
         return one_in(self.chance, self.care)
 
     def process(self) -> int:
-        odd = [self.n, self.n + 1, 64, 2**32 - 1]
-        return self.chance.choice(odd) if self.is_odd() else self.chance.randrange(self.n)
+        odd = [self.n, self.n + 1, 0, 64, 256, 2**32 - 1]
+        return self.chance.choice(odd if self.is_odd() else self.busy)
 
     def processes(self, *counts: int) -> list[int]:
         return [self.process() for _ in range(self.chance.choice(counts))]
 
     def pair(self) -> tuple[int, int]:
         source, to = self.process(), self.process()
-        return source, (source + 1) % self.n if source == to and not self.is_odd() else to
+        if source == to and not self.is_odd():
+            return source, self.chance.choice([p for p in self.busy if p != source] or self.busy)
+        return source, to
 
     def link(self, source: int, to: int) -> Sequence[Item]:
         """What a link holds; nothing where there is no such link."""
@@ -110,7 +116,7 @@ class Player:
 
     def relay(self) -> Record:
         """The holder sends a message, which is delivered; the command is the next one's check."""
-        source, to = self.holder, self.chance.randrange(self.n)
+        source, to = self.holder, self.chance.choice(self.busy)
         if source != to:
             self.add("send", source, to, self.state())
             newest = 0 if self.mode == "fifo" else max(len(self.link(source, to)) - 1, 0)
@@ -137,7 +143,8 @@ def some_script(chance: Random) -> bytes:
     for end in [["rounds"], ["history"], bundle, recover, ["rounds"]]:
         if one_in(chance, 2):
             player.add(*end)
-    first: Record = ("world", 1, player.n, player.mode)
+    version = 2 if one_in(chance, 3) else earliest_version(player.n)
+    first: Record = ("world", version, player.n, player.mode)
     if one_in(chance, 80):
         first = odd_first(chance, "world", player.n, player.mode)
     return text_of(chance, [first, *player.commands], one_in(chance, 5))

@@ -7,7 +7,7 @@ from typing import Any
 from .texts import NOW, Record, shown
 
 ODD_NUMBERS = [
-    "0", "1", "2", "3", "64", "65535", "65536", "4294967295", "4294967296", "18446744073709551615",
+    "0", "1", "2", "3", "64", "65", "256", "257", "65535", "65536", "4294967295", "4294967296", "18446744073709551615",
     "18446744073709551616", "99999999999999999999999",
 ]
 ODD_FIELDS = [
@@ -41,7 +41,8 @@ def loosely(chance: Random, field: Any) -> str:
 def odd_first(chance: Random, kind: str, n: int, *mode: str) -> Record:
     """A first record that may have another version, number of processes or mode."""
     other_mode = [chance.choice([field, "lifo", ""]) for field in mode]
-    return kind, chance.choice([1, 1, 0, 2, 3]), chance.choice([n, n + 1, 0, 64, 65, 2**32]), *other_mode
+    version, many = chance.choice([1, 1, 2, 2, 0, 3]), chance.choice([n, n + 1, 0, 64, 65, 256, 257, 2**32])
+    return kind, version, many, *other_mode
 
 
 def text_of(chance: Random, values: Iterable[Record], is_changed: bool) -> bytes:

@@ -27,7 +27,7 @@ METHODS = {"history": "history_text"}  # where the world's method has another na
 
 
 def world_of(fields: Sequence[str]) -> tuple[int, str]:
-    _version, n = first_record(fields, "world", 4, 1)
+    _version, n = first_record(fields, "world", 4)
     want(fields[3] in ("fifo", "unordered"), 32)
     return n, fields[3]
 

@@ -13,7 +13,9 @@ NAMES = {
     33: "BadNumber", 34: "NoWorld", 35: "BadVersion", 40: "BarNotLower",
 }
 NOW = 2**100  # the choice that is later than every check
-MOST_PROCESSES, MOST_BODY, MOST_STATE, MOST_EVENTS = 64, 64, 4096, 1_000_000
+MOST_PROCESSES, MOST_BODY, MOST_STATE, MOST_EVENTS = 256, 64, 4096, 1_000_000
+MOST_IN_FIRST_VERSION = 64  # processes of a text of version 1, and choices of a line in it
+LAST_VERSION = 2
 MOST_INCARNATION, MOST_ROUND = 65_535, 65_535
 DIGITS, HEX_DIGITS = set("0123456789"), set("0123456789abcdefABCDEF")
 # The values of a record's fields: words, numbers, bytes, and None for `-`.
@@ -111,13 +113,23 @@ def fields_of(readers: Sequence[Callable[[str], Any]], fields: Sequence[str]) ->
     return [reader(field) for reader, field in zip(readers, fields)]
 
 
-def first_record(fields: Sequence[str], kind: str, width: int, last: int) -> tuple[int, int]:
-    """The version of a first record, up to the last that there is, and its number of processes."""
+def most_in(version: int) -> int:
+    """How many processes a text of a version may have."""
+    return MOST_IN_FIRST_VERSION if version == 1 else MOST_PROCESSES
+
+
+def earliest_version(n: int) -> int:
+    """The first version whose texts may have so many processes."""
+    return 1 if n <= MOST_IN_FIRST_VERSION else 2
+
+
+def first_record(fields: Sequence[str], kind: str, width: int) -> tuple[int, int]:
+    """The version of a first record, and its number of processes."""
     want(fields[0] == kind, 34)
     want(len(fields) == width, 32)
     version, n = number(fields[1]), number(fields[2])
-    want(1 <= version <= last, 35)
-    want(1 <= n <= MOST_PROCESSES, 6)
+    want(1 <= version <= LAST_VERSION, 35)
+    want(1 <= n <= most_in(version), 6)
     return version, n
 
 
