@@ -5,6 +5,7 @@ use Rattle.clap.specs.Words.{App, IsAmong, Kinds, Row, Rule, Text, fault_of, new
 use Rattle.clap.specs.Simple.{on_top}
 use Rattle.clap.specs.declared.error.kind.ErrorKind.{ErrorKind}
 use Rattle.clap.specs.declared.error.kind.ErrorKind.TheVariants as errors
+use Rattle.line_posts.specs.declared.limits.TheConstants.{MOST_WORKERS}
 use Rattle.line_cli.specs.declared.words.Job.{Job}
 use Rattle.line_cli.specs.declared.words.Job.TheVariants.{Check, Drill, Run}
 use Rattle.line_cli.specs.declared.words.LineFault.{LineFault}
@@ -42,11 +43,11 @@ abbrev pub IsAskedBy : Job → Text × List Row → Type 0
 IsAskedBy Run asked = asked.0 ≡ codes "run"
 IsAskedBy Check asked = asked.0 ≡ codes "check"
 IsAskedBy (Drill workers rounds) asked =
-    (asked.0 ≡ codes "drill") × IsNumberOf (codes "workers") 2 64 asked.1 workers × IsNumberOf (codes "rounds") 1 1000 asked.1 rounds
+    (asked.0 ≡ codes "drill") × IsNumberOf (codes "workers") 2 MOST_WORKERS asked.1 workers × IsNumberOf (codes "rounds") 1 1000 asked.1 rounds
 
 -- the numbers of a drill lie in their ranges
 abbrev pub IsInRange : Job → Type 0
-IsInRange (Drill workers rounds) = (2 ≤ workers) × (workers ≤ 64) × (1 ≤ rounds) × (rounds ≤ 1000)
+IsInRange (Drill workers rounds) = (2 ≤ workers) × (workers ≤ MOST_WORKERS) × (1 ≤ rounds) × (rounds ≤ 1000)
 IsInRange _ = ⊤
 
 -- the words name a subcommand and options that ask for the job

@@ -5,8 +5,8 @@ ghost use Rattle.line_drills.specs.Scripts as drills;
 ghost use Rattle.line_cli.specs.Drills.{IsDrillText, drill_scripts, orders_of, round_of};
 
 use line_drills::{DrillError, DrillWhy, Gate, Order, drill};
-use line_names::{Body, MOST_PROCESSES, ProcId};
-use line_posts::Post;
+use line_names::{Body, ProcId};
+use line_posts::{MOST_WORKERS, Post};
 use line_tape::State;
 use line_text::write_history;
 use std::alloc::{AllocError, Global};
@@ -43,7 +43,7 @@ fn push_round(
     p: u32,
 ) -> Result<(), AllocError>
     requires worker { p < workers }
-    requires count { workers ≤ MOST_PROCESSES }
+    requires count { workers ≤ MOST_WORKERS }
     ensures { OnOk result (orders.new.items ≡ orders.old.items ++ round_of workers p) }
 {
     let after = if p + 1 == workers { 0 } else { p + 1 };
@@ -62,7 +62,7 @@ fn push_round(
 /// What worker `p` does in so many rounds.
 fn orders_of(alloc: Global, workers: u32, rounds: u32, p: u32) -> Result<Vec<Order>, AllocError>
     requires worker { p < workers }
-    requires count { workers ≤ MOST_PROCESSES }
+    requires count { workers ≤ MOST_WORKERS }
     ensures { IfOk result (λ orders. orders.items ≡ orders_of workers p rounds) }
 {
     let mut orders = Vec::new(alloc);
@@ -74,7 +74,7 @@ fn orders_of(alloc: Global, workers: u32, rounds: u32, p: u32) -> Result<Vec<Ord
 
 /// The scripts of a drill, one for each worker.
 fn scripts_of(alloc: Global, workers: u32, rounds: u32) -> Result<Vec<Vec<Order>>, AllocError>
-    requires { workers ≤ MOST_PROCESSES }
+    requires { workers ≤ MOST_WORKERS }
     ensures { IfOk result (λ scripts. drills.scripts_of scripts.items ≡ drill_scripts workers rounds) }
 {
     let mut scripts = Vec::new(alloc);
@@ -94,7 +94,7 @@ pub fn drill_text<R: Threads + Wait + Sync>(
     workers: u32,
     rounds: u32,
 ) -> Result<Vec<u8>, DrillError>
-    requires { workers ≤ MOST_PROCESSES }
+    requires { workers ≤ MOST_WORKERS }
     ensures ok { IfOk result (λ text. IsDrillText workers rounds text.items) }
     ensures err { IfErr result (λ error. IsFault (drill_scripts workers rounds) error) }
 {

@@ -16,7 +16,7 @@ use crate::standard::{ReadSource, WriteSink};
 use crate::statuses::{fault_of_reading, status_of_drill, status_of_fault};
 use crate::words::{Job, LineFault, command_of};
 use line_devices::{Sink, put_all};
-use line_names::MOST_PROCESSES;
+use line_posts::MOST_WORKERS;
 use line_text::{check_text, run_text};
 use std::alloc::{AllocError, Global};
 use std::process::ExitCode;
@@ -62,7 +62,7 @@ fn drill(
     workers: u32,
     rounds: u32,
 ) -> u8
-    requires { workers ≤ MOST_PROCESSES }
+    requires { workers ≤ MOST_WORKERS }
 {
     match drill_text(rt, alloc, workers, rounds) {
         Ok(text) => {

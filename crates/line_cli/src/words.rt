@@ -7,6 +7,7 @@ ghost use Rattle.line_cli.specs.Words.{AsksFor, HasCause, IsAskedBy, IsInRange, 
 use crate::helps;
 use clap::error::ErrorKind;
 use clap::{Arg, ArgMatches, Command, Error};
+use line_posts::MOST_WORKERS;
 use std::alloc::{AllocError, Global};
 
 /// What the program is asked to do.
@@ -103,7 +104,7 @@ fn number_of(options: &ArgMatches, option: &str, least: u32, most: u32) -> Optio
 fn drill_of(options: &ArgMatches) -> Option<Job>
     ensures { (job : Job) → (result ≡ Some job) ↔ IsAskedBy job (codes "drill", rows_of (found_of options.now)) }
 {
-    let workers = number_of(options, "workers", 2, 64)?;
+    let workers = number_of(options, "workers", 2, MOST_WORKERS as u32)?;
     let rounds = number_of(options, "rounds", 1, 1_000)?;
     Some(Job::Drill { workers, rounds })
 }

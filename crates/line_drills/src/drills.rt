@@ -109,12 +109,12 @@ fn all_at_once<G: Gate, R: Threads + Wait + Sync>(
     )
 }
 
-/// Drills a worker for each script, 1 to `MOST_WORKERS` of them, each in a thread of its own and over
-/// rings of this capacity, and gathers what they did, nobody having failed.
+/// Drills a worker for each script, 1 to `MOST_WORKERS` of them, each in a thread of its own and
+/// over rings of this capacity, and gathers what they did, nobody having failed.
 ///
 /// Before each order a worker asks the gate, at most `turns` times. A Send that finds no free slot,
-/// and a Receive that finds nothing there, are tried at most `turns` times too. After each order the
-/// worker reports. The call returns once all threads have ended, whatever came of them.
+/// and a Receive that finds nothing there, are tried at most `turns` times too. After each order
+/// the worker reports. The call returns once all threads have ended, whatever came of them.
 ///
 /// Where several workers could not do an order, the lowest is named. Where a thread could not be
 /// started, that is the answer, whatever came of the others.
