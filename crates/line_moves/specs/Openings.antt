@@ -10,7 +10,7 @@ use Rattle.line_tape.specs.Colours.{is_completed_unordered}
 use Rattle.line_tape.specs.Rounds.{has_check_of, has_mark_of, channel_on, round_line}
 use Rattle.line_tape.specs.Transit.{in_transit_between}
 use Rattle.line_turns.specs.Tables.{between, IsTable}
-use Rattle.line_turns.specs.Turning.{TurningView, IsTurning}
+use Rattle.line_turns.specs.Turning.{TurningView, IsLastLine, IsTurning}
 use Rattle.line_moves.specs.declared.modes.Mode.{Mode}
 use Rattle.line_moves.specs.declared.modes.Mode.TheVariants.{Fifo, Unordered}
 use Rattle.line_moves.specs.Listed.{Listed, channel_table, is_begun, is_completed, listed}
@@ -186,6 +186,12 @@ pub record AreInTransit (history : List Process) (line : List Choice) (table : L
 abbrev pub AreFoundAt : List Process → List Choice → Option (List (List (List MsgName))) → Type 0
 AreFoundAt history line None = Unit {0}
 AreFoundAt history line (Some table) = AreInTransit history line table
+
+-- a table of channels has what is in transit where process p stands now and each other is at its check
+pub record AreCountedAtLast (history : List Process) (turning : TurningView) (p : ℕ) (table : List (List (List MsgName))) : Type 0 where
+  pub line : List Choice
+  pub last : IsLastLine turning p line
+  pub counted : AreInTransit history line table
 
 -- what was counted for round r of colours: where it is completed what is in transit at its checks, and else nothing
 abbrev pub IsCounted : List Process → ℕ → Option (List (List (List MsgName))) → Type 0

@@ -1,6 +1,6 @@
 //! What is in transit where a round of colours is completed (Lai and Yang, Information Processing
 //! Letters 25(3), 1987).
-ghost use Rattle.std.specs.Prelude.{◌≡◌, ◌<◌, ◌≤◌, ℕ, List, All, true, false, length, IfOk, Some};
+ghost use Rattle.std.specs.Prelude.{◌≡◌, ◌≢◌, ◌<◌, ◌≤◌, ℕ, List, All, true, false, length, IfOk, Some};
 ghost use Rattle.line_names.specs.declared.choices.Choice.TheVariants.{Check as AtCheck};
 ghost use Rattle.line_tape.specs.declared.events.Event.TheVariants.{Check};
 ghost use Rattle.line_tape.specs.Event.{checks};
@@ -11,7 +11,7 @@ ghost use Rattle.line_tape.specs.Rounds.{check_line, has_check_of};
 ghost use Rattle.line_tape.specs.Transit.{in_transit_between, letters, names_received};
 ghost use Rattle.line_turns.specs.Turning.{IsTurning};
 ghost use Rattle.line_moves.specs.Listed.{IsSnapshotOf};
-ghost use Rattle.line_moves.specs.Openings.{AreFoundAt, AreInTransit, IsCounted};
+ghost use Rattle.line_moves.specs.Openings.{AreCountedAtLast, AreFoundAt, AreInTransit, IsCounted};
 
 use crate::rounds::Round;
 use line_catalogue::Catalogue;
@@ -124,10 +124,38 @@ fn count_anew(
     Ok(channels)
 }
 
-/// What is in transit at the checks of the open round, if a check of this process completes it now.
+/// What is in transit where this process stands now and each other is at its check of the open
+/// round.
 ///
 /// Where nothing was sent or received since the checks of the last of the rounds, that is what it
-/// has in transit, and costs a step for each process.
+/// has in transit, and costs a step for each process. The line is too large for the function that
+/// each check calls.
+#[inline(never)]
+fn count_at_last(
+    alloc: Global,
+    catalogue: &mut Catalogue,
+    turning: &Turning,
+    rounds: &[Round],
+    at: ProcId,
+) -> Result<SharedChannels, AllocError>
+    requires at { at < length catalogue.old.processes }
+    requires turning { IsTurning catalogue.old.processes turning.now }
+    requires others { (q : ℕ) → q < length catalogue.old.processes → q ≢ at
+        → has_check_of turning.now.number (tape_at catalogue.old.processes q) ≡ true }
+    requires rounds { All (IsSnapshotOf catalogue.old.processes) rounds.now }
+    ensures channels { IfOk result (AreCountedAtLast catalogue.old.processes turning.now at) }
+    ensures processes { catalogue.new.processes ≡ catalogue.old.processes }
+    ensures marks { catalogue.new.marks ≡ catalogue.old.marks }
+    ensures rooms { catalogue.new.rooms ≡ catalogue.old.rooms }
+{
+    let line = turning.line(at);
+    if let Some(channels) = channels_still(catalogue.history(), rounds, &line)? {
+        return Ok(channels);
+    }
+    count_anew(alloc, catalogue, rounds, &line)
+}
+
+/// What is in transit at the checks of the open round, if a check of this process completes it now.
 pub fn count_channels(
     alloc: Global,
     catalogue: &mut Catalogue,
@@ -149,9 +177,6 @@ pub fn count_channels(
     if !turning.is_last(at) {
         return Ok(None);
     }
-    let line = turning.line(at);
-    if let Some(channels) = channels_still(catalogue.history(), rounds, &line)? {
-        return Ok(Some(channels));
-    }
-    Ok(Some(count_anew(alloc, catalogue, rounds, &line)?))
+    let channels = count_at_last(alloc, catalogue, turning, rounds, at)?;
+    Ok(Some(channels))
 }

@@ -8,7 +8,7 @@ ghost use Rattle.line_world.specs.Machine.{is_open, items_on};
 use super::World;
 use crate::replies::StepError;
 use line_moves::Mode;
-use line_names::{MOST_PROCESSES, ProcId, ProcSet};
+use line_names::{ProcId, ProcSet};
 use line_tape::{LAST_ROUND, MOST_EVENTS, MOST_STATE, State};
 
 impl World {
@@ -166,12 +166,6 @@ impl World {
     pub(super) fn has_stranger(&self, failed: &ProcSet) -> bool
         ensures { result ≡ has_stranger self.now failed.now }
     {
-        let n = self.catalogue.n();
-        let mut found = false;
-        for q in n..MOST_PROCESSES as u32 {
-            let p = ProcId::try_new(q, MOST_PROCESSES as u32).unwrap();
-            found |= failed.has(p);
-        }
-        found
+        !failed.is_below(self.catalogue.n())
     }
 }
