@@ -136,7 +136,7 @@ returns-in-Ok-clause-may c =
     let k = c.args.posts.ok in
     let o = ap (λ (v : CollectorView). length v.opening) c.collector.view_is in
     let m = c.collector.invariant.count in (
-      λ q is. (let below = c.is_below.ensures.0 c.if-not-is_below.false q is in omega (arith, below, n, o, m)),
+      λ q is. (let below = c.is_below.ensures.value.0 c.if-not-is_below.false q is in omega (arith, below, n, o, m)),
       (omega (arith, a, b, n, k, o, m), c.account.ensures.order.0 t),
     )
 
