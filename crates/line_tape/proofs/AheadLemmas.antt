@@ -1,10 +1,10 @@
 -- Receipts that are ahead, aside or last, as receipts come and go.
-use Rattle.std.proofs.Common.{◌≡◌, ◌≢◌, ℕ, zero, suc, ◌<◌, ◌≤◌, List, length, set, get_or, refl, sym, ap, ◌∙◌, subst, arith, inl, inr}
+use Rattle.std.proofs.Common.{◌≡◌, ◌≢◌, ℕ, zero, suc, ◌<◌, ◌≤◌, List, length, refl, sym, ap, ◌∙◌, subst, arith, inl, inr}
 use Rattle.std.proofs.lemmas.Bool.{cases_lt, cases_eq}
-use Rattle.std.proofs.lemmas.List.{get_or-set_same, get_or-set_other}
 use Rattle.line_names.specs.declared.limits.TheConstants.{MOST_PROCESSES}
 use Rattle.line_names.specs.declared.messages.MsgName.{MsgName}
 use Rattle.line_tape.specs.declared.receipts.chains.Receipt.{Receipt}
+use Rattle.line_tape.specs.Ends.{EndsView, IsEndPut, end_of}
 use Rattle.line_tape.specs.Noted.{AreAlike, AreChained, AreLast, IsAhead, IsAside, IsBack, IsLast, name_at, receipt_at}
 
 abbrev pub from_of : MsgName → ℕ
@@ -141,12 +141,12 @@ last_is_here os n s link a from b =
     ]
 
 -- the links to the last of each sender, where one of them is put anew
-pub ends_put : (os : List Receipt) (last : List ℕ) (m s link : ℕ) → length os ≡ m → s < length last → IsLast os m s link
-    → ((q : ℕ) → q < MOST_PROCESSES → q ≢ s → IsLast os m q (get_or last q 0)) → AreLast os (set last s link)
-ends_put os last m s link len few here others = record {
+pub ends_put : (os : List Receipt) (last new : EndsView) (m s link : ℕ) → length os ≡ m → IsEndPut last new s link → IsLast os m s link
+    → ((q : ℕ) → q < MOST_PROCESSES → q ≢ s → IsLast os m q (end_of last q)) → AreLast os new
+ends_put os last new m s link len put here others = record {
   each = λ q l. elim (cases_eq q s) [
-    | inl e ↦ subst (λ x. IsLast os x q (get_or (set last s link) q 0)) (sym len) (subst (IsLast os m q) (sym (ap (λ x. get_or (set last s link) x 0) e ∙ get_or-set_same last s link 0 few)) (subst (λ x. IsLast os m x link) (sym e) here))
-    | inr ne ↦ subst (λ x. IsLast os x q (get_or (set last s link) q 0)) (sym len) (subst (IsLast os m q) (sym (get_or-set_other last s q link 0 ne)) (others q l ne))
+    | inl e ↦ subst (λ x. IsLast os x q (end_of new q)) (sym len) (subst (IsLast os m q) (sym (ap (end_of new) e ∙ put.there)) (subst (λ x. IsLast os m x link) (sym e) here))
+    | inr ne ↦ subst (λ x. IsLast os x q (end_of new q)) (sym len) (subst (IsLast os m q) (sym (put.elsewhere q ne)) (others q l ne))
   ];
 }
 

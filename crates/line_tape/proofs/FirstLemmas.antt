@@ -1,14 +1,14 @@
 -- The first receipt of a message, and whether it is among the first ones of a tape.
-use Rattle.std.proofs.Common.{◌≡◌, ◌≢◌, ◌↔◌, ℕ, zero, suc, ◌<◌, ◌≤◌, ◌⊎◌, [], Bool, true, false, List, length, take, get_or, map, replicate, refl, sym, ap, ◌∙◌, subst, arith, inl, inr}
+use Rattle.std.proofs.Common.{◌≡◌, ◌≢◌, ◌↔◌, ℕ, zero, suc, ◌<◌, ◌≤◌, ◌⊎◌, [], Bool, true, false, List, length, take, get_or, map, refl, sym, ap, ◌∙◌, subst, arith, inl, inr}
 use Rattle.std.specs.List.{Contains}
 use Rattle.std.proofs.Math.ListN.{get_or-map}
 use Rattle.std.proofs.lemmas.Bool.{cases_lt, false≢true}
-use Rattle.std.proofs.lemmas.List.{get_or-take, get_or_default, get_or-replicate, length-map, length-take}
-use Rattle.line_names.specs.declared.limits.TheConstants.{MOST_PROCESSES}
+use Rattle.std.proofs.lemmas.List.{get_or-take, get_or_default, length-map, length-take}
 use Rattle.line_names.specs.declared.messages.MsgName.{MsgName}
 use Rattle.line_names.specs.Names.{is_name}
 use Rattle.line_names.proofs.NameLemmas.{is_name-true, is_name-same}
 use Rattle.line_tape.specs.declared.receipts.chains.Receipt.{Receipt}
+use Rattle.line_tape.specs.Ends.{EndsView, end_of}
 use Rattle.line_tape.specs.Noted.{AreNoted, IsAhead, IsAside, IsNode, IsSeatOf, message_of, name_at, seated}
 use Rattle.line_tape.proofs.AheadLemmas.{from_of, number_of}
 use Rattle.line_tape.proofs.SeatLemmas.{none_node}
@@ -97,7 +97,7 @@ first_within rs m end (suc i) found none =
     )
 
 -- the index of no receipts
-pub noted_none : (rs : List Receipt) (last : List ℕ) → rs ≡ [] → last ≡ replicate MOST_PROCESSES 0 → AreNoted rs last 0
+pub noted_none : (rs : List Receipt) (last : EndsView) → rs ≡ [] → ((sender : ℕ) → end_of last sender ≡ 0) → AreNoted rs last 0
 noted_none rs last none zeros =
     let few : length rs ≡ 0 = ap (λ (xs : List Receipt). length xs) none in
     record {
@@ -105,7 +105,7 @@ noted_none rs last none zeros =
       chained = record { near = λ i l a. absurd (omega arith); far = λ i l a. absurd (omega arith); senders = λ i l. absurd (omega arith) };
       ends = record {
         each = λ s l.
-            let is : get_or last s 0 ≡ 0 = ap (λ xs. get_or xs s 0) zeros ∙ get_or-replicate MOST_PROCESSES s 0 0 l in
+            let is : end_of last s ≡ 0 = zeros s in
             record { back = record { each = λ k e. absurd (omega arith) }; most = λ i low same. absurd (omega arith) };
       };
       tree = record {

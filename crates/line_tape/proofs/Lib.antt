@@ -31,6 +31,7 @@ pub mod CompletionLemmas
 pub mod RoundTransit
 pub mod TurnLemmas
 pub mod ForcedLemmas
+pub mod EndLemmas
 pub mod AheadLemmas
 pub mod SeatLemmas
 pub mod NotedLemmas

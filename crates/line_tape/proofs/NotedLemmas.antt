@@ -10,6 +10,7 @@ use Rattle.line_names.specs.declared.limits.TheConstants.{MOST_PROCESSES}
 use Rattle.line_names.specs.declared.messages.MsgName.{MsgName}
 use Rattle.line_tape.specs.declared.limits.TheConstants.{MOST_EVENTS}
 use Rattle.line_tape.specs.declared.receipts.chains.Receipt.{Receipt}
+use Rattle.line_tape.specs.Ends.{EndsView, IsEndPut, end_of}
 use Rattle.line_tape.specs.Noted.{AreAlike, AreInTree, AreLast, AreNoted, IsAhead, IsAside, IsBack, IsLast, IsLed, IsNode, IsPut, IsSeatOf, key_of, message_of, name_at, receipt_at, seated}
 use Rattle.line_tape.proofs.AheadLemmas.{chained_less, chained_more, ends_put, from_of, last_alike, last_here, last_is_here, last_longer, last_shorter, number_of}
 use Rattle.line_tape.proofs.SeatLemmas.{node_alike, node_le, same_seat, seated-append, seated-take, tree_less, tree_more, tree_same}
@@ -90,11 +91,11 @@ module _ (rs : List Receipt) (r : Receipt) where
       (ap near_of e, ap far_of e)
 
 -- a receipt more that is ahead
-pub noted_ahead : (rs : List Receipt) (last : List ℕ) (root : ℕ) (r : Receipt) → AreNoted rs last root → length rs < MOST_EVENTS → r.from < MOST_PROCESSES → r.from < length last
+pub noted_ahead : (rs : List Receipt) (last new : EndsView) (root : ℕ) (r : Receipt) → AreNoted rs last root → length rs < MOST_EVENTS → r.from < MOST_PROCESSES → IsEndPut last new r.from (length rs + 1)
     → ((i : ℕ) → i < length rs → (name_at rs i).from ≡ r.from → (name_at rs i).number < r.number)
-    → r.near ≡ get_or last r.from 0 → IsBack rs (length rs) r.from r.far
-    → AreNoted (rs ++ r ∷ []) (set last r.from (length rs + 1)) root
-noted_ahead rs last root r noted few sender slot above near far =
+    → r.near ≡ end_of last r.from → IsBack rs (length rs) r.from r.far
+    → AreNoted (rs ++ r ∷ []) new root
+noted_ahead rs last new root r noted few sender put above near far =
     let n : ℕ = length rs in
     let os : List Receipt = rs ++ r ∷ [] in
     let h : AreAlike rs os n = more_alike rs r in
@@ -110,14 +111,14 @@ noted_ahead rs last root r noted few sender slot above near far =
           let w : number_of (name_at rs j) < r.number = above j l (ap from_of e ∙ same ∙ from) in
           omega arith;
     } in
-    let old : IsLast rs n r.from (get_or last r.from 0) = noted.ends.each r.from sender in
+    let old : IsLast rs n r.from (end_of last r.from) = noted.ends.each r.from sender in
     record {
       few = omega arith;
       chained = chained_more rs os n refl long h noted.chained (more_links rs r)
           (λ a. (last_alike rs rs n n _ _ _ _ (record { each = λ i l. refl }) (omega arith) (sym from) (sym near ∙ sym (ap near_of at)) old, subst (λ (x : Receipt). IsBack rs n (from_of (name_at os n)) x.far) (sym at) (subst (λ s. IsBack rs n s r.far) (sym from) far)))
           (subst (λ s. s < MOST_PROCESSES) (sym from) sender);
-      ends = subst (λ k. AreLast os (set last r.from k)) (omega arith) (ends_put os last (suc n) r.from (suc n) long slot (last_here os n r.from ahead from)
-          (λ q l ne. last_longer rs os n q (get_or last q 0) h (λ same. absurd (ne (sym same ∙ from))) (noted.ends.each q l)));
+      ends = ends_put os last new (suc n) r.from (suc n) long (subst (IsEndPut last new r.from) (omega arith) put) (last_here os n r.from ahead from)
+          (λ q l ne. last_longer rs os n q (end_of last q) h (λ same. absurd (ne (sym same ∙ from))) (noted.ends.each q l));
       tree = tree_same rs os root n refl long h noted.tree (λ link side low. seated-append rs (r ∷ []) root link side low) (λ a. a.behind ahead);
     }
 
@@ -132,7 +133,7 @@ not_ahead rs os r h name (i, l, from, low) a =
     omega arith
 
 -- a receipt more that is not, with other links of the tree at most
-pub noted_behind : (rs os : List Receipt) (last : List ℕ) (root other : ℕ) (r : Receipt) → AreNoted rs last root → length rs < MOST_EVENTS → length os ≡ suc (length rs)
+pub noted_behind : (rs os : List Receipt) (last : EndsView) (root other : ℕ) (r : Receipt) → AreNoted rs last root → length rs < MOST_EVENTS → length os ≡ suc (length rs)
     → AreAlike rs os (length rs) → name_at os (length rs) ≡ message_of r → r.from < MOST_PROCESSES
     → ((i : ℕ) → i < length rs → IsAhead rs i → ((receipt_at rs i).near ≡ (receipt_at os i).near) × ((receipt_at rs i).far ≡ (receipt_at os i).far))
     → ((i : ℕ) × (i < length rs) × ((name_at rs i).from ≡ r.from) × (r.number ≤ (name_at rs i).number))
@@ -146,7 +147,7 @@ noted_behind rs os last root other r noted few long h name sender links below tr
       few = omega arith;
       chained = chained_more rs os n refl long h noted.chained links (λ a. absurd (not_ahead rs os r h name below a)) (subst (λ s. s < MOST_PROCESSES) (sym from) sender);
       ends = record {
-        each = λ q l. subst (λ m. IsLast os m q (get_or last q 0)) (sym long) (last_longer rs os n q (get_or last q 0) h (λ same. (below.0, below.1, below.2 ∙ sym from ∙ same, low)) (noted.ends.each q l));
+        each = λ q l. subst (λ m. IsLast os m q (end_of last q)) (sym long) (last_longer rs os n q (end_of last q) h (λ same. (below.0, below.1, below.2 ∙ sym from ∙ same, low)) (noted.ends.each q l));
       };
       tree = tree;
     }
@@ -163,7 +164,7 @@ links_put rs more os root other above link n i far short node put same l a = (go
     ]
 
 -- a receipt more of a message that is received
-pub noted_again : (rs : List Receipt) (last : List ℕ) (root : ℕ) (r : Receipt) → AreNoted rs last root → length rs < MOST_EVENTS → r.from < MOST_PROCESSES
+pub noted_again : (rs : List Receipt) (last : EndsView) (root : ℕ) (r : Receipt) → AreNoted rs last root → length rs < MOST_EVENTS → r.from < MOST_PROCESSES
     → ((i : ℕ) × (i < length rs) × ((name_at rs i).from ≡ r.from) × (r.number ≤ (name_at rs i).number))
     → ((i : ℕ) × (i < length rs) × (name_at rs i ≡ message_of r)) → AreNoted (rs ++ r ∷ []) last root
 noted_again rs last root r noted few sender below (i, l, named) =
@@ -179,7 +180,7 @@ leaf_of r true near far = far
 leaf_of r false near far = near
 
 -- a receipt more that is the first of its message, in an empty seat
-pub noted_aside : (rs os : List Receipt) (last : List ℕ) (root other above : ℕ) (far : Bool) (r : Receipt) → AreNoted rs last root → length rs < MOST_EVENTS → length os ≡ suc (length rs) → r.from < MOST_PROCESSES
+pub noted_aside : (rs os : List Receipt) (last : EndsView) (root other above : ℕ) (far : Bool) (r : Receipt) → AreNoted rs last root → length rs < MOST_EVENTS → length os ≡ suc (length rs) → r.from < MOST_PROCESSES
     → r.near ≡ 0 → r.far ≡ 0
     → ((i : ℕ) × (i < length rs) × ((name_at rs i).from ≡ r.from) × (r.number ≤ (name_at rs i).number))
     → ((i : ℕ) → i < length rs → name_at rs i ≢ message_of r) → seated rs root above far ≡ 0
@@ -221,9 +222,9 @@ no_link : (os : List Receipt) (root n link : ℕ) (side : Bool) → AreInTree os
 no_link os root n link side tree other node e = other ((tree.nodes link side node).each n e).1
 
 -- a receipt less that is ahead
-pub noted_less_ahead : (os : List Receipt) (last : List ℕ) (root n : ℕ) → AreNoted os last root → length os ≡ suc n → (receipt_at os n).from < length last
-    → get_or last (receipt_at os n).from 0 ≡ suc n → AreNoted (take n os) (set last (receipt_at os n).from (receipt_at os n).near) root
-noted_less_ahead os last root n noted long slot at =
+pub noted_less_ahead : (os : List Receipt) (last new : EndsView) (root n : ℕ) → AreNoted os last root → length os ≡ suc n → IsEndPut last new (receipt_at os n).from (receipt_at os n).near
+    → end_of last (receipt_at os n).from ≡ suc n → AreNoted (take n os) new root
+noted_less_ahead os last new root n noted long put at =
     let rs : List Receipt = take n os in
     let s : ℕ = (receipt_at os n).from in
     let h : AreAlike os rs n = take_alike os n in
@@ -233,15 +234,15 @@ noted_less_ahead os last root n noted long slot at =
     record {
       few = (let f : length os ≤ MOST_EVENTS = noted.few in omega arith);
       chained = chained_less rs os n short long h noted.chained (λ i l a. take_links os n i l);
-      ends = ends_put rs last n s (receipt_at os n).near short slot (last_alike os rs n n _ _ _ _ h (omega arith) refl refl (noted.chained.near n (omega arith) here.1))
+      ends = ends_put rs last new n s (receipt_at os n).near short put (last_alike os rs n n _ _ _ _ h (omega arith) refl refl (noted.chained.near n (omega arith) here.1))
           (λ q l ne.
-          let old : IsLast os (suc n) q (get_or last q 0) = subst (λ m. IsLast os m q (get_or last q 0)) long (noted.ends.each q l) in
-          last_shorter rs os n q (get_or last q 0) h (λ e. ne (sym (old.back.each n e).2)) old);
+          let old : IsLast os (suc n) q (end_of last q) = subst (λ m. IsLast os m q (end_of last q)) long (noted.ends.each q l) in
+          last_shorter rs os n q (end_of last q) h (λ e. ne (sym (old.back.each n e).2)) old);
       tree = tree_less rs os root root n short long h noted.tree (λ link side low node. inl (seated-take os n root link side low, no_link os root n link side noted.tree (λ a. a.behind here.1) node));
     }
 
 -- what stays of the chains where the last receipt is not ahead
-less_behind : (rs os : List Receipt) (last : List ℕ) (root other n : ℕ) → AreNoted os last root → length rs ≡ n → length os ≡ suc n → AreAlike os rs n
+less_behind : (rs os : List Receipt) (last : EndsView) (root other n : ℕ) → AreNoted os last root → length rs ≡ n → length os ≡ suc n → AreAlike os rs n
     → ((i : ℕ) → i < n → IsAhead os i → ((receipt_at os i).near ≡ (receipt_at rs i).near) × ((receipt_at os i).far ≡ (receipt_at rs i).far))
     → (IsAhead os n → ⊥) → AreInTree rs other → AreNoted rs last other
 less_behind rs os last root other n noted short long h links behind tree = record {
@@ -249,21 +250,21 @@ less_behind rs os last root other n noted short long h links behind tree = recor
   chained = chained_less rs os n short long h noted.chained links;
   ends = record {
     each = λ q l.
-        let old : IsLast os (suc n) q (get_or last q 0) = subst (λ m. IsLast os m q (get_or last q 0)) long (noted.ends.each q l) in
-        subst (λ m. IsLast rs m q (get_or last q 0)) (sym short) (last_shorter rs os n q (get_or last q 0) h (λ e. behind (old.back.each n e).1) old);
+        let old : IsLast os (suc n) q (end_of last q) = subst (λ m. IsLast os m q (end_of last q)) long (noted.ends.each q l) in
+        subst (λ m. IsLast rs m q (end_of last q)) (sym short) (last_shorter rs os n q (end_of last q) h (λ e. behind (old.back.each n e).1) old);
   };
   tree = tree;
 }
 
-is_behind : (os : List Receipt) (last : List ℕ) (root n : ℕ) → AreNoted os last root → length os ≡ suc n → get_or last (receipt_at os n).from 0 ≢ suc n → IsAhead os n → ⊥
+is_behind : (os : List Receipt) (last : EndsView) (root n : ℕ) → AreNoted os last root → length os ≡ suc n → end_of last (receipt_at os n).from ≢ suc n → IsAhead os n → ⊥
 is_behind os last root n noted long other a =
     let s : ℕ = (receipt_at os n).from in
     let sender : s < MOST_PROCESSES = noted.chained.senders n (omega arith) in
-    other (last_is_here os n s (get_or last s 0) a refl (subst (λ m. IsLast os m s (get_or last s 0)) long (noted.ends.each s sender)))
+    other (last_is_here os n s (end_of last s) a refl (subst (λ m. IsLast os m s (end_of last s)) long (noted.ends.each s sender)))
 
 -- a receipt less that is in no link
-pub noted_less_again : (os : List Receipt) (last : List ℕ) (root n above : ℕ) (far : Bool) → AreNoted os last root → length os ≡ suc n
-    → get_or last (receipt_at os n).from 0 ≢ suc n → IsSeatOf os root (name_at os n) above far → seated os root above far ≢ suc n → AreNoted (take n os) last root
+pub noted_less_again : (os : List Receipt) (last : EndsView) (root n above : ℕ) (far : Bool) → AreNoted os last root → length os ≡ suc n
+    → end_of last (receipt_at os n).from ≢ suc n → IsSeatOf os root (name_at os n) above far → seated os root above far ≢ suc n → AreNoted (take n os) last root
 noted_less_again os last root n above far noted long other seat ne =
     let rs : List Receipt = take n os in
     let h : AreAlike os rs n = take_alike os n in
@@ -272,8 +273,8 @@ noted_less_again os last root n above far noted long other seat ne =
     (tree_less rs os root root n short long h noted.tree (λ link side low node. inl (seated-take os n root link side low, no_link os root n link side noted.tree (λ a. ne (seat.found n (omega arith) a refl)) node)))
 
 -- a receipt less of the tree
-pub noted_less_aside : (os mid : List Receipt) (last : List ℕ) (root other n above : ℕ) (far : Bool) → AreNoted os last root → length os ≡ suc n → length mid ≡ suc n
-    → get_or last (receipt_at os n).from 0 ≢ suc n → IsSeatOf os root (name_at os n) above far → seated os root above far ≡ suc n
+pub noted_less_aside : (os mid : List Receipt) (last : EndsView) (root other n above : ℕ) (far : Bool) → AreNoted os last root → length os ≡ suc n → length mid ≡ suc n
+    → end_of last (receipt_at os n).from ≢ suc n → IsSeatOf os root (name_at os n) above far → seated os root above far ≡ suc n
     → IsPut os root mid other above far 0 → AreNoted (take n mid) last other
 noted_less_aside os mid last root other n above far noted long whole ne seat at put =
     let rs : List Receipt = take n mid in
@@ -300,7 +301,7 @@ noted_less_aside os mid last root other n above far noted long whole ne seat at 
     ]))
 
 -- the lists as they stand in a call: a slice of the receipts, and the receipts with one more
-module _ (rs items : List Receipt) (last : List ℕ) (root : ℕ) (seen : rs ≡ items) (before : AreNoted items last root) (few : length items < MOST_EVENTS) where
+module _ (rs items : List Receipt) (last : EndsView) (root : ℕ) (seen : rs ≡ items) (before : AreNoted items last root) (few : length items < MOST_EVENTS) where
   noted_so : AreNoted rs last root
   noted_so = subst (λ (xs : List Receipt). AreNoted xs last root) (sym seen) before
 
@@ -310,18 +311,19 @@ module _ (rs items : List Receipt) (last : List ℕ) (root : ℕ) (seen : rs ≡
   pushed_so : (new : List Receipt) (r : Receipt) → new ≡ items ++ r ∷ [] → new ≡ rs ++ r ∷ []
   pushed_so new r pushed = pushed ∙ ap (λ (xs : List Receipt). xs ++ r ∷ []) (sym seen)
 
-  pub added_ahead : (new : List Receipt) (link : ℕ) (receipt linked : Receipt) → new ≡ items ++ linked ∷ [] → link ≡ length items + 1 → message_of linked ≡ message_of receipt
-      → receipt.from < MOST_PROCESSES → receipt.from < length last
+  pub added_ahead : (new : List Receipt) (ends : EndsView) (link : ℕ) (receipt linked : Receipt) → new ≡ items ++ linked ∷ [] → link ≡ length items + 1 → message_of linked ≡ message_of receipt
+      → receipt.from < MOST_PROCESSES → IsEndPut last ends receipt.from link
       → ((i : ℕ) → i < length rs → (name_at rs i).from ≡ receipt.from → (name_at rs i).number < receipt.number)
-      → linked.near ≡ get_or last receipt.from 0 → IsBack rs (length rs) receipt.from linked.far → AreNoted new (set last receipt.from link) root
-  added_ahead new link receipt linked pushed is same sender slot above near far =
+      → linked.near ≡ end_of last receipt.from → IsBack rs (length rs) receipt.from linked.far → AreNoted new ends root
+  added_ahead new ends link receipt linked pushed is same sender put above near far =
       let from : linked.from ≡ receipt.from = ap from_of same in
       let number : linked.number ≡ receipt.number = ap number_of same in
       let many : length rs ≡ length items = ap (λ (xs : List Receipt). length xs) seen in
-      let links : length rs + 1 ≡ link = omega arith in
-      subst (λ (xs : List Receipt). AreNoted xs (set last receipt.from link) root) (sym (pushed_so new linked pushed)) (subst (λ k. AreNoted (rs ++ linked ∷ []) (set last receipt.from k) root) links (subst (λ s. AreNoted (rs ++ linked ∷ []) (set last s (length rs + 1)) root) from (noted_ahead rs last root linked noted_so few_so (omega arith) (omega arith)
+      let links : link ≡ length rs + 1 = omega arith in
+      let put_so : IsEndPut last ends linked.from (length rs + 1) = subst (IsEndPut last ends linked.from) links (subst (λ s. IsEndPut last ends s link) (sym from) put) in
+      subst (λ (xs : List Receipt). AreNoted xs ends root) (sym (pushed_so new linked pushed)) (noted_ahead rs last ends root linked noted_so few_so (omega arith) put_so
       (λ i l e. let w : number_of (name_at rs i) < receipt.number = above i l (e ∙ from) in omega arith)
-      (near ∙ ap (λ s. get_or last s 0) (sym from)) (subst (λ s. IsBack rs (length rs) s linked.far) (sym from) far))))
+      (near ∙ ap (λ s. end_of last s) (sym from)) (subst (λ s. IsBack rs (length rs) s linked.far) (sym from) far))
 
   pub added_again : (new : List Receipt) (r : Receipt) → new ≡ items ++ r ∷ [] → r.from < MOST_PROCESSES
       → ((i : ℕ) × (i < length rs) × ((name_at rs i).from ≡ r.from) × (r.number ≤ (name_at rs i).number))
@@ -343,28 +345,28 @@ module _ (rs items : List Receipt) (last : List ℕ) (root : ℕ) (seen : rs ≡
       noted_aside rs os last root other above far r noted_so few_so (omega arith) sender near back below none was seat (subst (λ k. IsPut (rs ++ r ∷ []) root os other above far k) (omega arith) (subst (λ (xs : List Receipt). IsPut xs root os other above far link) (pushed_so mid r pushed) put))
 
 -- and before the last receipt goes
-module _ (rs items : List Receipt) (last : List ℕ) (root n k link : ℕ) (seen : rs ≡ items) (before : AreNoted items last root) (long : length items ≡ suc n) (here : k ≡ n) (is : link ≡ suc n) where
+module _ (rs items : List Receipt) (last : EndsView) (root n k link : ℕ) (seen : rs ≡ items) (before : AreNoted items last root) (long : length items ≡ suc n) (here : k ≡ n) (is : link ≡ suc n) where
   noted_seen : AreNoted rs last root
   noted_seen = subst (λ (xs : List Receipt). AreNoted xs last root) (sym seen) before
 
   long_seen : length rs ≡ suc n
   long_seen = ap (λ (xs : List Receipt). length xs) seen ∙ long
 
-  pub unlinked_ahead : (receipt_at rs k).from < length last → get_or last (receipt_at rs k).from 0 ≡ link → AreNoted (take n items) (set last (receipt_at rs k).from (receipt_at rs k).near) root
-  unlinked_ahead slot e =
-      let s : (receipt_at rs n).from < length last = subst (λ j. (receipt_at rs j).from < length last) here slot in
-      let f : get_or last (receipt_at rs n).from 0 ≡ suc n = subst (λ j. get_or last (receipt_at rs j).from 0 ≡ link) here e ∙ is in
-      subst (λ j. AreNoted (take n items) (set last (receipt_at rs j).from (receipt_at rs j).near) root) (sym here) (subst (λ (xs : List Receipt). AreNoted (take n xs) (set last (receipt_at rs n).from (receipt_at rs n).near) root) seen (noted_less_ahead rs last root n noted_seen long_seen s f))
+  pub unlinked_ahead : (new : EndsView) → IsEndPut last new (receipt_at rs k).from (receipt_at rs k).near → end_of last (receipt_at rs k).from ≡ link → AreNoted (take n items) new root
+  unlinked_ahead new put e =
+      let p : IsEndPut last new (receipt_at rs n).from (receipt_at rs n).near = subst (λ j. IsEndPut last new (receipt_at rs j).from (receipt_at rs j).near) here put in
+      let f : end_of last (receipt_at rs n).from ≡ suc n = subst (λ j. end_of last (receipt_at rs j).from ≡ link) here e ∙ is in
+      subst (λ (xs : List Receipt). AreNoted (take n xs) new root) seen (noted_less_ahead rs last new root n noted_seen long_seen p f)
 
-  other_at : get_or last (receipt_at rs k).from 0 ≢ link → get_or last (receipt_at rs n).from 0 ≢ suc n
-  other_at ne e = ne (subst (λ j. get_or last (receipt_at rs j).from 0 ≡ link) (sym here) (e ∙ sym is))
+  other_at : end_of last (receipt_at rs k).from ≢ link → end_of last (receipt_at rs n).from ≢ suc n
+  other_at ne e = ne (subst (λ j. end_of last (receipt_at rs j).from ≡ link) (sym here) (e ∙ sym is))
 
   seat_at : (above : ℕ) (far : Bool) → IsSeatOf rs root (name_at rs k) above far → IsSeatOf rs root (name_at rs n) above far
   seat_at above far seat = subst (λ j. IsSeatOf rs root (name_at rs j) above far) here seat
 
-  pub unlinked_again : (above : ℕ) (far : Bool) → get_or last (receipt_at rs k).from 0 ≢ link → IsSeatOf rs root (name_at rs k) above far → seated rs root above far ≢ link → AreNoted (take n items) last root
+  pub unlinked_again : (above : ℕ) (far : Bool) → end_of last (receipt_at rs k).from ≢ link → IsSeatOf rs root (name_at rs k) above far → seated rs root above far ≢ link → AreNoted (take n items) last root
   unlinked_again above far other seat ne = subst (λ (xs : List Receipt). AreNoted (take n xs) last root) seen (noted_less_again rs last root n above far noted_seen long_seen (other_at other) (seat_at above far seat) (λ e. ne (e ∙ sym is)))
 
-  pub unlinked_aside : (mid : List Receipt) (other_root above : ℕ) (far : Bool) → length mid ≡ suc n → get_or last (receipt_at rs k).from 0 ≢ link → IsSeatOf rs root (name_at rs k) above far → seated rs root above far ≡ link
+  pub unlinked_aside : (mid : List Receipt) (other_root above : ℕ) (far : Bool) → length mid ≡ suc n → end_of last (receipt_at rs k).from ≢ link → IsSeatOf rs root (name_at rs k) above far → seated rs root above far ≡ link
       → IsPut items root mid other_root above far 0 → AreNoted (take n mid) last other_root
   unlinked_aside mid other_root above far whole other seat e put = noted_less_aside rs mid last root other_root n above far noted_seen long_seen whole (other_at other) (seat_at above far seat) (e ∙ is) (subst (λ (xs : List Receipt). IsPut xs root mid other_root above far 0) (sym seen) put)

@@ -12,6 +12,7 @@ pub mod Fit
 pub mod Restart
 pub mod Views
 pub mod Kept
+pub mod Ends
 pub mod Noted
 pub mod Plain
 pub mod Refusals

@@ -4,6 +4,7 @@ use Rattle.line_names.specs.declared.limits.TheConstants.{MOST_PROCESSES}
 use Rattle.line_tape.specs.declared.limits.TheConstants.{MOST_EVENTS}
 use Rattle.line_names.specs.declared.messages.MsgName.{MsgName}
 use Rattle.line_tape.specs.declared.receipts.chains.Receipt.{Receipt}
+use Rattle.line_tape.specs.Ends.{EndsView, end_of}
 
 -- the messages received, in order, and how many further ones are taken with no more memory
 pub record ReceiptsView : Type 0 where
@@ -47,8 +48,8 @@ pub record AreChained (receipts : List Receipt) : Type 0 where
   pub senders : (i : ℕ) → i < length receipts → (name_at receipts i).from < MOST_PROCESSES
 
 -- the links to the last of each sender
-pub record AreLast (receipts : List Receipt) (last : List ℕ) : Type 0 where
-  pub each : (sender : ℕ) → sender < MOST_PROCESSES → IsLast receipts (length receipts) sender (slice_index_or last sender 0)
+pub record AreLast (receipts : List Receipt) (ends : EndsView) : Type 0 where
+  pub each : (sender : ℕ) → sender < MOST_PROCESSES → IsLast receipts (length receipts) sender (end_of ends sender)
 
 -- the link in a seat of the tree: the root, or one of the two links of the receipt above
 abbrev pub seated : List Receipt → ℕ → ℕ → Bool → ℕ
@@ -91,7 +92,7 @@ pub record AreInTree (receipts : List Receipt) (root : ℕ) : Type 0 where
   pub reached : (i : ℕ) → i < length receipts → IsAside receipts i → (d : ℕ) × (walked receipts root (key_of (name_at receipts i)) d ≡ suc i)
 
 -- the receipts with the links that lead to them
-pub record AreNoted (receipts : List Receipt) (last : List ℕ) (root : ℕ) : Type 0 where
+pub record AreNoted (receipts : List Receipt) (last : EndsView) (root : ℕ) : Type 0 where
   pub few : length receipts ≤ MOST_EVENTS
   pub chained : AreChained receipts
   pub ends : AreLast receipts last

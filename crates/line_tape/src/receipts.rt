@@ -1,17 +1,19 @@
 //! An index of the receipts of one tape.
-ghost use Rattle.std.specs.Prelude.{◌≡◌, ◌≢◌, ◌<◌, ◌≤◌, ◌+◌, ◌-◌, ◌↔◌, ℕ, suc, [], ◌∷◌, ◌++◌, Contains, IsOk, IsTrue, List, OnOk, length, map, replicate, take, vec_capacity, vec_len};
+ghost use Rattle.std.specs.Prelude.{◌≡◌, ◌≢◌, ◌<◌, ◌≤◌, ◌+◌, ◌-◌, ◌↔◌, ℕ, suc, [], ◌∷◌, ◌++◌, Contains, IsOk, IsTrue, List, OnOk, length, map, take, vec_capacity, vec_len};
 ghost use Rattle.line_names.specs.declared.limits.TheConstants.{MOST_PROCESSES};
 ghost use Rattle.line_tape.specs.declared.events.Event.{Event};
 ghost use Rattle.line_tape.specs.Noted.{AreChained, AreInTree, AreNoted, IsLast, IsSeatOf, message_of, name_at, seated};
 ghost use Rattle.line_tape.specs.Transit.{names_received};
 
 mod chains;
+mod ends;
 mod trees;
 
 use crate::events::Event;
 use crate::limits::MOST_EVENTS;
 use chains::{Receipt, find_ahead, is_ahead, linked_back};
-use line_names::{MOST_PROCESSES, MsgName};
+use ends::LastLinks;
+use line_names::MsgName;
 use std::alloc::{AllocError, Global};
 use std::marker::Model;
 use trees::{Seat, link_at, put, seat_of};
@@ -22,29 +24,22 @@ use trees::{Seat, link_at, put, seat_of};
 #[derive(Drop)]
 pub struct Receipts {
     receipts: Vec<Receipt>,
-    last: [u32; MOST_PROCESSES],
+    last: LastLinks,
     root: u32,
 }
 
 impl Model for Receipts {
-    ghost use Rattle.std.specs.Prelude.{◌-◌, map, vec_capacity, vec_len};
+    ghost use Rattle.std.specs.Prelude.{◌-◌, map, min, vec_capacity, vec_len};
     ghost use Rattle.line_tape.specs.Noted.{AreNoted, ReceiptsView, message_of};
 
     ghost Value = { ReceiptsView };
 
     ghost view = { λ r. record {
       names = map message_of r.receipts.items;
-      room = vec_capacity r.receipts - vec_len r.receipts;
+      room = min (vec_capacity r.receipts - vec_len r.receipts) r.last.room;
     } };
 
     ghost invariant = { λ r. AreNoted r.receipts.items r.last r.root };
-}
-
-/// No last receipt of any sender.
-fn no_last() -> [u32; MOST_PROCESSES]
-    ensures { result ≡ replicate MOST_PROCESSES 0 }
-{
-    [0; MOST_PROCESSES]
 }
 
 /// The link to the first receipt of the message, which has that seat in the tree or none; 0 where it is not received.
@@ -66,29 +61,27 @@ fn first_of(receipts: &[Receipt], last: u32, root: u32, seat: Seat, wanted: &Rec
 }
 
 /// Takes in a further receipt, in room that was made for it.
-fn add(
-    receipts: &mut Vec<Receipt>,
-    last: &mut [u32; MOST_PROCESSES],
-    root: &mut u32,
-    receipt: Receipt,
-)
+fn add(receipts: &mut Vec<Receipt>, last: &mut LastLinks, root: &mut u32, receipt: Receipt)
     requires noted { AreNoted receipts.old.items last.old root.old }
     requires sender { receipt.from < MOST_PROCESSES }
     requires links { (receipt.near ≡ 0) × (receipt.far ≡ 0) }
     requires few { vec_len receipts.old < MOST_EVENTS }
     requires room { vec_len receipts.old < vec_capacity receipts.old }
+    requires last_room { 0 < last.old.room }
     ensures noted { AreNoted receipts.new.items last.new root.new }
     ensures names { map message_of receipts.new.items ≡ map message_of receipts.old.items ++ message_of receipt ∷ [] }
     ensures len { vec_len receipts.new ≡ vec_len receipts.old + 1 }
     ensures capacity { vec_capacity receipts.old ≤ vec_capacity receipts.new }
+    ensures last_room { last.old.room ≤ last.new.room + 1 }
 {
     let link = receipts.len() as u32 + 1;
     let before = receipts.as_slice();
-    let end = last[receipt.from as usize];
+    let end = last.at(receipt.from);
     if is_ahead(before, end, &receipt) {
         let linked = linked_back(before, end, receipt);
         receipts.push(linked).unwrap();
-        last[receipt.from as usize] = link;
+        last.add_block(receipt.from);
+        last.set(receipt.from, link);
         return;
     }
     let seat = seat_of(before, *root, &receipt);
@@ -101,19 +94,20 @@ fn add(
 }
 
 /// Takes the last receipt out of the links, so that it can go.
-fn unlink_last(receipts: &mut Vec<Receipt>, last: &mut [u32; MOST_PROCESSES], root: &mut u32)
+fn unlink_last(receipts: &mut Vec<Receipt>, last: &mut LastLinks, root: &mut u32)
     requires noted { AreNoted receipts.old.items last.old root.old }
     requires some { 0 < vec_len receipts.old }
     ensures noted { AreNoted (take (vec_len receipts.old - 1) receipts.new.items) last.new root.new }
     ensures names { map message_of receipts.new.items ≡ map message_of receipts.old.items }
     ensures len { vec_len receipts.new ≡ vec_len receipts.old }
     ensures capacity { vec_capacity receipts.old ≤ vec_capacity receipts.new }
+    ensures last_room { last.new.room ≡ last.old.room }
 {
     let link = receipts.len() as u32;
     let before = receipts.as_slice();
     let receipt = before[link as usize - 1];
-    if last[receipt.from as usize] == link {
-        last[receipt.from as usize] = receipt.near;
+    if last.at(receipt.from) == link {
+        last.set(receipt.from, receipt.near);
         return;
     }
     let seat = seat_of(before, *root, &receipt);
@@ -130,7 +124,7 @@ impl Receipts {
     {
         Receipts {
             receipts: Vec::new(alloc),
-            last: no_last(),
+            last: LastLinks::new(alloc),
             root: 0,
         }
     }
@@ -149,7 +143,8 @@ impl Receipts {
         ensures succeeds { k ≤ self.old.room → IsOk result }
         ensures room { self.old.room ≤ self.new.room }
     {
-        self.receipts.reserve(k)
+        self.receipts.reserve(k)?;
+        self.last.reserve(k)
     }
 
     /// Takes in an event that comes next, in room that was made for it.
@@ -190,7 +185,7 @@ impl Receipts {
         ensures { IsTrue result ↔ Contains (take end self.now.names) message.now }
     {
         let wanted = Receipt::of(message);
-        let last = self.last[wanted.from as usize];
+        let last = self.last.at(wanted.from);
         let receipts = self.receipts.as_slice();
         let seat = seat_of(receipts, self.root, &wanted);
         let first = first_of(receipts, last, self.root, seat, &wanted);

@@ -3,6 +3,7 @@ use Rattle.std.proofs.Common.{◌≡◌, ◌<◌, ◌+◌, ◌++◌, ◌∷◌, 
 use Rattle.std.proofs.lemmas.List.{length_push}
 use Rattle.line_tape.specs.declared.receipts.chains.Receipt.{Receipt}
 use Rattle.line_tape.specs.declared.limits.TheConstants.{MOST_EVENTS}
+use Rattle.line_tape.specs.Ends.{IsEndPut}
 use Rattle.line_tape.specs.Noted.{message_of, name_at}
 use Rattle.line_tape.proofs.NotedLemmas.{added_again, added_ahead, added_aside, pushed_node}
 use Rattle.line_tape.proofs.receipts.add.Goals as goal
@@ -13,8 +14,11 @@ returns-then-is_ahead-clause-noted c =
     let few : length items < MOST_EVENTS = omega (arith, c.args.receipts.now.ok.0) in
     let pushed : c.push.new.self.items ≡ items ++ c.linked_back-linked.result ∷ [] = search rules in
     let link : c.len.result + 1 ≡ length items + 1 = omega (arith, c.len.ensures, c.args.receipts.now.ok.0) in
-    let slot : c.args.receipt.from < length c.args.last.now = search rules in
-    added_ahead c.as_slice-before.result.now items c.args.last.now c.args.root.now c.as_slice-before.ensures.value c.requires.noted few c.push.new.self.items (c.len.result + 1) c.args.receipt c.linked_back-linked.result pushed link c.linked_back-linked.ensures.same c.requires.sender slot (c.is_ahead.ensures.yes c.if-is_ahead.true) c.linked_back-linked.ensures.near c.linked_back-linked.ensures.far
+    let put : IsEndPut c.args.last.now c.set.new.self c.args.receipt.from (c.len.result + 1) = record {
+      there = c.set.ensures.put.there;
+      elsewhere = λ q ne. c.set.ensures.put.elsewhere q ne ∙ c.add_block.ensures.same q;
+    } in
+    added_ahead c.as_slice-before.result.now items c.args.last.now c.args.root.now c.as_slice-before.ensures.value c.requires.noted few c.push.new.self.items c.set.new.self (c.len.result + 1) c.args.receipt c.linked_back-linked.result pushed link c.linked_back-linked.ensures.same c.requires.sender put (c.is_ahead.ensures.yes c.if-is_ahead.true) (c.linked_back-linked.ensures.near ∙ c.at-end.ensures) c.linked_back-linked.ensures.far
 
 pub put-requires : goal.put-requires
 put-requires c =

@@ -1,20 +1,19 @@
 -- The last receipt is that of its sender, or in the tree, or in no link.
-use Rattle.std.proofs.Common.{◌≡◌, ◌<◌, ◌-◌, ℕ, suc, List, length, vec_len, ◌∙◌, sym, arith, rules}
+use Rattle.std.proofs.Common.{◌≡◌, ◌<◌, ◌-◌, ℕ, suc, List, length, vec_len, ◌∙◌, sym, arith}
 use Rattle.line_tape.specs.declared.receipts.chains.Receipt.{Receipt}
-use Rattle.line_tape.specs.Noted.{receipt_at}
 use Rattle.line_tape.proofs.NotedLemmas.{unlinked_again, unlinked_ahead, unlinked_aside}
+use Rattle.line_tape.proofs.EndLemmas.{has_block}
 use Rattle.line_tape.proofs.receipts.unlink_last.Goals as goal
 
-pub returns-then-last-receipt-clause-noted : goal.returns-then-last-receipt-clause-noted
-returns-then-last-receipt-clause-noted c =
+pub returns-then-at-link-clause-noted : goal.returns-then-at-link-clause-noted
+returns-then-at-link-clause-noted c =
     let items : List Receipt = c.args.receipts.now.items in
     let n : ℕ = vec_len c.args.receipts.now - 1 in
     let k : ℕ = c.len-link.result - 1 in
     let long : length items ≡ suc n = omega (arith, c.requires.some, c.args.receipts.now.ok.0) in
     let here : k ≡ n = omega (arith, c.len-link.ensures) in
     let is : c.len-link.result ≡ suc n = omega (arith, c.len-link.ensures, c.requires.some) in
-    let slot : (receipt_at c.as_slice-before.result.now k).from < length c.args.last.now = search rules in
-    unlinked_ahead c.as_slice-before.result.now items c.args.last.now c.args.root.now n k c.len-link.result c.as_slice-before.ensures.value c.requires.noted long here is slot c.if-last-receipt.true
+    unlinked_ahead c.as_slice-before.result.now items c.args.last.now c.args.root.now n k c.len-link.result c.as_slice-before.ensures.value c.requires.noted long here is c.set.new.self c.set.ensures.put (sym c.at.ensures ∙ c.if-at-link.true)
 
 pub returns-then-link_at-link-clause-noted : goal.returns-then-link_at-link-clause-noted
 returns-then-link_at-link-clause-noted c =
@@ -24,7 +23,7 @@ returns-then-link_at-link-clause-noted c =
     let long : length items ≡ suc n = omega (arith, c.requires.some, c.args.receipts.now.ok.0) in
     let here : k ≡ n = omega (arith, c.len-link.ensures) in
     let is : c.len-link.result ≡ suc n = omega (arith, c.len-link.ensures, c.requires.some) in
-    unlinked_again c.as_slice-before.result.now items c.args.last.now c.args.root.now n k c.len-link.result c.as_slice-before.ensures.value c.requires.noted long here is c.seat_of-seat.result.above c.seat_of-seat.result.far c.if-last-receipt.false c.seat_of-seat.ensures (λ e. c.if-link_at-link.true (c.link_at.ensures ∙ e))
+    unlinked_again c.as_slice-before.result.now items c.args.last.now c.args.root.now n k c.len-link.result c.as_slice-before.ensures.value c.requires.noted long here is c.seat_of-seat.result.above c.seat_of-seat.result.far (λ e. c.if-at-link.false (c.at.ensures ∙ e)) c.seat_of-seat.ensures (λ e. c.if-link_at-link.true (c.link_at.ensures ∙ e))
 
 pub returns-clause-noted : goal.returns-clause-noted
 returns-clause-noted c =
@@ -35,4 +34,7 @@ returns-clause-noted c =
     let here : k ≡ n = omega (arith, c.len-link.ensures) in
     let is : c.len-link.result ≡ suc n = omega (arith, c.len-link.ensures, c.requires.some) in
     let whole : length c.put.new.receipts.items ≡ suc n = omega (arith, c.put.ensures.len, c.put.new.receipts.ok.0, c.requires.some) in
-    unlinked_aside c.as_slice-before.result.now items c.args.last.now c.args.root.now n k c.len-link.result c.as_slice-before.ensures.value c.requires.noted long here is c.put.new.receipts.items c.put.new.root c.seat_of-seat.result.above c.seat_of-seat.result.far whole c.if-last-receipt.false c.seat_of-seat.ensures (sym c.link_at.ensures ∙ c.if-link_at-link.false) c.put.ensures.put
+    unlinked_aside c.as_slice-before.result.now items c.args.last.now c.args.root.now n k c.len-link.result c.as_slice-before.ensures.value c.requires.noted long here is c.put.new.receipts.items c.put.new.root c.seat_of-seat.result.above c.seat_of-seat.result.far whole (λ e. c.if-at-link.false (c.at.ensures ∙ e)) c.seat_of-seat.ensures (sym c.link_at.ensures ∙ c.if-link_at-link.false) c.put.ensures.put
+
+pub set-requires : goal.set-requires
+set-requires c = has_block c.args.last.now _ (λ none. absurd (omega (arith, c.at.ensures, c.if-at-link.true, none, c.len-link.ensures, c.requires.some)))

@@ -1,0 +1,127 @@
+-- Links by blocks, as blocks come and links are put.
+use Rattle.std.proofs.Common.{◌≡◌, ◌≢◌, ℕ, zero, suc, ◌+◌, ◌*◌, ◌-◌, ◌/◌, ◌%◌, ◌<◌, ◌≤◌, ◌++◌, ◌∷◌, [], List, length, set, get_or, replicate, refl, sym, ap, ◌∙◌, arith, inl, inr}
+use Rattle.std.proofs.lemmas.Bool.{cases_eq}
+use Rattle.std.proofs.lemmas.List.{get_or-set_same, get_or-set_other, get_or_past}
+use Rattle.line_tape.specs.Ends.{AreBlocks, EndsView, IsEndPut, block_of, end_of, link_in, taken}
+
+-- a sender with a link has a block
+pub has_block : (ends : EndsView) (sender : ℕ) → end_of ends sender ≢ 0 → block_of ends sender ≢ 0
+has_block ends sender some none = some (ap (λ b. link_in ends.links b (sender % 16)) none)
+
+pub taken_le : (blocks : List ℕ) → taken blocks ≤ length blocks
+taken_le [] = omega arith
+taken_le (zero ∷ bs) = omega (arith, taken_le bs)
+taken_le (suc b ∷ bs) = omega (arith, taken_le bs)
+
+-- where one sixteen has no block there are fewer blocks than sixteens
+pub taken_lt : (blocks : List ℕ) (group : ℕ) → group < length blocks → get_or blocks group 0 ≡ 0 → taken blocks < length blocks
+taken_lt [] group low none = absurd (omega arith)
+taken_lt (zero ∷ bs) group low none = omega (arith, taken_le bs)
+taken_lt (suc b ∷ bs) zero low none = absurd (omega arith)
+taken_lt (suc b ∷ bs) (suc group) low none = omega (arith, taken_lt bs group (omega arith) none)
+
+pub taken_set : (blocks : List ℕ) (group block : ℕ) → group < length blocks → get_or blocks group 0 ≡ 0 → taken (set blocks group (suc block)) ≡ suc (taken blocks)
+taken_set [] group block low none = absurd (omega arith)
+taken_set (zero ∷ bs) zero block low none = refl
+taken_set (suc b ∷ bs) zero block low none = absurd (omega arith)
+taken_set (zero ∷ bs) (suc group) block low none = taken_set bs group block (omega arith) none
+taken_set (suc b ∷ bs) (suc group) block low none = ap (λ n. suc n) (taken_set bs group block (omega arith) none)
+
+pub taken_none : (n : ℕ) → taken (replicate n 0) ≡ 0
+taken_none zero = refl
+taken_none (suc n) = taken_none n
+
+-- a 0 more changes no answer
+pub push_same : (xs : List ℕ) (place : ℕ) → get_or (xs ++ 0 ∷ []) place 0 ≡ get_or xs place 0
+push_same [] zero = refl
+push_same [] (suc place) = refl
+push_same (x ∷ xs) zero = refl
+push_same (x ∷ xs) (suc place) = push_same xs place
+
+pub link_same : (links more : List ℕ) (block place : ℕ) → ((place : ℕ) → get_or more place 0 ≡ get_or links place 0) → link_in more block place ≡ link_in links block place
+link_same links more zero place same = refl
+link_same links more (suc block) place same = same (block * 16 + place)
+
+-- the blocks with one more
+pub blocks_more : (blocks links more : List ℕ) (group : ℕ) → AreBlocks blocks links → group < length blocks → get_or blocks group 0 ≡ 0
+    → length more ≡ length links + 16 → AreBlocks (set blocks group (suc (taken blocks))) more
+blocks_more blocks links more group are low none long =
+    let count : taken (set blocks group (suc (taken blocks))) ≡ suc (taken blocks) = taken_set blocks group (taken blocks) low none in
+    let here : get_or (set blocks group (suc (taken blocks))) group 0 ≡ suc (taken blocks) = get_or-set_same blocks group (suc (taken blocks)) 0 low in
+    record {
+      full = (let f : length links ≡ taken blocks * 16 = are.full in omega arith);
+      within = λ g. elim (cases_eq g group) [
+        | inl e ↦ omega (arith, here, count, ap (λ j. get_or (set blocks group (suc (taken blocks))) j 0) e)
+        | inr ne ↦ omega (arith, get_or-set_other blocks group g (suc (taken blocks)) 0 ne, are.within g)
+      ];
+      apart = λ g h some same. elim (cases_eq g group) [
+        | inl e ↦ elim (cases_eq h group) [
+          | inl f ↦ e ∙ sym f
+          | inr nf ↦ absurd (omega (arith, same, here, ap (λ j. get_or (set blocks group (suc (taken blocks))) j 0) e, get_or-set_other blocks group h (suc (taken blocks)) 0 nf, are.within h))
+        ]
+        | inr ne ↦ elim (cases_eq h group) [
+          | inl f ↦ absurd (omega (arith, same, here, ap (λ j. get_or (set blocks group (suc (taken blocks))) j 0) f, get_or-set_other blocks group g (suc (taken blocks)) 0 ne, are.within g))
+          | inr nf ↦
+              let a : get_or (set blocks group (suc (taken blocks))) g 0 ≡ get_or blocks g 0 = get_or-set_other blocks group g (suc (taken blocks)) 0 ne in
+              let b : get_or (set blocks group (suc (taken blocks))) h 0 ≡ get_or blocks h 0 = get_or-set_other blocks group h (suc (taken blocks)) 0 nf in
+              are.apart g h (λ z. some (a ∙ z)) (sym a ∙ same ∙ b)
+        ]
+      ];
+    }
+
+-- and the links are as they were
+pub ends_more : (old new : EndsView) (group : ℕ) → AreBlocks old.blocks old.links → group < length old.blocks → get_or old.blocks group 0 ≡ 0
+    → new.blocks ≡ set old.blocks group (suc (taken old.blocks)) → ((place : ℕ) → get_or new.links place 0 ≡ get_or old.links place 0)
+    → (sender : ℕ) → end_of new sender ≡ end_of old sender
+ends_more old new group are low none blocks links sender = link_same old.links new.links (block_of new sender) (sender % 16) links ∙ elim (cases_eq (sender / 16) group) [
+  | inl e ↦
+      let there : block_of new sender ≡ suc (taken old.blocks) = ap (λ j. get_or new.blocks j 0) e ∙ ap (λ (bs : List ℕ). get_or bs group 0) blocks ∙ get_or-set_same old.blocks group (suc (taken old.blocks)) 0 low in
+      let before : block_of old sender ≡ 0 = ap (λ j. get_or old.blocks j 0) e ∙ none in
+      let past : length old.links ≤ taken old.blocks * 16 + sender % 16 = omega (arith, are.full) in
+      ap (λ b. link_in old.links b (sender % 16)) there ∙ get_or_past old.links (taken old.blocks * 16 + sender % 16) 0 past ∙ sym (ap (λ b. link_in old.links b (sender % 16)) before)
+  | inr ne ↦ ap (λ b. link_in old.links b (sender % 16)) (ap (λ (bs : List ℕ). get_or bs (sender / 16) 0) blocks ∙ get_or-set_other old.blocks group (sender / 16) (suc (taken old.blocks)) 0 ne)
+]
+
+-- a link in a block
+pub link_there : (links : List ℕ) (block place : ℕ) → block ≢ 0 → link_in links block place ≡ get_or links ((block - 1) * 16 + place) 0
+link_there links zero place some = absurd (some refl)
+link_there links (suc block) place some = ap (λ j. get_or links (j * 16 + place) 0) (omega arith)
+
+-- a link is put
+pub put_end : (old new : EndsView) (sender link : ℕ) → AreBlocks old.blocks old.links → block_of old sender ≢ 0 → new.blocks ≡ old.blocks
+    → new.links ≡ set old.links ((block_of old sender - 1) * 16 + sender % 16) link → IsEndPut old new sender link
+put_end old new sender link are some blocks links = record {
+  there =
+      let low : at < length old.links = omega (arith, are.full, are.within (sender / 16)) in
+      ap (λ (bs : List ℕ). link_in new.links (get_or bs (sender / 16) 0) (sender % 16)) blocks ∙ link_there new.links (block_of old sender) (sender % 16) some ∙ ap (λ (xs : List ℕ). get_or xs at 0) links ∙ get_or-set_same old.links at link 0 low;
+  elsewhere = λ other ne. ap (λ (bs : List ℕ). link_in new.links (get_or bs (other / 16) 0) (other % 16)) blocks ∙ elim (cases_eq (block_of old other) 0) [
+    | inl none ↦ ap (λ b. link_in new.links b (other % 16)) none ∙ sym (ap (λ b. link_in old.links b (other % 16)) none)
+    | inr has ↦
+        link_there new.links (block_of old other) (other % 16) has ∙ ap (λ (xs : List ℕ). get_or xs (place other) 0) links ∙ get_or-set_other old.links at (place other) link 0 (apart other ne has) ∙ sym (link_there old.links (block_of old other) (other % 16) has)
+  ];
+}
+  where
+    place : ℕ → ℕ
+    place other = (block_of old other - 1) * 16 + other % 16
+
+    at : ℕ
+    at = (block_of old sender - 1) * 16 + sender % 16
+
+    apart : (other : ℕ) → other ≢ sender → block_of old other ≢ 0 → place other ≢ at
+    apart other ne has same =
+        let blocks_same : block_of old other ≡ block_of old sender = omega arith in
+        let group : other / 16 ≡ sender / 16 = are.apart (other / 16) (sender / 16) has blocks_same in
+        ne (omega arith)
+
+-- no blocks
+pub no_blocks : (n : ℕ) (links : List ℕ) → links ≡ [] → AreBlocks (replicate n 0) links
+no_blocks n links none = record {
+  full = (let few : length links ≡ 0 = ap (λ (xs : List ℕ). length xs) none in omega (arith, taken_none n));
+  within = λ group. omega (arith, zeros n group);
+  apart = λ group other some same. absurd (some (zeros n group));
+}
+  where
+    zeros : (n group : ℕ) → get_or {A = ℕ} (replicate n 0) group 0 ≡ 0
+    zeros zero group = refl
+    zeros (suc n) zero = refl
+    zeros (suc n) (suc group) = zeros n group
