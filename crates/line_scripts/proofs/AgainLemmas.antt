@@ -12,11 +12,14 @@ use Rattle.line_fields.specs.Texts.{hex_text, is_plain_field, is_written, record
 use Rattle.line_moves.specs.declared.modes.Mode.{Mode}
 use Rattle.line_moves.specs.declared.modes.Mode.TheVariants.{Fifo, Unordered}
 use Rattle.line_world.specs.declared.steps.Step.TheVariants.{Send, Deliver, Check, Begin, Turn, Damage, Bar, Recover}
+use Rattle.line_claims.specs.declared.versions.TheConstants.{LAST_VERSION}
 use Rattle.line_claims.specs.Entries.{failed_of}
 use Rattle.line_claims.specs.Records.{members}
+use Rattle.line_claims.specs.Versions.{IsVersion, earliest_version, most_in}
 use Rattle.line_claims.proofs.ClaimWrittenLemmas.{decimals_are_plain}
 use Rattle.line_claims.proofs.EntryAgainLemmas.{failed_again, members_below}
 use Rattle.line_claims.proofs.SpellLemmas.{plain_again}
+use Rattle.line_claims.proofs.VersionLemmas.{earliest_has_room, earliest_is_known}
 use Rattle.line_claims.proofs.WrittenLemmas.{byte_at}
 use Rattle.line_scripts.specs.declared.commands.Command.{Command}
 use Rattle.line_scripts.specs.declared.commands.Command.TheVariants.{Bundle, Do, History, Refused, Rounds}
@@ -29,10 +32,12 @@ mode_again : (mode : Mode) → mode_named (mode_text mode) ≡ Ok mode
 mode_again Fifo = refl
 mode_again Unordered = refl
 
-world_again : (n : ℕ) (mode : Mode) → 1 ≤ n → n ≤ MOST_PROCESSES → world_of (world_record n mode) ≡ Ok (n, mode)
+world_again : (version n : ℕ) (mode : Mode) → IsVersion version → 1 ≤ n → n ≤ most_in version → n ≤ MOST_PROCESSES → world_of (world_record version n (mode_text mode)) ≡ Ok (n, mode)
 unfolding world_of
-world_again n mode some few =
-    rw (plain_again 1 (omega arith), plain_again n (omega arith), le-leb 1 n some, le-leb n MOST_PROCESSES few, mode_again mode) refl
+world_again version n mode known some room few =
+    let first : 1 ≤ version = known.0 in
+    let last : version ≤ LAST_VERSION = known.1 in
+    rw (plain_again version (omega arith), plain_again n (omega arith), le-leb 1 version first, le-leb version LAST_VERSION last, le-leb 1 n some, le-leb n (most_in version) room, mode_again mode) refl
 
 pick_again : (picked : ℕ) → picked < 2 ^ 64 → pick (decimal picked) ≡ Ok picked
 pick_again picked small = num_decimal 0 18446744073709551615 picked (omega arith) (omega arith) small
@@ -83,7 +88,8 @@ commands_again n i (c ∷ others) few fit = rw (command_again n c few fit.0, com
 script_again : (script : Script) → IsScriptInRange script → script_of (script_records script) ≡ Ok script
 unfolding script_of
 script_again script fit =
-    rw (world_again script.n script.mode fit.some fit.few, commands_again script.n 2 script.commands fit.few fit.commands) refl
+    let world = world_again (earliest_version script.n) script.n script.mode (earliest_is_known script.n) fit.some (earliest_has_room script.n fit.few) fit.few in
+    rw (world, commands_again script.n 2 script.commands fit.few fit.commands) refl
 
 with_state_is_written : (at : ℕ) (state : List ℕ) (n : ℕ) → n ≤ MOST_PROCESSES → IsWithState n at state → list_all is_plain_field (decimal at ∷ hex_text state ∷ []) ≡ true
 with_state_is_written at state n few fit =
@@ -129,7 +135,8 @@ mode_is_plain Unordered = refl
 script_is_written : (script : Script) → IsScriptInRange script → list_all is_written (script_records script) ≡ true
 script_is_written script fit =
     let few : script.n ≤ MOST_PROCESSES = fit.few in
-    rw (plain_decimal 1 (omega arith), plain_decimal script.n (omega arith), mode_is_plain script.mode) (commands_are_written script.n script.commands fit.few fit.commands)
+    let last : earliest_version script.n ≤ LAST_VERSION = (earliest_is_known script.n).1 in
+    rw (plain_decimal (earliest_version script.n) (omega arith), plain_decimal script.n (omega arith), mode_is_plain script.mode) (commands_are_written script.n script.commands fit.few fit.commands)
 
 pub text_again : (script : Script) → IsScriptInRange script → script_of_text (records_text (script_records script)) ≡ Ok script
 unfolding script_of_text

@@ -3,7 +3,6 @@ use Rattle.std.proofs.Common.{inl, inr, ◌≡◌, ◌⊎◌, ◌<◌, ℕ, ◌+
 use Rattle.std.specs.Prelude.{Bool, IfErr, codes, if◌then◌else◌, nat_le, ◌&&◌, ◌==◌, not, ◌-◌}
 use Rattle.std.specs.Str.{all_ascii_digits, bytes_eq}
 use Rattle.std.specs.Str.Parse.{digits_value}
-use Rattle.line_names.specs.declared.limits.TheConstants.{MOST_PROCESSES}
 use Rattle.line_fields.specs.declared.faults.Fault.{Fault}
 use Rattle.line_fields.specs.declared.faults.Fault.TheVariants as faults
 use Rattle.line_fields.specs.Bytes.{is_input_text}
@@ -17,9 +16,11 @@ use Rattle.line_world.specs.declared.steps.Step.TheVariants.{Begin, Check, Damag
 use Rattle.line_claims.specs.declared.faults.TextFault.{TextFault}
 use Rattle.line_claims.specs.declared.faults.TextError.{TextError}
 use Rattle.line_claims.specs.declared.faults.TextError.TheVariants as errors
+use Rattle.line_claims.specs.declared.versions.TheConstants.{LAST_VERSION}
 use Rattle.line_claims.specs.Numbers.{numbers, plain}
 use Rattle.line_claims.specs.Reads.{FailsText, fault_at, no_memory, numbered, told}
 use Rattle.line_claims.specs.Texts.{records_in}
+use Rattle.line_claims.specs.Versions.{most_in}
 use Rattle.line_scripts.specs.declared.commands.Command.{Command}
 use Rattle.line_scripts.specs.declared.commands.Command.TheVariants.{Bundle, Do, History, Rounds}
 use Rattle.line_scripts.specs.Reads.{IsOfScript}
@@ -164,8 +165,8 @@ world_low r =
     (λ first. both_low (want (length r == 4) faults.BadRecord) _ (want_low _ faults.BadRecord low_record)
     (λ long. both_low (plain (field r 1)) _ (plain_low (field r 1))
     (λ version. both_low (plain (field r 2)) _ (plain_low (field r 2))
-    (λ n. both_low (want (version == 1) faults.BadVersion) _ (want_low _ faults.BadVersion (omega arith, omega arith))
-    (λ known. both_low (want (nat_le 1 n && nat_le n MOST_PROCESSES) faults.BadCount) _ (want_low _ faults.BadCount (omega arith, omega arith))
+    (λ n. both_low (want (nat_le 1 version && nat_le version LAST_VERSION) faults.BadVersion) _ (want_low _ faults.BadVersion (omega arith, omega arith))
+    (λ known. both_low (want (nat_le 1 n && nat_le n (most_in version)) faults.BadCount) _ (want_low _ faults.BadCount (omega arith, omega arith))
     (λ within. both_low (mode_named (field r 3)) _ (mode_low (field r 3)) (λ mode. tt)))))))
 
 -- each fault that is read of a text is one that scripts have

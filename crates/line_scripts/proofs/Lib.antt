@@ -2,4 +2,5 @@ pub mod AgainLemmas
 pub mod FailedLemmas
 pub mod FaultLemmas
 pub mod KeepingLemmas
+pub mod LaterLemmas
 pub mod ReadLemmas

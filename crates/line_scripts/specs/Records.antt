@@ -6,6 +6,7 @@ use Rattle.line_moves.specs.declared.modes.Mode.{Mode}
 use Rattle.line_moves.specs.declared.modes.Mode.TheVariants.{Fifo, Unordered}
 use Rattle.line_world.specs.declared.steps.Step.TheVariants.{Send, Deliver, Check, Begin, Turn, Damage, Bar, Recover}
 use Rattle.line_claims.specs.Records.{members}
+use Rattle.line_claims.specs.Versions.{earliest_version}
 use Rattle.line_scripts.specs.declared.commands.Command.{Command}
 use Rattle.line_scripts.specs.declared.commands.Command.TheVariants.{Bundle, Do, History, Refused, Rounds}
 use Rattle.line_scripts.specs.Scripts.{Script}
@@ -15,9 +16,9 @@ abbrev pub mode_text : Mode → List ℕ
 mode_text Fifo = codes "fifo"
 mode_text Unordered = codes "unordered"
 
--- world,1,N,MODE
-abbrev pub world_record : ℕ → Mode → Record
-world_record n mode = codes "world" ∷ decimal 1 ∷ decimal n ∷ mode_text mode ∷ []
+-- world,V,N,MODE, with any last field
+abbrev pub world_record : ℕ → ℕ → List ℕ → Record
+world_record version n mode = codes "world" ∷ decimal version ∷ decimal n ∷ mode ∷ []
 
 -- a command among n processes; of one that is refused there is no record
 abbrev pub command_record : ℕ → Command → Record
@@ -34,6 +35,6 @@ command_record n History = codes "history" ∷ []
 command_record n (Bundle failed) = codes "bundle" ∷ map decimal (members n failed)
 command_record n (Refused code) = []
 
--- a script
+-- a script, in the earliest version that has room for its processes
 abbrev pub script_records : Script → List Record
-script_records script = world_record script.n script.mode ∷ map (command_record script.n) script.commands
+script_records script = world_record (earliest_version script.n) script.n (mode_text script.mode) ∷ map (command_record script.n) script.commands

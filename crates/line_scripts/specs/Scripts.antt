@@ -2,7 +2,7 @@
 use Rattle.std.specs.Prelude.{ℕ, ◌+◌, nat_le, nat_lt, ◌==◌, ◌&&◌, Bool, List, [], ◌∷◌, drop, fold, length, Result, Ok, Err, if◌then◌else◌, codes}
 use Rattle.std.specs.Str.{bytes_eq}
 use Rattle.std.specs.List.{list_all}
-use Rattle.line_names.specs.declared.limits.TheConstants.{MOST_BODY, MOST_PROCESSES}
+use Rattle.line_names.specs.declared.limits.TheConstants.{MOST_BODY}
 use Rattle.line_names.specs.Sets.{nobody, with_member}
 use Rattle.line_fields.specs.declared.faults.Fault.{Fault}
 use Rattle.line_fields.specs.declared.faults.Fault.TheVariants as faults
@@ -17,9 +17,11 @@ use Rattle.line_world.specs.declared.steps.Step.TheVariants.{Send, Deliver, Chec
 use Rattle.line_scripts.specs.declared.commands.Command.{Command}
 use Rattle.line_scripts.specs.declared.commands.Command.TheVariants.{Bundle, Do, History, Refused, Rounds}
 use Rattle.line_claims.specs.declared.faults.TextFault.{TextFault}
+use Rattle.line_claims.specs.declared.versions.TheConstants.{LAST_VERSION}
 use Rattle.line_claims.specs.Numbers.{numbers, plain}
 use Rattle.line_claims.specs.Reads.{fault_at, numbered}
 use Rattle.line_claims.specs.Texts.{records_in}
+use Rattle.line_claims.specs.Versions.{most_in}
 
 -- a pick: the place of an item on a link
 abbrev pub pick : List ℕ → Result ℕ Fault
@@ -32,15 +34,15 @@ mode_named text =
     else if bytes_eq text (codes "unordered") then Ok Unordered
     else Err faults.BadRecord
 
--- world,1,N,MODE: the number of processes, and how links deliver
+-- world,V,N,MODE: the number of processes, as many as version V has room for, and how links deliver
 unfoldable pub world_of : Record → Result (ℕ × Mode) Fault
 world_of r = do
   first ← want (bytes_eq (field r 0) (codes "world")) faults.NoWorld
   long ← want (length r == 4) faults.BadRecord
   version ← plain (field r 1)
   n ← plain (field r 2)
-  known ← want (version == 1) faults.BadVersion
-  within ← want (nat_le 1 n && nat_le n MOST_PROCESSES) faults.BadCount
+  known ← want (nat_le 1 version && nat_le version LAST_VERSION) faults.BadVersion
+  within ← want (nat_le 1 n && nat_le n (most_in version)) faults.BadCount
   mode ← mode_named (field r 3)
   Ok (n, mode)
 

@@ -10,9 +10,9 @@ ghost use Rattle.line_scripts.specs.Keeping.{MayHave, of_found, with_bytes};
 ghost use Rattle.line_scripts.specs.Scripts as spec;
 
 use crate::keeping::Bare;
-use line_claims::{failed_of, plain, want};
+use line_claims::{LAST_VERSION, failed_of, most_in, plain, want};
 use line_fields::{Fault, ReadError, Row, hex_into, number};
-use line_names::{MOST_BODY, MOST_PROCESSES, ProcId, ProcSet};
+use line_names::{MOST_BODY, ProcId, ProcSet};
 use line_world::{Mode, Step};
 use std::alloc::{AllocError, Global};
 
@@ -68,8 +68,9 @@ pub(crate) fn world_of(row: &Row) -> Result<(u32, Mode), Fault>
     want(row.len() == 4, Fault::BadRecord)?;
     let version = plain(row, 1)?;
     let n = plain(row, 2)?;
-    want(version == 1, Fault::BadVersion)?;
-    want(1 <= n && n as usize <= MOST_PROCESSES, Fault::BadCount)?;
+    let known = 1 <= version && version <= LAST_VERSION;
+    want(known, Fault::BadVersion)?;
+    want(1 <= n && n <= most_in(version), Fault::BadCount)?;
     let mode = mode_named(row.field(3))?;
     Ok((n, mode))
 }

@@ -1,13 +1,30 @@
 //! Laws of the definitions, each the contract of a function that does nothing.
 
-ghost use Rattle.std.specs.Prelude.{◌≡◌, Ok};
+ghost use Rattle.std.specs.Prelude.{◌≡◌, ◌≢◌, ◌≤◌, ◌∷◌, ◌++◌, ℕ, List, Err, Ok, codes};
+ghost use Rattle.line_fields.specs.declared.faults.Fault.TheVariants.{BadCount};
+ghost use Rattle.line_fields.specs.Records.{Record};
 ghost use Rattle.line_fields.specs.Texts.{records_text};
+ghost use Rattle.line_claims.specs.declared.versions.TheConstants.{MOST_IN_FIRST_VERSION};
+ghost use Rattle.line_claims.specs.Reads.{fault_at};
 ghost use Rattle.line_scripts.specs.Ranges.{IsScriptInRange};
-ghost use Rattle.line_scripts.specs.Records.{script_records};
-ghost use Rattle.line_scripts.specs.Scripts.{Script, script_of_text};
+ghost use Rattle.line_scripts.specs.Records.{script_records, world_record};
+ghost use Rattle.line_scripts.specs.Scripts.{Script, script_of, script_of_text};
 
 /// A script is read again from its own text, where the numbers of its commands keep to the ranges of their
-/// fields and none of them is refused before its step.
+/// fields and none of them is refused before its step. That text is of version 1 where the script has at
+/// most 64 processes, and else of version 2.
 pub fn scripts_are_read_again()
     ensures { (script : Script) → IsScriptInRange script → script_of_text (records_text (script_records script)) ≡ Ok script }
+{}
+
+/// Among at most 64 processes, records spell the same script, or have the same fault, in either version,
+/// whatever field names the mode and whatever records follow.
+///
+/// A text of version 1, whatever its bytes, is read the same in version 2, unless version 1 refuses it for
+/// the number of its processes.
+pub fn version_2_reads_scripts_of_version_1()
+    ensures records { (n : ℕ) (mode : List ℕ) (rest : List Record) → n ≤ MOST_IN_FIRST_VERSION
+        → script_of (world_record 1 n mode ∷ rest) ≡ script_of (world_record 2 n mode ∷ rest) }
+    ensures texts { (text : List ℕ) → script_of_text (codes "world,1," ++ text) ≢ Err (fault_at 1 BadCount)
+        → script_of_text (codes "world,2," ++ text) ≡ script_of_text (codes "world,1," ++ text) }
 {}

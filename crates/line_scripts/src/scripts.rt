@@ -18,7 +18,8 @@ use std::alloc::{AllocError, Global};
 /// What a text asks of a machine.
 #[derive(Debug, Drop)]
 pub struct Script {
-    /// How many processes the machine has.
+    /// How many processes the machine has: from 1 to 64 where the text is of version 1, and to
+    /// `MOST_PROCESSES` where it is of version 2.
     pub n: u32,
     /// How its links deliver.
     pub mode: Mode,
@@ -29,7 +30,8 @@ pub struct Script {
 /// What a text asks of a machine, its commands in little memory.
 #[derive(Drop)]
 pub struct KeptScript {
-    /// How many processes the machine has.
+    /// How many processes the machine has: from 1 to 64 where the text is of version 1, and to
+    /// `MOST_PROCESSES` where it is of version 2.
     pub n: u32,
     /// How its links deliver.
     pub mode: Mode,

@@ -7,6 +7,7 @@ ghost use Rattle.line_fields.specs.Texts.{record_text, records_text};
 ghost use Rattle.line_replies.specs.Rounds.{rounds_records};
 ghost use Rattle.line_names.specs.declared.limits.TheConstants.{MOST_PROCESSES};
 ghost use Rattle.line_claims.specs.Reads.{IsOfText, no_memory};
+ghost use Rattle.line_claims.specs.Records.{history_records};
 ghost use Rattle.line_text.specs.declared.ends.TheConstants.{READ_FAULT, WRITE_FAULT};
 ghost use Rattle.line_scripts.specs.Reads.{IsOfScript, seen_kept};
 ghost use Rattle.line_replies.specs.Replies.{refused as refused_record};
@@ -18,7 +19,7 @@ ghost use Rattle.line_scripts.specs.Scripts.{script_of_text};
 use crate::ends::{WRITE_FAULT, fault_of, put, read_input};
 use crate::listings::pass_rounds;
 use crate::pieces::{Halt, pass_check_text, pass_history, put_long};
-use line_claims::TextFault;
+use line_claims::{TextFault, earliest_version};
 use line_devices::{Sink, Source};
 use line_fields::{Draft, Fault, RecordWriter};
 use line_names::ProcSet;
@@ -61,7 +62,8 @@ fn refuse(
 }
 
 // Writes the check text of the machine's history, damage and bars, with the plan for these failed processes, and
-// puts it in pieces.
+// puts it in pieces. It is kept apart, since a plan has room for a whole line.
+#[inline(never)]
 fn bundle<K: Sink>(
     alloc: Global,
     world: &World,
@@ -114,6 +116,23 @@ fn list_rounds<K: Sink>(
     pass_rounds(sink, writer, draft, n, world.rounds())
 }
 
+// Writes the machine's history, and puts it in pieces.
+fn show_history<K: Sink>(
+    world: &World,
+    sink: &mut K,
+    writer: &mut RecordWriter,
+    draft: &mut Draft,
+) -> Result<(), Halt>
+    ensures ok { OnOk result (PutsButEnd (K.taken sink.old) (K.taken sink.new) writer.new (writer.old ++ records_text (history_records world.now.history))) }
+    ensures err { IfErr result (λ halt. Halts halt (K.taken sink.old) (K.taken sink.new) writer.old writer.new (records_text (history_records world.now.history))) }
+    ensures sound { OnOk result (K.faults sink.new ≡ K.faults sink.old) }
+    ensures blamed { IfErr result (λ halt. IsBlamed halt (K.faults sink.old) (K.faults sink.new)) }
+{
+    let history = world.history();
+    let version = earliest_version(history.n());
+    pass_history(sink, writer, draft, version, history)
+}
+
 // Takes a step, and writes what it is told, or a front of it where memory does not suffice.
 fn do_step(
     alloc: Global,
@@ -160,7 +179,7 @@ fn do_command<K: Sink>(
             Ok(())
         }
         Command::Rounds => list_rounds(world, sink, writer, draft),
-        Command::History => pass_history(sink, writer, draft, 1, world.history()),
+        Command::History => show_history(world, sink, writer, draft),
         Command::Bundle(failed) => bundle(alloc, world, sink, writer, draft, refused, failed),
         Command::Do(step) => {
             do_step(alloc, world, writer, draft, refused, step)?;

@@ -11,10 +11,10 @@ pub returns-in_ok-refuse-in-Refused-clause-ok : goal.returns-in_ok-refuse-in-Ref
 returns-in_ok-refuse-in-Refused-clause-ok g c = rw c.in-Refused.is (does_held _ _ _ _ _ _ _ _ (told_written _ _ _ _ _ _ c.in_ok-refuse-in-Refused.ensures.ok))
 
 pub returns-in-History-clause-ok : goal.returns-in-History-clause-ok
-returns-in-History-clause-ok g c = on_ok_weaker c.pass_history.result (λ put. rw c.in-History.is (shown_passed _ _ _ _ _ _ (rw c.history.ensures.value at put))) c.pass_history.ensures.ok
+returns-in-History-clause-ok g c = on_ok_weaker c.show_history.result (λ put. rw c.in-History.is (shown_passed _ _ _ _ _ _ put)) c.show_history.ensures.ok
 
 pub returns-in-History-clause-err : goal.returns-in-History-clause-err
-returns-in-History-clause-err g c = IfErr-weaker c.pass_history.result _ _ (λ halt put. rw c.in-History.is (shown_halts halt _ _ _ _ _ (rw c.history.ensures.value at put))) c.pass_history.ensures.err
+returns-in-History-clause-err g c = IfErr-weaker c.show_history.result _ _ (λ halt put. rw c.in-History.is (shown_halts halt _ _ _ _ _ put)) c.show_history.ensures.err
 
 pub returns-in-Bundle-clause-ok : goal.returns-in-Bundle-clause-ok
 returns-in-Bundle-clause-ok g c = on_ok_weaker c.bundle.result (λ does. rw c.in-Bundle.is does) c.bundle.ensures.ok

@@ -1,0 +1,142 @@
+-- What version 1 reads, version 2 reads the same.
+use Rattle.std.proofs.Common.{inl, inr, ◌≡◌, ◌≢◌, ◌≤◌, ℕ, Bool, true, false, List, [], ◌∷◌, ◌++◌, Result, Ok, Err, refl, sym, ap, ◌∙◌, arith, length, le-leb}
+use Rattle.std.specs.Prelude.{◌==◌, ◌&&◌, codes, if◌then◌else◌, nat_le}
+use Rattle.std.proofs.lemmas.Bool.{leb-true}
+use Rattle.line_fields.specs.declared.faults.Fault.{Fault}
+use Rattle.line_fields.specs.declared.faults.Fault.TheVariants as faults
+use Rattle.line_fields.specs.Bytes.{is_input_text}
+use Rattle.line_fields.specs.Fields.{◌>>=◌, num, want}
+use Rattle.line_fields.specs.Records.{Record, cut, field, parts, records_of_lines, records_of_text, without}
+use Rattle.line_moves.specs.declared.modes.Mode.{Mode}
+use Rattle.line_claims.specs.declared.faults.TextFault.{TextFault}
+use Rattle.line_claims.specs.declared.versions.TheConstants.{MOST_IN_FIRST_VERSION}
+use Rattle.line_claims.specs.Numbers.{plain}
+use Rattle.line_claims.specs.Reads.{fault_at, numbered}
+use Rattle.line_claims.specs.Texts.{records_in}
+use Rattle.line_claims.specs.Versions.{most_in}
+use Rattle.line_claims.proofs.SpellLemmas.{plain_again}
+use Rattle.line_claims.proofs.VersionLemmas.{most_in_later}
+use Rattle.line_scripts.specs.Records.{world_record}
+use Rattle.line_scripts.specs.Scripts.{Script, commands_from, mode_named, script_of, script_of_text, world_of}
+
+-- the number of processes and the mode, as many processes as there is room for
+abbrev counted_if : Bool → ℕ → Result Mode Fault → Result (ℕ × Mode) Fault
+counted_if within n named = want within faults.BadCount >>= λ there. named >>= λ mode. Ok (n, mode)
+
+abbrev counted : ℕ → Result ℕ Fault → Result Mode Fault → Result (ℕ × Mode) Fault
+counted most read named = read >>= λ n. counted_if (nat_le 1 n && nat_le n most) n named
+
+-- and that after a record of so many fields
+abbrev world_in : ℕ → Bool → Result ℕ Fault → Result Mode Fault → Result (ℕ × Mode) Fault
+world_in most long read named = want long faults.BadRecord >>= λ four. counted most read named
+
+-- a number of processes that there is room for, or that there is no room for
+within_more : (n least most : ℕ) (named : Result Mode Fault) (some room : Bool) → nat_le n least ≡ room → least ≤ most
+    → counted_if (some && room) n named ≢ Err faults.BadCount → counted_if (some && nat_le n most) n named ≡ counted_if (some && room) n named
+within_more n least most named false room is more good = refl
+within_more n least most named true false is more good = absurd (good refl)
+within_more n least most named true true is more good =
+    let few : n ≤ least = leb-true n least is in
+    rw (le-leb n most (omega (arith, few, more))) refl
+
+counted_more : (least most : ℕ) (read : Result ℕ Fault) (named : Result Mode Fault) → least ≤ most → counted least read named ≢ Err faults.BadCount → counted most read named ≡ counted least read named
+counted_more least most (Ok n) named more good = within_more n least most named (nat_le 1 n) (nat_le n least) refl more good
+counted_more least most (Err fault) named more good = refl
+
+world_more : (least most : ℕ) (long : Bool) (read : Result ℕ Fault) (named : Result Mode Fault) → least ≤ most → world_in least long read named ≢ Err faults.BadCount
+    → world_in most long read named ≡ world_in least long read named
+world_more least most true read named more good = counted_more least most read named more good
+world_more least most false read named more good = refl
+
+-- a record that begins so, and has these further fields
+abbrev begun : List ℕ → Record → Record
+begun version others = codes "world" ∷ version ∷ others
+
+one_is_read : plain (codes "1") ≡ Ok 1
+unfolding num
+one_is_read = refl
+
+two_is_read : plain (codes "2") ≡ Ok 2
+unfolding num
+two_is_read = refl
+
+first_world : (others : Record) → world_of (begun (codes "1") others)
+    ≡ world_in (most_in 1) (length (begun (codes "1") others) == 4) (plain (field (begun (codes "1") others) 2)) (mode_named (field (begun (codes "1") others) 3))
+unfolding world_of
+first_world others = rw one_is_read refl
+
+second_world : (others : Record) → world_of (begun (codes "2") others)
+    ≡ world_in (most_in 2) (length (begun (codes "2") others) == 4) (plain (field (begun (codes "2") others) 2)) (mode_named (field (begun (codes "2") others) 3))
+unfolding world_of
+second_world others = rw two_is_read refl
+
+same_world : (others : Record) → world_of (begun (codes "1") others) ≢ Err faults.BadCount → world_of (begun (codes "2") others) ≡ world_of (begun (codes "1") others)
+same_world others good =
+    let r : Record = begun (codes "1") others in
+    second_world others
+    ∙ world_more (most_in 1) (most_in 2) (length r == 4) (plain (field r 2)) (mode_named (field r 3)) (most_in_later (most_in 1) (omega arith)) (λ bad. good (first_world others ∙ bad))
+    ∙ sym (first_world others)
+
+-- the fault of the number of processes
+abbrev bad_count : TextFault
+bad_count = fault_at 1 faults.BadCount
+
+refused_world : (r : Record) (rest : List Record) → world_of r ≡ Err faults.BadCount → script_of (r ∷ rest) ≡ Err bad_count
+unfolding script_of
+refused_world r rest h = rw h refl
+
+same_script : (r other : Record) (rest : List Record) → world_of r ≡ world_of other → script_of (r ∷ rest) ≡ script_of (other ∷ rest)
+unfolding script_of
+same_script r other rest same = rw same refl
+
+pub same_records : (others : Record) (rest : List Record) → script_of (begun (codes "1") others ∷ rest) ≢ Err bad_count → script_of (begun (codes "2") others ∷ rest) ≡ script_of (begun (codes "1") others ∷ rest)
+same_records others rest good =
+    same_script (begun (codes "2") others) (begun (codes "1") others) rest (same_world others (λ bad. good (refused_world (begun (codes "1") others) rest bad)))
+
+first_has_room : (n : ℕ) → n ≤ MOST_IN_FIRST_VERSION → n ≤ most_in 1
+unfolding most_in
+first_has_room n few = few
+
+numbered_world : (n : ℕ) (mode : List ℕ) → n ≤ MOST_IN_FIRST_VERSION → world_of (world_record 1 n mode) ≡ world_of (world_record 2 n mode)
+unfolding world_of
+numbered_world n mode few =
+    let room : n ≤ most_in 1 = first_has_room n few in
+    rw (plain_again 1 (omega arith), plain_again 2 (omega arith), plain_again n (omega (arith, few)), le-leb n (most_in 1) room, le-leb n (most_in 2) (most_in_later n room)) refl
+
+pub same_numbered : (n : ℕ) (mode : List ℕ) (rest : List Record) → n ≤ MOST_IN_FIRST_VERSION → script_of (world_record 1 n mode ∷ rest) ≡ script_of (world_record 2 n mode ∷ rest)
+same_numbered n mode rest few = same_script (world_record 1 n mode) (world_record 2 n mode) rest (numbered_world n mode few)
+
+-- the first line of a text, and the lines behind it
+abbrev lines_of : List ℕ → List ℕ × List (List ℕ)
+lines_of text = cut 10 (without 13 text)
+
+first_records : (text : List ℕ) → records_of_text (codes "world,1," ++ text) ≡ begun (codes "1") (parts 44 (lines_of text).0) ∷ records_of_lines (lines_of text).1
+unfolding cut without
+first_records text = refl
+
+second_records : (text : List ℕ) → records_of_text (codes "world,2," ++ text) ≡ begun (codes "2") (parts 44 (lines_of text).0) ∷ records_of_lines (lines_of text).1
+unfolding cut without
+second_records text = refl
+
+-- a script of records that are read, or of none
+abbrev script_if : Bool → List Record → Result Script TextFault
+script_if plain records = (if plain then Ok records else Err (fault_at 0 faults.BadRecord)) >>= script_of
+
+same_if : (plain : Bool) (others : Record) (rest : List Record) → script_if plain (begun (codes "1") others ∷ rest) ≢ Err bad_count
+    → script_if plain (begun (codes "2") others ∷ rest) ≡ script_if plain (begun (codes "1") others ∷ rest)
+same_if true others rest good = same_records others rest good
+same_if false others rest good = refl
+
+first_text : (text : List ℕ) → script_of_text (codes "world,1," ++ text) ≡ script_if (is_input_text text) (begun (codes "1") (parts 44 (lines_of text).0) ∷ records_of_lines (lines_of text).1)
+unfolding script_of_text is_input_text cut without
+first_text text = refl
+
+second_text : (text : List ℕ) → script_of_text (codes "world,2," ++ text) ≡ script_if (is_input_text text) (begun (codes "2") (parts 44 (lines_of text).0) ∷ records_of_lines (lines_of text).1)
+unfolding script_of_text is_input_text cut without
+second_text text = refl
+
+pub same_text : (text : List ℕ) → script_of_text (codes "world,1," ++ text) ≢ Err bad_count → script_of_text (codes "world,2," ++ text) ≡ script_of_text (codes "world,1," ++ text)
+same_text text good =
+    second_text text
+    ∙ same_if (is_input_text text) (parts 44 (lines_of text).0) (records_of_lines (lines_of text).1) (λ bad. good (first_text text ∙ bad))
+    ∙ sym (first_text text)

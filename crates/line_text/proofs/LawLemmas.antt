@@ -1,0 +1,48 @@
+-- Texts that spell the same are told the same.
+use Rattle.std.proofs.Common.{◌≡◌, ◌≢◌, ℕ, List, ◌++◌, Option, Ok, Err, sym, ◌∙◌}
+use Rattle.std.specs.Prelude.{◌↔◌, codes}
+use Rattle.line_fields.specs.declared.faults.Fault.TheVariants.{BadCount}
+use Rattle.line_check.specs.declared.faults.CertFault.{CertFault}
+use Rattle.line_claims.specs.Reads.{fault_at}
+use Rattle.line_claims.specs.Texts.{Check, check_of_text}
+use Rattle.line_scripts.specs.Scripts.{script_of_text}
+use Rattle.line_scripts.proofs.LaterLemmas.{same_text}
+use Rattle.line_text.specs.Judgings.{JudgesText, JudgesTextFront}
+use Rattle.line_text.specs.Runs.{RunsText, RunsTextFront, StopsText}
+
+runs_other : (text other : List ℕ) (refused : ℕ) (old new : Option (List ℕ)) → script_of_text other ≡ script_of_text text → RunsText text refused old new → RunsText other refused old new
+runs_other text other refused old new same h = record { script = h.script; spelt = same ∙ h.spelt; runs = h.runs }
+
+front_other : (text other : List ℕ) (old new : Option (List ℕ)) → script_of_text other ≡ script_of_text text → RunsTextFront text old new → RunsTextFront other old new
+front_other text other old new same h = record { script = h.script; spelt = same ∙ h.spelt; runs = h.runs }
+
+stops_other : (text other : List ℕ) (record_number : ℕ) (old new : Option (List ℕ)) → script_of_text other ≡ script_of_text text → StopsText text record_number old new → StopsText other record_number old new
+stops_other text other record_number old new same h = record { script = h.script; spelt = same ∙ h.spelt; runs = h.runs }
+
+-- a script of version 1 that has not too many processes for it
+abbrev IsCounted : List ℕ → Type 0
+IsCounted text = script_of_text (codes "world,1," ++ text) ≢ Err (fault_at 1 BadCount)
+
+pub runs_alike : (text : List ℕ) (refused : ℕ) (old new : Option (List ℕ)) → IsCounted text → RunsText (codes "world,1," ++ text) refused old new ↔ RunsText (codes "world,2," ++ text) refused old new
+runs_alike text refused old new good =
+    let same = same_text text good in
+    (runs_other (codes "world,1," ++ text) (codes "world,2," ++ text) refused old new same, runs_other (codes "world,2," ++ text) (codes "world,1," ++ text) refused old new (sym same))
+
+pub fronts_alike : (text : List ℕ) (old new : Option (List ℕ)) → IsCounted text → RunsTextFront (codes "world,1," ++ text) old new ↔ RunsTextFront (codes "world,2," ++ text) old new
+fronts_alike text old new good =
+    let same = same_text text good in
+    (front_other (codes "world,1," ++ text) (codes "world,2," ++ text) old new same, front_other (codes "world,2," ++ text) (codes "world,1," ++ text) old new (sym same))
+
+pub stops_alike : (text : List ℕ) (record_number : ℕ) (old new : Option (List ℕ)) → IsCounted text → StopsText (codes "world,1," ++ text) record_number old new ↔ StopsText (codes "world,2," ++ text) record_number old new
+stops_alike text record_number old new good =
+    let same = same_text text good in
+    (stops_other (codes "world,1," ++ text) (codes "world,2," ++ text) record_number old new same, stops_other (codes "world,2," ++ text) (codes "world,1," ++ text) record_number old new (sym same))
+
+-- the verdict on what a text spells is the verdict on what another spells, which spells the same
+pub judged_alike : (text later : List ℕ) (verdict : Option CertFault) (old new : Option (List ℕ)) → ((check : Check) → check_of_text text ≡ Ok check → check_of_text later ≡ Ok check)
+    → JudgesText text verdict old new → JudgesText later verdict old new
+judged_alike text later verdict old new same h = record { check = h.check; spelt = same h.check h.spelt; judged = h.judged; put = h.put }
+
+pub judged_front_alike : (text later : List ℕ) (old new : Option (List ℕ)) → ((check : Check) → check_of_text text ≡ Ok check → check_of_text later ≡ Ok check)
+    → JudgesTextFront text old new → JudgesTextFront later old new
+judged_front_alike text later old new same h = record { check = h.check; verdict = h.verdict; spelt = same h.check h.spelt; judged = h.judged; put = h.put }
