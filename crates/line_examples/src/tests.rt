@@ -50,6 +50,14 @@ fn limits_of_names(rt: HostRuntime) -> Result<(), Fail> {
 }
 
 #[test]
+fn limits_of_processes(rt: HostRuntime) -> Result<(), Fail> {
+    for (n, is_taken) in [(0, false), (1, true), (65, true), (256, true), (257, false)] {
+        assert_eq!(rt; History::new(rt.alloc(), n).is_ok(), is_taken);
+    }
+    Ok(())
+}
+
+#[test]
 fn refused_events(rt: HostRuntime) -> Result<(), Fail> {
     let mut history = History::new(rt.alloc(), 2)?;
     let third = ProcId::try_new(2, 3)?;
@@ -120,7 +128,7 @@ fn errors_read_well(rt: HostRuntime) -> Result<(), Fail> {
     let others = format!(in rt.alloc(); "{}; {}", CountError::BadCount, MarkError::InitialDamage)?;
     assert_eq!(rt;
         others.as_str(),
-        "the number of processes is not from 1 to 64; the initial state of a process cannot be damaged"
+        "the number of processes is not from 1 to 256; the initial state of a process cannot be damaged"
     );
     Ok(())
 }
