@@ -328,8 +328,8 @@ fn put_claim(
     put_judged(writer, draft, history.n(), failed, line, certificate)
 }
 
-/// The version of a check text on these marks of a history: 2 where one of its processes is barred or it has
-/// more than 64 of them, and else 1. It asks once for the bar of each process.
+/// The version of a check text on these marks of a history: 2 where one of its processes is barred
+/// or it has more than 64 of them, and else 1. It asks once for the bar of each process.
 pub fn version_of(history: &History, marks: &Marks) -> u32
     ensures { result ≡ spec.version_of (spec.in_order history.now.processes marks.now) }
 {
@@ -345,10 +345,10 @@ pub fn version_of(history: &History, marks: &Marks) -> u32
     earliest_version(n)
 }
 
-/// Writes a check text behind the records that were written before: a history, and the claim on it that
-/// these of its checks are damaged, its processes are barred so, these failed, and this is the line with
-/// its certificate. It is of version 2 where a process is barred or there are more than 64, and else of
-/// version 1.
+/// Writes a check text behind the records that were written before: a history, and the claim on it
+/// that these of its checks are damaged, its processes are barred so, these failed, and this is the
+/// line with its certificate. It is of version 2 where a process is barred or there are more than
+/// 64, and else of version 1.
 ///
 /// Where a growth is refused, a front of them may be written. It asks once for a mark of each check.
 /// The draft is room for one record at a time, and what it held is lost.

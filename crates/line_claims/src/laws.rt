@@ -10,9 +10,9 @@ ghost use Rattle.line_claims.specs.Records.{claim_records, front_records, in_ver
 ghost use Rattle.line_claims.specs.Texts.{Check, certificate_of_text, check_of, check_of_text, history_of, history_of_text, records_in};
 ghost use Rattle.line_claims.specs.Versions.{IsVersion, most_in};
 
-/// A history is read again from its own text of each version that may have so many processes, where its
-/// numbers keep to the ranges of their fields. Of a `History` only the rounds can be outside of these
-/// ranges: they are from 1 to 65,535.
+/// A history is read again from its own text of each version that may have so many processes, where
+/// its numbers keep to the ranges of their fields. Of a `History` only the rounds can be outside of
+/// these ranges: they are from 1 to 65,535.
 ///
 /// The records of a history that can stand in memory, in range or not, are those of no other, in either
 /// version, and so is its text.
@@ -25,10 +25,10 @@ pub fn histories_are_read_again()
         → records_text (front_records version history) ≡ records_text (front_records later other) → history ≡ other }
 {}
 
-/// A claim is read again from its own text, bars included, and so is a history with a claim on it, where
-/// the numbers keep to the ranges of their fields. The version of that text is the one that its bars and the
-/// number of processes ask for, and the line has no more choices than a text of that version may have
-/// processes.
+/// A claim is read again from its own text, bars included, and so is a history with a claim on it,
+/// where the numbers keep to the ranges of their fields. The version of that text is the one that
+/// its bars and the number of processes ask for, and the line has no more choices than a text of
+/// that version may have processes.
 ///
 /// What spells a claim in version 1 spells the same one in version 2.
 pub fn claims_are_read_again()
@@ -39,9 +39,10 @@ pub fn claims_are_read_again()
     ensures later { (n : ℕ) (text : List ℕ) (claim : Claim) → certificate_of_text 1 n text ≡ Ok claim → certificate_of_text 2 n text ≡ Ok claim }
 {}
 
-/// What spells a history, or a history with a claim on it, in version 1 spells the same one in version 2:
-/// with `history,2,N` in place of `history,1,N` as its first record, and all other records as they were.
-/// It holds of records, and of texts of such records, however their fields are quoted and their lines end.
+/// What spells a history, or a history with a claim on it, in version 1 spells the same one in
+/// version 2: with `history,2,N` in place of `history,1,N` as its first record, and all other
+/// records as they were. It holds of records, and of texts of such records, however their fields
+/// are quoted and their lines end.
 pub fn version_2_reads_version_1()
     ensures histories { (number : List ℕ) (rest : List Record) (history : List Process)
         → history_of (in_version 1 number rest) ≡ Ok history → history_of (in_version 2 number rest) ≡ Ok history }

@@ -101,10 +101,11 @@ fn check_in(alloc: Global, text: &[u8]) -> Result<CheckText, TextError>
 
 /// The history that a text spells.
 ///
-/// The first record tells the version, 1 or 2, and how many processes there are: at most 64 in version 1,
-/// which is the one difference between the versions of a history. Their tapes follow in order, each with its
-/// events. The events need not fit together: it asks only that each number keeps to its range, that the
-/// processes are there, and that bodies, states and tapes keep to their limits.
+/// The first record tells the version, 1 or 2, and how many processes there are: at most 64 in
+/// version 1, which is the one difference between the versions of a history. Their tapes follow in
+/// order, each with its events. The events need not fit together: it asks only that each number
+/// keeps to its range, that the processes are there, and that bodies, states and tapes keep to
+/// their limits.
 ///
 /// Refused with the first fault of the text, the records taken in their order, and the questions to a
 /// record in the order in which its definition asks them. A byte that no text has is of record 0 and

@@ -9,12 +9,12 @@ use line_names::MOST_PROCESSES;
 /// The latest version of texts. The earliest is 1.
 pub const LAST_VERSION: u32 = 2;
 
-/// The greatest number of processes of a text of version 1, and of choices of a line in it. A text of
-/// version 2 may have as many processes as there may be.
+/// The greatest number of processes of a text of version 1, and of choices of a line in it. A text
+/// of version 2 may have as many processes as there may be.
 pub const MOST_IN_FIRST_VERSION: u32 = 64;
 
-/// The greatest number of processes that a text of that version may have, and of choices that a line in it
-/// may have.
+/// The greatest number of processes that a text of that version may have, and of choices that a
+/// line in it may have.
 #[tactic(auto, unfolding(crate::specs::Versions::most_in))]
 pub fn most_in(version: u32) -> u32
     ensures value { result ≡ spec.most_in version }
@@ -27,8 +27,8 @@ pub fn most_in(version: u32) -> u32
     }
 }
 
-/// The version of a text that is written for `n` processes and needs nothing else of a later one: 1 for at
-/// most 64, and else 2.
+/// The version of a text that is written for `n` processes and needs nothing else of a later one: 1
+/// for at most 64, and else 2.
 #[tactic(auto, unfolding(crate::specs::Versions::earliest_version, crate::specs::Versions::most_in))]
 pub fn earliest_version(n: u32) -> u32
     ensures value { result ≡ spec.earliest_version n }

@@ -239,8 +239,8 @@ pub fn put_history(
     Ok(())
 }
 
-/// The text of a history, of version 1 where it has at most 64 processes and else of version 2. `read_history`
-/// takes it back where the rounds of the history are from 1 to 65,535.
+/// The text of a history, of version 1 where it has at most 64 processes and else of version 2.
+/// `read_history` takes it back where the rounds of the history are from 1 to 65,535.
 pub fn write_history(alloc: Global, history: &History) -> Result<Vec<u8>, AllocError>
     ensures text { IfOk result (λ text. text.items ≡ records_text (spec.history_records history.now.processes)) }
     ensures again { IfOk result (λ text. AreRoundsInRange history.now.processes → history_of_text text.items ≡ Ok history.now.processes) }
