@@ -1,8 +1,8 @@
 -- Links by blocks, as blocks come and links are put.
-use Rattle.std.proofs.Common.{◌≡◌, ◌≢◌, ℕ, zero, suc, ◌+◌, ◌*◌, ◌-◌, ◌/◌, ◌%◌, ◌<◌, ◌≤◌, ◌++◌, ◌∷◌, [], List, length, set, get_or, replicate, refl, sym, ap, ◌∙◌, arith, inl, inr}
+use Rattle.std.proofs.Common.{◌≡◌, ◌≢◌, ℕ, zero, suc, ◌+◌, ◌*◌, ◌/◌, ◌%◌, ◌<◌, ◌≤◌, ◌++◌, ◌∷◌, [], List, length, set, get_or, replicate, refl, sym, ap, ◌∙◌, arith, inl, inr}
 use Rattle.std.proofs.lemmas.Bool.{cases_eq}
 use Rattle.std.proofs.lemmas.List.{get_or-set_same, get_or-set_other, get_or_past}
-use Rattle.line_tape.specs.Ends.{AreBlocks, EndsView, IsEndPut, block_of, end_of, link_in, taken}
+use Rattle.line_tape.specs.Ends.{AreBlocks, EndsView, block_of, end_of, link_in, taken}
 
 -- a sender with a link has a block
 pub has_block : (ends : EndsView) (sender : ℕ) → end_of ends sender ≢ 0 → block_of ends sender ≢ 0
@@ -81,37 +81,6 @@ ends_more old new group are low none blocks links sender = link_same old.links n
       ap (λ b. link_in old.links b (sender % 16)) there ∙ get_or_past old.links (taken old.blocks * 16 + sender % 16) 0 past ∙ sym (ap (λ b. link_in old.links b (sender % 16)) before)
   | inr ne ↦ ap (λ b. link_in old.links b (sender % 16)) (ap (λ (bs : List ℕ). get_or bs (sender / 16) 0) blocks ∙ get_or-set_other old.blocks group (sender / 16) (suc (taken old.blocks)) 0 ne)
 ]
-
--- a link in a block
-pub link_there : (links : List ℕ) (block place : ℕ) → block ≢ 0 → link_in links block place ≡ get_or links ((block - 1) * 16 + place) 0
-link_there links zero place some = absurd (some refl)
-link_there links (suc block) place some = ap (λ j. get_or links (j * 16 + place) 0) (omega arith)
-
--- a link is put
-pub put_end : (old new : EndsView) (sender link : ℕ) → AreBlocks old.blocks old.links → block_of old sender ≢ 0 → new.blocks ≡ old.blocks
-    → new.links ≡ set old.links ((block_of old sender - 1) * 16 + sender % 16) link → IsEndPut old new sender link
-put_end old new sender link are some blocks links = record {
-  there =
-      let low : at < length old.links = omega (arith, are.full, are.within (sender / 16)) in
-      ap (λ (bs : List ℕ). link_in new.links (get_or bs (sender / 16) 0) (sender % 16)) blocks ∙ link_there new.links (block_of old sender) (sender % 16) some ∙ ap (λ (xs : List ℕ). get_or xs at 0) links ∙ get_or-set_same old.links at link 0 low;
-  elsewhere = λ other ne. ap (λ (bs : List ℕ). link_in new.links (get_or bs (other / 16) 0) (other % 16)) blocks ∙ elim (cases_eq (block_of old other) 0) [
-    | inl none ↦ ap (λ b. link_in new.links b (other % 16)) none ∙ sym (ap (λ b. link_in old.links b (other % 16)) none)
-    | inr has ↦
-        link_there new.links (block_of old other) (other % 16) has ∙ ap (λ (xs : List ℕ). get_or xs (place other) 0) links ∙ get_or-set_other old.links at (place other) link 0 (apart other ne has) ∙ sym (link_there old.links (block_of old other) (other % 16) has)
-  ];
-}
-  where
-    place : ℕ → ℕ
-    place other = (block_of old other - 1) * 16 + other % 16
-
-    at : ℕ
-    at = (block_of old sender - 1) * 16 + sender % 16
-
-    apart : (other : ℕ) → other ≢ sender → block_of old other ≢ 0 → place other ≢ at
-    apart other ne has same =
-        let blocks_same : block_of old other ≡ block_of old sender = omega arith in
-        let group : other / 16 ≡ sender / 16 = are.apart (other / 16) (sender / 16) has blocks_same in
-        ne (omega arith)
 
 -- no blocks
 pub no_blocks : (n : ℕ) (links : List ℕ) → links ≡ [] → AreBlocks (replicate n 0) links

@@ -11,7 +11,7 @@ use Rattle.line_names.specs.declared.messages.MsgName.{MsgName}
 use Rattle.line_tape.specs.declared.limits.TheConstants.{MOST_EVENTS}
 use Rattle.line_tape.specs.declared.receipts.chains.Receipt.{Receipt}
 use Rattle.line_tape.specs.Ends.{EndsView, IsEndPut, end_of}
-use Rattle.line_tape.specs.Noted.{AreAlike, AreInTree, AreLast, AreNoted, IsAhead, IsAside, IsBack, IsLast, IsLed, IsNode, IsPut, IsSeatOf, key_of, message_of, name_at, receipt_at, seated}
+use Rattle.line_tape.specs.Noted.{AreAlike, AreInTree, AreNoted, IsAhead, IsAside, IsBack, IsLast, IsLed, IsNode, IsPut, IsSeatOf, key_of, message_of, name_at, receipt_at, seated}
 use Rattle.line_tape.proofs.AheadLemmas.{chained_less, chained_more, ends_put, from_of, last_alike, last_here, last_is_here, last_longer, last_shorter, number_of}
 use Rattle.line_tape.proofs.SeatLemmas.{node_alike, node_le, same_seat, seated-append, seated-take, tree_less, tree_more, tree_same}
 

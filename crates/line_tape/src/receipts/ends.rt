@@ -63,8 +63,9 @@ impl LastLinks {
         self.links[(block as usize - 1) * 16 + sender as usize % 16]
     }
 
-    /// Makes room for so many further senders. There are 256 at most, so it never takes more than their room.
-    pub fn reserve(&mut self, k: usize) -> Result<(), AllocError>
+    /// Takes memory for so many further senders. There are 256 at most, so it never takes more than their room.
+    #[inline(never)]
+    fn grow(&mut self, k: usize) -> Result<(), AllocError>
         ensures same { (sender : ℕ) → end_of self.new sender ≡ end_of self.old sender }
         ensures ok { OnOk result (k ≤ self.new.room) }
         ensures succeeds { k ≤ self.old.room → IsOk result }
@@ -72,6 +73,19 @@ impl LastLinks {
     {
         let further = 16 - self.links.len() / 16;
         self.links.reserve(k.min(further) * 16)
+    }
+
+    /// Makes room for so many further senders. Where there is room, which is so for almost each event, it is one comparison.
+    pub fn reserve(&mut self, k: usize) -> Result<(), AllocError>
+        ensures same { (sender : ℕ) → end_of self.new sender ≡ end_of self.old sender }
+        ensures ok { OnOk result (k ≤ self.new.room) }
+        ensures succeeds { k ≤ self.old.room → IsOk result }
+        ensures room { self.old.room ≤ self.new.room }
+    {
+        if k <= (self.links.capacity() - self.links.len()) / 16 {
+            return Ok(());
+        }
+        self.grow(k)
     }
 
     /// Sees that a sender has a block, in room that was made for it.

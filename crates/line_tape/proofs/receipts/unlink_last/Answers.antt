@@ -1,5 +1,5 @@
 -- The last receipt is that of its sender, or in the tree, or in no link.
-use Rattle.std.proofs.Common.{◌≡◌, ◌<◌, ◌-◌, ℕ, suc, List, length, vec_len, ◌∙◌, sym, arith}
+use Rattle.std.proofs.Common.{◌≡◌, ◌-◌, ℕ, suc, List, length, vec_len, ◌∙◌, sym, arith}
 use Rattle.line_tape.specs.declared.receipts.chains.Receipt.{Receipt}
 use Rattle.line_tape.proofs.NotedLemmas.{unlinked_again, unlinked_ahead, unlinked_aside}
 use Rattle.line_tape.proofs.EndLemmas.{has_block}

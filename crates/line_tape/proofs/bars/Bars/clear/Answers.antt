@@ -1,5 +1,5 @@
 -- One bar more is taken away, up to all that there are.
-use Rattle.std.proofs.Common.{◌≡◌, ◌≤◌, List, ℕ, None, Option, length, set, suc, ◌+◌, sym, ap, ◌∙◌, arith}
+use Rattle.std.proofs.Common.{◌≡◌, ◌≤◌, List, ℕ, None, Option, length, set, suc, ◌+◌, ap, ◌∙◌, arith}
 use Rattle.line_tape.proofs.BarLemmas.{cleared, clear-more, clear-all}
 use Rattle.line_tape.proofs.bars.Bars.clear.Goals as goal
 

@@ -1,16 +1,15 @@
 -- One tape takes the event.
-use Rattle.std.proofs.Common.{◌≡◌, ◌<◌, ◌++◌, ◌∷◌, [], length, map, set, List, ℕ, sym, ap, ◌∙◌, subst, arith}
+use Rattle.std.proofs.Common.{◌≡◌, ◌<◌, ◌++◌, ◌∷◌, [], length, map, set, List, sym, ap, ◌∙◌, subst, arith}
 use Rattle.std.specs.Prelude.{All}
 use Rattle.std.proofs.lemmas.List.{get_or-map, length-map}
 use Rattle.std.proofs.lemmas.List.Elements.{All-push}
 use Rattle.line_tape.specs.declared.events.Event.{Event}
 use Rattle.line_tape.specs.declared.histories.ProcessTape.{ProcessTape}
-use Rattle.line_tape.specs.declared.limits.TheConstants.{MOST_EVENTS}
 use Rattle.line_tape.specs.Event.{NamesBelow}
 use Rattle.line_tape.specs.History.{Process, fresh, process_at, tape_at, IsProcess, IsHistory, with_event}
 use Rattle.line_tape.specs.Plain.{plain, room_of}
 use Rattle.line_tape.specs.Views.{HistoryView, room_at}
-use Rattle.line_tape.proofs.HistoryLemmas.{IsHistory-set, IsHistory-at, plain-old, plain-written, room-old, room-new, room-other}
+use Rattle.line_tape.proofs.HistoryLemmas.{IsHistory-set, IsHistory-at, plain-written, room-old, room-new, room-other}
 use Rattle.line_tape.proofs.histories.History.append.Goals as goal
 
 pub append-requires-clause-room : goal.append-requires-clause-room

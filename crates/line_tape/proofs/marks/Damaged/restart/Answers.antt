@@ -1,5 +1,5 @@
 -- What is kept passes the test of the choice.
-use Rattle.std.proofs.Common.{◌≡◌, List, ℕ, filter, sym, ap, ◌∙◌}
+use Rattle.std.proofs.Common.{filter, sym, ap, ◌∙◌}
 use Rattle.line_names.specs.declared.choices.Choice.{Choice}
 use Rattle.line_names.specs.declared.choices.Choice.TheVariants.{Check as AtCheck}
 use Rattle.line_tape.specs.Restart.{is_kept}

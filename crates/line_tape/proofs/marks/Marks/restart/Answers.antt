@@ -3,7 +3,7 @@ use Rattle.std.proofs.Common.{◌≡◌, ◌<◌, ◌≤◌, List, ℕ, None, Op
 use Rattle.line_names.specs.declared.choices.Choice.{Choice}
 use Rattle.line_names.specs.declared.choices.Choice.TheVariants.{Check as AtCheck}
 use Rattle.line_names.specs.Lines.{choice_at}
-use Rattle.line_tape.specs.Restart.{is_kept, restarted_damage, restarted_marks}
+use Rattle.line_tape.specs.Restart.{is_kept, restarted_damage}
 use Rattle.line_tape.specs.Views.{MarksView}
 use Rattle.line_tape.proofs.EachLemmas.{so_far, kept_damage, next-same, one_more, all-done, damage-each}
 use Rattle.line_tape.proofs.marks.Marks.restart.Goals as goal
