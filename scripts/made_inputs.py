@@ -34,13 +34,18 @@ def great_ring(most: int) -> Iterator[str]:
     return ring(most, 256)
 
 
-def rounds(most: int) -> Iterator[str]:
-    """Rounds of markers among 8 processes, with messages in their channels."""
-    n, chance = 8, random.Random("rounds")
-    yield f"world,1,{n},fifo"
+def rounds(most: int, n: int = 8) -> Iterator[str]:
+    """Rounds of markers among n processes, with messages in their channels."""
+    chance = random.Random("rounds")
+    yield f"world,{earliest_version(n)},{n},fifo"
     for _ in range(most // (n * (n - 1) + 2 * n + 1)):
         yield from one_round(n, chance)
     yield from ["rounds", "recover,0", "rounds"]
+
+
+def great_rounds(most: int) -> Iterator[str]:
+    """Rounds of markers among 256 processes."""
+    return rounds(most, 256)
 
 
 def one_round(n: int, chance: random.Random) -> Iterator[str]:
@@ -83,10 +88,10 @@ def taken(items: list[Item], chance: random.Random) -> Item:
     return items.pop()
 
 
-def colours(most: int) -> Iterator[str]:
-    """64 processes on links without an order, with rounds of colours, copies and recoveries."""
-    n, chance = 64, random.Random("colours")
-    yield f"world,1,{n},unordered"
+def colours(most: int, n: int = 64) -> Iterator[str]:
+    """n processes on links without an order, with rounds of colours, copies and recoveries."""
+    chance = random.Random("colours")
+    yield f"world,{earliest_version(n)},{n},unordered"
     copies: collections.Counter[Pair] = collections.Counter()  # on each link
     # Sender, addressee, place and colour of a copy of each message not received yet.
     fresh: list[tuple[int, int, int, int]] = []
@@ -131,6 +136,11 @@ def colours(most: int) -> Iterator[str]:
     yield from ["rounds", "recover,0,32"]
 
 
+def great_colours(most: int) -> Iterator[str]:
+    """256 processes on links without an order, with the same."""
+    return colours(most, 256)
+
+
 def domino(most: int) -> Iterator[str]:
     """Each process sends on what it has received, with a check after each receipt but the last."""
     n, chance, steps = 8, random.Random("domino"), most // 4
@@ -173,6 +183,8 @@ INPUTS = {
     "ring": (ring, "run"),
     "great-ring": (great_ring, "run"),
     "rounds": (rounds, "run"),
+    "great-rounds": (great_rounds, "run"),
     "colours": (colours, "run"),
+    "great-colours": (great_colours, "run"),
     "domino": (domino, "check"),
 }
