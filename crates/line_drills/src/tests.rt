@@ -3,7 +3,7 @@ use crate::tests::gates::{Fixed, Meeting};
 use crate::tests::scripts::{check, idle, one, pair, receive, ring, second, send, two};
 use crate::{DrillError, DrillWhy, Order, drill};
 use line_names::{MsgName, ProcId};
-use line_posts::Gathered;
+use line_posts::{Gathered, MOST_WORKERS};
 use line_tape::{Event, Tape};
 use std::alloc::Global;
 use std::sync::Wait;
@@ -88,6 +88,7 @@ fn is_ring(drilled: &Drilled, n: u32) -> bool {
     };
     let history = gathered.history();
     history.n() == n
+        && n as usize <= MOST_WORKERS
         && (0..n).all(|p| match ProcId::try_new(p, n) {
             Ok(at) => is_exchange(
                 history.tape(at),
