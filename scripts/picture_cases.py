@@ -12,6 +12,7 @@ from slow_model.texts import earliest_version
 
 TOP = pathlib.Path(__file__).resolve().parent.parent
 EXAMPLES = TOP / "examples"
+SCRIPTS = EXAMPLES / "run"
 SVG = "{http://www.w3.org/2000/svg}"
 
 
@@ -25,14 +26,14 @@ def story_by_model(text: bytes) -> stories.Story | None:
 
 def story_of(name: str) -> stories.Story:
     """The story of an example, by its stored output."""
-    script = texts.read_script((EXAMPLES / f"{name}.in").read_bytes())
-    return stories.told(script, texts.read_replies((EXAMPLES / f"{name}.out").read_bytes()))
+    script = texts.read_script((SCRIPTS / f"{name}.in").read_bytes())
+    return stories.told(script, texts.read_replies((SCRIPTS / f"{name}.out").read_bytes()))
 
 
 def stories_of_examples() -> dict[str, stories.Story]:
     """Those of all examples that are scripts without a fault."""
-    runs = [file.stem for file in EXAMPLES.glob("*.args") if file.read_text().strip() == "run"]
-    told = [name for name in sorted(runs) if (EXAMPLES / f"{name}.out").stat().st_size]
+    runs = sorted(file.stem for file in SCRIPTS.glob("*.in"))
+    told = [name for name in runs if (SCRIPTS / f"{name}.out").stat().st_size]
     return {name: story_of(name) for name in told}
 
 

@@ -87,7 +87,8 @@ def answered(
 def examples() -> list[Text]:
     """The examples of the repository, which `./test` runs."""
     found = []
-    for text in sorted((TOP / "examples").glob("*.in")):
-        words = text.with_suffix(".args").read_text().split()
+    for text in sorted((TOP / "examples").glob("*/*.in"), key=lambda it: it.stem):
+        told = text.with_suffix(".args")
+        words = told.read_text().split() if told.is_file() else [text.parent.name]
         found.append(Text(f"example {text.stem}", words, text.read_bytes()))
     return found

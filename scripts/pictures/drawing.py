@@ -7,7 +7,7 @@ from . import diagrams, options, program, stories, svg, texts, views
 ABOUT = f"""Draws what a script does: a line for each process with its checks, messages, recoveries
 with their lines and certificates, and listed rounds, as SVG on standard output.
 
-    ./draw < examples/domino.in > domino.svg
+    ./draw < examples/run/domino.in > domino.svg
 
 Without options a script of up to {views.MOST} records with an effect is drawn whole. Of a longer
 one the last recovery is, with the records that it speaks of, of the processes concerned. What is

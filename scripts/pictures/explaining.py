@@ -10,8 +10,8 @@ from . import drawing, options, program, sentences, verdicts, views
 ABOUT = """Says in sentences what the last recovery of a script came to: what cannot be kept and
 why, where each process goes back to, and what is sent again.
 
-    ./explain < examples/domino.in
-    ./explain --claim < examples/claim_not_orphan.in
+    ./explain < examples/run/domino.in
+    ./explain --claim < examples/check/claim_not_orphan.in
 
 With --claim the input is a check text: what each entry says, and where the claim is invalid what is
 wrong with it. The status is 0 where something was explained, and else that of the program."""

@@ -21,7 +21,8 @@ fn has_long_state(event: &Event) -> bool
     }
 }
 
-/// Whether a history that agrees does so with the event at process p too, and a send has the present incarnation.
+/// Whether a history that agrees does so with the event at process p too, and a send has the
+/// present incarnation.
 fn agrees_next(history: &History, p: ProcId, event: &Event) -> bool
     requires agrees { Agrees history.now.processes }
     requires process { p < length history.now.processes }
@@ -36,7 +37,8 @@ fn agrees_next(history: &History, p: ProcId, event: &Event) -> bool
     }
 }
 
-/// Whether the event may be added to the tape of a process of an agreeing history; it asks in the order of the refusals.
+/// Whether the event may be added to the tape of a process of an agreeing history; it asks in the
+/// order of the refusals.
 pub fn test_event(history: &History, p: ProcId, event: &Event) -> Result<(), AddError>
     requires { Agrees history.now.processes }
     ensures process { IsErrOf result AddError.NoSuchProcess

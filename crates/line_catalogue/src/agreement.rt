@@ -2,14 +2,16 @@
 ghost use Rattle.std.specs.Prelude.{◌≡◌, ◌<◌, ◌≤◌, ◌↔◌, IsTrue, All, IfSome, length};
 ghost use Rattle.line_tape.specs.Event.{NamesBelow};
 ghost use Rattle.line_tape.specs.History.{tape_at};
+ghost use Rattle.line_tape.specs.Shown.{shown};
 ghost use Rattle.line_tape.specs.Views.{bar_at, damaged_at};
 ghost use Rattle.line_catalogue.specs.Agreement.{NameAgrees, EventAgrees, Agrees};
 ghost use Rattle.line_catalogue.specs.Damage.{AreOnChecks};
 
 use line_names::{Choice, MsgName, ProcId};
-use line_tape::{Event, History, Marks};
+use line_tape::{EventRef, History, Marks};
 
-/// Whether the sender gave the message this name, or would give it later under its present incarnation.
+/// Whether the sender gave the message this name, or would give it later under its present
+/// incarnation.
 pub fn name_agrees(history: &History, message: &MsgName) -> bool
     requires { message.now.from < length history.now.processes }
     ensures { IsTrue result ↔ NameAgrees history.now.processes message.now }
@@ -23,15 +25,15 @@ pub fn name_agrees(history: &History, message: &MsgName) -> bool
 }
 
 /// Whether the name of a message that the event receives agrees with its sender.
-pub fn event_agrees(history: &History, event: &Event) -> bool
-    requires { NamesBelow (length history.now.processes) event.now }
-    ensures { IsTrue result ↔ EventAgrees history.now.processes event.now }
+pub fn event_agrees(history: &History, event: &EventRef<'_>) -> bool
+    requires { NamesBelow (length history.now.processes) (shown event.now) }
+    ensures { IsTrue result ↔ EventAgrees history.now.processes (shown event.now) }
 {
     match event {
-        Event::Send { .. } => true,
-        Event::Recv { message } => name_agrees(history, message),
-        Event::Check { .. } => true,
-        Event::Mark { .. } => true,
+        EventRef::Send { .. } => true,
+        EventRef::Recv { message } => name_agrees(history, message),
+        EventRef::Check { .. } => true,
+        EventRef::Mark { .. } => true,
     }
 }
 
@@ -41,8 +43,8 @@ fn tape_agrees(history: &History, p: ProcId) -> bool
     ensures { IsTrue result ↔ All (EventAgrees history.now.processes) (tape_at history.now.processes p) }
 {
     let events = history.tape(p).front(Choice::Now);
-    for event in events {
-        if !event_agrees(history, event) {
+    for i in 0..events.len() {
+        if !event_agrees(history, &events.at(i)) {
             return false;
         }
     }
@@ -93,8 +95,8 @@ fn are_within(marks: &Marks, p: ProcId, last: u32) -> bool
     none_above(marks, p, last) && is_barred_within(marks, p, last)
 }
 
-/// Whether each mark and each bar is on a check that its tape has. It looks at the latest mark and at
-/// the bar of each process.
+/// Whether each mark and each bar is on a check that its tape has. It looks at the latest mark and
+/// at the bar of each process.
 pub fn are_on_checks(history: &History, marks: &Marks) -> bool
     requires { length marks.now.damaged ≡ length history.now.processes }
     ensures { IsTrue result ↔ AreOnChecks history.now.processes marks.now }

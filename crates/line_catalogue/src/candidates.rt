@@ -5,21 +5,18 @@ ghost use Rattle.line_catalogue.specs.Left.{events_behind, AreCandidates};
 
 use crate::numbers::{Numbers, add_names, add_receipts, empty_rows};
 use line_names::{Choice, Line, MsgName, ProcId};
-use line_tape::{Event, History};
+use line_tape::{Events, History};
 use std::alloc::{AllocError, Global};
 
 /// What a process did behind its choice.
-fn events_behind<'a>(history: &'a History, line: &Line, q: ProcId) -> &'a [Event]
+fn events_behind<'a>(history: &'a History, line: &Line, q: ProcId) -> Events<'a>
     requires line { IsLine history.now.processes line.now }
     requires process { q < length history.now.processes }
-    ensures { result.now ≡ events_behind history.now.processes line.now q }
+    ensures { result ≡ events_behind history.now.processes line.now q }
 {
     let tape = history.tape(q);
-    let events = tape.front(Choice::Now);
-    match tape.place(line.at(q)) {
-        Some(place) => &events[place as usize..],
-        None => &[],
-    }
+    let place = tape.place(line.at(q)).unwrap();
+    tape.front(Choice::Now).behind(place as usize)
 }
 
 /// For each process the numbers of sends to look at: of what was kept, and of what is received
@@ -39,7 +36,7 @@ pub fn candidates(
     add_names(left, &mut rows)?;
     for receiver in 0..n {
         let q = ProcId::try_new(receiver, n).unwrap();
-        add_receipts(events_behind(history, line, q), &mut rows)?;
+        add_receipts(&events_behind(history, line, q), &mut rows)?;
     }
     Ok(rows)
 }

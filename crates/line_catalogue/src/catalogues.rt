@@ -33,7 +33,10 @@ use std::marker::Model;
 
 /// A history that agrees, with marks of damage and bars on its checks.
 ///
-/// It answers what a planner asks of choices from rows that it keeps beside them, one for each check, and grows with its history event by event. A row has the vector of its check, and each process one of where it stands: how much was received from each other process before. So a history of n processes takes 4n bytes more for each check, and no question looks at its events.
+/// It answers what a planner asks of choices from rows that it keeps beside them, one for each
+/// check, and grows with its history event by event. A row has the vector of its check, and each
+/// process one of where it stands: how much was received from each other process before. So a
+/// history of n processes takes 4n bytes more for each check, and no question looks at its events.
 #[derive(Drop)]
 pub struct Catalogue {
     ledger: Ledger,
@@ -129,7 +132,8 @@ impl Catalogue {
         &self.marks
     }
 
-    /// What is known of each check of a process: first its initial state, then the checks in their order. It costs nothing.
+    /// What is known of each check of a process: first its initial state, then the checks in their
+    /// order. It costs nothing.
     pub fn rows(&self, p: ProcId) -> &[Row]
         requires { p < length self.now.processes }
         ensures { AreRows (length self.now.processes) (tape_at self.now.processes p) (damaged_at self.now.marks p) result.now }
@@ -137,8 +141,8 @@ impl Catalogue {
         self.rows.at(p)
     }
 
-    /// Whether a choice of a process survives: its initial state does, and of what the process's bar
-    /// allows each check without a mark, and `Now` where it did not fail. It costs nothing.
+    /// Whether a choice of a process survives: its initial state does, and of what the process's
+    /// bar allows each check without a mark, and `Now` where it did not fail. It costs nothing.
     pub fn survives(&self, p: ProcId, choice: Choice, failed: &ProcSet) -> bool
         requires { p < length self.now.processes }
         ensures { result ≡ survives self.now.processes self.now.marks failed.now p choice }
@@ -168,7 +172,8 @@ impl Catalogue {
         Choice::Check(0)
     }
 
-    /// The latest surviving choice of a process before a choice; none before the initial state. It looks at one check for each that does not survive.
+    /// The latest surviving choice of a process before a choice; none before the initial state. It
+    /// looks at one check for each that does not survive.
     pub fn next_lower(&self, p: ProcId, choice: Choice, failed: &ProcSet) -> Option<Choice>
         requires { p < length self.now.processes }
         ensures value { SomeIff result (choice ≢ Choice.Check 0)
@@ -189,9 +194,11 @@ impl Catalogue {
         }
     }
 
-    /// The vector of a choice of a process: for each process one more than the greatest number received from it before the choice, or 0. It costs nothing.
+    /// The vector of a choice of a process: for each process one more than the greatest number
+    /// received from it before the choice, or 0. It costs nothing.
     ///
-    /// It fits the sends before a line exactly where each message received before the choice is sent before the line.
+    /// It fits the sends before a line exactly where each message received before the choice is
+    /// sent before the line.
     pub fn reach(&self, p: ProcId, choice: Choice) -> &Reach
         requires process { p < length self.now.processes }
         requires choice { HasChoice (tape_at self.now.processes p) choice }
@@ -218,8 +225,8 @@ impl Catalogue {
         self.rows.reserve(p, k)
     }
 
-    /// Adds an event that may come next, in room that was made for it: what `add` does where it is not
-    /// refused, for a caller that has made those tests. It takes no memory.
+    /// Adds an event that may come next, in room that was made for it: what `add` does where it is
+    /// not refused, for a caller that has made those tests. It takes no memory.
     #[tactic(auto, using(crate::proofs::CatalogueLemmas::lesser_at))]
     pub fn append(&mut self, p: ProcId, event: Event)
         requires process { p < length self.old.processes }
@@ -236,11 +243,12 @@ impl Catalogue {
         let tape = self.ledger.history().tape(p);
         let place = tape.len() + 1;
         let sends = tape.sends();
-        self.rows.append(p, &event, place, sends);
+        self.rows.append(p, &event.as_ref(), place, sends);
         self.ledger.append(p, event);
     }
 
-    /// Adds an event at the end of the tape of a process. A check costs a vector; any other event costs the same however much was added before.
+    /// Adds an event at the end of the tape of a process. A check costs a vector; any other event
+    /// costs the same however much was added before.
     pub fn add(&mut self, p: ProcId, event: Event) -> Result<(), AddError>
         ensures ok { OnOk result (self.new.processes ≡ with_event self.old.processes p event) }
         ensures err { OnErr result (self.new.processes ≡ self.old.processes) }
@@ -293,8 +301,8 @@ impl Catalogue {
         Ok(())
     }
 
-    /// Bars a process at a check: none of its choices later than that check survives, until the next
-    /// restart. Check 0 is its initial state. It costs nothing.
+    /// Bars a process at a check: none of its choices later than that check survives, until the
+    /// next restart. Check 0 is its initial state. It costs nothing.
     pub fn bar(&mut self, p: ProcId, check: u32) -> Result<(), BarError>
         requires { p < length self.old.processes }
         ensures ok { OnOk result (self.new.marks ≡ with_bar self.old.marks p check) }
@@ -313,9 +321,12 @@ impl Catalogue {
         self.marks.bar(p, check)
     }
 
-    /// The messages in transit at a line, by sender, then number: those whose send stands before the line, and which the process that the send names has not received before its own choice.
+    /// The messages in transit at a line, by sender, then number: those whose send stands before
+    /// the line, and which the process that the send names has not received before its own choice.
     ///
-    /// It looks at what `keep_transit` or `restart_with` was last told, at each send behind that line, and at each event behind this one; at each send where neither was called, or `restart` was after it. It takes memory for these and for the result, and fails without.
+    /// It looks at what `keep_transit` or `restart_with` was last told, at each send behind that
+    /// line, and at each event behind this one; at each send where neither was called, or `restart`
+    /// was after it. It takes memory for these and for the result, and fails without.
     pub fn transit(&self, alloc: Global, line: &Line) -> Result<Vec<MsgName>, AllocError>
         requires { IsLine self.now.processes line.now }
         ensures { IfOk result (λ messages. messages.items ≡ in_transit self.now.processes line.now) }
@@ -323,7 +334,8 @@ impl Catalogue {
         self.ledger.transit(alloc, line)
     }
 
-    /// Keeps what is in transit at a line, as `transit` answers it there, so that no other send before the line is looked at again. No answer changes by it. It looks once at each process.
+    /// Keeps what is in transit at a line, as `transit` answers it there, so that no other send
+    /// before the line is looked at again. No answer changes by it. It looks once at each process.
     pub fn keep_transit(&mut self, line: &Line, messages: Vec<MsgName>)
         requires line { IsLine self.old.processes line.now }
         requires transit { messages.items ≡ in_transit self.old.processes line.now }
@@ -348,9 +360,14 @@ impl Catalogue {
         self.rows.restart(self.ledger.history(), line);
     }
 
-    /// Has each process go on from its choice of a consistent line, as `History::restart` does, takes the marks off the checks that it cuts off, and takes all bars away. It takes no memory and cannot fail.
+    /// Has each process go on from its choice of a consistent line, as `History::restart` does,
+    /// takes the marks off the checks that it cuts off, and takes all bars away. It takes no memory
+    /// and cannot fail.
     ///
-    /// Each message that is received before a consistent line is sent before it, so the history goes on to agree. It looks at the marks that it takes off, at one more and one vector of each process that goes back, at each check that came since the last restart, and otherwise costs what `History::restart` does.
+    /// Each message that is received before a consistent line is sent before it, so the history
+    /// goes on to agree. It looks at the marks that it takes off, at one more and one vector of
+    /// each process that goes back, at each check that came since the last restart, and otherwise
+    /// costs what `History::restart` does.
     pub fn restart(&mut self, line: &Line)
         requires line { IsLine self.old.processes line.now }
         requires consistent { IsConsistent self.old.processes line.now }
@@ -362,7 +379,8 @@ impl Catalogue {
         self.go_on(line, None);
     }
 
-    /// Does what `restart` does, and keeps what is in transit at the line, as `transit` answers it there, so that no other send is looked at again.
+    /// Does what `restart` does, and keeps what is in transit at the line, as `transit` answers it
+    /// there, so that no other send is looked at again.
     pub fn restart_with(&mut self, line: &Line, left: Vec<MsgName>)
         requires line { IsLine self.old.processes line.now }
         requires consistent { IsConsistent self.old.processes line.now }

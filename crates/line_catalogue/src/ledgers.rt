@@ -205,8 +205,8 @@ impl Ledger {
 
     /// Has each process go on from its choice of the line. It takes no memory and cannot fail.
     ///
-    /// Where it is told what is in transit at the line, what is so later is found from that and from
-    /// what is sent from now on; else each send has to be looked at.
+    /// Where it is told what is in transit at the line, what is so later is found from that and
+    /// from what is sent from now on; else each send has to be looked at.
     pub fn restart(&mut self, line: &Line, left: Option<Vec<MsgName>>)
         requires line { IsLine self.old.processes line.now }
         requires further { HaveFurther self.old.processes line.now }

@@ -1,6 +1,9 @@
-//! Catalogues: a history that agrees with itself and its marks of damage, kept as one value that answers what a planner asks.
+//! Catalogues: a history that agrees with itself and its marks of damage, kept as one value that
+//! answers what a planner asks.
 //!
-//! A history agrees where each received message is named as its sender sent it, or as the sender would send it later under its present incarnation. A catalogue takes no other history, and no event that would make it disagree; its marks are on checks that there are.
+//! A history agrees where each received message is named as its sender sent it, or as the sender
+//! would send it later under its present incarnation. A catalogue takes no other history, and no
+//! event that would make it disagree; its marks are on checks that there are.
 #![tactic(auto)]
 
 mod additions;

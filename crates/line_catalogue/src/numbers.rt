@@ -3,11 +3,12 @@ ghost use Rattle.std.specs.Prelude.{◌≡◌, ◌++◌, ◌∷◌, [], ℕ, Lis
 ghost use Rattle.std.specs.Prelude.{IfOk, OnOk};
 ghost use Rattle.std.specs.List.Sorted.{IsNonDecreasing};
 ghost use Rattle.line_names.specs.declared.messages.MsgName.{MsgName};
+ghost use Rattle.line_tape.specs.Shown.{shown};
 ghost use Rattle.line_tape.specs.Transit.{names_received};
 ghost use Rattle.line_catalogue.specs.Left.{AreIn};
 
 use line_names::MsgName;
-use line_tape::Event;
+use line_tape::{EventRef, Events};
 use std::alloc::{AllocError, Global};
 use std::marker::Model;
 
@@ -96,27 +97,27 @@ pub fn add_names(messages: &[MsgName], rows: &mut Vec<Numbers>) -> Result<(), Al
 }
 
 /// Adds the number of the message that an event receives.
-fn add_receipt(event: &Event, rows: &mut Vec<Numbers>) -> Result<(), AllocError>
+fn add_receipt(event: &EventRef<'_>, rows: &mut Vec<Numbers>) -> Result<(), AllocError>
     ensures count { length rows.new.items ≡ length rows.old.items }
     ensures added { OnOk result ((names : List MsgName) → AreIn names rows.old.items
-        → AreIn (names ++ names_received (event.now ∷ [])) rows.new.items) }
+        → AreIn (names ++ names_received (shown event.now ∷ [])) rows.new.items) }
 {
     match event {
-        Event::Recv { message } => add_name(message, rows),
-        Event::Send { .. } => Ok(()),
-        Event::Check { .. } => Ok(()),
-        Event::Mark { .. } => Ok(()),
+        EventRef::Recv { message } => add_name(message, rows),
+        EventRef::Send { .. } => Ok(()),
+        EventRef::Check { .. } => Ok(()),
+        EventRef::Mark { .. } => Ok(()),
     }
 }
 
 /// Adds the numbers of the messages that these events receive.
-pub fn add_receipts(events: &[Event], rows: &mut Vec<Numbers>) -> Result<(), AllocError>
+pub fn add_receipts(events: &Events<'_>, rows: &mut Vec<Numbers>) -> Result<(), AllocError>
     ensures count { length rows.new.items ≡ length rows.old.items }
     ensures added { OnOk result ((names : List MsgName) → AreIn names rows.old.items
         → AreIn (names ++ names_received events.now) rows.new.items) }
 {
-    for event in events {
-        add_receipt(event, rows)?;
+    for i in 0..events.len() {
+        add_receipt(&events.at(i), rows)?;
     }
     Ok(())
 }

@@ -2,17 +2,20 @@
 ghost use Rattle.std.specs.Prelude.{◌≡◌, ◌<◌, ◌≤◌, ◌+◌, ◌-◌, ℕ, [], ◌∷◌, ◌++◌, length, replicate, vec_len, vec_capacity, IfOk, IsOk, OnOk};
 ghost use Rattle.line_names.specs.declared.choices.Choice.TheVariants.{Check as AtCheck};
 ghost use Rattle.line_tape.specs.Event.{checks, NamesBelow};
+ghost use Rattle.line_tape.specs.Shown.{shown};
 ghost use Rattle.line_vectors.specs.Reach.{nearest};
 ghost use Rattle.line_catalogue.specs.Kept.{AreEven, AreRowsEven};
 ghost use Rattle.line_catalogue.specs.Rows.{AreInStep, WithPlaces, heard_more, new_row, row_added, rows_kept, vector_at, with_damage, with_row};
 
 use line_names::{Choice, MOST_PROCESSES, MsgName};
-use line_tape::{Event, Tape};
+use line_tape::{EventRef, Tape};
 use line_vectors::{LAST_NUMBER, Reach};
 use std::alloc::{AllocError, Global};
 use std::marker::Model;
 
-/// What is known of a check: how many events of its tape, and how many sends among them, stand before the choice of it, whether it is damaged, and how much the process had heard of each other one.
+/// What is known of a check: how many events of its tape, and how many sends among them, stand
+/// before the choice of it, whether it is damaged, and how much the process had heard of each other
+/// one.
 #[derive(Drop)]
 pub struct Row {
     pub place: u32,
@@ -85,16 +88,17 @@ fn follow(
     rows: &mut Vec<Row>,
     spares: &mut Vec<Reach>,
     present: &mut Reach,
-    event: &Event,
+    event: &EventRef<'_>,
     place: u32,
     sends: u32,
 )
     requires some { 0 < vec_len spares.old }
     requires room { vec_len rows.old < vec_capacity rows.old }
     requires even { AreEven (length present.old) spares.old.items }
-    requires named { NamesBelow (length present.old) event.now }
-    ensures rows { rows.new.items ≡ with_row rows.old.items (row_added place sends present.old event.now) }
-    ensures present { present.new ≡ heard_more present.old event.now }
+    requires named { NamesBelow (length present.old) (shown event.now) }
+    ensures rows { rows.new.items
+        ≡ with_row rows.old.items (row_added place sends present.old (shown event.now)) }
+    ensures present { present.new ≡ heard_more present.old (shown event.now) }
     ensures lanes { length present.new ≡ length present.old }
     ensures even { AreRowsEven (length present.old) rows.old.items → AreRowsEven (length present.old) rows.new.items }
     ensures spares { AreEven (length present.old) spares.new.items }
@@ -102,10 +106,10 @@ fn follow(
     ensures spent { vec_len spares.old ≤ vec_len spares.new + 1 }
 {
     match event {
-        Event::Send { .. } => {}
-        Event::Recv { message } => present.note(&nearest(message)),
-        Event::Check { .. } => add_row(rows, spares, present, place, sends),
-        Event::Mark { .. } => {}
+        EventRef::Send { .. } => {}
+        EventRef::Recv { message } => present.note(&nearest(message)),
+        EventRef::Check { .. } => add_row(rows, spares, present, place, sends),
+        EventRef::Mark { .. } => {}
     }
 }
 
@@ -128,7 +132,8 @@ fn go_back(rows: &mut Vec<Row>, present: &mut Reach, choice: Choice)
     }
 }
 
-/// Notes anew where the checks stand on a tape, from the last one back to one that stands where it did.
+/// Notes anew where the checks stand on a tape, from the last one back to one that stands where it
+/// did.
 fn place_rows(rows: &mut Vec<Row>, tape: &Tape)
     requires count { vec_len rows.old ≡ checks tape.now.events + 1 }
     requires in_step { AreInStep tape.now.events rows.old.items }
@@ -229,12 +234,14 @@ impl ProcessRows {
         self.rows.reserve(k as usize)
     }
 
-    /// Follows an event of the tape, in room that was made for it; the place and the sends are those of the row, where it is a check.
-    pub fn append(&mut self, event: &Event, place: u32, sends: u32)
+    /// Follows an event of the tape, in room that was made for it; the place and the sends are
+    /// those of the row, where it is a check.
+    pub fn append(&mut self, event: &EventRef<'_>, place: u32, sends: u32)
         requires room { 0 < self.old.room }
-        requires named { NamesBelow (length self.old.present) event.now }
-        ensures rows { self.new.rows ≡ with_row self.old.rows (row_added place sends self.old.present event.now) }
-        ensures present { self.new.present ≡ heard_more self.old.present event.now }
+        requires named { NamesBelow (length self.old.present) (shown event.now) }
+        ensures rows { self.new.rows
+            ≡ with_row self.old.rows (row_added place sends self.old.present (shown event.now)) }
+        ensures present { self.new.present ≡ heard_more self.old.present (shown event.now) }
         ensures lanes { length self.new.present ≡ length self.old.present }
         ensures room { self.old.room ≤ self.new.room + 1 }
     {
@@ -258,7 +265,8 @@ impl ProcessRows {
         set_damaged(&mut self.rows, check);
     }
 
-    /// Goes on from a choice, on what is left of the tape. It takes no memory, and looks at the checks that stand elsewhere than they did and at one more.
+    /// Goes on from a choice, on what is left of the tape. It takes no memory, and looks at the
+    /// checks that stand elsewhere than they did and at one more.
     pub fn restart(&mut self, tape: &Tape, choice: Choice)
         requires there { (c : ℕ) → choice ≡ AtCheck c → c < length self.old.rows }
         requires left { length (rows_kept choice self.old.rows) ≡ checks tape.now.events + 1 }

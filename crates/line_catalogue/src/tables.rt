@@ -5,6 +5,7 @@ ghost use Rattle.line_names.specs.Lines.{choice_at};
 ghost use Rattle.line_tape.specs.declared.events.Event.{Event};
 ghost use Rattle.line_tape.specs.Event.{checks, sends, NamesBelow};
 ghost use Rattle.line_tape.specs.History.{tape_at};
+ghost use Rattle.line_tape.specs.Shown.{shown};
 ghost use Rattle.line_tape.specs.Survival.{is_damaged};
 ghost use Rattle.line_tape.specs.Views.{damaged_at};
 ghost use Rattle.line_vectors.specs.Reach.{reach_of};
@@ -14,7 +15,7 @@ ghost use Rattle.line_catalogue.specs.Rows.{AreInStep, AreRows, WithPlaces, hear
 
 use crate::rows::{ProcessRows, Row};
 use line_names::{Choice, Line, MOST_PROCESSES, ProcId};
-use line_tape::{Event, History, MOST_EVENTS, Marks, Tape};
+use line_tape::{EventRef, History, MOST_EVENTS, Marks, Tape};
 use line_vectors::Reach;
 use std::alloc::{AllocError, Global};
 use std::marker::Model;
@@ -41,15 +42,16 @@ impl Model for RowTable {
 }
 
 /// How many sends a tape has with one event more, where it had so many before.
-fn sends_with(event: &Event, before: u32) -> u32
+fn sends_with(event: &EventRef<'_>, before: u32) -> u32
     requires { before < MOST_EVENTS }
-    ensures { (tape : List Event) → before ≡ sends tape → result ≡ sends (tape ++ event.now ∷ []) }
+    ensures { (tape : List Event) → before ≡ sends tape
+        → result ≡ sends (tape ++ shown event.now ∷ []) }
 {
     match event {
-        Event::Send { .. } => before + 1,
-        Event::Recv { .. } => before,
-        Event::Check { .. } => before,
-        Event::Mark { .. } => before,
+        EventRef::Send { .. } => before + 1,
+        EventRef::Recv { .. } => before,
+        EventRef::Check { .. } => before,
+        EventRef::Mark { .. } => before,
     }
 }
 
@@ -65,8 +67,8 @@ fn rows_of_tape(alloc: Global, n: u32, tape: &Tape) -> Result<ProcessRows, Alloc
     for i in 0..tape.len() {
         let event = tape.event(i);
         process.reserve(1)?;
-        process.append(event, i + 1, sent);
-        sent = sends_with(event, sent);
+        process.append(&event, i + 1, sent);
+        sent = sends_with(&event, sent);
     }
     Ok(process)
 }
@@ -106,8 +108,8 @@ fn rows_of(
 }
 
 impl RowTable {
-    /// The rows of a history and its marks. It looks once at each event, and asks once for a mark of
-    /// each check.
+    /// The rows of a history and its marks. It looks once at each event, and asks once for a mark
+    /// of each check.
     pub fn of(alloc: Global, history: &History, marks: &Marks) -> Result<RowTable, AllocError>
         requires marked { AreOnChecks history.now.processes marks.now }
         requires count { length marks.now.damaged ≡ length history.now.processes }
@@ -159,15 +161,17 @@ impl RowTable {
     }
 
     /// Follows an event that comes to the tape of a process, in room that was made for it.
-    pub fn append(&mut self, p: ProcId, event: &Event, place: u32, sends: u32)
+    pub fn append(&mut self, p: ProcId, event: &EventRef<'_>, place: u32, sends: u32)
         requires process { p < length self.old.rows }
-        requires named { NamesBelow (length (present_at self.old.presents p)) event.now }
+        requires named { NamesBelow (length (present_at self.old.presents p)) (shown event.now) }
         requires room { 0 < slice_index_or self.old.rooms p 0 }
         ensures rows { self.new.rows
             ≡ slice_set self.old.rows p
-            (with_row (rows_at self.old.rows p) (row_added place sends (present_at self.old.presents p) event.now)) }
+            (with_row (rows_at self.old.rows p)
+            (row_added place sends (present_at self.old.presents p) (shown event.now))) }
         ensures presents { self.new.presents
-            ≡ slice_set self.old.presents p (heard_more (present_at self.old.presents p) event.now) }
+            ≡ slice_set self.old.presents p
+            (heard_more (present_at self.old.presents p) (shown event.now)) }
         ensures room { slice_index_or self.old.rooms p 0 ≤ slice_index_or self.new.rooms p 0 + 1 }
         ensures others { (q : ℕ) → q ≢ p → slice_index_or self.new.rooms q 0 ≡ slice_index_or self.old.rooms q 0 }
     {
@@ -185,9 +189,12 @@ impl RowTable {
         self.table[p.get() as usize].damage(check);
     }
 
-    /// Has each process go on from its choice of the line, where this is the history that is left. It takes no memory.
+    /// Has each process go on from its choice of the line, where this is the history that is left.
+    /// It takes no memory.
     ///
-    /// It lets go of what it cuts off, sets one vector for each process that goes back, and looks at the last check of each process, and at each other one until it finds one that stands where it did.
+    /// It lets go of what it cuts off, sets one vector for each process that goes back, and looks
+    /// at the last check of each process, and at each other one until it finds one that stands
+    /// where it did.
     pub fn restart(&mut self, history: &History, line: &Line)
         requires count { length self.old.rows ≡ length history.now.processes }
         requires there { (p c : ℕ) → p < length history.now.processes → choice_at line.now p ≡ AtCheck c

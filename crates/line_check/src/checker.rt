@@ -13,7 +13,8 @@ use line_tape::{
     History, Marks, first_ceilings, is_consistent, is_line, is_sent_before, next_lower,
 };
 
-/// Tests a line: whether it has one choice for each process, which its tape has, and no message is received before it that is not sent before it.
+/// Tests a line: whether it has one choice for each process, which its tape has, and no message is
+/// received before it that is not sent before it.
 ///
 /// It looks once at each event before the line.
 pub fn check_consistent(history: &History, line: &Line) -> Result<(), LineFault>
@@ -56,7 +57,8 @@ fn check_entry(history: &History, ceilings: &Line, entry: &Passed) -> Result<(),
     Ok(())
 }
 
-/// Tests the entries one after another, each against the ceilings that those before it leave, and answers the ceilings that they lead to.
+/// Tests the entries one after another, each against the ceilings that those before it leave, and
+/// answers the ceilings that they lead to.
 fn follow(
     history: &History,
     marks: &Marks,
@@ -113,11 +115,19 @@ fn of_no_entry(code: FaultCode) -> CertFault
     CertFault { entry: None, code }
 }
 
-/// Tests a claim: that the line is the latest for these marks and this failed set, as the entries of the certificate show.
+/// Tests a claim: that the line is the latest for these marks and this failed set, as the entries
+/// of the certificate show.
 ///
-/// The ceilings start at the latest surviving choice of each process. An entry is right where its choice is the present ceiling of its process, and its message is received before that choice and not sent before the present ceiling of its sender; then that process is lowered to its next lower surviving choice. The entries are tested in their order, whatever order that is, and never against the final line. At the end the ceilings are the line, and it is consistent.
+/// The ceilings start at the latest surviving choice of each process. An entry is right where its
+/// choice is the present ceiling of its process, and its message is received before that choice and
+/// not sent before the present ceiling of its sender; then that process is lowered to its next
+/// lower surviving choice. The entries are tested in their order, whatever order that is, and never
+/// against the final line. At the end the ceilings are the line, and it is consistent.
 ///
-/// Any claim may be asked about. That it names only what the history has is tested first, over the whole claim. An entry takes constant time (receipts: expected constant time), but for checks that do not survive, each of which is looked up among the marks of its process; consistency takes one look at each event before the line.
+/// Any claim may be asked about. That it names only what the history has is tested first, over the
+/// whole claim. An entry takes constant time (receipts: expected constant time), but for checks
+/// that do not survive, each of which is looked up among the marks of its process; consistency
+/// takes one look at each event before the line.
 pub fn check_certificate(
     history: &History,
     marks: &Marks,

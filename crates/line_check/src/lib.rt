@@ -1,6 +1,7 @@
 //! The checker: whether a claimed line is the latest one, judged from the history alone.
 //!
-//! It knows the tapes, the marks of damage, the bars and who failed, and nothing of how the claim was made: whoever does not trust a planner can have its plan judged here. No call takes memory.
+//! It knows the tapes, the marks of damage, the bars and who failed, and nothing of how the claim
+//! was made: whoever does not trust a planner can have its plan judged here. No call takes memory.
 #![tactic(auto)]
 
 mod checker;

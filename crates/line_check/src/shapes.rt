@@ -8,7 +8,8 @@ ghost use Rattle.line_check.specs.Shape.{IsEntryOf, IsCheckOf, HasShape};
 use line_names::{Line, Passed, ProcId, ProcSet};
 use line_tape::{History, Marks, is_line};
 
-/// Whether the entry is about a process and a choice of it that there are, and its message has a sender that there is.
+/// Whether the entry is about a process and a choice of it that there are, and its message has a
+/// sender that there is.
 fn is_entry_of(history: &History, entry: &Passed) -> bool
     ensures { IsTrue result ↔ IsEntryOf history.now.processes entry.now }
 {
@@ -89,8 +90,8 @@ fn are_bars_of(history: &History, marks: &Marks) -> bool
     true
 }
 
-/// Whether the claim names only processes, choices and checks that the history has. It looks at each
-/// entry, and at the latest mark and the bar of each process.
+/// Whether the claim names only processes, choices and checks that the history has. It looks at
+/// each entry, and at the latest mark and the bar of each process.
 pub(crate) fn has_shape(
     history: &History,
     marks: &Marks,

@@ -16,8 +16,8 @@ use line_names::{Certificate, Line, MOST_PROCESSES, ProcSet};
 use line_tape::Marks;
 use std::alloc::Global;
 
-/// What is claimed of a history: that this is the latest line, where these checks are damaged, processes
-/// are barred at these checks and these failed, and that this certificate shows it.
+/// What is claimed of a history: that this is the latest line, where these checks are damaged,
+/// processes are barred at these checks and these failed, and that this certificate shows it.
 #[derive(Drop)]
 pub struct Claim {
     /// The checks that are damaged, and those at which processes are barred.

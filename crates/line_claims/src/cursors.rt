@@ -12,7 +12,8 @@ use line_fields::{RecordReader, Row};
 use std::alloc::{AllocError, Global};
 use std::marker::Model;
 
-/// A place among the records of a text: the record that stands there, if there is one, and its number.
+/// A place among the records of a text: the record that stands there, if there is one, and its
+/// number.
 #[derive(Drop)]
 pub(crate) struct Cursor<'a> {
     records: RecordReader<'a>,

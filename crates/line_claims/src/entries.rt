@@ -52,8 +52,8 @@ pub(crate) fn bar_of(marks: &mut Marks, n: u32, row: &Row) -> Result<(), Fault>
     }
 }
 
-/// The processes of a record such as `failed` or `failed,P,..`: those of the fields behind the first, a process
-/// that is not below `n` being a fault once all fields are numbers.
+/// The processes of a record such as `failed` or `failed,P,..`: those of the fields behind the
+/// first, a process that is not below `n` being a fault once all fields are numbers.
 pub fn failed_of(n: u32, row: &Row) -> Result<ProcSet, Fault>
     requires { n ≤ MOST_PROCESSES }
     ensures { result ≡ spec.failed_of n row.now }

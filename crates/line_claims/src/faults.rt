@@ -10,8 +10,8 @@ use line_fields::{Fault, ReadError};
 use std::alloc::{AllocError, AllocFailed};
 use thiserror::Error;
 
-/// The name that stands beside the number of a refusal or a fault, and an empty one where nothing has
-/// that number.
+/// The name that stands beside the number of a refusal or a fault, and an empty one where nothing
+/// has that number.
 pub fn name_of(code: u32) -> &'static str
     ensures name { result.now ≡ name_of code }
     ensures plain { IsTrue (is_plain_field result.now) }

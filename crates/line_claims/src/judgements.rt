@@ -16,8 +16,8 @@ use std::alloc::AllocError;
 
 /// Writes `damage,P,C` behind the records that were written before.
 ///
-/// In a check text these come first, by process and then check, so that the same marks make the same
-/// text. Where a growth is refused, the text stays as it was.
+/// In a check text these come first, by process and then check, so that the same marks make the
+/// same text. Where a growth is refused, the text stays as it was.
 pub fn put_damage(
     writer: &mut RecordWriter,
     draft: &mut Draft,
@@ -34,7 +34,8 @@ pub fn put_damage(
     writer.put(draft)
 }
 
-// Writes `damage,P,C` for each damaged check of a process, in order, of its checks up to the last one.
+// Writes `damage,P,C` for each damaged check of a process, in order, of its checks up to the last
+// one.
 fn put_damages_of(
     writer: &mut RecordWriter,
     draft: &mut Draft,
@@ -92,11 +93,11 @@ fn put_bar(
     writer.put(draft)
 }
 
-/// Writes `bar,P,C` behind the records that were written before, where process P is barred at check C, and
-/// nothing where it isn't barred.
+/// Writes `bar,P,C` behind the records that were written before, where process P is barred at check
+/// C, and nothing where it isn't barred.
 ///
-/// In a check text, which is of version 2 where a process is barred, these stand behind the damage, by
-/// process. Where a growth is refused, the text stays as it was.
+/// In a check text, which is of version 2 where a process is barred, these stand behind the damage,
+/// by process. Where a growth is refused, the text stays as it was.
 pub fn put_bar_of(
     writer: &mut RecordWriter,
     draft: &mut Draft,
@@ -290,11 +291,11 @@ fn put_chain(
     put_entries(writer, draft, certificate)
 }
 
-/// Writes what stands behind the marks of a claim on a history of `n` processes: the failed processes in
-/// order, the line, the entries of its certificate, and the end.
+/// Writes what stands behind the marks of a claim on a history of `n` processes: the failed
+/// processes in order, the line, the entries of its certificate, and the end.
 ///
-/// Where a growth is refused, a front of them may be written. The draft is room for one record at a time,
-/// and what it held is lost.
+/// Where a growth is refused, a front of them may be written. The draft is room for one record at a
+/// time, and what it held is lost.
 pub fn put_judged(
     writer: &mut RecordWriter,
     draft: &mut Draft,
@@ -350,8 +351,8 @@ pub fn version_of(history: &History, marks: &Marks) -> u32
 /// line with its certificate. It is of version 2 where a process is barred or there are more than
 /// 64, and else of version 1.
 ///
-/// Where a growth is refused, a front of them may be written. It asks once for a mark of each check.
-/// The draft is room for one record at a time, and what it held is lost.
+/// Where a growth is refused, a front of them may be written. It asks once for a mark of each
+/// check. The draft is room for one record at a time, and what it held is lost.
 pub fn put_check_text(
     writer: &mut RecordWriter,
     draft: &mut Draft,

@@ -14,8 +14,8 @@ ghost use Rattle.line_claims.specs.Versions.{IsVersion, most_in};
 /// its numbers keep to the ranges of their fields. Of a `History` only the rounds can be outside of
 /// these ranges: they are from 1 to 65,535.
 ///
-/// The records of a history that can stand in memory, in range or not, are those of no other, in either
-/// version, and so is its text.
+/// The records of a history that can stand in memory, in range or not, are those of no other, in
+/// either version, and so is its text.
 pub fn histories_are_read_again()
     ensures same { (version : ℕ) (history : List Process) → IsVersion version → IsHistoryInRange history → length history ≤ most_in version
         → history_of_text (records_text (front_records version history)) ≡ Ok history }

@@ -1,8 +1,8 @@
 //! History texts and check texts: what they say, as values.
 //!
-//! A history text has the tapes of all processes. A check text is a history text and a claim on it: the
-//! checks that are damaged, the processes that are barred, those that failed, a line, and the certificate
-//! of that line.
+//! A history text has the tapes of all processes. A check text is a history text and a claim on it:
+//! the checks that are damaged, the processes that are barred, those that failed, a line, and the
+//! certificate of that line.
 #![tactic(auto)]
 
 mod claims;

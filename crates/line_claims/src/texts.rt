@@ -107,11 +107,11 @@ fn check_in(alloc: Global, text: &[u8]) -> Result<CheckText, TextError>
 /// keeps to its range, that the processes are there, and that bodies, states and tapes keep to
 /// their limits.
 ///
-/// Refused with the first fault of the text, the records taken in their order, and the questions to a
-/// record in the order in which its definition asks them. A byte that no text has is of record 0 and
-/// comes before all else; a text without records wants its first one; a missing tape is a fault of the
-/// record that stands in its place, or of the one that would. Want of memory, at any time, is the fault 0
-/// of record 0. It takes time and memory in proportion to the text.
+/// Refused with the first fault of the text, the records taken in their order, and the questions to
+/// a record in the order in which its definition asks them. A byte that no text has is of record 0
+/// and comes before all else; a text without records wants its first one; a missing tape is a fault
+/// of the record that stands in its place, or of the one that would. Want of memory, at any time,
+/// is the fault 0 of record 0. It takes time and memory in proportion to the text.
 pub fn read_history(alloc: Global, text: &[u8]) -> Result<History, TextFault>
     ensures exact { Reads (λ history. history.processes) result (spec.history_of_text text.now) }
     ensures codes { IfErr result (λ fault. (fault ≡ no_memory) ⊎ IsOfText fault) }
@@ -122,11 +122,12 @@ pub fn read_history(alloc: Global, text: &[u8]) -> Result<History, TextFault>
     }
 }
 
-/// The claim among `n` processes that a text spells: the part of a check text of that version that stands
-/// behind its history, with its records numbered from 1. Version 1 knows no bars.
+/// The claim among `n` processes that a text spells: the part of a check text of that version that
+/// stands behind its history, with its records numbered from 1. Version 1 knows no bars.
 ///
-/// It asks nothing of a history: a mark, a bar or a choice may be of a check that isn't there, and the line
-/// may have any number of choices up to the greatest number of processes of a text of that version.
+/// It asks nothing of a history: a mark, a bar or a choice may be of a check that isn't there, and
+/// the line may have any number of choices up to the greatest number of processes of a text of that
+/// version.
 ///
 /// Refused as a history is; a missing end is a fault of the record that would follow the last. It
 /// takes time and memory in proportion to the text, and for a mark of damage the logarithm of those

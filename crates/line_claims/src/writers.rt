@@ -5,14 +5,15 @@ ghost use Rattle.std.specs.List.{AllByRecursion};
 ghost use Rattle.line_devices.specs.Devices.{PutsFront};
 ghost use Rattle.line_fields.specs.Texts.{record_text, records_text};
 ghost use Rattle.line_tape.specs.History.{process_at};
+ghost use Rattle.line_tape.specs.Shown.{shown};
 ghost use Rattle.line_claims.specs.Ranges.{AreRoundsInRange, FitsMemory, FitsProcess, FitsWords, IsHistoryInRange};
 ghost use Rattle.line_claims.specs.Records as spec;
 ghost use Rattle.line_claims.specs.Texts.{history_of_text};
 
 use crate::versions::earliest_version;
 use line_fields::{Draft, RecordWriter};
-use line_names::{Body, Choice, MsgName, ProcId};
-use line_tape::{Event, History, State};
+use line_names::{Choice, MsgName, ProcId};
+use line_tape::{Event, EventRef, Events, History};
 use std::alloc::{AllocError, Global};
 
 // Writes `send,TO,INC,HEX`.
@@ -21,7 +22,7 @@ fn put_send(
     draft: &mut Draft,
     to: ProcId,
     inc: u16,
-    body: &Body,
+    body: &[u8],
 ) -> Result<(), AllocError>
     ensures ok { OnOk result (writer.new ≡ writer.old ++ record_text (spec.event_record (Event.Send to inc body.now))) }
     ensures err { OnErr result (writer.new ≡ writer.old) }
@@ -31,8 +32,7 @@ fn put_send(
     draft.word(b"send")?;
     draft.number(u64::from(to.get()))?;
     draft.number(u64::from(inc))?;
-    let bytes = body.bytes();
-    draft.bytes(bytes)?;
+    draft.bytes(body)?;
     writer.put(draft)
 }
 
@@ -68,7 +68,7 @@ fn add_round(draft: &mut Draft, round: Option<u32>) -> Result<(), AllocError>
 fn put_check(
     writer: &mut RecordWriter,
     draft: &mut Draft,
-    state: &State,
+    state: &[u8],
     round: Option<u32>,
 ) -> Result<(), AllocError>
     ensures ok { OnOk result (writer.new ≡ writer.old ++ record_text (spec.event_record (Event.Check state.now round))) }
@@ -77,8 +77,7 @@ fn put_check(
 {
     draft.clear();
     draft.word(b"check")?;
-    let bytes = state.bytes();
-    draft.bytes(bytes)?;
+    draft.bytes(state)?;
     add_round(draft, round)?;
     writer.put(draft)
 }
@@ -109,17 +108,18 @@ fn put_mark(
 pub fn put_event(
     writer: &mut RecordWriter,
     draft: &mut Draft,
-    event: &Event,
+    event: &EventRef<'_>,
 ) -> Result<(), AllocError>
-    ensures ok { OnOk result (writer.new ≡ writer.old ++ record_text (spec.event_record event.now)) }
+    ensures ok { OnOk result (writer.new
+        ≡ writer.old ++ record_text (spec.event_record (shown event.now))) }
     ensures err { OnErr result (writer.new ≡ writer.old) }
-    ensures fits { OnOk result (FitsWords event.now) }
+    ensures fits { OnOk result (FitsWords (shown event.now)) }
 {
     match event {
-        Event::Send { to, inc, body } => put_send(writer, draft, *to, *inc, body),
-        Event::Recv { message } => put_recv(writer, draft, *message),
-        Event::Check { state, round } => put_check(writer, draft, state, *round),
-        Event::Mark { from, round } => put_mark(writer, draft, *from, *round),
+        EventRef::Send { to, inc, body } => put_send(writer, draft, *to, *inc, body),
+        EventRef::Recv { message } => put_recv(writer, draft, *message),
+        EventRef::Check { state, round } => put_check(writer, draft, state, *round),
+        EventRef::Mark { from, round } => put_mark(writer, draft, *from, *round),
     }
 }
 
@@ -127,14 +127,14 @@ pub fn put_event(
 fn put_events(
     writer: &mut RecordWriter,
     draft: &mut Draft,
-    events: &[Event],
+    events: &Events<'_>,
 ) -> Result<(), AllocError>
     ensures ok { OnOk result (writer.new ≡ writer.old ++ records_text (map spec.event_record events.now)) }
     ensures err { OnErr result (PutsFront (Some writer.old) (Some writer.new) (records_text (map spec.event_record events.now))) }
     ensures fits { OnOk result (AllByRecursion FitsWords events.now) }
 {
-    for event in events {
-        put_event(writer, draft, event)?;
+    for i in 0..events.len() {
+        put_event(writer, draft, &events.at(i))?;
     }
     Ok(())
 }
@@ -165,7 +165,7 @@ fn put_tape(
     draft: &mut Draft,
     p: ProcId,
     inc: u16,
-    events: &[Event],
+    events: &Events<'_>,
 ) -> Result<(), AllocError>
     ensures ok { OnOk result (writer.new ≡ writer.old ++ records_text (spec.tape_records p (record { incarnation = inc; tape = events.now }))) }
     ensures err { OnErr result (PutsFront (Some writer.old) (Some writer.new) (records_text (spec.tape_records p (record { incarnation = inc; tape = events.now })))) }
@@ -189,11 +189,11 @@ fn put_tape_of(
 {
     let inc = history.incarnation(p);
     let events = history.tape(p).front(Choice::Now);
-    put_tape(writer, draft, p, inc, events)
+    put_tape(writer, draft, p, inc, &events)
 }
 
-/// Writes `history,V,N`, which the tapes of N processes follow, behind the records that were written
-/// before. The version V is 1, or 2 where bars are to follow the history or N is above 64.
+/// Writes `history,V,N`, which the tapes of N processes follow, behind the records that were
+/// written before. The version V is 1, or 2 where bars are to follow the history or N is above 64.
 ///
 /// Where a growth is refused, the text stays as it was.
 pub fn put_history_head(
@@ -214,9 +214,9 @@ pub fn put_history_head(
 
 /// Writes the records of a history in a text of that version behind those that were written before.
 ///
-/// Where a growth is refused, a front of them may be written. The draft is room for one record at a time,
-/// and what it held is lost. What was written stood in memory, so it is known to be in the ranges of its
-/// fields where its rounds are.
+/// Where a growth is refused, a front of them may be written. The draft is room for one record at a
+/// time, and what it held is lost. What was written stood in memory, so it is known to be in the
+/// ranges of its fields where its rounds are.
 pub fn put_history(
     writer: &mut RecordWriter,
     draft: &mut Draft,

@@ -9,7 +9,9 @@ use std::marker::Model;
 
 /// The colour of a process: the greatest round number of its checks, or 0.
 ///
-/// It stands for the process's checks in the order in which they were taken: whoever adds one of a round calls `turn` with its number. Where checks are cut off, make a new one and turn it to the rounds that are left.
+/// It stands for the process's checks in the order in which they were taken: whoever adds one of a
+/// round calls `turn` with its number. Where checks are cut off, make a new one and turn it to the
+/// rounds that are left.
 #[derive(Clone, Copy, Debug, PartialEq, Eq, Hash)]
 pub struct Colour {
     now: u32,
@@ -43,7 +45,8 @@ impl Colour {
 
     /// The process takes its check of a round.
     ///
-    /// It answers `RoundNotNew` where the process has a check of that round or of a greater one: a round that is over isn't turned to.
+    /// It answers `RoundNotNew` where the process has a check of that round or of a greater one: a
+    /// round that is over isn't turned to.
     pub fn turn(&mut self, round: u32) -> Result<(), ColourError>
         ensures ok { OnOk result (self.new ≡ round) }
         ensures err { OnErr result (self.new ≡ self.old) }
@@ -60,7 +63,8 @@ impl Colour {
         Ok(())
     }
 
-    /// The number of the check that the process has to take before it receives a message of this colour; none where it may receive it at once.
+    /// The number of the check that the process has to take before it receives a message of this
+    /// colour; none where it may receive it at once.
     pub fn before_receive(self, colour: u32) -> Option<u32>
         ensures { SomeIff result (self < colour) colour }
     {

@@ -117,8 +117,8 @@ impl Source for MemSource {
     }
 }
 
-/// Bytes that are kept in memory, of which at most `step` are taken at a time. One call may be set to
-/// fail.
+/// Bytes that are kept in memory, of which at most `step` are taken at a time. One call may be set
+/// to fail.
 #[derive(Drop)]
 pub struct MemSink {
     bytes: Vec<u8>,

@@ -13,11 +13,11 @@ pub trait Sink {
     /// How often it failed.
     ghost faults: { Self → ℕ };
 
-    /// Takes bytes from the front of the slice, and says how many: one at least, unless the slice is
-    /// empty.
+    /// Takes bytes from the front of the slice, and says how many: one at least, unless the slice
+    /// is empty.
     ///
-    /// After a failure the count of failures has risen by one, and a front of the slice may have been
-    /// taken.
+    /// After a failure the count of failures has risen by one, and a front of the slice may have
+    /// been taken.
     fn put(&mut self, from: &[u8]) -> Result<usize, DeviceFault>
         ensures within { IfOk result (λ n. n ≤ length from.now) }
         ensures some { IfOk result (λ n. 0 < length from.now → 0 < n) }

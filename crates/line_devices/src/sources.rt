@@ -25,8 +25,8 @@ pub trait Source {
     /// Moves bytes into the front of the slice, and says how many: none only where nothing is left
     /// or the slice is empty. What the rest of the slice holds then is left open.
     ///
-    /// After a failure the count of failures has risen by one, and some bytes may be lost, which count
-    /// as not given.
+    /// After a failure the count of failures has risen by one, and some bytes may be lost, which
+    /// count as not given.
     fn fill(&mut self, into: &mut [u8]) -> Result<usize, DeviceFault>
         ensures within { IfOk result (λ n. n ≤ length into.old) }
         ensures moves { IfOk result (λ n. Fills (left self.old) (left self.new) (take n into.new)) }
@@ -66,8 +66,8 @@ const CHUNK: usize = 4096;
 
 /// Reads a source to its end, or until it has given more than `MOST_INPUT` bytes.
 ///
-/// It stops at the first failure and at the first call that gives nothing, and asks for at most 4,096
-/// bytes more than it takes. It takes time and memory in proportion to the bytes read.
+/// It stops at the first failure and at the first call that gives nothing, and asks for at most
+/// 4,096 bytes more than it takes. It takes time and memory in proportion to the bytes read.
 pub fn read_all<S: Source>(alloc: Global, source: &mut S) -> Result<Vec<u8>, ReadRefused>
     // All that the source gave in this call is answered, and nothing is left.
     ensures whole { IfOk result (λ v. GivesAll v.items (S.left source.old) (S.left source.new) (S.given source.old) (S.given source.new)) }

@@ -4,7 +4,8 @@ use super::*;
 use std::alloc::Global;
 use std::test::Fail;
 
-/// What reading five bytes in such steps comes to, where this call fails: how many are read, and how often a call failed.
+/// What reading five bytes in such steps comes to, where this call fails: how many are read, and
+/// how often a call failed.
 fn read(
     alloc: Global,
     step: usize,
@@ -130,7 +131,8 @@ impl Sink for Broken {
     }
 }
 
-/// How many faults a source and a sink that only fail have counted after one call each; none where a call did not fail.
+/// How many faults a source and a sink that only fail have counted after one call each; none where
+/// a call did not fail.
 fn counted(alloc: Global, faults: u64) -> Option<(u64, u64)> {
     let mut source = Broken { faults };
     let mut sink = Broken { faults };
@@ -161,7 +163,8 @@ fn reads_no_more_than_the_limit(rt: HostRuntime) {
     }
 }
 
-/// Whether each call succeeded, and what a sink of such steps holds and has counted, after a put of five bytes and a finish.
+/// Whether each call succeeded, and what a sink of such steps holds and has counted, after a put of
+/// five bytes and a finish.
 fn put(alloc: Global, step: usize, fail_at: Option<u64>) -> (bool, bool, usize, u64)
     requires { 0 < step }
 {

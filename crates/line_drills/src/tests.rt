@@ -4,7 +4,7 @@ use crate::tests::scripts::{check, idle, one, pair, receive, ring, second, send,
 use crate::{DrillError, DrillWhy, Order, drill};
 use line_names::{MsgName, ProcId};
 use line_posts::{Gathered, MOST_WORKERS};
-use line_tape::{Event, Tape};
+use line_tape::{EventRef, Tape};
 use std::alloc::Global;
 use std::sync::Wait;
 use std::test::Fail;
@@ -44,21 +44,21 @@ fn is_refused(drilled: &Drilled, why: DrillWhy) -> bool {
 }
 
 /// Whether that event is the first message to this process, with this body.
-fn is_send(event: &Event, to: u32, body: &[u8]) -> bool {
+fn is_send(event: &EventRef<'_>, to: u32, body: &[u8]) -> bool {
     match event {
-        Event::Send {
+        EventRef::Send {
             to: addressee,
             inc,
             body: sent,
-        } => addressee.get() == to && *inc == 0 && sent.bytes() == body,
+        } => addressee.get() == to && *inc == 0 && *sent == body,
         _ => false,
     }
 }
 
 /// Whether that event takes the first message of this process.
-fn is_recv(event: &Event, from: u32) -> bool {
+fn is_recv(event: &EventRef<'_>, from: u32) -> bool {
     match event {
-        Event::Recv { message } => {
+        EventRef::Recv { message } => {
             message.from.get() == from && message.inc == 0 && message.number == 0
         }
         _ => false,
@@ -66,9 +66,9 @@ fn is_recv(event: &Event, from: u32) -> bool {
 }
 
 /// Whether that event is a check of no round with these bytes.
-fn is_check(event: &Event, bytes: &[u8]) -> bool {
+fn is_check(event: &EventRef<'_>, bytes: &[u8]) -> bool {
     match event {
-        Event::Check { state, round } => state.bytes() == bytes && round.is_none(),
+        EventRef::Check { state, round } => *state == bytes && round.is_none(),
         _ => false,
     }
 }
@@ -76,9 +76,9 @@ fn is_check(event: &Event, bytes: &[u8]) -> bool {
 /// Whether a tape is a Send to one process, the Recv of what another sent, and a Check.
 fn is_exchange(tape: &Tape, to: u32, from: u32, byte: u8) -> bool {
     tape.len() == 3
-        && is_send(tape.event(0), to, &[byte])
-        && is_recv(tape.event(1), from)
-        && is_check(tape.event(2), &[0])
+        && is_send(&tape.event(0), to, &[byte])
+        && is_recv(&tape.event(1), from)
+        && is_check(&tape.event(2), &[0])
 }
 
 /// Whether each process exchanged with its neighbours, round in a circle of `n`.

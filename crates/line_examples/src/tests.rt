@@ -1,4 +1,5 @@
-//! What no text reaches: calls that the program does not make so, devices that fail, and what errors say.
+//! What no text reaches: calls that the program does not make so, devices that fail, and what
+//! errors say.
 use crate::tests::build::{Did, history_of, process};
 use line_names::{Body, BodyError, Choice, MsgName, Passed, ProcId, ProcIdError};
 use line_tape::{CountError, Event, History, HistoryError, MarkError, TapeError};
@@ -94,7 +95,8 @@ fn copies_and_rooms(rt: HostRuntime) -> Result<(), Fail> {
     Ok(())
 }
 
-/// An entry of a certificate of two processes: the choice passed over, and the message's sender and number.
+/// An entry of a certificate of two processes: the choice passed over, and the message's sender and
+/// number.
 fn passed(at: u32, choice: Choice, from: u32, number: u32) -> Result<Passed, Fail> {
     let from = process(from)?;
     let message = MsgName {

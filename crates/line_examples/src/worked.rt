@@ -8,7 +8,8 @@ ghost use Rattle.line_tape.specs.Survival.{survives};
 ghost use Rattle.line_tape.specs.Transit.{in_transit};
 ghost use Rattle.line_examples.specs.Worked.{first_life, living, domino_history, crossed_history, both_failed, replay_history, received_history, round_history, unmarked, second_marked, second_barred, none_failed, first_failed};
 
-/// With process 0 failed its check 1 is the latest to survive; each message was received, so nothing is in transit.
+/// With process 0 failed its check 1 is the latest to survive; each message was received, so
+/// nothing is in transit.
 pub fn domino()
     ensures failed { survives domino_history unmarked first_failed 0 Now ≡ false }
     ensures living { survives domino_history unmarked first_failed 1 Now ≡ true }
@@ -50,7 +51,9 @@ pub fn damaged_round()
     ensures transit { in_transit round_history (AtCheck 1 ∷ AtCheck 0 ∷ []) ≡ [] }
 {}
 
-/// Of a process that is barred at check 1 that check survives and its initial state, and nothing later, although it did not fail; other processes are as they were, and a restart takes the bar away.
+/// Of a process that is barred at check 1 that check survives and its initial state, and nothing
+/// later, although it did not fail; other processes are as they were, and a restart takes the bar
+/// away.
 pub fn barred_process()
     ensures now { survives domino_history second_barred none_failed 1 Now ≡ false }
     ensures later { survives domino_history second_barred none_failed 1 (AtCheck 2) ≡ false }
@@ -61,7 +64,8 @@ pub fn barred_process()
     ensures gone { restarted_marks second_barred (AtCheck 0 ∷ AtCheck 0 ∷ []) ≡ unmarked }
 {}
 
-/// A restart cuts each tape to its choice, raises the incarnation of each process that goes back, takes marks out and rounds off, and keeps the damage of checks that are kept.
+/// A restart cuts each tape to its choice, raises the incarnation of each process that goes back,
+/// takes marks out and rounds off, and keeps the damage of checks that are kept.
 pub fn restart_after_a_replay()
     ensures back { restarted replay_history (AtCheck 1 ∷ Now ∷ [])
         ≡ record { incarnation = 1; tape = Send 1 0 (0x61 ∷ []) ∷ Check (0xa1 ∷ []) None ∷ [] } ∷ living [] ∷ [] }

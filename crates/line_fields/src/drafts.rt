@@ -12,8 +12,8 @@ use std::marker::Model;
 
 /// A record that is put together to be written. Its fields need no quotes.
 ///
-/// Each call that adds a field takes memory in proportion to that field. Where a growth is refused the
-/// draft has no fields any more.
+/// Each call that adds a field takes memory in proportion to that field. Where a growth is refused
+/// the draft has no fields any more.
 #[derive(Drop)]
 pub struct Draft {
     pub(crate) record: ByteRecord,

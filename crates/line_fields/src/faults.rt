@@ -33,8 +33,8 @@ pub enum Fault {
     /// A process is barred at a check that is not lower than its bar before.
     #[error("BarNotLower")]
     BarNotLower,
-    /// An unknown first field or mode, a wrong number of fields, a record out of its place, or a byte
-    /// that no text has.
+    /// An unknown first field or mode, a wrong number of fields, a record out of its place, or a
+    /// byte that no text has.
     #[error("BadRecord")]
     BadRecord,
     /// A field isn't a number of its range, or isn't pairs of hexadecimal digits.

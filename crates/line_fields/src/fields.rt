@@ -30,9 +30,9 @@ static VALUES: [u8; 256] = [
 
 /// The number that the digits of a field spell, leading zeros among them, in a range.
 ///
-/// Refused as `BadNumber`: a field that is empty, has a byte that is no digit, or spells a number below
-/// `least` or above `most`. It takes no memory, and looks at no digit past the one that makes the
-/// number too great.
+/// Refused as `BadNumber`: a field that is empty, has a byte that is no digit, or spells a number
+/// below `least` or above `most`. It takes no memory, and looks at no digit past the one that makes
+/// the number too great.
 pub fn number(text: &[u8], least: u64, most: u64) -> Result<u64, Fault>
     ensures exact { result ≡ num least most text.now }
     ensures within { IfOk result (λ n. (least ≤ n) × (n ≤ most)) }
@@ -98,8 +98,8 @@ pub fn hex_into(bytes: &mut Vec<u8>, text: &[u8]) -> Result<(), ReadError>
 
 /// The bytes that the hexadecimal digits of a field spell, two digits of either case for each byte.
 ///
-/// Refused as `BadNumber`: a field with an odd number of bytes, or with one that is no digit. An empty
-/// field spells no bytes. It grows once, by as many bytes as the field spells.
+/// Refused as `BadNumber`: a field with an odd number of bytes, or with one that is no digit. An
+/// empty field spells no bytes. It grows once, by as many bytes as the field spells.
 pub fn hex(alloc: Global, text: &[u8]) -> Result<Vec<u8>, ReadError>
     ensures { Gives (λ v. v.items) result (spec.hex text.now) }
 {

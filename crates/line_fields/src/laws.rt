@@ -17,8 +17,8 @@ pub fn bytes_are_read_again()
     ensures { (bytes : List ℕ) → AllByRecursion (λ byte. byte < 256) bytes → hex (hex_text bytes) ≡ Ok bytes }
 {}
 
-/// Records that are written make an input text, and are the records of that text. So no other records
-/// have the same text.
+/// Records that are written make an input text, and are the records of that text. So no other
+/// records have the same text.
 pub fn records_are_read_again()
     ensures plain { (records : List Record) → list_all is_written records ≡ true → is_input_text (records_text records) ≡ true }
     ensures same { (records : List Record) → list_all is_written records ≡ true → records_of_text (records_text records) ≡ records }

@@ -1,5 +1,5 @@
-//! Records of texts: which bytes a text may have, its records and their fields, the numbers and bytes
-//! that fields spell, and how records are written.
+//! Records of texts: which bytes a text may have, its records and their fields, the numbers and
+//! bytes that fields spell, and how records are written.
 #![tactic(auto)]
 
 mod bytes;

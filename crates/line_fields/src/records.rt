@@ -154,8 +154,9 @@ impl<'a> RecordReader<'a> {
 
     /// Puts the next record in place of the row's fields, and says whether there was one.
     ///
-    /// After the last record, and after want of memory, nothing is left and the row has no fields. An
-    /// error of `csv` is answered as want of memory. It takes time in proportion to the bytes read.
+    /// After the last record, and after want of memory, nothing is left and the row has no fields.
+    /// An error of `csv` is answered as want of memory. It takes time in proportion to the bytes
+    /// read.
     pub fn next_row(&mut self, row: &mut Row) -> Result<bool, AllocError>
         ensures ok { IfOk result (λ found. MatchBool found (self.old ≡ row.new ∷ self.new) ((self.old ≡ []) × (self.new ≡ []) × (row.new ≡ []))) }
         ensures err { OnErr result ((self.new ≡ []) × (row.new ≡ [])) }

@@ -16,14 +16,14 @@ const MOST_WRITTEN: usize = 32768;
 
 /// The text of the records that were put, each in a line of its own.
 ///
-/// It holds a writer of `csv` with a buffer of some 8 KiB, and up to some 64 KiB more that this writer
-/// has written, beside the text. So one is best kept for many records, and its text taken away from
-/// time to time.
+/// It holds a writer of `csv` with a buffer of some 8 KiB, and up to some 64 KiB more that this
+/// writer has written, beside the text. So one is best kept for many records, and its text taken
+/// away from time to time.
 #[derive(Drop)]
 pub struct RecordWriter {
     alloc: Global,
-    // It writes a record at a time, which is then added to the text: of what it leaves where a growth
-    // is refused nothing is known.
+    // It writes a record at a time, which is then added to the text: of what it leaves where a
+    // growth is refused nothing is known.
     writer: Writer<Vec<u8>>,
     text: Vec<u8>,
 }
@@ -111,7 +111,8 @@ impl RecordWriter {
         }
     }
 
-    /// Writes a record behind those that were put before: its fields joined by commas, and a line feed.
+    /// Writes a record behind those that were put before: its fields joined by commas, and a line
+    /// feed.
     ///
     /// Where a growth is refused, the text stays as it was.
     pub fn put(&mut self, draft: &Draft) -> Result<(), AllocError>

@@ -2,9 +2,10 @@
 ghost use Rattle.std.specs.Prelude.{◌≡◌, Some, None};
 ghost use Rattle.line_tape.specs.declared.events.Event.TheVariants.{Send, Recv, Check, Mark};
 ghost use Rattle.line_tape.specs.Rounds.{has_check_of, is_check_of};
+ghost use Rattle.line_tape.specs.Shown.{shown};
 
 use line_names::{Body, MsgName, ProcId};
-use line_tape::{Event, State, Tape};
+use line_tape::{Event, EventRef, State, Tape};
 
 /// The send of a body.
 pub(crate) fn send_event(to: ProcId, inc: u16, body: Body) -> Event
@@ -45,18 +46,18 @@ pub(crate) fn mark_event(from: ProcId, round: u32) -> Event
 }
 
 /// Whether an event is the check of a round.
-fn is_check(event: &Event, r: u32) -> bool
-    ensures { result ≡ is_check_of r event.now }
+fn is_check(event: &EventRef<'_>, r: u32) -> bool
+    ensures { result ≡ is_check_of r (shown event.now) }
 {
     match event {
-        Event::Send { .. } => false,
-        Event::Recv { .. } => false,
-        Event::Check { round: None, .. } => false,
-        Event::Check {
+        EventRef::Send { .. } => false,
+        EventRef::Recv { .. } => false,
+        EventRef::Check { round: None, .. } => false,
+        EventRef::Check {
             round: Some(round),
             ..
         } => *round == r,
-        Event::Mark { .. } => false,
+        EventRef::Mark { .. } => false,
     }
 }
 
@@ -65,8 +66,7 @@ pub(crate) fn has_check(tape: &Tape, r: u32) -> bool
     ensures { result ≡ has_check_of r tape.now.events }
 {
     for i in 0..tape.len() {
-        let event = tape.event(i);
-        if is_check(event, r) {
+        if is_check(&tape.event(i), r) {
             return true;
         }
     }

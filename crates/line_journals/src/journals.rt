@@ -136,8 +136,8 @@ impl Journal {
         has_check(&self.tape, round)
     }
 
-    /// Makes room for so many further events on the tape, whatever is recorded of rounds. All else is
-    /// as it was, also where memory is out. It costs a constant, but for a tape that grows.
+    /// Makes room for so many further events on the tape, whatever is recorded of rounds. All else
+    /// is as it was, also where memory is out. It costs a constant, but for a tape that grows.
     pub fn reserve_events(&mut self, k: u32) -> Result<(), AllocError>
         ensures tape { self.new.tape ≡ self.old.tape }
         ensures rounds { self.new.rounds ≡ self.old.rounds }

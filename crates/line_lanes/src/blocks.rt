@@ -7,7 +7,8 @@ use std::simd::prelude::*;
 /// How many lanes a block has.
 pub const LANES: usize = 8;
 
-/// The lanes of a block where the first list is over the second, as bits: bit k is the lane k places past the block's start.
+/// The lanes of a block where the first list is over the second, as bits: bit k is the lane k
+/// places past the block's start.
 #[inline(always)]
 pub fn over_bits(a: &[u32], b: &[u32], at: usize) -> u64
     requires first { at + 8 ≤ length a.now }

@@ -3,8 +3,9 @@ use crate::{all_le, count_over, first_over, max_into};
 use std::alloc::Global;
 use std::test::Fail;
 
-/// What the kernels say of so many lanes of 5 beside as many, of which the last is 6 in the first list alone: whether
-/// none is over, the first that is, how many are, and whether the greater of both are the first list.
+/// What the kernels say of so many lanes of 5 beside as many, of which the last is 6 in the first
+/// list alone: whether none is over, the first that is, how many are, and whether the greater of
+/// both are the first list.
 fn told(alloc: Global, n: usize) -> Result<(bool, Option<usize>, usize, bool), Fail> {
     let mut a = Vec::new(alloc);
     let mut b = Vec::new(alloc);

@@ -25,7 +25,13 @@ pub enum Effect {
 
 /// What one process has recorded of rounds, and of each channel to it.
 ///
-/// The messages from one process are kept once for all rounds, and each round keeps where its channels begin and end among them. So a message costs one push, whatever the number of rounds, and is not kept where the channel from its sender is closed in each of them; recording a round costs its processes once; a marker, `channel` and `is_closed` look for their round from the newest on, and a marker passes over the rounds in which its channel is closed, over each once. What is kept stays, also behind rounds that are over: when they are not asked for any more, make a new `Marker` with `latest()` as its floor.
+/// The messages from one process are kept once for all rounds, and each round keeps where its
+/// channels begin and end among them. So a message costs one push, whatever the number of rounds,
+/// and is not kept where the channel from its sender is closed in each of them; recording a round
+/// costs its processes once; a marker, `channel` and `is_closed` look for their round from the
+/// newest on, and a marker passes over the rounds in which its channel is closed, over each once.
+/// What is kept stays, also behind rounds that are over: when they are not asked for any more, make
+/// a new `Marker` with `latest()` as its floor.
 #[derive(Drop)]
 pub struct Marker {
     alloc: Global,
@@ -71,7 +77,8 @@ fn are_closed(spans: &[Span], me: ProcId) -> bool
     true
 }
 
-/// In how many rounds from the first on the channel from a process is closed, where it is in the first `known`. It looks at each further one.
+/// In how many rounds from the first on the channel from a process is closed, where it is in the
+/// first `known`. It looks at each further one.
 fn further(rounds: &[Round], p: usize, known: usize) -> usize
     requires over { AreOver p known rounds.now }
     requires spans { (i : ℕ) (d : RoundView) → i < length rounds.now → p < length (slice_index_or rounds.now i d).spans }
@@ -90,7 +97,8 @@ fn further(rounds: &[Round], p: usize, known: usize) -> usize
 }
 
 impl Marker {
-    /// What process `me` of `n` has recorded before it has done anything; rounds up to `floor` are old.
+    /// What process `me` of `n` has recorded before it has done anything; rounds up to `floor` are
+    /// old.
     pub fn new(alloc: Global, n: u32, me: ProcId, floor: u32) -> Result<Marker, AllocError>
         requires { me < n }
         ensures n { IfOk result (λ marker. marker.n ≡ n) }
@@ -128,7 +136,8 @@ impl Marker {
         }
     }
 
-    /// Where the round of this number stands, if it is recorded. It looks at the rounds from the newest on.
+    /// Where the round of this number stands, if it is recorded. It looks at the rounds from the
+    /// newest on.
     fn place(&self, round: u32) -> Option<usize>
         ensures { MatchOption result (round_of self.now.rounds round ≡ None)
             (λ i. (i < length self.now.rounds)
@@ -201,7 +210,8 @@ impl Marker {
 
     /// The process records its state for a round of its own.
     ///
-    /// Its caller puts a marker on each outgoing channel before any further message. It refuses a round that is not greater than `latest()`, so a number is taken once.
+    /// Its caller puts a marker on each outgoing channel before any further message. It refuses a
+    /// round that is not greater than `latest()`, so a number is taken once.
     pub fn begin(&mut self, round: u32) -> Result<(), BeginError>
         ensures ok { OnOk result (self.new.rounds ≡ with_round self.old.rounds self.old.n round) }
         ensures err { OnErr result (self.new.rounds ≡ self.old.rounds) }
@@ -219,7 +229,8 @@ impl Marker {
 
     /// A marker has come from another process.
     ///
-    /// Where the answer is `Forced`, its caller has to record the state before anything else, and to put a marker on each outgoing channel, as after `begin`.
+    /// Where the answer is `Forced`, its caller has to record the state before anything else, and
+    /// to put a marker on each outgoing channel, as after `begin`.
     pub fn on_marker(&mut self, from: ProcId, round: u32) -> Result<Effect, MarkerError>
         requires process { from < self.old.n }
         requires other { from ≢ self.old.me }
@@ -250,9 +261,11 @@ impl Marker {
         }
     }
 
-    /// A message has come from another process. Each recorded round whose channel from its sender is not closed has it from now on.
+    /// A message has come from another process. Each recorded round whose channel from its sender
+    /// is not closed has it from now on.
     ///
-    /// Its cost is one push, whatever the number of rounds. Where the channel from its sender is closed in each recorded round, nothing is kept.
+    /// Its cost is one push, whatever the number of rounds. Where the channel from its sender is
+    /// closed in each recorded round, nothing is kept.
     pub fn note(&mut self, message: MsgName) -> Result<(), AllocError>
         requires process { message.from < self.old.n }
         requires other { message.from ≢ self.old.me }
@@ -268,7 +281,8 @@ impl Marker {
         self.logs.push(message)
     }
 
-    /// The messages noted from a process after the round was recorded and before its marker came from there, in their order; none where the round is not recorded.
+    /// The messages noted from a process after the round was recorded and before its marker came
+    /// from there, in their order; none where the round is not recorded.
     pub fn channel(&self, from: ProcId, round: u32) -> Option<&[MsgName]>
         requires { from < self.now.n }
         ensures { let messages = messages_by (round_of self.now.rounds round) from in
@@ -284,7 +298,8 @@ impl Marker {
         }
     }
 
-    /// Whether the round is recorded and a marker of it has come from each other process. It looks at each.
+    /// Whether the round is recorded and a marker of it has come from each other process. It looks
+    /// at each.
     pub fn is_closed(&self, round: u32) -> bool
         ensures { IsTrue result ↔ IsOver self.now round }
     {
@@ -297,9 +312,11 @@ impl Marker {
         }
     }
 
-    /// Makes room: the next call of `begin` or `on_marker` takes no memory. A further one may use it up.
+    /// Makes room: the next call of `begin` or `on_marker` takes no memory. A further one may use
+    /// it up.
     ///
-    /// It looks at no log of messages: who notes none before the next round makes room by this call alone.
+    /// It looks at no log of messages: who notes none before the next round makes room by this call
+    /// alone.
     pub fn reserve_round(&mut self) -> Result<(), AllocError>
         ensures rounds { self.new.rounds ≡ self.old.rounds }
         ensures same { IsSameProcess self.old self.new }
@@ -313,7 +330,8 @@ impl Marker {
         self.rounds.reserve(1)
     }
 
-    /// Makes room: the next call of `begin`, `on_marker` or `note` takes no memory. A further one may use it up.
+    /// Makes room: the next call of `begin`, `on_marker` or `note` takes no memory. A further one
+    /// may use it up.
     pub fn reserve(&mut self) -> Result<(), AllocError>
         ensures rounds { self.new.rounds ≡ self.old.rounds }
         ensures same { IsSameProcess self.old self.new }

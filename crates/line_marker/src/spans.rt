@@ -5,7 +5,8 @@ ghost use Rattle.line_marker.specs.Spans.{closed, channel_of, is_over, IsWithin}
 use line_names::MsgName;
 use std::marker::Model;
 
-/// A channel of a round: how many messages of its sender were kept when the round was recorded, and when its marker came.
+/// A channel of a round: how many messages of its sender were kept when the round was recorded, and
+/// when its marker came.
 #[derive(Clone, Copy)]
 pub enum Span {
     Open { start: usize },

@@ -1,6 +1,10 @@
-//! What each kind of step does to the tapes, the links and the rounds: the lower half of the core machine.
+//! What each kind of step does to the tapes, the links and the rounds: the lower half of the core
+//! machine.
 //!
-//! A move is done on its own parts: a catalogue of the tapes, the `Links`, the round of markers or of colours that is open, and the listed ones. It takes all the memory that it wants before it changes a tape. What refuses a step, what it is told, and that what a move leaves are again the tapes, links and rounds of a machine, is asked and proved above.
+//! A move is done on its own parts: a catalogue of the tapes, the `Links`, the round of markers or
+//! of colours that is open, and the listed ones. It takes all the memory that it wants before it
+//! changes a tape. What refuses a step, what it is told, and that what a move leaves are again the
+//! tapes, links and rounds of a machine, is asked and proved above.
 #![tactic(auto)]
 
 mod counts;

@@ -125,7 +125,8 @@ impl Row {
         queue.counted = 0;
     }
 
-    /// Counts a message more on the link to a process, and makes room for all that were counted there.
+    /// Counts a message more on the link to a process, and makes room for all that were counted
+    /// there.
     pub(crate) fn count(&mut self, to: ProcId, most: usize) -> Result<(), AllocError>
         requires to { to < length self.old }
         requires fewer { (queue_to self.old to).counted < most }
@@ -186,7 +187,8 @@ impl Model for Links {
 }
 
 impl Links {
-    /// The links between `n` processes that have done nothing yet: an empty queue for each two of them.
+    /// The links between `n` processes that have done nothing yet: an empty queue for each two of
+    /// them.
     pub fn new(alloc: Global, n: u32) -> Result<Links, AllocError>
         ensures { IfOk result (λ links. links ≡ replicate n (replicate n [])) }
     {
@@ -238,7 +240,8 @@ impl Links {
         row.push(to, item)
     }
 
-    /// Puts an item at the end of each link from a process to another, or on none where memory doesn't suffice.
+    /// Puts an item at the end of each link from a process to another, or on none where memory
+    /// doesn't suffice.
     ///
     /// It makes room on each of them first, and then pushes once on each: no link is copied.
     pub(crate) fn push_each(&mut self, from: ProcId, item: Item) -> Result<(), AllocError>

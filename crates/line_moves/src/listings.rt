@@ -102,8 +102,8 @@ impl Listing {
         self.climbs = climbs;
     }
 
-    /// Leaves the rounds of which a restart at the line cuts no check. It takes no memory, and looks
-    /// at those that go and at one more, where checks climb, and else at each.
+    /// Leaves the rounds of which a restart at the line cuts no check. It takes no memory, and
+    /// looks at those that go and at one more, where checks climb, and else at each.
     pub fn keep(&mut self, line: &Line)
         ensures { self.new.items ≡ filter (stays line.now) self.old.items }
     {

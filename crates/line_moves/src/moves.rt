@@ -1,6 +1,8 @@
-//! What steps with messages, and checks without a round, do to the tapes, the links and the open round.
+//! What steps with messages, and checks without a round, do to the tapes, the links and the open
+//! round.
 //!
-//! All room is made first, so that where memory does not suffice the tapes and the marks are as they were, and the links hold what they held.
+//! All room is made first, so that where memory does not suffice the tapes and the marks are as
+//! they were, and the links hold what they held.
 ghost use Rattle.std.specs.Prelude.{◌≡◌, ◌≢◌, ◌<◌, ◌≤◌, ◌+◌, ◌++◌, ◌∷◌, [], length, slice_index_or, IfOk, OnOk, OnErr, Option, None};
 ghost use Rattle.line_tape.specs.declared.events.Event.TheVariants.{Send as SendEvent, Recv as RecvEvent, Check as CheckEvent};
 ghost use Rattle.line_tape.specs.declared.items.Item.TheVariants.{Message};
@@ -39,7 +41,8 @@ pub(crate) fn add_event(catalogue: &mut Catalogue, p: ProcId, event: Event)
     catalogue.append(p, event);
 }
 
-/// Sends a message, and tells its name: the event on the sender's tape, and the item at the end of the link.
+/// Sends a message, and tells its name: the event on the sender's tape, and the item at the end of
+/// the link.
 ///
 /// It costs a push on each, and a copy of the body.
 pub fn put_message(
@@ -114,7 +117,8 @@ fn note_message(
     }
 }
 
-/// Takes a message that forces no check: the event on the receiver's tape, the item off the link where it keeps its order, and a note of it for the open round.
+/// Takes a message that forces no check: the event on the receiver's tape, the item off the link
+/// where it keeps its order, and a note of it for the open round.
 ///
 /// It costs a push on each.
 pub fn take_message(

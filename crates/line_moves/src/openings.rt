@@ -19,7 +19,8 @@ use line_turns::{SharedChannels, Turning};
 use std::alloc::{AllocError, Global};
 use std::marker::Model;
 
-/// A round of markers that was begun and isn't completed yet: its checks so far, and what each process has recorded.
+/// A round of markers that was begun and isn't completed yet: its checks so far, and what each
+/// process has recorded.
 #[derive(Drop)]
 pub struct OpenRound {
     turning: Turning,
@@ -37,7 +38,8 @@ impl Model for OpenRound {
     ghost invariant = { λ r. AreMarkers (length r.turning.checks) r.markers.items };
 }
 
-/// What each of `n` processes has recorded before it has done anything; rounds up to `floor` are old.
+/// What each of `n` processes has recorded before it has done anything; rounds up to `floor` are
+/// old.
 fn fresh_markers(alloc: Global, n: u32, floor: u32) -> Result<Vec<Marker>, AllocError>
     requires { n ≤ MOST_PROCESSES }
     ensures markers { IfOk result (λ markers. AreMarkers n markers.items) }
@@ -179,7 +181,8 @@ impl OpenRound {
         true
     }
 
-    /// The round as it is listed once it is completed. It takes no memory, and looks at each channel.
+    /// The round as it is listed once it is completed. It takes no memory, and looks at each
+    /// channel.
     pub(crate) fn completed(self, alloc: Global, history: &History) -> Round
         requires recording { IsRecording history.now.processes self }
         requires completed { is_completed_fifo history.now.processes self.number ≡ true }
@@ -261,7 +264,8 @@ pub(crate) fn hear(
 
 /// Lists the round of markers if it is completed, and else gives it back.
 ///
-/// It takes no memory, and looks at each channel of the processes up to the first that has not all its markers.
+/// It takes no memory, and looks at each channel of the processes up to the first that has not all
+/// its markers.
 pub fn still_open(
     alloc: Global,
     running: Option<OpenRound>,
@@ -286,7 +290,8 @@ pub fn still_open(
     }
 }
 
-/// Lists the round of colours if it is completed, and what is in transit at its checks is therefore given; and else gives it back.
+/// Lists the round of colours if it is completed, and what is in transit at its checks is therefore
+/// given; and else gives it back.
 pub(crate) fn still_turning(
     alloc: Global,
     turning: Turning,

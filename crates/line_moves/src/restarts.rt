@@ -63,7 +63,8 @@ fn clear_rows(rows: &mut Vec<Row>)
     }
 }
 
-/// Leaves on the links what stays there through a restart: the copies, and nothing where links keep their order.
+/// Leaves on the links what stays there through a restart: the copies, and nothing where links keep
+/// their order.
 fn keep_copies(mode: Mode, rows: &mut Vec<Row>)
     ensures kept { (p q : ℕ) → between (map items_of rows.new.items) p q ≡ between (copies_in mode (map items_of rows.old.items)) p q }
     ensures queued { (history : List Process) → AreQueues history (map items_of rows.old.items) → AreQueues history (map items_of rows.new.items) }
@@ -75,7 +76,8 @@ fn keep_copies(mode: Mode, rows: &mut Vec<Row>)
     }
 }
 
-/// Puts each message at the end of the link to the process that its send names, in order, in room made for it.
+/// Puts each message at the end of the link to the process that its send names, in order, in room
+/// made for it.
 fn put_messages(history: &History, messages: &[MsgName], rows: &mut Vec<Row>)
     requires queued { AreQueues history.now.processes (map items_of rows.old.items) }
     requires room { HaveRoom history.now.processes messages.now 0 rows.old.items }
@@ -92,9 +94,12 @@ fn put_messages(history: &History, messages: &[MsgName], rows: &mut Vec<Row>)
     }
 }
 
-/// Has the links hold what is in transit at a line, beside the copies that they held before; or nothing else than before, where memory doesn't suffice.
+/// Has the links hold what is in transit at a line, beside the copies that they held before; or
+/// nothing else than before, where memory doesn't suffice.
 ///
-/// Given what is in transit, it looks three times at each message there, and no copy is moved. Links in order are emptied: those from the processes on whose links something was put since they were emptied before.
+/// Given what is in transit, it looks three times at each message there, and no copy is moved.
+/// Links in order are emptied: those from the processes on whose links something was put since they
+/// were emptied before.
 pub fn restart_links(
     mode: Mode,
     history: &History,

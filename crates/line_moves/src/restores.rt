@@ -30,7 +30,8 @@ fn restored(
     }
 }
 
-/// The bytes that each process goes on from: a copy of the state of its check, and none where it stays where it stands.
+/// The bytes that each process goes on from: a copy of the state of its check, and none where it
+/// stays where it stands.
 pub fn restored_states(
     alloc: Global,
     history: &History,

@@ -1,7 +1,7 @@
 //! What the steps of a round do to the tapes, the links, the colours and the rounds.
 //!
-//! All room is made first, so that where memory does not suffice the tapes and the marks are as they
-//! were.
+//! All room is made first, so that where memory does not suffice the tapes and the marks are as
+//! they were.
 ghost use Rattle.std.specs.Prelude.{◌≡◌, ◌≢◌, ◌<◌, ◌≤◌, ◌+◌, ℕ, ◌∷◌, [], length, true, false, slice_get, All, IfOk, OnOk, OnErr, Option, Some, None};
 ghost use Rattle.line_tape.specs.declared.events.Event.TheVariants.{Check as CheckEvent, Mark as MarkEvent};
 ghost use Rattle.line_tape.specs.declared.items.Item.TheVariants.{Marker};
@@ -31,7 +31,9 @@ use line_tape::{Event, Item, LAST_ROUND, MOST_EVENTS, MOST_STATE, State};
 use line_turns::{Colours, SharedChannels, Turning};
 use std::alloc::{AllocError, Global};
 
-/// Begins the round of markers after the last one: the check on the tape of a process, and a marker on each link from it to another. It tells the round, which is open now, and the index of the check.
+/// Begins the round of markers after the last one: the check on the tape of a process, and a marker
+/// on each link from it to another. It tells the round, which is open now, and the index of the
+/// check.
 ///
 /// It makes what each process records of the round (Chandy and Lamport, ACM TOCS 3(1), 1985).
 pub fn begin_round(
@@ -69,7 +71,8 @@ pub fn begin_round(
     Ok((running, check))
 }
 
-/// The marker of the open round has a process take its check: the check and the mark on its tape, a marker on each link from it to another, and the marker that came off its link.
+/// The marker of the open round has a process take its check: the check and the mark on its tape, a
+/// marker on each link from it to another, and the marker that came off its link.
 fn force_round(
     alloc: Global,
     catalogue: &mut Catalogue,
@@ -110,7 +113,8 @@ fn force_round(
     Ok(())
 }
 
-/// The marker of a round has come to a process that has its check of it: the mark on its tape, and the marker off its link.
+/// The marker of a round has come to a process that has its check of it: the mark on its tape, and
+/// the marker off its link.
 fn hear_round(
     catalogue: &mut Catalogue,
     links: &mut Links,
@@ -141,9 +145,11 @@ fn hear_round(
     Ok(())
 }
 
-/// Takes the marker that is first on a link, after the check of its round where the process has none: `forced` is what `is_forced` says.
+/// Takes the marker that is first on a link, after the check of its round where the process has
+/// none: `forced` is what `is_forced` says.
 ///
-/// A forced check puts a marker on each link from the process to another; else it costs a look at the channels of the process.
+/// A forced check puts a marker on each link from the process to another; else it costs a look at
+/// the channels of the process.
 pub fn take_marker(
     alloc: Global,
     catalogue: &mut Catalogue,
@@ -182,7 +188,9 @@ pub fn take_marker(
     }
 }
 
-/// A process takes its check of the round of colours that is open: the check on its tape, its new colour, and what is in transit at the round's checks if this was the last of them. There is room for some further events of the process then.
+/// A process takes its check of the round of colours that is open: the check on its tape, its new
+/// colour, and what is in transit at the round's checks if this was the last of them. There is room
+/// for some further events of the process then.
 fn take_turn(
     alloc: Global,
     catalogue: &mut Catalogue,
@@ -228,9 +236,10 @@ fn take_turn(
     Ok((check, channels))
 }
 
-/// A process takes its check of the round of colours that is open, which has number `_round` (Lai and
-/// Yang, Information Processing Letters 25(3), 1987), and the index of the check is told. The round is
-/// listed if this was the last of its checks. There is room for `further` events of the process then.
+/// A process takes its check of the round of colours that is open, which has number `_round` (Lai
+/// and Yang, Information Processing Letters 25(3), 1987), and the index of the check is told. The
+/// round is listed if this was the last of its checks. There is room for `further` events of the
+/// process then.
 ///
 /// The last check of a round costs a step for each process where nothing was sent or received since
 /// the checks of the round before. Else it looks at what was sent and received since channels were

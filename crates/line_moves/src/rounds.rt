@@ -20,7 +20,8 @@ use line_turns::{SharedChannels, Turning};
 use std::alloc::{AllocError, Global};
 use std::marker::Model;
 
-/// A completed round: a check of each process, which make a consistent line, and what was on its way between each two of them.
+/// A completed round: a check of each process, which make a consistent line, and what was on its
+/// way between each two of them.
 #[derive(Drop)]
 pub struct Round {
     number: u32,
@@ -66,7 +67,9 @@ impl Round {
 
     /// What was on its way from one process to another at these checks, by number.
     ///
-    /// By markers it is what was received behind the receiver's check and before the sender's marker; by colours, what was sent before the sender's check and not received before the receiver's.
+    /// By markers it is what was received behind the receiver's check and before the sender's
+    /// marker; by colours, what was sent before the sender's check and not received before the
+    /// receiver's.
     pub fn channel(&self, from: ProcId, to: ProcId) -> &[MsgName]
         requires from { from < length self.now.checks }
         requires to { to < length self.now.checks }
@@ -181,8 +184,8 @@ impl Round {
     }
 }
 
-/// What process `to` recorded of the channel from process `from` in a round; nothing where it is not
-/// among these. It looks for it from the first.
+/// What process `to` recorded of the channel from process `from` in a round; nothing where it is
+/// not among these. It looks for it from the first.
 fn recorded(markers: &[Marker], round: u32, from: ProcId, to: ProcId) -> &[MsgName]
     requires { All (λ (marker : MarkerView). from < marker.n) markers.now }
     ensures { result.now ≡ kept_channel markers.now round from to }

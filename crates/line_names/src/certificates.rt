@@ -4,7 +4,8 @@ use crate::choices::Choice;
 use crate::messages::MsgName;
 use crate::processes::ProcId;
 
-/// An entry of a certificate: a choice that was passed over, and a message that is an orphan where it is kept.
+/// An entry of a certificate: a choice that was passed over, and a message that is an orphan where
+/// it is kept.
 #[derive(Clone, Copy, Debug, PartialEq, Eq, Hash)]
 pub struct Passed {
     pub at: ProcId,

@@ -4,7 +4,8 @@ ghost use Rattle.line_names.specs.Order.{IsNoLater};
 
 /// A place where a process may go on from: one of its checks, or where it stands now.
 ///
-/// Check 0 is the initial state; the others are numbered from 1 as they were taken. `Now` is later than every check, also where nothing happened since the last one.
+/// Check 0 is the initial state; the others are numbered from 1 as they were taken. `Now` is later
+/// than every check, also where nothing happened since the last one.
 #[derive(Clone, Copy, Debug, PartialEq, Eq, PartialOrd, Ord, Hash)]
 pub enum Choice {
     Check(u32),

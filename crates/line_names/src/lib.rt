@@ -1,6 +1,7 @@
 //! What processes, messages, choices, lines and certificates are called.
 //!
-//! These are the words that every other crate of recline speaks in. Nothing here takes memory, but for a `Certificate` that grows.
+//! These are the words that every other crate of recline speaks in. Nothing here takes memory, but
+//! for a `Certificate` that grows.
 #![tactic(auto)]
 
 mod bodies;

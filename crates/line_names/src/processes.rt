@@ -10,7 +10,8 @@ use std::marker::Model;
 
 /// The number of a process, from 0.
 ///
-/// It is below `MOST_PROCESSES`; whether a computation has that process is asked where one is at hand.
+/// It is below `MOST_PROCESSES`; whether a computation has that process is asked where one is at
+/// hand.
 #[derive(Clone, Copy, Debug, PartialEq, Eq, PartialOrd, Ord, Hash)]
 pub struct ProcId {
     value: u32,

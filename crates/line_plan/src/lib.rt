@@ -1,4 +1,5 @@
-//! The planner: the latest line of surviving choices that has no orphan, and a certificate that it is.
+//! The planner: the latest line of surviving choices that has no orphan, and a certificate that it
+//! is.
 #![tactic(auto)]
 
 mod dirty;

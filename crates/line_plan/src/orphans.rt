@@ -9,7 +9,8 @@ use line_names::{Line, MsgName, ProcId};
 use line_tape::{History, orphan_among};
 use line_vectors::{LAST_NUMBER, Sent};
 
-/// The name of a process's message of that number: under the incarnation of that send, or under the present one where it is still to come.
+/// The name of a process's message of that number: under the incarnation of that send, or under the
+/// present one where it is still to come.
 fn name_of(history: &History, p: ProcId, number: u32) -> MsgName
     requires { p < length history.now.processes }
     ensures { result ≡ named history.now.processes p number }
@@ -28,9 +29,11 @@ fn name_of(history: &History, p: ProcId, number: u32) -> MsgName
     }
 }
 
-/// An orphan at a process, if there is one: of several that of the lowest sender, and of that sender the one with the greatest number.
+/// An orphan at a process, if there is one: of several that of the lowest sender, and of that
+/// sender the one with the greatest number.
 ///
-/// It looks at the lanes of one vector. Where the lane of the lowest sender stands for a number past the last that a lane can tell, it looks at each event before the choice.
+/// It looks at the lanes of one vector. Where the lane of the lowest sender stands for a number
+/// past the last that a lane can tell, it looks at each event before the choice.
 pub fn orphan_at(catalogue: &Catalogue, line: &Line, sent: &Sent, at: ProcId) -> Option<MsgName>
     requires line { IsLine catalogue.now.processes line.now }
     requires process { at < length catalogue.now.processes }
@@ -47,7 +50,7 @@ pub fn orphan_at(catalogue: &Catalogue, line: &Line, sent: &Sent, at: ProcId) ->
             if lane < LAST_NUMBER {
                 Some(name_of(history, p, lane - 1))
             } else {
-                orphan_among(history, line, history.tape(at).front(choice))
+                orphan_among(history, line, &history.tape(at).front(choice))
             }
         }
         None => None,

@@ -40,7 +40,8 @@ fn first_ceilings(catalogue: &Catalogue, failed: &ProcSet) -> Line
     line
 }
 
-/// Notes each process to be visited that has received, at any time, a message of p past so many first ones. It looks at one lane of each process.
+/// Notes each process to be visited that has received, at any time, a message of p past so many
+/// first ones. It looks at one lane of each process.
 fn mark_hearers(catalogue: &Catalogue, p: ProcId, count: u32, dirty: &mut Dirty)
     requires process { p < length catalogue.now.processes }
     requires few { count < LAST_NUMBER }
@@ -56,7 +57,8 @@ fn mark_hearers(catalogue: &Catalogue, p: ProcId, count: u32, dirty: &mut Dirty)
     }
 }
 
-/// Passes the choice of a process over, for an orphan that it has received; whoever received what it has then no longer sent is to be visited.
+/// Passes the choice of a process over, for an orphan that it has received; whoever received what
+/// it has then no longer sent is to be visited.
 fn pass_over(
     catalogue: &Catalogue,
     failed: &ProcSet,
@@ -163,7 +165,8 @@ fn visit_dirty(
     Ok(lowered)
 }
 
-/// Visits each process that is to be visited once, in their order, and says whether one was lowered.
+/// Visits each process that is to be visited once, in their order, and says whether one was
+/// lowered.
 fn sweep(
     catalogue: &Catalogue,
     failed: &ProcSet,
@@ -209,11 +212,20 @@ fn sents_before(alloc: Global, catalogue: &Catalogue, line: &Line) -> Result<Sen
 
 /// Plans the latest line of surviving choices that has no orphan.
 ///
-/// The ceilings start at each process's latest surviving choice. A sweep visits the processes in the order of their numbers; at a visit a process is lowered to its next lower surviving choice while it has received an orphan, and each choice passed over is written down with the orphan from the lowest sender, of its messages the one with the greatest number. Sweeps go on until one lowers nothing; that one counts too.
+/// The ceilings start at each process's latest surviving choice. A sweep visits the processes in
+/// the order of their numbers; at a visit a process is lowered to its next lower surviving choice
+/// while it has received an orphan, and each choice passed over is written down with the orphan
+/// from the lowest sender, of its messages the one with the greatest number. Sweeps go on until one
+/// lowers nothing; that one counts too.
 ///
-/// The first sweep visits all processes. A later one visits those alone that received, from a process lowered since their last visit, a message that is no longer sent: no other one can have an orphan. So the line, the entries and the sweeps are those of visiting all.
+/// The first sweep visits all processes. A later one visits those alone that received, from a
+/// process lowered since their last visit, a message that is no longer sent: no other one can have
+/// an orphan. So the line, the entries and the sweeps are those of visiting all.
 ///
-/// Each choice passed over costs one look at a vector, and at one lane of each process; a visit that lowers nothing costs a look at a vector. At the end `Catalogue::transit` tells what is in transit at the line. Where nobody failed that is all: one look at a vector for each process, and at what `transit` looks at.
+/// Each choice passed over costs one look at a vector, and at one lane of each process; a visit
+/// that lowers nothing costs a look at a vector. At the end `Catalogue::transit` tells what is in
+/// transit at the line. Where nobody failed that is all: one look at a vector for each process, and
+/// at what `transit` looks at.
 pub fn plan(alloc: Global, catalogue: &Catalogue, failed: &ProcSet) -> Result<Plan, PlanError>
     ensures latest { IfOk result (λ plan. IsLatest catalogue.now.processes catalogue.now.marks failed.now plan.line) }
     ensures chain { IfOk result (λ plan.

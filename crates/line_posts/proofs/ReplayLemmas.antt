@@ -1,15 +1,16 @@
 -- What links hold where a generation begins, read off the tapes.
-use Rattle.std.proofs.Common.{add-one, cond, zero, suc, ◌≡◌, ◌∙◌, ◌+◌, ◌-◌, ◌++◌, ◌∷◌, [], ℕ, List, Option, Some, None, length, take, drop, refl, sym, ap, inl, inr, arith}
+use Rattle.std.proofs.Common.{add-one, cond, zero, suc, ◌≡◌, ◌∙◌, ◌+◌, ◌-◌, ◌++◌, ◌∷◌, [], ℕ, List, Option, Some, None, length, take, drop, refl, sym, ap, subst, inl, inr, arith}
 use Rattle.std.specs.Prelude.{slice_get}
 use Rattle.std.specs.List.{filter_map, cons_option}
 use Rattle.std.proofs.lemmas.Bool.{cases_lt, eq-eqb, ne_eqb}
 use Rattle.std.proofs.lemmas.List.{length-append, length_push, get_or_past, get_or_push, get_or_append_left}
 use Rattle.std.proofs.lemmas.List.Elements.{filter_map-append}
+use Rattle.std.proofs.lemmas.Option.{get_or_from_slice_get, slice_get_within}
 use Rattle.line_tape.specs.declared.events.Event.{Event}
 use Rattle.line_tape.specs.declared.events.Event.TheVariants.{Send, Check}
-use Rattle.line_tape.specs.Event.{sends, incarnation_of, incarnations_sent}
+use Rattle.line_tape.specs.Event.{sends, incarnation_of, incarnations_sent, IsShort}
 use Rattle.line_tape.specs.Fit.{item_received, received}
-use Rattle.line_tape.specs.History.{Process}
+use Rattle.line_tape.specs.History.{Process, IsTape}
 use Rattle.line_tape.specs.Rounds.{checked_round, rounds_checked}
 use Rattle.line_tape.proofs.LineLemmas.{tape_at-past}
 use Rattle.line_rings.specs.Ends.{row_at}
@@ -74,6 +75,10 @@ sends_push tape event = ap length (filter_map-append incarnation_of tape (event 
 
 pub takes_push : (p : ℕ) (tape : List Event) (event : Event) → length (filter_map (item_received p) (tape ++ event ∷ [])) ≡ length (filter_map (item_received p) tape) + length (filter_map (item_received p) (event ∷ []))
 takes_push p tape event = ap length (filter_map-append (item_received p) tape (event ∷ [])) ∙ length-append (filter_map (item_received p) tape) (filter_map (item_received p) (event ∷ []))
+
+-- each event of a tape is short
+pub short_at : (tape : List Event) (i : ℕ) (event : Event) → IsTape tape → slice_get tape i ≡ Some event → IsShort event
+short_at tape i event h at = subst IsShort (get_or_from_slice_get tape i event event at) (h.short i event (slice_get_within tape i event at))
 
 pub drop_none : {X : Type 0} (n : ℕ) → drop {A = X} n [] ≡ []
 drop_none zero = refl

@@ -17,7 +17,7 @@ use line_plan::{Plan, PlanError};
 use line_rings::{front_at, look_at, take_at};
 use line_tape::{Event, History};
 use rtrb::Consumer;
-use std::alloc::Global;
+use std::alloc::{AllocError, Global};
 use std::marker::Model;
 use std::snapshot::Snapshot;
 
@@ -81,6 +81,28 @@ fn everyone(n: u32) -> ProcSet
     all
 }
 
+/// The same event in memory of its own.
+fn copied(alloc: Global, event: &Event) -> Result<Event, AllocError>
+    ensures { IfOk result (λ copy. copy ≡ event.now) }
+{
+    match event {
+        Event::Send { to, inc, body } => Ok(Event::Send {
+            to: *to,
+            inc: *inc,
+            body: body.copy(),
+        }),
+        Event::Recv { message } => Ok(Event::Recv { message: *message }),
+        Event::Check { state, round } => Ok(Event::Check {
+            state: state.copy(alloc)?,
+            round: *round,
+        }),
+        Event::Mark { from, round } => Ok(Event::Mark {
+            from: *from,
+            round: *round,
+        }),
+    }
+}
+
 impl Collector {
     /// The history that was collected so far.
     pub fn history(&self) -> &History
@@ -121,7 +143,7 @@ impl Collector {
         if !look_at(&mut self.lines, at) {
             return Ok(false);
         }
-        let Ok(event) = front_at(&self.lines, at).copy(self.alloc) else {
+        let Ok(event) = copied(self.alloc, front_at(&self.lines, at)) else {
             return Err(AddError::OutOfMemory);
         };
         self.catalogue.add(p, event)?;

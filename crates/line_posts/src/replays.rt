@@ -3,30 +3,31 @@ ghost use Rattle.std.specs.Prelude.{◌≡◌, ◌<◌, ◌≤◌, ◌-◌, ◌+
 ghost use Rattle.std.specs.Prelude.{map, drop};
 ghost use Rattle.std.specs.List.{filter_map};
 ghost use Rattle.std.specs.VecDeque.{deque_items};
-ghost use Rattle.line_tape.specs.Event.{sends};
+ghost use Rattle.line_tape.specs.Event.{sends, IsShort};
 ghost use Rattle.line_tape.specs.Fit.{item_received, received};
 ghost use Rattle.line_tape.specs.History.{tape_at};
 ghost use Rattle.line_tape.specs.Rounds.{checked_round};
+ghost use Rattle.line_tape.specs.Shown.{shown};
 ghost use Rattle.line_posts.specs.Parcels.{parcels_of, parcels_sent};
 ghost use Rattle.line_posts.specs.Openings.{parcels_left, ArePlain};
 ghost use Rattle.line_posts.specs.Fleets.{AreReplays};
 
 use crate::parcels::Letter;
-use line_names::{Body, ProcId};
-use line_tape::{Event, History, Tape};
+use line_names::{Body, MOST_BODY, ProcId};
+use line_tape::{EventRef, History, Tape};
 use std::alloc::{AllocError, Global};
 use std::collections::VecDeque;
 
 /// How many things the event takes from process p: one or none.
-fn taken_by(event: &Event, p: ProcId) -> u32
-    ensures value { result ≡ length (filter_map (item_received p) (event.now ∷ [])) }
+fn taken_by(event: &EventRef<'_>, p: ProcId) -> u32
+    ensures value { result ≡ length (filter_map (item_received p) (shown event.now ∷ [])) }
     ensures one { result ≤ 1 }
 {
     match event {
-        Event::Recv { message } => { if message.from.get() == p.get() { 1 } else { 0 } }
-        Event::Mark { from, .. } => { if from.get() == p.get() { 1 } else { 0 } }
-        Event::Send { .. } => 0,
-        Event::Check { .. } => 0,
+        EventRef::Recv { message } => { if message.from.get() == p.get() { 1 } else { 0 } }
+        EventRef::Mark { from, .. } => { if from.get() == p.get() { 1 } else { 0 } }
+        EventRef::Send { .. } => 0,
+        EventRef::Check { .. } => 0,
     }
 }
 
@@ -36,39 +37,41 @@ fn taken_from(tape: &Tape, p: ProcId) -> u32
 {
     let mut count = 0u32;
     for i in 0..tape.len() {
-        count += taken_by(tape.event(i), p);
+        count += taken_by(&tape.event(i), p);
     }
     count
 }
 
 /// A message as a letter.
-fn letter(inc: u16, number: u32, body: &Body) -> Letter
+fn letter(inc: u16, number: u32, body: &[u8]) -> Letter
+    requires { length body.now ≤ MOST_BODY }
     ensures { result ≡ record { inc = inc; number = number; body = body.now } }
 {
     Letter {
         inc,
         number,
-        body: body.copy(),
+        body: Body::try_new(body).unwrap(),
     }
 }
 
 /// Adds the message that an event sends to process q, if that was not received.
 fn note_sent(
-    event: &Event,
+    event: &EventRef<'_>,
     q: ProcId,
     number: u32,
     received: &mut u32,
     letters: &mut VecDeque<Letter>,
 ) -> Result<(), AllocError>
-    requires plain { checked_round event.now ≡ None }
+    requires short { IsShort (shown event.now) }
+    requires plain { checked_round (shown event.now) ≡ None }
     ensures received { OnOk result (received.new
-        ≡ received.old - length (parcels_sent q number (event.now ∷ []))) }
+        ≡ received.old - length (parcels_sent q number (shown event.now ∷ []))) }
     ensures letters { OnOk result (parcels_of (deque_items letters.new)
         ≡ parcels_of (deque_items letters.old)
-        ++ drop received.old (parcels_sent q number (event.now ∷ []))) }
+        ++ drop received.old (parcels_sent q number (shown event.now ∷ []))) }
 {
     match event {
-        Event::Send { to, inc, body } => {
+        EventRef::Send { to, inc, body } => {
             if to.get() != q.get() {
                 return Ok(());
             }
@@ -79,22 +82,22 @@ fn note_sent(
             letters.push_back(letter(*inc, number, body))?;
             Ok(())
         }
-        Event::Recv { .. } => Ok(()),
-        Event::Check { .. } => Ok(()),
-        Event::Mark { .. } => Ok(()),
+        EventRef::Recv { .. } => Ok(()),
+        EventRef::Check { .. } => Ok(()),
+        EventRef::Mark { .. } => Ok(()),
     }
 }
 
 /// How many messages the event sends: one or none.
-fn sent_by(event: &Event) -> u32
-    ensures value { result ≡ sends (event.now ∷ []) }
+fn sent_by(event: &EventRef<'_>) -> u32
+    ensures value { result ≡ sends (shown event.now ∷ []) }
     ensures one { result ≤ 1 }
 {
     match event {
-        Event::Send { .. } => 1,
-        Event::Recv { .. } => 0,
-        Event::Check { .. } => 0,
-        Event::Mark { .. } => 0,
+        EventRef::Send { .. } => 1,
+        EventRef::Recv { .. } => 0,
+        EventRef::Check { .. } => 0,
+        EventRef::Mark { .. } => 0,
     }
 }
 
@@ -117,8 +120,8 @@ fn letters_left(
     let mut letters = VecDeque::new(alloc);
     for i in 0..tape.len() {
         let event = tape.event(i);
-        note_sent(event, q, number, &mut received, &mut letters)?;
-        number += sent_by(event);
+        note_sent(&event, q, number, &mut received, &mut letters)?;
+        number += sent_by(&event);
     }
     Ok(letters)
 }

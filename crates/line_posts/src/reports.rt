@@ -48,7 +48,7 @@ pub(crate) fn copies(
     let _limits = tape.len();
     let mut events = VecDeque::with_capacity(alloc, k as usize)?;
     for i in 0..k {
-        let event = tape.event(from + i).copy(alloc)?;
+        let event = tape.event(from + i).to_event(alloc)?;
         events.push_back(event)?;
     }
     Ok(events)

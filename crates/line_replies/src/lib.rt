@@ -1,4 +1,5 @@
-//! Replies: the records that are written for what the machine answers, and for rounds that were completed.
+//! Replies: the records that are written for what the machine answers, and for rounds that were
+//! completed.
 #![tactic(auto)]
 
 mod replies;

@@ -214,8 +214,8 @@ fn put_barred(
 
 /// Writes the records of a reply behind those that were written before.
 ///
-/// Where a growth is refused, a front of the reply may be written. The draft is room for one record at a
-/// time, and what it held is lost.
+/// Where a growth is refused, a front of the reply may be written. The draft is room for one record
+/// at a time, and what it held is lost.
 pub fn put_reply(
     writer: &mut RecordWriter,
     draft: &mut Draft,
@@ -249,8 +249,8 @@ pub fn put_reply(
     }
 }
 
-/// Writes `refused,CODE,NAME` behind the records that were written before, which stay as they are where
-/// a growth is refused.
+/// Writes `refused,CODE,NAME` behind the records that were written before, which stay as they are
+/// where a growth is refused.
 pub fn put_refusal(
     writer: &mut RecordWriter,
     draft: &mut Draft,

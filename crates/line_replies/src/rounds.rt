@@ -28,8 +28,8 @@ fn add_round(draft: &mut Draft, n: u32, round: &Round) -> Result<(), AllocError>
     Ok(())
 }
 
-/// Writes `round,R,C0,C1,..` behind the records that were written before: a round among `n` processes,
-/// with its check of each.
+/// Writes `round,R,C0,C1,..` behind the records that were written before: a round among `n`
+/// processes, with its check of each.
 ///
 /// Where a growth is refused, the text stays as it was. The messages on its channels follow.
 pub fn put_round(
@@ -47,8 +47,8 @@ pub fn put_round(
     writer.put(draft)
 }
 
-/// Writes `channel,R,FROM,TO,INC,NUMBER` behind the records that were written before: a message that was
-/// on a channel as that round was completed.
+/// Writes `channel,R,FROM,TO,INC,NUMBER` behind the records that were written before: a message
+/// that was on a channel as that round was completed.
 ///
 /// Where a growth is refused, the text stays as it was.
 pub fn put_message(

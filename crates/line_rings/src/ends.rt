@@ -29,8 +29,8 @@ pub fn push_on<T>(outs: &mut Vec<Producer<T>>, q: usize, item: T) -> Result<(), 
 /// Whether the ring from process `p` has an item, so far as this end can see; the items seen are
 /// known from here on.
 ///
-/// It moves nothing. Where items are known already it does not ask the ring, whose answer the sender
-/// changes with each push. What is pushed later is seen by a later look.
+/// It moves nothing. Where items are known already it does not ask the ring, whose answer the
+/// sender changes with each push. What is pushed later is seen by a later look.
 pub fn look_at<T>(ins: &mut Vec<Consumer<T>>, p: usize) -> bool
     requires { p < length ins.old.items }
     ensures ends { in_ends ins.new.items ≡ in_ends ins.old.items }

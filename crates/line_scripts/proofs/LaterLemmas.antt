@@ -1,5 +1,5 @@
 -- What version 1 reads, version 2 reads the same.
-use Rattle.std.proofs.Common.{inl, inr, ◌≡◌, ◌≢◌, ◌≤◌, ℕ, Bool, true, false, List, [], ◌∷◌, ◌++◌, Result, Ok, Err, refl, sym, ap, ◌∙◌, arith, length, le-leb}
+use Rattle.std.proofs.Common.{◌≡◌, ◌≢◌, ◌≤◌, ℕ, Bool, true, false, List, ◌∷◌, ◌++◌, Result, Ok, Err, refl, sym, ◌∙◌, arith, length, le-leb}
 use Rattle.std.specs.Prelude.{◌==◌, ◌&&◌, codes, if◌then◌else◌, nat_le}
 use Rattle.std.proofs.lemmas.Bool.{leb-true}
 use Rattle.line_fields.specs.declared.faults.Fault.{Fault}
@@ -11,13 +11,12 @@ use Rattle.line_moves.specs.declared.modes.Mode.{Mode}
 use Rattle.line_claims.specs.declared.faults.TextFault.{TextFault}
 use Rattle.line_claims.specs.declared.versions.TheConstants.{MOST_IN_FIRST_VERSION}
 use Rattle.line_claims.specs.Numbers.{plain}
-use Rattle.line_claims.specs.Reads.{fault_at, numbered}
-use Rattle.line_claims.specs.Texts.{records_in}
+use Rattle.line_claims.specs.Reads.{fault_at}
 use Rattle.line_claims.specs.Versions.{most_in}
 use Rattle.line_claims.proofs.SpellLemmas.{plain_again}
 use Rattle.line_claims.proofs.VersionLemmas.{most_in_later}
 use Rattle.line_scripts.specs.Records.{world_record}
-use Rattle.line_scripts.specs.Scripts.{Script, commands_from, mode_named, script_of, script_of_text, world_of}
+use Rattle.line_scripts.specs.Scripts.{Script, mode_named, script_of, script_of_text, world_of}
 
 -- the number of processes and the mode, as many processes as there is room for
 abbrev counted_if : Bool → ℕ → Result Mode Fault → Result (ℕ × Mode) Fault

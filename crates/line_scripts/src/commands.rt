@@ -25,7 +25,8 @@ pub enum Command {
     Rounds,
     /// The machine's history, as a text.
     History,
-    /// A check text of the machine's history, damage and bars, with the plan for these failed processes.
+    /// A check text of the machine's history, damage and bars, with the plan for these failed
+    /// processes.
     Bundle(ProcSet),
     /// Nothing: a process isn't below the number of processes, or a body is too long. The number of
     /// the refusal tells which.
@@ -117,7 +118,8 @@ fn deliver_of(n: u32, row: &Row, bytes: &mut Vec<u8>) -> Result<Bare, ReadError>
     Ok(Bare::Deliver { from, to, pick })
 }
 
-// The process of a record with a state, whose bytes the list then has; none where there is no such process.
+// The process of a record with a state, whose bytes the list then has; none where there is no such
+// process.
 #[tactic(auto, unfolding(crate::specs::Scripts::with_state, line_fields::specs::Shapes::two))]
 fn with_state(n: u32, row: &Row, bytes: &mut Vec<u8>) -> Result<Option<ProcId>, ReadError>
     requires { n ≤ MOST_PROCESSES }

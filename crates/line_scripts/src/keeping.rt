@@ -9,6 +9,7 @@ use line_tape::State;
 use line_world::Step;
 use std::alloc::{AllocError, Global};
 use std::marker::Model;
+use std::mem;
 
 /// A command without the bytes that a message or a state has.
 #[derive(Drop)]
@@ -36,7 +37,8 @@ pub(crate) struct Kept {
 
 /// Commands that wait to be done, the first one first.
 ///
-/// Each takes 32 bytes beside those of its message or state. Memory is let go as they are taken.
+/// Each takes 32 bytes beside those of its message or state. Memory is let go as they are taken,
+/// but for that of the last state, in which the next one is put.
 #[derive(Drop)]
 pub struct Commands {
     // The last one first.
@@ -45,6 +47,8 @@ pub struct Commands {
     bytes: Vec<u8>,
     // Where that of the first one begins.
     at: usize,
+    // What a state that is done with has left, for the next one.
+    room: Vec<u8>,
 }
 
 impl Model for Commands {
@@ -92,11 +96,29 @@ fn body_of(own: &[u8]) -> Body
     }
 }
 
-// A state of these bytes, in memory of its own.
-fn state_of(alloc: Global, own: &[u8]) -> Result<State, AllocError>
+// A state of these bytes, in the room that is kept for it.
+fn state_of(alloc: Global, room: &mut Vec<u8>, own: &[u8]) -> Result<State, AllocError>
     ensures { IfOk result (λ state. state ≡ own.now) }
 {
-    Ok(State::of(Vec::from_slice(alloc, own)?))
+    let mut bytes = mem::replace(room, Vec::new(alloc));
+    bytes.clear();
+    bytes.extend_from_slice(own)?;
+    Ok(State::of(bytes))
+}
+
+// Keeps the room that the state of a command that is done has, if it has one.
+fn take_room(alloc: Global, command: &mut Command, room: &mut Vec<u8>) {
+    match command {
+        Command::Do(
+            Step::Deliver { state, .. }
+            | Step::Check { state, .. }
+            | Step::Begin { state, .. }
+            | Step::Turn { state, .. },
+        ) => {
+            *room = mem::replace(state, State::of(Vec::new(alloc))).into_bytes();
+        }
+        _ => {}
+    }
 }
 
 // A send with its message.
@@ -109,10 +131,15 @@ fn send_with(from: ProcId, to: ProcId, own: &[u8]) -> Command
     Command::Do(Step::Send { from, to, body })
 }
 
-// The command that it makes with its bytes, where it is no send. It is kept apart, since each arm has
-// room for a whole command.
+// The command that it makes with its bytes, where it is no send. It is kept apart, since each arm
+// has room for a whole command.
 #[inline(never)]
-fn other_with(alloc: Global, bare: &Bare, own: &[u8]) -> Result<Command, AllocError>
+fn other_with(
+    alloc: Global,
+    room: &mut Vec<u8>,
+    bare: &Bare,
+    own: &[u8],
+) -> Result<Command, AllocError>
     requires { MayHave bare.now (length own.now) }
     ensures { IfOk result (λ command. command ≡ with_bytes bare.now own.now) }
 {
@@ -122,19 +149,19 @@ fn other_with(alloc: Global, bare: &Bare, own: &[u8]) -> Result<Command, AllocEr
             from: *from,
             to: *to,
             pick: *pick,
-            state: state_of(alloc, own)?,
+            state: state_of(alloc, room, own)?,
         })),
         Bare::Check { at } => Ok(Command::Do(Step::Check {
             at: *at,
-            state: state_of(alloc, own)?,
+            state: state_of(alloc, room, own)?,
         })),
         Bare::Begin { at } => Ok(Command::Do(Step::Begin {
             at: *at,
-            state: state_of(alloc, own)?,
+            state: state_of(alloc, room, own)?,
         })),
         Bare::Turn { at } => Ok(Command::Do(Step::Turn {
             at: *at,
-            state: state_of(alloc, own)?,
+            state: state_of(alloc, room, own)?,
         })),
         Bare::Damage { at, check } => Ok(Command::Do(Step::Damage {
             at: *at,
@@ -153,17 +180,23 @@ fn other_with(alloc: Global, bare: &Bare, own: &[u8]) -> Result<Command, AllocEr
 }
 
 // The command that it makes with its bytes.
-fn command_with(alloc: Global, bare: &Bare, own: &[u8]) -> Result<Command, AllocError>
+fn command_with(
+    alloc: Global,
+    room: &mut Vec<u8>,
+    bare: &Bare,
+    own: &[u8],
+) -> Result<Command, AllocError>
     requires { MayHave bare.now (length own.now) }
     ensures { IfOk result (λ command. command ≡ with_bytes bare.now own.now) }
 {
     match bare {
         Bare::Send { from, to } => Ok(send_with(*from, *to, own)),
-        _ => other_with(alloc, bare, own),
+        _ => other_with(alloc, room, bare, own),
     }
 }
 
-// Gives back what commands that are gone have held, where that is as much as those that are left hold.
+// Gives back what commands that are gone have held, where that is as much as those that are left
+// hold.
 fn shrink(kept: &mut Vec<Kept>)
     ensures { kept.new.items ≡ kept.old.items }
 {
@@ -174,12 +207,17 @@ fn shrink(kept: &mut Vec<Kept>)
 
 impl Commands {
     /// Those that were kept, in their order.
-    pub(crate) fn of(mut kept: Vec<Kept>, bytes: Vec<u8>) -> Commands
+    pub(crate) fn of(alloc: Global, mut kept: Vec<Kept>, bytes: Vec<u8>) -> Commands
         requires { ArePacked kept.items bytes.items }
         ensures { result ≡ unpacked kept.items bytes.items }
     {
         kept.reverse();
-        Commands { kept, bytes, at: 0 }
+        Commands {
+            kept,
+            bytes,
+            at: 0,
+            room: Vec::new(alloc),
+        }
     }
 
     /// Takes the first one out, if there is one, and puts it in that place. It answers false where
@@ -195,7 +233,9 @@ impl Commands {
         }
         let first = &self.kept[count - 1];
         let end = self.at + first.long;
-        *command = command_with(alloc, &first.bare, &self.bytes[self.at..end])?;
+        take_room(alloc, command, &mut self.room);
+        let own = &self.bytes[self.at..end];
+        *command = command_with(alloc, &mut self.room, &first.bare, own)?;
         self.at = end;
         self.kept.truncate(count - 1);
         shrink(&mut self.kept);

@@ -10,18 +10,18 @@ ghost use Rattle.line_scripts.specs.Ranges.{IsScriptInRange};
 ghost use Rattle.line_scripts.specs.Records.{script_records, world_record};
 ghost use Rattle.line_scripts.specs.Scripts.{Script, script_of, script_of_text};
 
-/// A script is read again from its own text, where the numbers of its commands keep to the ranges of their
-/// fields and none of them is refused before its step. That text is of version 1 where the script has at
-/// most 64 processes, and else of version 2.
+/// A script is read again from its own text, where the numbers of its commands keep to the ranges
+/// of their fields and none of them is refused before its step. That text is of version 1 where the
+/// script has at most 64 processes, and else of version 2.
 pub fn scripts_are_read_again()
     ensures { (script : Script) → IsScriptInRange script → script_of_text (records_text (script_records script)) ≡ Ok script }
 {}
 
-/// Among at most 64 processes, records spell the same script, or have the same fault, in either version,
-/// whatever field names the mode and whatever records follow.
+/// Among at most 64 processes, records spell the same script, or have the same fault, in either
+/// version, whatever field names the mode and whatever records follow.
 ///
-/// A text of version 1, whatever its bytes, is read the same in version 2, unless version 1 refuses it for
-/// the number of its processes.
+/// A text of version 1, whatever its bytes, is read the same in version 2, unless version 1 refuses
+/// it for the number of its processes.
 pub fn version_2_reads_scripts_of_version_1()
     ensures records { (n : ℕ) (mode : List ℕ) (rest : List Record) → n ≤ MOST_IN_FIRST_VERSION
         → script_of (world_record 1 n mode ∷ rest) ≡ script_of (world_record 2 n mode ∷ rest) }

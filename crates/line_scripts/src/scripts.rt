@@ -92,7 +92,7 @@ fn read(alloc: Global, text: &[u8]) -> Result<KeptScript, TextError>
             return Ok(KeptScript {
                 n,
                 mode,
-                commands: Commands::of(kept, bytes),
+                commands: Commands::of(alloc, kept, bytes),
             });
         }
         let command = command_at(alloc, n, record_number, &row, &mut own)?;
@@ -101,8 +101,8 @@ fn read(alloc: Global, text: &[u8]) -> Result<KeptScript, TextError>
     }
 }
 
-/// The script that a text spells, in little memory: some 32 bytes for a command, beside those of its
-/// message or state. What it refuses, and how, is as of `read_script`.
+/// The script that a text spells, in little memory: some 32 bytes for a command, beside those of
+/// its message or state. What it refuses, and how, is as of `read_script`.
 pub fn keep_script(alloc: Global, text: &[u8]) -> Result<KeptScript, TextFault>
     ensures exact { Reads seen_kept result (spec.script_of_text text.now) }
     ensures codes { IfErr result (λ fault. (fault ≡ no_memory) ⊎ IsOfScript fault) }
@@ -131,10 +131,10 @@ fn all_of(alloc: Global, mut commands: Commands) -> Result<Vec<Command>, AllocEr
 
 /// The script that a text spells.
 ///
-/// Refused with the first fault of the text, the records taken in their order, and the questions to a
-/// record in the order in which its definition asks them. A byte that no text has is of record 0 and
-/// comes before all else; a text without records wants its first one. Want of memory, at any time, is
-/// the fault 0 of record 0. It takes time and memory in proportion to the text.
+/// Refused with the first fault of the text, the records taken in their order, and the questions to
+/// a record in the order in which its definition asks them. A byte that no text has is of record 0
+/// and comes before all else; a text without records wants its first one. Want of memory, at any
+/// time, is the fault 0 of record 0. It takes time and memory in proportion to the text.
 pub fn read_script(alloc: Global, text: &[u8]) -> Result<Script, TextFault>
     ensures exact { Reads seen result (spec.script_of_text text.now) }
     ensures codes { IfErr result (λ fault. (fault ≡ no_memory) ⊎ IsOfScript fault) }

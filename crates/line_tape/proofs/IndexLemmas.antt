@@ -1,5 +1,5 @@
 -- What a cut and a restart leave of what a tape keeps beside its events.
-use Rattle.std.proofs.Common.{◌≡◌, ℕ, suc, ◌+◌, ◌-◌, ◌<◌, ◌≤◌, true, false, cond, List, [], ◌∷◌, ◌++◌, length, take, drop, get_or, set, Some, None, refl, sym, ap, ◌∙◌, subst, arith, inl, inr}
+use Rattle.std.proofs.Common.{◌≡◌, ℕ, suc, ◌+◌, ◌-◌, ◌<◌, ◌≤◌, true, false, cond, List, [], ◌∷◌, ◌++◌, length, take, drop, get_or, set, Option, Some, None, refl, sym, ap, ◌∙◌, subst, arith, inl, inr}
 use Rattle.std.specs.Prelude.{min}
 use Rattle.std.specs.List.{All, Contains, filter_map, cons_option, swap}
 use Rattle.std.proofs.lemmas.Bool.{cases_lt, cases_eq}
@@ -74,11 +74,16 @@ AreSettled-take events settled n le s =
       each = subst (All IsSettled) same (All-take IsSettled k (take settled events) s.each);
     }
 
+-- what leaves each element as it is leaves the list
+pub same_each : {A : Type 0} (left : A → Option A) (xs : List A) → All (λ x. left x ≡ Some x) xs → filter_map left xs ≡ xs
+same_each left [] all = refl
+same_each {A} left (x ∷ xs) all =
+    let Stays : A → Type 0 = λ y. left y ≡ Some y in
+    ap (λ o. cons_option o (filter_map left xs)) (All-head Stays x xs all) ∙ ap (λ ys. x ∷ ys) (same_each left xs (All-tail Stays x xs all))
+
 -- a restart leaves settled events as they are
 settled_same : (events : List Event) → All IsSettled events → filter_map restarted_event events ≡ events
-settled_same [] all = refl
-settled_same (e ∷ es) all =
-    ap (λ o. cons_option o (filter_map restarted_event es)) (All-head IsSettled e es all) ∙ ap (λ xs. e ∷ xs) (settled_same es (All-tail IsSettled e es all))
+settled_same events all = same_each restarted_event events all
 
 settles : (x y : Event) → restarted_event x ≡ Some y → IsSettled y
 settles (Send to inc body) y e = let same : Send to inc body ≡ y = cc e in subst IsSettled same refl
@@ -95,42 +100,38 @@ settled_left events =
     settles from.source y from.gives) left (All-contains_itself left) in
     record { within = omega arith; each = subst (All IsSettled) (sym (take_all (length left) left (omega arith))) all }
 
--- before the first turn of the loop over the events that are not settled
-pub settle-start : (events : List Event) (settled : ℕ) → All IsSettled (take settled events) → take settled events ≡ filter_map restarted_event (take settled events)
-settle-start events settled all = sym (settled_same (take settled events) all)
-
-module _ (old events : List Event) (i end : ℕ) (x y : Event) (within : i < length old) (many : length events ≡ length old) (le : end ≤ i) (rest : drop i events ≡ drop i old) (done : take end events ≡ filter_map restarted_event (take i old)) (is : x ≡ get_or events i x) where
+module _ {A : Type 0} (left : A → Option A) (old events : List A) (i end : ℕ) (x y : A) (within : i < length old) (many : length events ≡ length old) (le : end ≤ i) (rest : drop i events ≡ drop i old) (done : take end events ≡ filter_map left (take i old)) (is : x ≡ get_or events i x) where
   heads : get_or events i x ∷ drop (i + 1) events ≡ get_or old i x ∷ drop (i + 1) old
   heads = sym (drop_more events i x (omega (arith, many))) ∙ rest ∙ drop_more old i x within
 
-  told : filter_map restarted_event (take (i + 1) old) ≡ filter_map restarted_event (take i old) ++ cons_option (restarted_event x) []
+  told : filter_map left (take (i + 1) old) ≡ filter_map left (take i old) ++ cons_option (left x) []
   told =
       let item : get_or old i x ≡ x = cc (heads, is) in
-      ap (filter_map restarted_event) (take_more old i x within) ∙ filter_map-append restarted_event (take i old) (get_or old i x ∷ []) ∙ ap (λ (e : Event). filter_map restarted_event (take i old) ++ cons_option (restarted_event e) []) item
+      ap (filter_map left) (take_more old i x within) ∙ filter_map-append left (take i old) (get_or old i x ∷ []) ∙ ap (λ (e : A). filter_map left (take i old) ++ cons_option (left e) []) item
 
   -- an event that stays moves down to the end of those that stayed
-  pub settle-kept : restarted_event x ≡ Some y → take (end + 1) (swap (set events i y) i end) ≡ filter_map restarted_event (take (i + 1) old)
-  settle-kept left =
-      let zs : List Event = set events i y in
+  pub settle-kept : left x ≡ Some y → take (end + 1) (swap (set events i y) i end) ≡ filter_map left (take (i + 1) old)
+  settle-kept stays =
+      let zs : List A = set events i y in
       let at : i < length zs = omega (arith, many, length-set events i y) in
-      let w : Event = get_or zs end x in
+      let w : A = get_or zs end x in
       let end_in : end < length (set zs i w) = omega (arith, length-set zs i w) in
       let swapped : swap zs i end ≡ set (set zs i w) end y = sym (swap_is zs i end x at (omega arith)) ∙ ap (set (set zs i w) end) (get_or-set_same events i y x (omega (arith, many))) in
       let before : take end (set zs i w) ≡ take end events = take-set-le end zs i w le ∙ take-set-le end events i y le in
-      ap (take (end + 1)) swapped ∙ take_more_set (set zs i w) end y end_in ∙ ap (λ xs. xs ++ y ∷ []) (before ∙ done) ∙ ap (λ o. filter_map restarted_event (take i old) ++ cons_option o []) (sym left) ∙ sym told
+      ap (take (end + 1)) swapped ∙ take_more_set (set zs i w) end y end_in ∙ ap (λ xs. xs ++ y ∷ []) (before ∙ done) ∙ ap (λ o. filter_map left (take i old) ++ cons_option o []) (sym stays) ∙ sym told
 
   pub settle-kept_rest : drop (i + 1) (swap (set events i y) i end) ≡ drop (i + 1) old
   settle-kept_rest =
-      let zs : List Event = set events i y in
-      let w : Event = get_or zs end x in
+      let zs : List A = set events i y in
+      let w : A = get_or zs end x in
       let at : i < length zs = omega (arith, many, length-set events i y) in
       let swapped : swap zs i end ≡ set (set zs i w) end (get_or zs i x) = sym (swap_is zs i end x at (omega arith)) in
       ap (drop (i + 1)) swapped ∙ drop-set-lt (i + 1) (set zs i w) end (get_or zs i x) (omega arith) ∙ drop-set-lt (i + 1) zs i w (omega arith) ∙ drop-set-lt (i + 1) events i y (omega arith) ∙ cc heads
 
   -- an event that goes is passed by
-  pub settle-gone : restarted_event x ≡ None → take end (set events i y) ≡ filter_map restarted_event (take (i + 1) old)
+  pub settle-gone : left x ≡ None → take end (set events i y) ≡ filter_map left (take (i + 1) old)
   settle-gone none =
-      take-set-le end events i y le ∙ done ∙ sym (append-nil (filter_map restarted_event (take i old))) ∙ ap (λ o. filter_map restarted_event (take i old) ++ cons_option o []) (sym none) ∙ sym told
+      take-set-le end events i y le ∙ done ∙ sym (append-nil (filter_map left (take i old))) ∙ ap (λ o. filter_map left (take i old) ++ cons_option o []) (sym none) ∙ sym told
 
   pub settle-gone_rest : drop (i + 1) (set events i y) ≡ drop (i + 1) old
   settle-gone_rest = drop-set-lt (i + 1) events i y (omega arith) ∙ cc heads

@@ -9,6 +9,8 @@ pub mod LineLemmas
 pub mod NextLemmas
 pub mod LedLemmas
 pub mod SentLemmas
+pub mod ShownLemmas
+pub mod LaidLemmas
 pub mod LinkLemmas
 pub mod StayLemmas
 pub mod LetterLemmas

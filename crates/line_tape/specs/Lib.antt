@@ -1,4 +1,5 @@
 pub mod Event
+pub mod Shown
 pub mod Front
 pub mod History
 pub mod Line
@@ -12,6 +13,7 @@ pub mod Fit
 pub mod Restart
 pub mod Views
 pub mod Kept
+pub mod Laid
 pub mod Ends
 pub mod Noted
 pub mod Plain

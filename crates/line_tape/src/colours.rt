@@ -13,15 +13,18 @@ ghost use Rattle.line_tape.specs.Rounds.{checked_round, checks_of, has_check_of,
 ghost use Rattle.line_tape.specs.Spent.{next_name};
 ghost use Rattle.line_tape.specs.Turns.{colour_by, rounds_of, turns_of, Turn};
 
-/// On links that may lose, repeat and overtake, a round is a snapshot as soon as every tape has its check, where no process receives a message of a greater colour than its own.
+/// On links that may lose, repeat and overtake, a round is a snapshot as soon as every tape has its
+/// check, where no process receives a message of a greater colour than its own.
 ///
-/// The algorithm of Lai and Yang, Information Processing Letters 25(3), 1987. The call does nothing: its contract is the law.
+/// The algorithm of Lai and Yang, Information Processing Letters 25(3), 1987. The call does
+/// nothing: its contract is the law.
 pub fn colour_round_holds()
     ensures { (history : List Process) (r : ℕ) → IsFitUnordered history → AreColoured history → IsTrue (is_completed_unordered history r)
         → IsSnapshot history (checks_of history r) (channel_unordered history r) }
 {}
 
-/// That no process receives a message of a greater colour than its own, and that its rounds rise, stays so by each event that may come next, and by each restart.
+/// That no process receives a message of a greater colour than its own, and that its rounds rise,
+/// stays so by each event that may come next, and by each restart.
 ///
 /// The call does nothing: its contract is the law.
 pub fn colours_hold()
@@ -34,7 +37,9 @@ pub fn colours_hold()
 
 /// How colours change by events and restarts, and what they say of the checks.
 ///
-/// A message is sent in its sender's colour and keeps it; a check of a round that is no smaller gives the process its number; after a restart all colours are 0. The call does nothing: its contract is the law.
+/// A message is sent in its sender's colour and keeps it; a check of a round that is no smaller
+/// gives the process its number; after a restart all colours are 0. The call does nothing: its
+/// contract is the law.
 pub fn colours_change()
     ensures check { (tape : List Event) (state : List ℕ) (round : ℕ) → colour tape ≤ round → colour (tape ++ Check state (Some round) ∷ []) ≡ round }
     ensures other { (tape : List Event) (event : Event) → checked_round event ≡ None → colour (tape ++ event ∷ []) ≡ colour tape }
@@ -49,9 +54,11 @@ pub fn colours_change()
     ensures reached { (tape : List Event) → colour tape ≢ 0 → IsTrue (has_check_of (colour tape) tape) }
 {}
 
-/// The turns of a tape, its checks of rounds each with the count of the sends before it, say its colour and that of each message that it sent.
+/// The turns of a tape, its checks of rounds each with the count of the sends before it, say its
+/// colour and that of each message that it sent.
 ///
-/// The colour of a message is the round of the last turn with no more sends before it than the message's number. The call does nothing: its contract is the law.
+/// The colour of a message is the round of the last turn with no more sends before it than the
+/// message's number. The call does nothing: its contract is the law.
 pub fn turns_tell()
     ensures colour { (tape : List Event) → greatest (rounds_of (turns_of tape)) ≡ colour tape }
     ensures message { (history : List Process) (message : MsgName) → Holds (tape_at history message.from) message.inc message.number
@@ -71,7 +78,9 @@ pub fn turns_tell()
         → colour_by (turns ++ turn ∷ []) number ≡ (if nat_le turn.sends number then turn.round else colour_by turns number) }
 {}
 
-/// Why a message of a greater colour forces a check, and why one check is enough: where every round on a tape but one is on every tape, the message is of that one, its receiver has no check of it, and by that check the message is of no greater colour and may be received as before.
+/// Why a message of a greater colour forces a check, and why one check is enough: where every round
+/// on a tape but one is on every tape, the message is of that one, its receiver has no check of it,
+/// and by that check the message is of no greater colour and may be received as before.
 ///
 /// The call does nothing: its contract is the law.
 pub fn forced_checks_suffice()

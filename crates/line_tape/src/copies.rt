@@ -11,9 +11,12 @@ ghost use Rattle.line_tape.specs.Line.{IsConsistent};
 ghost use Rattle.line_tape.specs.Restart.{restarted};
 ghost use Rattle.line_tape.specs.Transit.{in_transit_between};
 
-/// What links without an order can lead to stays so by each event that may come next, and by each restart at a consistent line.
+/// What links without an order can lead to stays so by each event that may come next, and by each
+/// restart at a consistent line.
 ///
-/// A send puts a copy at the end of its link, and a restart puts there one more copy of each message that was in transit on it. A copy whose message the sender's tape holds stands on the link to its addressee. The call does nothing: its contract is the law.
+/// A send puts a copy at the end of its link, and a restart puts there one more copy of each
+/// message that was in transit on it. A copy whose message the sender's tape holds stands on the
+/// link to its addressee. The call does nothing: its contract is the law.
 pub fn copies_hold()
     ensures start { (n : ℕ) (copies : ℕ → ℕ → List MsgName) → ((p q : ℕ) → copies p q ≡ []) → IsUnordered (replicate n fresh) copies }
     ensures event { (history : List Process) (at : ℕ) (event : Event) (old new : ℕ → ℕ → List MsgName)

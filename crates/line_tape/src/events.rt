@@ -1,6 +1,7 @@
 //! Events, and the states that checks store.
 ghost use Rattle.std.specs.Prelude.{◌≡◌, ◌↔◌, IsTrue, IfOk, MatchOption, Some, None};
 ghost use Rattle.line_tape.specs.Event.{is_check, state_of, HasLongState, IsShort, NamesBelow};
+ghost use Rattle.line_tape.specs.Shown.{shown};
 
 use line_names::{Body, MsgName, ProcId};
 use std::alloc::{AllocError, Global};
@@ -98,49 +99,99 @@ impl Event {
         }
     }
 
-    /// Whether it is a check.
-    pub(crate) fn is_check(&self) -> bool
-        ensures { result ≡ is_check self.now }
+    /// The same event, its bytes lent.
+    pub fn as_ref(&self) -> EventRef<'_>
+        ensures { shown result ≡ self.now }
     {
         match self {
-            Event::Send { .. } => false,
-            Event::Recv { .. } => false,
-            Event::Check { .. } => true,
-            Event::Mark { .. } => false,
+            Event::Send { to, inc, body } => EventRef::Send {
+                to: *to,
+                inc: *inc,
+                body: body.bytes(),
+            },
+            Event::Recv { message } => EventRef::Recv { message: *message },
+            Event::Check { state, round } => EventRef::Check {
+                state: state.bytes(),
+                round: *round,
+            },
+            Event::Mark { from, round } => EventRef::Mark {
+                from: *from,
+                round: *round,
+            },
+        }
+    }
+}
+
+/// An event as its tape shows it, which keeps the bytes.
+#[derive(Clone, Copy, Debug)]
+pub enum EventRef<'a> {
+    /// The process sent a message to another one, under the incarnation that it had.
+    Send {
+        to: ProcId,
+        inc: u16,
+        body: &'a [u8],
+    },
+    /// It received a message.
+    Recv {
+        message: MsgName,
+    },
+    /// It took a check; one that belongs to a round carries the round's number.
+    Check {
+        state: &'a [u8],
+        round: Option<u32>,
+    },
+    /// It received the marker of a round.
+    Mark {
+        from: ProcId,
+        round: u32,
+    },
+}
+
+impl<'a> EventRef<'a> {
+    /// Whether it is a check.
+    pub(crate) fn is_check(&self) -> bool
+        ensures { result ≡ is_check (shown self.now) }
+    {
+        match self {
+            EventRef::Send { .. } => false,
+            EventRef::Recv { .. } => false,
+            EventRef::Check { .. } => true,
+            EventRef::Mark { .. } => false,
         }
     }
 
     /// The bytes that it stores, where it is a check.
-    pub fn state(&self) -> Option<&[u8]>
-        ensures { MatchOption result (state_of self.now ≡ None) (λ bytes. state_of self.now ≡ Some bytes.now) }
+    pub fn state(&self) -> Option<&'a [u8]>
+        ensures { MatchOption result (state_of (shown self.now) ≡ None) (λ bytes. state_of (shown self.now) ≡ Some bytes.now) }
     {
         match self {
-            Event::Send { .. } => None,
-            Event::Recv { .. } => None,
-            Event::Check { state, .. } => Some(state.bytes()),
-            Event::Mark { .. } => None,
+            EventRef::Send { .. } => None,
+            EventRef::Recv { .. } => None,
+            EventRef::Check { state, .. } => Some(state),
+            EventRef::Mark { .. } => None,
         }
     }
 
     /// The same event in memory of its own.
-    pub fn copy(&self, alloc: Global) -> Result<Event, AllocError>
-        ensures { IfOk result (λ event. event ≡ self.now) }
+    pub fn to_event(&self, alloc: Global) -> Result<Event, AllocError>
+        requires { IsShort (shown self.now) }
+        ensures { IfOk result (λ event. event ≡ shown self.now) }
     {
         match self {
-            Event::Send { to, inc, body } => Ok(Event::Send {
+            EventRef::Send { to, inc, body } => Ok(Event::Send {
                 to: *to,
                 inc: *inc,
-                body: body.copy(),
+                body: Body::try_new(body).unwrap(),
             }),
-            Event::Recv { message } => Ok(Event::Recv { message: *message }),
-            Event::Check { state, round } => {
-                let state = state.copy(alloc)?;
+            EventRef::Recv { message } => Ok(Event::Recv { message: *message }),
+            EventRef::Check { state, round } => {
+                let bytes = Vec::from_slice(alloc, state)?;
                 Ok(Event::Check {
-                    state,
+                    state: State::of(bytes),
                     round: *round,
                 })
             }
-            Event::Mark { from, round } => Ok(Event::Mark {
+            EventRef::Mark { from, round } => Ok(Event::Mark {
                 from: *from,
                 round: *round,
             }),

@@ -5,7 +5,8 @@ ghost use Rattle.line_tape.specs.declared.items.Item.{Item};
 ghost use Rattle.line_tape.specs.Fit.{IsFitFifo, IsNextFifo, items_got, items_put, link};
 ghost use Rattle.line_tape.specs.History.{Process, with_event};
 
-/// A history that fits stays so by an event that may come next, which takes the first item of its link and puts its own at the end of others.
+/// A history that fits stays so by an event that may come next, which takes the first item of its
+/// link and puts its own at the end of others.
 ///
 /// The call does nothing: its contract is the law.
 pub fn event_fits()

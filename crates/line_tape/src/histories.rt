@@ -26,7 +26,8 @@ struct ProcessTape {
 
 /// The tapes of all processes, and the incarnation under which each goes on.
 ///
-/// It asks of its events only that they keep within the limits and name processes that there are: any history can be held, whether or not what it tells could happen.
+/// It asks of its events only that they keep within the limits and name processes that there are:
+/// any history can be held, whether or not what it tells could happen.
 #[derive(Drop)]
 pub struct History {
     processes: Vec<ProcessTape>,
@@ -91,7 +92,8 @@ impl History {
         &self.processes[p.get() as usize].tape
     }
 
-    /// The process that a message's send names; none where the sender's tape has no send of that number.
+    /// The process that a message's send names; none where the sender's tape has no send of that
+    /// number.
     pub fn addressee(&self, message: &MsgName) -> Option<ProcId>
         ensures { result ≡ addressee self.now.processes message.now }
     {

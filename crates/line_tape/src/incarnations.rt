@@ -9,9 +9,11 @@ ghost use Rattle.line_tape.specs.History.{Process, fresh, incarnation_at, with_e
 ghost use Rattle.line_tape.specs.Restart.{restarted};
 ghost use Rattle.line_tape.specs.Spent.{next_name, IsSpentName, HasNoLaterSend};
 
-/// The next name of a process is none of those that were sent, and a name that was sent stays so by every event and every restart.
+/// The next name of a process is none of those that were sent, and a name that was sent stays so by
+/// every event and every restart.
 ///
-/// A restart keeps a process's tape whole or raises its incarnation, so a message that takes an old one's place has another name. The call does nothing: its contract is the law.
+/// A restart keeps a process's tape whole or raises its incarnation, so a message that takes an old
+/// one's place has another name. The call does nothing: its contract is the law.
 pub fn names_apart()
     ensures unspent { (history : List Process) (p : ℕ) → IsSpentName history (next_name history p) → ⊥ }
     ensures sent { (history : List Process) (at to : ℕ) (body : List ℕ) → at < length history

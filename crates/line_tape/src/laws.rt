@@ -12,13 +12,15 @@ ghost use Rattle.line_tape.specs.Views.{MarksView, bar_at};
 
 /// On every history whatever, a chain that is valid for a line makes that line the latest.
 ///
-/// So whoever has tested a chain need not trust the planner that wrote it. The call does nothing: its contract is the law.
+/// So whoever has tested a chain need not trust the planner that wrote it. The call does nothing:
+/// its contract is the law.
 pub fn chain_makes_latest()
     ensures { (history : List Process) (marks : MarksView) (failed : List Bool) (entries : List Passed) (line : List Choice)
         → IsChain history marks failed entries line → IsLatest history marks failed line }
 {}
 
-/// A latest line is unique: of one history, one set of marks and one failed set there is one at most.
+/// A latest line is unique: of one history, one set of marks and one failed set there is one at
+/// most.
 ///
 /// The call does nothing: its contract is the law.
 pub fn latest_is_unique()
@@ -26,7 +28,9 @@ pub fn latest_is_unique()
         → IsLatest history marks failed line → IsLatest history marks failed other → line ≡ other }
 {}
 
-/// Where links, of either kind, can lead to the history and no process of it failed or is barred, the latest line is where every process stands now, whatever checks are damaged; and there is no other.
+/// Where links, of either kind, can lead to the history and no process of it failed or is barred,
+/// the latest line is where every process stands now, whatever checks are damaged; and there is no
+/// other.
 ///
 /// The call does nothing: its contract is the law.
 pub fn now_is_latest()
@@ -40,7 +44,9 @@ pub fn now_is_latest()
         → IsLatest history marks failed line ↔ (line ≡ replicate (length history) Now) }
 {}
 
-/// On every history whatever, a chain that is valid for a line has exactly one entry for each surviving choice above the line, up to the latest one of its process, and no entry for any other choice.
+/// On every history whatever, a chain that is valid for a line has exactly one entry for each
+/// surviving choice above the line, up to the latest one of its process, and no entry for any other
+/// choice.
 ///
 /// The call does nothing: its contract is the law.
 pub fn chain_passes_each()

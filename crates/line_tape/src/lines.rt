@@ -2,9 +2,11 @@
 ghost use Rattle.std.specs.Prelude.{◌≡◌, ◌⊎◌, ◌<◌, ◌++◌, ◌↔◌, [], ◌∷◌, List, IsTrue, Some, length};
 ghost use Rattle.line_tape.specs.declared.events.Event.{Event};
 ghost use Rattle.line_tape.specs.Line.{events_before, IsLine, IsSentBefore, IsFoundAmong, IsConsistent};
+ghost use Rattle.line_tape.specs.Shown.{shown};
 
-use crate::events::Event;
+use crate::events::EventRef;
 use crate::histories::History;
+use crate::logs::Events;
 use line_names::{Line, MsgName, ProcId};
 
 /// Whether the line has one choice for each process, which its tape has.
@@ -58,42 +60,44 @@ fn first_to_name(best: Option<MsgName>, other: MsgName) -> MsgName
 fn with_event(
     history: &History,
     line: &Line,
-    event: &Event,
+    event: &EventRef<'_>,
     best: Option<MsgName>,
 ) -> Option<MsgName>
     requires { IsLine history.now.processes line.now }
     ensures { (seen : List Event) → IsFoundAmong history.now.processes line.now seen best
-        → IsFoundAmong history.now.processes line.now (seen ++ event.now ∷ []) result }
+        → IsFoundAmong history.now.processes line.now (seen ++ shown event.now ∷ []) result }
 {
     match event {
-        Event::Recv { message } => {
+        EventRef::Recv { message } => {
             if is_sent_before(history, line, message) {
                 best
             } else {
                 Some(first_to_name(best, *message))
             }
         }
-        Event::Send { .. } => best,
-        Event::Check { .. } => best,
-        Event::Mark { .. } => best,
+        EventRef::Send { .. } => best,
+        EventRef::Check { .. } => best,
+        EventRef::Mark { .. } => best,
     }
 }
 
-/// An orphan among these events, if there is one: of several that of the lowest sender, and of that sender the one with the greatest number.
+/// An orphan among these events, if there is one: of several that of the lowest sender, and of that
+/// sender the one with the greatest number.
 ///
 /// It looks once at each event.
-pub fn orphan_among(history: &History, line: &Line, events: &[Event]) -> Option<MsgName>
+pub fn orphan_among(history: &History, line: &Line, events: &Events<'_>) -> Option<MsgName>
     requires { IsLine history.now.processes line.now }
     ensures { IsFoundAmong history.now.processes line.now events.now result }
 {
     let mut best = None;
-    for event in events {
-        best = with_event(history, line, event, best);
+    for i in 0..events.len() {
+        best = with_event(history, line, &events.at(i), best);
     }
     best
 }
 
-/// An orphan at a process, if there is one: of several that of the lowest sender, and of that sender the one with the greatest number.
+/// An orphan at a process, if there is one: of several that of the lowest sender, and of that
+/// sender the one with the greatest number.
 ///
 /// It looks once at each event before the process's choice.
 pub fn orphan_at(history: &History, line: &Line, q: ProcId) -> Option<MsgName>
@@ -101,7 +105,7 @@ pub fn orphan_at(history: &History, line: &Line, q: ProcId) -> Option<MsgName>
     requires process { q < length history.now.processes }
     ensures { IsFoundAmong history.now.processes line.now (events_before history.now.processes line.now q) result }
 {
-    orphan_among(history, line, history.tape(q).front(line.at(q)))
+    orphan_among(history, line, &history.tape(q).front(line.at(q)))
 }
 
 /// Whether no message is received before the line that is not sent before it.

@@ -14,14 +14,16 @@ ghost use Rattle.line_tape.specs.Restart.{is_kept, restarted};
 ghost use Rattle.line_tape.specs.Rounds.{check_of, has_check_of, round_line};
 ghost use Rattle.line_tape.specs.Transit.{goes_between, in_transit, in_transit_between};
 
-/// What links that keep their order can lead to, links without an order can lead to as well: what a process received was sent to it, and it received nothing twice.
+/// What links that keep their order can lead to, links without an order can lead to as well: what a
+/// process received was sent to it, and it received nothing twice.
 ///
 /// The call does nothing: its contract is the law.
 pub fn ordered_fits()
     ensures { (history : List Process) → IsFitFifo history → IsFitUnordered history }
 {}
 
-/// A restart at a consistent line keeps links in order, and what they then hold is just what was in transit; and what a tape has received, its sender's tape holds.
+/// A restart at a consistent line keeps links in order, and what they then hold is just what was in
+/// transit; and what a tape has received, its sender's tape holds.
 ///
 /// The call does nothing: its contract is the law.
 pub fn restart_fits()
@@ -42,9 +44,11 @@ pub fn kept_checks()
         → in_transit_between (restarted history line) (map (λ c. Check c) checks) p q ≡ in_transit_between history (map (λ c. Check c) checks) p q }
 {}
 
-/// What is in transit at a line, taken apart by sender and addressee, is what is in transit on each link; after a restart there the tapes of its senders still hold it.
+/// What is in transit at a line, taken apart by sender and addressee, is what is in transit on each
+/// link; after a restart there the tapes of its senders still hold it.
 ///
-/// So whoever replays these messages one after another, each to the process that its sender's tape names, gives each link its own in their order. The call does nothing: its contract is the law.
+/// So whoever replays these messages one after another, each to the process that its sender's tape
+/// names, gives each link its own in their order. The call does nothing: its contract is the law.
 pub fn transit_parts()
     ensures before { (history : List Process) (line : List Choice) (p q : ℕ)
         → filter (goes_between history p q) (in_transit history line) ≡ in_transit_between history line p q }
@@ -54,7 +58,10 @@ pub fn transit_parts()
         → (q : ℕ) × IsSentTo (restarted history line) q message }
 {}
 
-/// What is in transit from one process to another at a line depends on what stands before it at these two alone; so once every other process has its check of a round, the check of the last leaves in transit at the round's line what was in transit there with the last standing where it was.
+/// What is in transit from one process to another at a line depends on what stands before it at
+/// these two alone; so once every other process has its check of a round, the check of the last
+/// leaves in transit at the round's line what was in transit there with the last standing where it
+/// was.
 ///
 /// The call does nothing: its contract is the law.
 pub fn fronts_decide_transit()

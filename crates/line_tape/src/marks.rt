@@ -48,8 +48,8 @@ fn greatest(numbers: &BTreeMap<u32, u64>) -> Option<u32>
     }
 }
 
-/// Takes off the marks of the checks after this one. It takes no memory, and looks at the marks that
-/// it takes off and at one more.
+/// Takes off the marks of the checks after this one. It takes no memory, and looks at the marks
+/// that it takes off and at one more.
 fn cut_after(numbers: &mut BTreeMap<u32, u64>, last: u32)
     ensures kept { checks_marked numbers.new.entries
         ≡ filter (is_kept (AtCheck last)) (checks_marked numbers.old.entries) }
@@ -130,9 +130,9 @@ impl Damaged {
 
 /// Which checks are damaged, and where processes are barred, process by process.
 ///
-/// A process that is barred at a check must not go on later than from there, for instance because its
-/// results are known to be wrong from then on. A mark and a bar are the caller's word: nothing here
-/// looks at the bytes of a check, and they may name a check that no tape has.
+/// A process that is barred at a check must not go on later than from there, for instance because
+/// its results are known to be wrong from then on. A mark and a bar are the caller's word: nothing
+/// here looks at the bytes of a check, and they may name a check that no tape has.
 #[derive(Drop)]
 pub struct Marks {
     damaged: Vec<Damaged>,
@@ -186,8 +186,9 @@ impl Marks {
         Ok(())
     }
 
-    /// Bars a process at a check: none of its choices later than that check survives, until the next
-    /// restart. The process may have been barred at a later check before; check 0 is its initial state.
+    /// Bars a process at a check: none of its choices later than that check survives, until the
+    /// next restart. The process may have been barred at a later check before; check 0 is its
+    /// initial state.
     pub fn bar(&mut self, p: ProcId, check: u32) -> Result<(), BarError>
         requires { p < length self.old.damaged }
         ensures ok { OnOk result (self.new ≡ with_bar self.old p check) }
@@ -229,8 +230,8 @@ impl Marks {
         }
     }
 
-    /// Takes the marks off the checks that a restart at a line cuts off, and all bars away. It takes no
-    /// memory, and looks at the marks that it takes off and at one more of each process.
+    /// Takes the marks off the checks that a restart at a line cuts off, and all bars away. It
+    /// takes no memory, and looks at the marks that it takes off and at one more of each process.
     pub fn restart(&mut self, line: &Line)
         requires { length self.old.damaged ≤ length line.now }
         ensures { self.new ≡ restarted_marks self.old line.now }
@@ -260,8 +261,8 @@ impl Marks {
         self.damaged.len()
     }
 
-    /// The latest damaged check of the process of that number, if it has one. It costs the logarithm
-    /// of the marks of the process.
+    /// The latest damaged check of the process of that number, if it has one. It costs the
+    /// logarithm of the marks of the process.
     pub fn latest(&self, p: usize) -> Option<u32>
         requires { p < length self.now.damaged }
         ensures none { (result ≡ None) ↔ (damaged_at self.now p ≡ []) }

@@ -20,7 +20,10 @@ use trees::{Seat, link_at, put, seat_of};
 
 /// The receipts of a tape in their order, so that the first of a message is found.
 ///
-/// Those of one sender that come by ascending number are a chain with jump pointers, and a further one costs a constant. Those that come out of order are a digital search tree (Coffman and Eve, File structures using hashing functions, 1970), whose depth is at most the number of bits of a name. So each question takes logarithmic time, whatever the names are.
+/// Those of one sender that come by ascending number are a chain with jump pointers, and a further
+/// one costs a constant. Those that come out of order are a digital search tree (Coffman and Eve,
+/// File structures using hashing functions, 1970), whose depth is at most the number of bits of a
+/// name. So each question takes logarithmic time, whatever the names are.
 #[derive(Drop)]
 pub struct Receipts {
     receipts: Vec<Receipt>,
@@ -42,7 +45,8 @@ impl Model for Receipts {
     ghost invariant = { λ r. AreNoted r.receipts.items r.last r.root };
 }
 
-/// The link to the first receipt of the message, which has that seat in the tree or none; 0 where it is not received.
+/// The link to the first receipt of the message, which has that seat in the tree or none; 0 where
+/// it is not received.
 fn first_of(receipts: &[Receipt], last: u32, root: u32, seat: Seat, wanted: &Receipt) -> u32
     requires chained { AreChained receipts.now }
     requires last { IsLast receipts.now (length receipts.now) wanted.now.from last }
@@ -169,7 +173,8 @@ impl Receipts {
         }
     }
 
-    /// Goes back to the first `end` receipts. It looks once at each of the others, and takes no memory.
+    /// Goes back to the first `end` receipts. It looks once at each of the others, and takes no
+    /// memory.
     pub fn cut(&mut self, end: u32)
         ensures names { self.new.names ≡ take end self.old.names }
         ensures room { self.old.room ≤ self.new.room }

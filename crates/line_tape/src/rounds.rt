@@ -16,9 +16,12 @@ ghost use Rattle.line_tape.specs.Survival.{survives, IsLatest};
 ghost use Rattle.line_tape.specs.Transit.{in_transit_between, names_received};
 ghost use Rattle.line_tape.specs.Views.{MarksView};
 
-/// On links that keep their order, the checks of a round make a consistent line as soon as every tape has its own; and once each marker is in too, the round is a snapshot: its channels are what is in transit at its line, in order.
+/// On links that keep their order, the checks of a round make a consistent line as soon as every
+/// tape has its own; and once each marker is in too, the round is a snapshot: its channels are what
+/// is in transit at its line, in order.
 ///
-/// The algorithm of Chandy and Lamport, ACM TOCS 3(1), 1985. The call does nothing: its contract is the law.
+/// The algorithm of Chandy and Lamport, ACM TOCS 3(1), 1985. The call does nothing: its contract is
+/// the law.
 pub fn marker_round_holds()
     ensures checked { (history : List Process) (r : ℕ) → IsTrue (is_completed_fifo history r) → IsTrue (is_checked history r) }
     ensures line { (history : List Process) (r : ℕ) → IsTrue (is_checked history r) → IsLine history (round_line history r) }
@@ -27,9 +30,11 @@ pub fn marker_round_holds()
         → IsSnapshot history (checks_of history r) (channel_fifo history r) }
 {}
 
-/// What is in transit at checks of a history is the same after every event; and a snapshot stays one by every event, and by every restart that keeps its checks.
+/// What is in transit at checks of a history is the same after every event; and a snapshot stays
+/// one by every event, and by every restart that keeps its checks.
 ///
-/// So the checks and channels of a round, once written down, need not be looked at again until one of the checks is cut. The call does nothing: its contract is the law.
+/// So the checks and channels of a round, once written down, need not be looked at again until one
+/// of the checks is cut. The call does nothing: its contract is the law.
 pub fn snapshots_stay()
     ensures transit { (history : List Process) (at : ℕ) (event : Event) (indices : List ℕ) → at < length history → IsLine history (check_line indices) → (p q : ℕ)
         → in_transit_between (with_event history at event) (check_line indices) p q ≡ in_transit_between history (check_line indices) p q }
@@ -40,7 +45,9 @@ pub fn snapshots_stay()
         → IsSnapshot history indices channels → IsSnapshot (restarted history line) indices channels }
 {}
 
-/// How one more event changes what its tape has of a round of markers: its check opens each channel, a message that it receives goes on its sender's channel until that process's marker is in, and from then on the channel stays as it is.
+/// How one more event changes what its tape has of a round of markers: its check opens each
+/// channel, a message that it receives goes on its sender's channel until that process's marker is
+/// in, and from then on the channel stays as it is.
 ///
 /// The call does nothing: its contract is the law.
 pub fn channels_grow()
@@ -63,7 +70,8 @@ pub fn rounds_stay()
         → IsTrue (is_completed_fifo (with_event history at event) r) }
 {}
 
-/// Where the checks of a snapshot all survive, the latest line is at every process that check or later.
+/// Where the checks of a snapshot all survive, the latest line is at every process that check or
+/// later.
 ///
 /// The call does nothing: its contract is the law.
 pub fn latest_reaches()
@@ -73,7 +81,9 @@ pub fn latest_reaches()
         → IsNowhereLater (check_line indices) line }
 {}
 
-/// When a round is on every tape, and when a round of markers is completed: as soon as each tape has its check and, after it, the marker of each other process. An event that is no check of the round leaves the first as it is, and one that is no marker of it either, the second.
+/// When a round is on every tape, and when a round of markers is completed: as soon as each tape
+/// has its check and, after it, the marker of each other process. An event that is no check of the
+/// round leaves the first as it is, and one that is no marker of it either, the second.
 ///
 /// The call does nothing: its contract is the law.
 pub fn rounds_complete()
@@ -91,7 +101,9 @@ pub fn rounds_complete()
         → ((p : ℕ) → is_mark_of p r event ≡ false) → is_completed_fifo (with_event history at event) r ≡ is_completed_fifo history r }
 {}
 
-/// The checks of a round on tapes, and its markers on links: a marker there is of a round that its sender has checked; a new check of a round has the next index, and keeps it by every event; and a restart leaves neither checks of rounds nor markers.
+/// The checks of a round on tapes, and its markers on links: a marker there is of a round that its
+/// sender has checked; a new check of a round has the next index, and keeps it by every event; and
+/// a restart leaves neither checks of rounds nor markers.
 ///
 /// The call does nothing: its contract is the law.
 pub fn markers_follow_checks()

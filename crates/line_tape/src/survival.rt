@@ -59,7 +59,8 @@ pub fn latest_choice(history: &History, marks: &Marks, failed: &ProcSet, p: Proc
     latest_check(history, marks, failed, p, history.tape(p).checks())
 }
 
-/// The latest surviving choice of a process before a choice; of the initial state, that state again. It looks at one check for each that does not survive.
+/// The latest surviving choice of a process before a choice; of the initial state, that state
+/// again. It looks at one check for each that does not survive.
 pub fn next_lower(
     history: &History,
     marks: &Marks,

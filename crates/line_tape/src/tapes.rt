@@ -6,13 +6,15 @@ ghost use Rattle.line_tape.specs.declared.tapes.TapeError.TheVariants.{StateTooL
 ghost use Rattle.line_tape.specs.Event.{incarnations_sent, checks, sends, stored_state, Holds, HasLongState, IsShort};
 ghost use Rattle.line_tape.specs.Front.{place, front, HasChoice};
 ghost use Rattle.line_tape.specs.History.{IsTape};
+ghost use Rattle.line_tape.specs.Shown.{shown};
 ghost use Rattle.line_tape.specs.Transit.{addressees, names_received};
 
 mod cuts;
 mod rows;
 
-use crate::events::Event;
+use crate::events::{Event, EventRef};
 use crate::limits::{MOST_EVENTS, MOST_STATE};
+use crate::logs::{Events, Log};
 use crate::receipts::Receipts;
 use line_names::{Choice, MOST_BODY, MsgName, ProcId};
 use rows::note_event;
@@ -31,10 +33,12 @@ pub struct CheckRow {
 
 /// The events of one process, in their order.
 ///
-/// Beside them it keeps where its checks stand, the incarnations and the addressees of its sends and which receipt of each message was its first, so that no question scans the events; and how many of its first events a restart would leave as they are, so that none looks at these again.
+/// Beside them it keeps where its checks stand, the incarnations and the addressees of its sends
+/// and which receipt of each message was its first, so that no question scans the events; and how
+/// many of its first events a restart would leave as they are, so that none looks at these again.
 #[derive(Drop)]
 pub struct Tape {
-    events: Vec<Event>,
+    log: Log,
     checks: Vec<CheckRow>,
     incarnations: Vec<u16>,
     addressees: Vec<ProcId>,
@@ -51,13 +55,13 @@ impl Model for Tape {
     ghost use Rattle.line_tape.specs.Kept.{IsIndexed};
 
     ghost view = { λ t. record {
-      events = t.events.items;
-      room = min (min (vec_capacity t.events - vec_len t.events) t.receipts.room)
+      events = t.log.events;
+      room = min (min t.log.room t.receipts.room)
           (min (vec_capacity t.checks - vec_len t.checks)
           (min (vec_capacity t.incarnations - vec_len t.incarnations) (vec_capacity t.addressees - vec_len t.addressees)));
     } };
 
-    ghost invariant = { λ t. IsIndexed t.events.items t.checks.items t.incarnations.items t.addressees.items t.receipts t.settled };
+    ghost invariant = { λ t. IsIndexed t.log.events t.checks.items t.incarnations.items t.addressees.items t.receipts t.settled };
 }
 
 /// Whether the event stores or carries more than a tape takes. A body never does.
@@ -79,7 +83,7 @@ impl Tape {
         ensures { result.events ≡ [] }
     {
         Tape {
-            events: Vec::new(alloc),
+            log: Log::new(alloc),
             checks: Vec::new(alloc),
             incarnations: Vec::new(alloc),
             addressees: Vec::new(alloc),
@@ -93,22 +97,22 @@ impl Tape {
         ensures value { result ≡ length self.now.events }
         ensures limits { IsTape self.now.events }
     {
-        self.events.len() as u32
+        self.log.len() as u32
     }
 
     /// Whether it has no event yet.
     pub fn is_empty(&self) -> bool
         ensures { IsTrue result ↔ (self.now.events ≡ []) }
     {
-        self.events.is_empty()
+        self.log.len() == 0
     }
 
     /// The event behind `i` others.
-    pub fn event(&self, i: u32) -> &Event
+    pub fn event(&self, i: u32) -> EventRef<'_>
         requires { i < length self.now.events }
-        ensures { slice_get self.now.events i ≡ Some result.now }
+        ensures { slice_get self.now.events i ≡ Some (shown result) }
     {
-        &self.events[i as usize]
+        self.log.events().at(i as usize)
     }
 
     /// The incarnation under which the send of that number, counted from 0, was made.
@@ -197,7 +201,8 @@ impl Tape {
         self.row(choice).sends
     }
 
-    /// Whether the send of that number, counted from 0, stands before a choice and has that incarnation.
+    /// Whether the send of that number, counted from 0, stands before a choice and has that
+    /// incarnation.
     pub fn sent_before(&self, choice: Choice, inc: u16, number: u32) -> bool
         requires { HasChoice self.now.events choice }
         ensures { IsTrue result ↔ Holds (front self.now.events choice) inc number }
@@ -215,14 +220,12 @@ impl Tape {
 
     /// The events that stand before a choice.
     #[tactic(auto, using(crate::proofs::FrontLemmas::place_le))]
-    pub fn front(&self, choice: Choice) -> &[Event]
+    pub fn front(&self, choice: Choice) -> Events<'_>
         requires { HasChoice self.now.events choice }
-        ensures { result.now ≡ front self.now.events choice }
+        ensures { result ≡ front self.now.events choice }
     {
-        match self.place(choice) {
-            Some(place) => &self.events[..place as usize],
-            None => &[],
-        }
+        let place = self.row(choice).place;
+        self.log.events().first(place as usize)
     }
 
     /// The bytes that a check stores; none for the initial state, which is check 0.
@@ -234,7 +237,7 @@ impl Tape {
             return &[];
         }
         let place = self.checks[check as usize - 1].place;
-        match self.events[place as usize - 1].state() {
+        match self.log.events().at(place as usize - 1).state() {
             Some(bytes) => bytes,
             None => unreachable!(),
         }
@@ -247,7 +250,7 @@ impl Tape {
         ensures succeeds { k ≤ self.old.room → IsOk result }
         ensures room { self.old.room ≤ self.new.room }
     {
-        self.events.reserve(k as usize)?;
+        self.log.reserve(k)?;
         self.checks.reserve(k as usize)?;
         self.incarnations.reserve(k as usize)?;
         self.addressees.reserve(k as usize)?;
@@ -266,14 +269,14 @@ impl Tape {
     {
         note_event(
             &event,
-            &self.events,
+            &self.log,
             self.receipts.count(),
             &mut self.checks,
             &mut self.incarnations,
             &mut self.addressees,
         );
         self.receipts.note(&event);
-        self.events.push(event).unwrap();
+        self.log.append(event);
     }
 
     /// Adds an event at the end.
@@ -292,7 +295,7 @@ impl Tape {
 
         ensures limits { IsTape self.new.events }
     {
-        let len = self.events.len();
+        let len = self.log.len();
         if is_too_long(&event) {
             return Err(TapeError::StateTooLong);
         }
@@ -310,8 +313,9 @@ impl Tape {
     {
         let mut tape = Tape::new(alloc);
         tape.reserve(self.len())?;
-        for event in &self.events {
-            tape.append(event.copy(alloc)?);
+        let events = self.log.events();
+        for i in 0..events.len() {
+            tape.append(events.at(i).to_event(alloc)?);
         }
         Ok(tape)
     }

@@ -5,9 +5,10 @@ ghost use Rattle.line_tape.specs.declared.events.Event.{Event};
 ghost use Rattle.line_tape.specs.Fit.{IsSentTo};
 ghost use Rattle.line_tape.specs.Line.{events_before, IsLine};
 ghost use Rattle.line_tape.specs.Received.{with_seen, seen_below, IsTold, AreTold};
+ghost use Rattle.line_tape.specs.Shown.{shown};
 ghost use Rattle.line_tape.specs.Transit.{Letter, open_letters, in_transit};
 
-use crate::events::Event;
+use crate::events::EventRef;
 use crate::histories::History;
 use line_names::{Choice, Line, MsgName, ProcId};
 use std::alloc::{AllocError, Global};
@@ -79,21 +80,21 @@ fn is_sent_to(history: &History, message: &MsgName, q: ProcId) -> bool
 }
 
 /// Adds the message that an event of process `q` receives, if it was sent to `q`.
-fn add_receipt(history: &History, q: ProcId, event: &Event, received: &mut Vec<Received>)
+fn add_receipt(history: &History, q: ProcId, event: &EventRef<'_>, received: &mut Vec<Received>)
     requires { length received.old.items ≡ length history.now.processes }
     ensures count { length received.new.items ≡ length received.old.items }
     ensures told { (line : List Choice) (seen : ℕ → List Event) → AreTold history.now.processes line seen received.old.items
-        → AreTold history.now.processes line (with_seen seen q (seen q ++ event.now ∷ [])) received.new.items }
+        → AreTold history.now.processes line (with_seen seen q (seen q ++ shown event.now ∷ [])) received.new.items }
 {
     match event {
-        Event::Recv { message } => {
+        EventRef::Recv { message } => {
             if is_sent_to(history, message, q) {
                 received[message.from.get() as usize].add(message.number);
             }
         }
-        Event::Send { .. } => {}
-        Event::Check { .. } => {}
-        Event::Mark { .. } => {}
+        EventRef::Send { .. } => {}
+        EventRef::Check { .. } => {}
+        EventRef::Mark { .. } => {}
     }
 }
 
@@ -108,8 +109,8 @@ fn add_receipts(history: &History, line: &Line, q: ProcId, received: &mut Vec<Re
 {
     let choice = line.at(q);
     let events = history.tape(q).front(choice);
-    for event in events {
-        add_receipt(history, q, event, received);
+    for i in 0..events.len() {
+        add_receipt(history, q, &events.at(i), received);
     }
 }
 
@@ -140,9 +141,12 @@ fn add_open(
 }
 
 impl History {
-    /// The messages in transit at a line, by sender, then number: those whose send stands before the line, and which the process that the send names has not received before its own choice.
+    /// The messages in transit at a line, by sender, then number: those whose send stands before
+    /// the line, and which the process that the send names has not received before its own choice.
     ///
-    /// It looks once at each event before the line, and once more at each send; it takes a flag for each send before the line, and room for the result. Without memory the history stays as it is.
+    /// It looks once at each event before the line, and once more at each send; it takes a flag for
+    /// each send before the line, and room for the result. Without memory the history stays as it
+    /// is.
     pub fn transit(&self, alloc: Global, line: &Line) -> Result<Vec<MsgName>, AllocError>
         requires { IsLine self.now.processes line.now }
         ensures { IfOk result (λ messages. messages.items ≡ in_transit self.now.processes line.now) }

@@ -61,8 +61,8 @@ fn refuse(
     Ok(())
 }
 
-// Writes the check text of the machine's history, damage and bars, with the plan for these failed processes, and
-// puts it in pieces. It is kept apart, since a plan has room for a whole line.
+// Writes the check text of the machine's history, damage and bars, with the plan for these failed
+// processes, and puts it in pieces. It is kept apart, since a plan has room for a whole line.
 #[inline(never)]
 fn bundle<K: Sink>(
     alloc: Global,
@@ -220,8 +220,8 @@ fn do_next<K: Sink>(
     }
 }
 
-// Does the commands one after another, and puts the text of what they are told but for an end, which it
-// leaves with the writer. It answers how many were refused.
+// Does the commands one after another, and puts the text of what they are told but for an end,
+// which it leaves with the writer. It answers how many were refused.
 fn do_commands<K: Sink>(
     alloc: Global,
     world: &mut World,
@@ -266,8 +266,8 @@ fn do_commands<K: Sink>(
     }
 }
 
-// Does the commands one after another, and puts the text of what they are told. It answers how many were
-// refused.
+// Does the commands one after another, and puts the text of what they are told. It answers how many
+// were refused.
 fn run_commands<K: Sink>(
     alloc: Global,
     world: &mut World,
@@ -334,12 +334,14 @@ fn script_of<S: Source>(alloc: Global, source: &mut S) -> Result<KeptScript, Tex
 
 /// Reads a script, runs it, and writes the replies.
 ///
-/// The whole script is read, and every fault of it found, before the first command runs. A fault of the
-/// text is the first one, with the number of its record. `ReadFault` says that the source failed or
-/// that the input is too long, and `WriteFault` that the sink failed, both of record 0. Where memory
-/// does not suffice for a command, the fault 0 has the number of its record; elsewhere it is of record
-/// 0. It takes memory in proportion to the input. It puts the replies in pieces of some 64 KiB, also
-/// within a history, a bundle or listed rounds, and holds no more of them than such a piece and a record.
+/// The whole script is read, and every fault of it found, before the first command runs. A fault of
+/// the text is the first one, with the number of its record. `ReadFault` says that the source
+/// failed or that the input is too long, and `WriteFault` that the sink failed, both of record 0.
+/// Where memory does not suffice for a command, the fault 0 has the number of its record; elsewhere
+/// it is of record
+/// 0. It takes memory in proportion to the input. It puts the replies in pieces of some 64 KiB,
+///    also within a history, a bundle or listed rounds, and holds no more of them than such a piece
+///    and a record.
 pub fn run_text<S: Source, K: Sink>(
     alloc: Global,
     source: &mut S,
@@ -365,14 +367,15 @@ pub fn run_text<S: Source, K: Sink>(
         × ((text : List ℕ) × GivesAll text (S.left source.old) (S.left source.new) (S.given source.old) (S.given source.new)
         × spec.RunsTextFront text (K.taken sink.old) (K.taken sink.new))) }
 
-    // Want of memory is of no record, and nothing is written, or it is of a command, and the replies to
-    // those before it are written, and perhaps a front of its own.
+    // Want of memory is of no record, and nothing is written, or it is of a command, and the
+    // replies to those before it are written, and perhaps a front of its own.
     ensures memory { IfErr result (λ fault. fault.code ≡ 0
         → ((fault.record_number ≡ 0) × (sink.new ≡ sink.old))
         ⊎ ((text : List ℕ) × GivesAll text (S.left source.old) (S.left source.new) (S.given source.old) (S.given source.new)
         × spec.StopsText text fault.record_number (K.taken sink.old) (K.taken sink.new))) }
 
-    // There are no other faults, a sound sink is not blamed, and no failure of the source is passed over.
+    // There are no other faults, a sound sink is not blamed, and no failure of the source is passed
+    // over.
     ensures codes { IfErr result (λ fault. fault.code ≤ WRITE_FAULT) }
     ensures sound { OnOk result (K.faults sink.new ≡ K.faults sink.old) }
     ensures heard { OnOk result (S.faults source.new ≡ S.faults source.old) }

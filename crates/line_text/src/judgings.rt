@@ -89,16 +89,18 @@ fn verdict_text(alloc: Global, verdict: Option<CertFault>) -> Result<Vec<u8>, Al
 }
 
 /// Reads a history and a claim on it, judges the claim, and writes the verdict: `valid`, or
-/// `invalid,ENTRY,CODE,NAME` with the first fault of the claim, and the entry that it is of, counted from
-/// 0, or `-`. It answers that fault, and none where the claim is valid.
+/// `invalid,ENTRY,CODE,NAME` with the first fault of the claim, and the entry that it is of,
+/// counted from 0, or `-`. It answers that fault, and none where the claim is valid.
 ///
 /// A claim that is told `valid` names only what its history has, its entries lead from the latest
-/// surviving choices to its line, and that line is the latest consistent one of choices that survive.
+/// surviving choices to its line, and that line is the latest consistent one of choices that
+/// survive.
 ///
-/// A fault of the text is the first one, with the number of its record; then nothing is judged and nothing
-/// written. `ReadFault` says that the source failed or that the input is too long, `WriteFault` that the
-/// sink failed, and the fault 0 that memory did not suffice, each of record 0. It takes time and memory in
-/// proportion to the input, and keeps beside it the history and the claim, each once.
+/// A fault of the text is the first one, with the number of its record; then nothing is judged and
+/// nothing written. `ReadFault` says that the source failed or that the input is too long,
+/// `WriteFault` that the sink failed, and the fault 0 that memory did not suffice, each of record
+/// 0. It takes time and memory in proportion to the input, and keeps beside it the history and the
+/// claim, each once.
 pub fn check_text<S: Source, K: Sink>(
     alloc: Global,
     source: &mut S,
@@ -127,7 +129,8 @@ pub fn check_text<S: Source, K: Sink>(
     // Want of memory is of no record, and then nothing is written.
     ensures memory { IfErr result (λ fault. fault.code ≡ 0 → (fault.record_number ≡ 0) × (sink.new ≡ sink.old)) }
 
-    // There are no other faults, a sound sink is not blamed, and no failure of the source is passed over.
+    // There are no other faults, a sound sink is not blamed, and no failure of the source is passed
+    // over.
     ensures codes { IfErr result (λ fault. (fault.code ≤ WRITE_FAULT) ⊎ IsOfText fault) }
     ensures sound { OnOk result (K.faults sink.new ≡ K.faults sink.old) }
     ensures heard { OnOk result (S.faults source.new ≡ S.faults source.old) }

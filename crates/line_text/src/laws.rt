@@ -11,9 +11,9 @@ ghost use Rattle.line_scripts.specs.Scripts.{script_of_text};
 ghost use Rattle.line_text.specs.Judgings.{JudgesText, JudgesTextFront};
 ghost use Rattle.line_text.specs.Runs.{RunsText, RunsTextFront, StopsText};
 
-/// A script of version 1, whatever its bytes, has the same replies in version 2, unless version 1 refuses it
-/// for the number of its processes: what a run puts for the one text it may put for the other, also where it
-/// stops for want of memory or because the sink failed.
+/// A script of version 1, whatever its bytes, has the same replies in version 2, unless version 1
+/// refuses it for the number of its processes: what a run puts for the one text it may put for the
+/// other, also where it stops for want of memory or because the sink failed.
 pub fn scripts_of_both_versions_run_alike()
     ensures runs { (text : List ℕ) (refused : ℕ) (old new : Option (List ℕ)) → script_of_text (codes "world,1," ++ text) ≢ Err (fault_at 1 BadCount)
         → RunsText (codes "world,1," ++ text) refused old new ↔ RunsText (codes "world,2," ++ text) refused old new }
@@ -23,8 +23,8 @@ pub fn scripts_of_both_versions_run_alike()
         → StopsText (codes "world,1," ++ text) record_number old new ↔ StopsText (codes "world,2," ++ text) record_number old new }
 {}
 
-/// A check text of version 1 that spells a claim gets the same verdict in version 2: with `history,2,N` in
-/// place of `history,1,N` as its first record, and all other records as they were.
+/// A check text of version 1 that spells a claim gets the same verdict in version 2: with
+/// `history,2,N` in place of `history,1,N` as its first record, and all other records as they were.
 pub fn claims_of_version_1_are_judged_alike_in_version_2()
     ensures verdicts { (number : List ℕ) (rest : List Record) (text later : List ℕ) (verdict : Option CertFault) (old new : Option (List ℕ))
         → records_in text ≡ Ok (in_version 1 number rest) → records_in later ≡ Ok (in_version 2 number rest)

@@ -1,4 +1,5 @@
-//! Runs of texts: a script is read, its steps are taken and their replies written; and check texts are judged.
+//! Runs of texts: a script is read, its steps are taken and their replies written; and check texts
+//! are judged.
 #![tactic(auto)]
 
 mod ends;

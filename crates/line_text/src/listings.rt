@@ -158,8 +158,9 @@ fn pass_each<K: Sink>(
     Ok(())
 }
 
-/// Writes the rounds among `n` processes behind what is held, and puts them in pieces of some 64 KiB: how
-/// many there are, and then of each its checks and the messages on its channels, by sender and receiver.
+/// Writes the rounds among `n` processes behind what is held, and puts them in pieces of some 64
+/// KiB: how many there are, and then of each its checks and the messages on its channels, by sender
+/// and receiver.
 pub(crate) fn pass_rounds<K: Sink>(
     sink: &mut K,
     writer: &mut RecordWriter,

@@ -15,7 +15,7 @@ use line_claims::{
 use line_devices::{DeviceFault, Sink, put_all};
 use line_fields::{Draft, RecordWriter};
 use line_names::{Choice, Line, MOST_PROCESSES, Passed, ProcId, ProcSet};
-use line_tape::{Event, History, Marks};
+use line_tape::{Events, History, Marks};
 use std::alloc::AllocError;
 
 /// Why not all of a text was written, or put.
@@ -72,15 +72,15 @@ fn pass_events<K: Sink>(
     sink: &mut K,
     writer: &mut RecordWriter,
     draft: &mut Draft,
-    events: &[Event],
+    events: &Events<'_>,
 ) -> Result<(), Halt>
     ensures ok { OnOk result (spec.PutsButEnd (K.taken sink.old) (K.taken sink.new) writer.new (writer.old ++ records_text (map records.event_record events.now))) }
     ensures err { IfErr result (λ halt. spec.Halts halt (K.taken sink.old) (K.taken sink.new) writer.old writer.new (records_text (map records.event_record events.now))) }
     ensures sound { OnOk result (K.faults sink.new ≡ K.faults sink.old) }
     ensures blamed { IfErr result (λ halt. spec.IsBlamed halt (K.faults sink.old) (K.faults sink.new)) }
 {
-    for event in events {
-        put_event(writer, draft, event)?;
+    for i in 0..events.len() {
+        put_event(writer, draft, &events.at(i))?;
         put_long(sink, writer)?;
     }
     Ok(())
@@ -93,7 +93,7 @@ fn pass_tape<K: Sink>(
     draft: &mut Draft,
     p: ProcId,
     inc: u16,
-    events: &[Event],
+    events: &Events<'_>,
 ) -> Result<(), Halt>
     ensures ok { OnOk result (spec.PutsButEnd (K.taken sink.old) (K.taken sink.new) writer.new (writer.old ++ records_text (records.tape_records p (record { incarnation = inc; tape = events.now })))) }
     ensures err { IfErr result (λ halt. spec.Halts halt (K.taken sink.old) (K.taken sink.new) writer.old writer.new (records_text (records.tape_records p (record { incarnation = inc; tape = events.now })))) }
@@ -122,7 +122,7 @@ fn pass_tape_of<K: Sink>(
 {
     let inc = history.incarnation(p);
     let events = history.tape(p).front(Choice::Now);
-    pass_tape(sink, writer, draft, p, inc, events)
+    pass_tape(sink, writer, draft, p, inc, &events)
 }
 
 /// Writes the records of a history in a text of that version behind what is held, and puts them in
@@ -151,8 +151,8 @@ pub(crate) fn pass_history<K: Sink>(
     Ok(())
 }
 
-// Writes `damage,P,C` for each damaged check of a process, in order, of its checks up to the last one,
-// and puts them in pieces.
+// Writes `damage,P,C` for each damaged check of a process, in order, of its checks up to the last
+// one, and puts them in pieces.
 fn pass_damages_of<K: Sink>(
     sink: &mut K,
     writer: &mut RecordWriter,
@@ -176,8 +176,8 @@ fn pass_damages_of<K: Sink>(
     Ok(())
 }
 
-// Writes `damage,P,C` for each damaged check of a history, by process and then check, and puts them in
-// pieces.
+// Writes `damage,P,C` for each damaged check of a history, by process and then check, and puts them
+// in pieces.
 fn pass_damages<K: Sink>(
     sink: &mut K,
     writer: &mut RecordWriter,
@@ -342,9 +342,9 @@ fn pass_claim<K: Sink>(
     Ok(())
 }
 
-/// Writes a check text behind what is held, and puts it in pieces of some 64 KiB: a history, and the
-/// claim on it that these of its checks are damaged, its processes are barred so, these failed, and this
-/// is the line with its certificate.
+/// Writes a check text behind what is held, and puts it in pieces of some 64 KiB: a history, and
+/// the claim on it that these of its checks are damaged, its processes are barred so, these failed,
+/// and this is the line with its certificate.
 pub(crate) fn pass_check_text<K: Sink>(
     sink: &mut K,
     writer: &mut RecordWriter,

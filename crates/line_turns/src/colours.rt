@@ -48,7 +48,8 @@ impl Model for ProcessColour {
 }
 
 impl ProcessColour {
-    /// The colour of its send of that number: the round of the last turn with no more sends before it, or 0. It searches the turns by halves.
+    /// The colour of its send of that number: the round of the last turn with no more sends before
+    /// it, or 0. It searches the turns by halves.
     fn colour_at(&self, number: u32) -> u32
         ensures { AllPairs (λ (s t : Turns.Turn). s.round < t.round) self.now.turns → AllPairs (λ (s t : Turns.Turn). s.sends ≤ t.sends) self.now.turns
             → result ≡ Turns.colour_by self.now.turns number }
@@ -85,7 +86,8 @@ impl ProcessColour {
 
 /// The colour of each process, and the turns by which each message that it sent has its own.
 ///
-/// It follows the tapes of any history: whoever adds a check of a round to a tape calls `turn`, and whoever restarts them calls `clear`. No other event changes it.
+/// It follows the tapes of any history: whoever adds a check of a round to a tape calls `turn`, and
+/// whoever restarts them calls `clear`. No other event changes it.
 #[derive(Drop)]
 pub struct Colours {
     processes: Vec<ProcessColour>,
@@ -101,7 +103,8 @@ impl Model for Colours {
 }
 
 impl Colours {
-    /// The colours of `n` processes that have done nothing yet. It takes memory for each, and fails without.
+    /// The colours of `n` processes that have done nothing yet. It takes memory for each, and fails
+    /// without.
     pub fn new(alloc: Global, n: u32) -> Result<Colours, AllocError>
         ensures value { IfOk result (λ colours. colours ≡ replicate n unturned) }
         ensures turned { IfOk result (λ colours. AreTurned (replicate n fresh) colours) }
@@ -126,9 +129,11 @@ impl Colours {
         process.colour.now()
     }
 
-    /// The round of the check that process `to` takes before it receives the message; none where the message's colour is no greater than its own.
+    /// The round of the check that process `to` takes before it receives the message; none where
+    /// the message's colour is no greater than its own.
     ///
-    /// The turns of the sender are searched by halves, so that it takes the logarithm of the rounds since the last restart.
+    /// The turns of the sender are searched by halves, so that it takes the logarithm of the rounds
+    /// since the last restart.
     pub fn before_receive(&self, to: ProcId, message: &MsgName) -> Option<u32>
         requires from { message.now.from < length self.now }
         requires to { to < length self.now }
@@ -143,7 +148,8 @@ impl Colours {
 
     /// A process takes its check of a round, so many sends of its tape standing before it.
     ///
-    /// It takes constant time, but where the list of turns has to grow. Without memory all stays as it is.
+    /// It takes constant time, but where the list of turns has to grow. Without memory all stays as
+    /// it is.
     pub fn turn(&mut self, p: ProcId, round: u32, sends: u32) -> Result<(), AllocError>
         requires p { p < length self.old }
         requires greater { (turned_at self.old p).colour < round }
@@ -155,7 +161,8 @@ impl Colours {
         self.processes[p.get() as usize].turn(round, sends)
     }
 
-    /// After a restart no check has a round, and all colours are 0. It takes constant time for each process, and no memory.
+    /// After a restart no check has a round, and all colours are 0. It takes constant time for each
+    /// process, and no memory.
     pub fn clear(&mut self)
         ensures restart { (history : List Process) (line : List Choice) → length line ≡ length history → AreTurned history self.old
             → AreTurned (restarted history line) self.new }

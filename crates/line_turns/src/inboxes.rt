@@ -26,8 +26,8 @@ impl Model for Inbox {
 impl Inbox {
     /// The messages to a process; those of one sender stay in their order.
     ///
-    /// It takes memory for these alone. It takes linear time where they come by sender, as they do in
-    /// a list of what is in transit; else it sorts them.
+    /// It takes memory for these alone. It takes linear time where they come by sender, as they do
+    /// in a list of what is in transit; else it sorts them.
     pub(crate) fn new(alloc: Global, to: ProcId, messages: &[MsgName]) -> Result<Inbox, AllocError>
         ensures to { IfOk result (λ inbox. inbox.to ≡ to) }
         ensures same { IfOk result (λ inbox. (p : ℕ)

@@ -13,7 +13,8 @@ ghost use Rattle.line_turns.specs.Kept.{Turned, AreTurned};
 ghost use Rattle.line_turns.specs.Tables.{between, IsTable};
 ghost use Rattle.line_turns.specs.Turning.{TurningView, IsLastLine, IsTurning};
 
-/// What is kept goes on following the tapes by each event that is no check of a round, and what is kept of one round by each that is no check of it.
+/// What is kept goes on following the tapes by each event that is no check of a round, and what is
+/// kept of one round by each that is no check of it.
 ///
 /// The call does nothing: its contract is the law.
 pub fn other_events_keep()
@@ -23,7 +24,10 @@ pub fn other_events_keep()
         → IsTurning history turning → IsTurning (with_event history at event) turning }
 {}
 
-/// How a round of colours is completed (Lai and Yang, Information Processing Letters 25(3), 1987): before the last process takes its check, the others stand at theirs and make a line with it; what is in transit there are the channels of the round once the check is taken; and where every tape has its check, these are the checks that are kept.
+/// How a round of colours is completed (Lai and Yang, Information Processing Letters 25(3), 1987):
+/// before the last process takes its check, the others stand at theirs and make a line with it;
+/// what is in transit there are the channels of the round once the check is taken; and where every
+/// tape has its check, these are the checks that are kept.
 ///
 /// The call does nothing: its contract is the law.
 pub fn last_check_completes()

@@ -1,8 +1,15 @@
-//! What a machine keeps of rounds of colours on links without an order (Lai and Yang, Information Processing Letters 25(3), 1987), so that no step looks through a tape.
+//! What a machine keeps of rounds of colours on links without an order (Lai and Yang, Information
+//! Processing Letters 25(3), 1987), so that no step looks through a tape.
 //!
-//! `Colours` keeps the colour of each process and the turns by which each message that it sent has its own: from them the check is known that a process has to take before it receives a message. `Turning` keeps the round that is open: which processes have their check of it, and the line that it makes. (An open round of markers keeps its number and its checks by it too.) `Channels` keeps what is in transit at a line from each process to each, which are the channels of a completed round; by `SharedChannels` several rounds hold the same ones.
+//! `Colours` keeps the colour of each process and the turns by which each message that it sent has
+//! its own: from them the check is known that a process has to take before it receives a message.
+//! `Turning` keeps the round that is open: which processes have their check of it, and the line
+//! that it makes. (An open round of markers keeps its number and its checks by it too.) `Channels`
+//! keeps what is in transit at a line from each process to each, which are the channels of a
+//! completed round; by `SharedChannels` several rounds hold the same ones.
 //!
-//! The tapes are kept elsewhere: each clause speaks of any history that what is kept follows, and says how it goes on following it by each event and by a restart.
+//! The tapes are kept elsewhere: each clause speaks of any history that what is kept follows, and
+//! says how it goes on following it by each event and by a restart.
 #![tactic(auto)]
 
 mod channels;

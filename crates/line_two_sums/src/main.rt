@@ -3,10 +3,10 @@
 //!
 //! Worker 0 sends 1, 2, 3 and so on up to 100, worker 1 their squares. After each number that it
 //! receives a worker takes a check, whose state is its sum so far. What it does next it reads off
-//! its tape alone. So it goes on from a recovery line as it would have gone on there before: what it
-//! sent after the line it sends again, and what it received after the line it receives again, from
-//! the sender or as a replay. And so its tape is the same whatever the order in which the threads
-//! take their turns.
+//! its tape alone. So it goes on from a recovery line as it would have gone on there before: what
+//! it sent after the line it sends again, and what it received after the line it receives again,
+//! from the sender or as a replay. And so its tape is the same whatever the order in which the
+//! threads take their turns.
 #![tactic(auto)]
 
 mod sums;

@@ -11,7 +11,8 @@ ghost use Rattle.line_tape.specs.Restart.{restarted, is_kept};
 ghost use Rattle.line_vectors.specs.Reach.{reach_from, IsReach, nearest, reach_of, reach_before};
 ghost use Rattle.line_vectors.specs.Vectors.{noted};
 
-/// A lane over events is one more than the greatest number that they receive from the process, or 0.
+/// A lane over events is one more than the greatest number that they receive from the process, or
+/// 0.
 pub fn lanes_are_greatest()
     ensures { (events : List Event) (p : ℕ) → IsReach events p (reach_from events p) }
 {}
@@ -29,7 +30,8 @@ pub fn kept_vectors_stay()
         → reach_before (restarted history line) q (AtCheck c) ≡ reach_before history q (AtCheck c) }
 {}
 
-/// After a restart, at any line, the vector of where a process stands is that of the choice that it went on from.
+/// After a restart, at any line, the vector of where a process stands is that of the choice that it
+/// went on from.
 pub fn present_vectors_are_the_choices()
     ensures { (history : List Process) (line : List Choice) → length line ≡ length history → (q : ℕ)
         → reach_before (restarted history line) q Now ≡ reach_before history q (choice_at line q) }

@@ -1,8 +1,15 @@
-//! Vectors: how much each process has heard of the others, and how much each has sent before a line.
+//! Vectors: how much each process has heard of the others, and how much each has sent before a
+//! line.
 //!
-//! In a history that agrees, a message that was received is sent before a line exactly where its number is below the sends before its sender's choice. So of all that a process received from another the greatest number alone decides, and a vector of such numbers, one lane for each process, decides for all: a choice has received no message that is not sent before the line exactly where no lane of its vector is over the count of sends there. `Reach` is the one vector, `Sent` the other; what is asked of both is asked of the kernels of line_lanes.
+//! In a history that agrees, a message that was received is sent before a line exactly where its
+//! number is below the sends before its sender's choice. So of all that a process received from
+//! another the greatest number alone decides, and a vector of such numbers, one lane for each
+//! process, decides for all: a choice has received no message that is not sent before the line
+//! exactly where no lane of its vector is over the count of sends there. `Reach` is the one vector,
+//! `Sent` the other; what is asked of both is asked of the kernels of line_lanes.
 //!
-//! A vector of n processes has n lanes of four bytes. Making one and copying one take memory; no other call does.
+//! A vector of n processes has n lanes of four bytes. Making one and copying one take memory; no
+//! other call does.
 #![tactic(auto)]
 
 mod laws;

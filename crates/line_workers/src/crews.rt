@@ -87,7 +87,8 @@ fn start_collector<'s, E, W: Work>(
     Ok(handle)
 }
 
-/// Starts the last worker, then the others, and then joins it. Its place in the list is kept for it.
+/// Starts the last worker, then the others, and then joins it. Its place in the list is kept for
+/// it.
 fn level<'s, E, W: Work, R: Threads>(
     rt: &R,
     scope: &'s Scope<'s, E>,

@@ -143,8 +143,8 @@ fn is_passed(passed: &Passed, choice: Choice) -> bool {
     passed.at.get() == 1 && passed.choice == choice && is_first(&passed.message)
 }
 
-/// Whether the failed process 0 has its check alone, and process 1 goes back behind what it received
-/// of it.
+/// Whether the failed process 0 has its check alone, and process 1 goes back behind what it
+/// received of it.
 fn is_lost(gathered: &Gathered) -> bool {
     match gathered.plan() {
         Ok(plan) => {

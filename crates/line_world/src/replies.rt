@@ -22,7 +22,8 @@ pub enum Reply {
         message: MsgName,
         forced: Option<u32>,
     },
-    /// The round of the marker taken, and whether the process had to take its check of that round first.
+    /// The round of the marker taken, and whether the process had to take its check of that round
+    /// first.
     Marked {
         round: u32,
         forced: bool,
@@ -62,7 +63,8 @@ pub enum Reply {
         at: ProcId,
         check: u32,
     },
-    /// The plan; of each process the bytes that it goes on from, none where it stays where it stands; and its incarnation after the restart.
+    /// The plan; of each process the bytes that it goes on from, none where it stays where it
+    /// stands; and its incarnation after the restart.
     Recovered {
         plan: Box<Plan>,
         states: Vec<Option<State>>,

@@ -12,7 +12,9 @@ pub enum Step {
         to: ProcId,
         body: Body,
     },
-    /// A process takes the item that stands at place `pick` of the link from another, or looks at it where it is the copy of a message. The state is tested in any case, and stored where the item has the process take a check.
+    /// A process takes the item that stands at place `pick` of the link from another, or looks at
+    /// it where it is the copy of a message. The state is tested in any case, and stored where the
+    /// item has the process take a check.
     Deliver {
         from: ProcId,
         to: ProcId,
@@ -24,12 +26,14 @@ pub enum Step {
         at: ProcId,
         state: State,
     },
-    /// A process begins the next round: it takes its check of it, and where links keep their order it puts a marker on each.
+    /// A process begins the next round: it takes its check of it, and where links keep their order
+    /// it puts a marker on each.
     Begin {
         at: ProcId,
         state: State,
     },
-    /// A process takes its check of the round that is open, without waiting for a message of it. There are such turns only where links keep no order.
+    /// A process takes its check of the round that is open, without waiting for a message of it.
+    /// There are such turns only where links keep no order.
     Turn {
         at: ProcId,
         state: State,
@@ -39,7 +43,9 @@ pub enum Step {
         at: ProcId,
         check: u32,
     },
-    /// An operator bars a process: none of its choices later than this check survives, until the next recovery, for instance because its results are known to be wrong from there on. Check 0 is the initial state.
+    /// An operator bars a process: none of its choices later than this check survives, until the
+    /// next recovery, for instance because its results are known to be wrong from there on. Check 0
+    /// is the initial state.
     Bar {
         at: ProcId,
         check: u32,

@@ -27,7 +27,9 @@ use std::marker::Model;
 
 /// Processes with a link from each to each.
 ///
-/// It keeps a queue for each link beside a catalogue of the tapes, so that sending, delivering and taking a check cost the same however much was done before. A step that is refused, or that memory does not suffice for, changes nothing.
+/// It keeps a queue for each link beside a catalogue of the tapes, so that sending, delivering and
+/// taking a check cost the same however much was done before. A step that is refused, or that
+/// memory does not suffice for, changes nothing.
 #[derive(Drop)]
 pub struct World {
     mode: Mode,
@@ -107,7 +109,9 @@ impl World {
 
     /// The completed rounds whose checks no recovery has cut, by number.
     ///
-    /// Each is a snapshot (Chandy and Lamport, ACM TOCS 3(1), 1985): its checks make a consistent line, and each channel has the messages in transit there, by number. It stays so until a recovery cuts one of its checks, and then it leaves the list.
+    /// Each is a snapshot (Chandy and Lamport, ACM TOCS 3(1), 1985): its checks make a consistent
+    /// line, and each channel has the messages in transit there, by number. It stays so until a
+    /// recovery cuts one of its checks, and then it leaves the list.
     pub fn rounds(&self) -> &[Round]
         ensures value { result.now ≡ self.now.rounds }
         ensures snapshots { All (IsSnapshotOf self.now.history) self.now.rounds }
@@ -204,7 +208,8 @@ impl World {
         Ok(Reply::Barred { at, check })
     }
 
-    /// The latest line that the processes could go on from, if those of the set failed. Where the checks of a listed round survive, no process falls behind its own.
+    /// The latest line that the processes could go on from, if those of the set failed. Where the
+    /// checks of a listed round survive, no process falls behind its own.
     ///
     /// It costs what `line_plan::plan` does.
     pub fn plan_for(&self, alloc: Global, failed: &ProcSet) -> Result<Plan, StepError>
@@ -222,7 +227,14 @@ impl World {
 
     /// Takes one step.
     ///
-    /// Sending, delivering a message and taking a check cost the same however much was done before; a message that forces a check searches its sender's checks of rounds by halves. A marker looks at its receiver's channels, and the last one of a process at all channels of the round. A check of a round, begun or forced by a marker, puts a marker on the link to each other process; the last one of a round of colours looks at what was in transit at the checks of the round or the line before, and at each send and receipt since. Recovering costs what a plan does; it looks at each event that it cuts or that came since the last recovery, and at each message in transit.
+    /// Sending, delivering a message and taking a check cost the same however much was done before;
+    /// a message that forces a check searches its sender's checks of rounds by halves. A marker
+    /// looks at its receiver's channels, and the last one of a process at all channels of the
+    /// round. A check of a round, begun or forced by a marker, puts a marker on the link to each
+    /// other process; the last one of a round of colours looks at what was in transit at the checks
+    /// of the round or the line before, and at each send and receipt since. Recovering costs what a
+    /// plan does; it looks at each event that it cuts or that came since the last recovery, and at
+    /// each message in transit.
     pub fn step(&mut self, alloc: Global, step: &Step) -> Result<Reply, StepError>
         ensures done { IfOk result (λ reply. Takes self.old step.now (Done reply) self.new) }
         ensures refused { IfErr result (λ e. e ≢ StepError.OutOfMemory → Takes self.old step.now (Refused e) self.new) }
@@ -248,7 +260,8 @@ impl World {
 
     /// Takes steps, one after another, and answers each.
     ///
-    /// A refused step is answered and passed. The run stops at the first step that memory does not suffice for, and the world is then as the steps before it leave it.
+    /// A refused step is answered and passed. The run stops at the first step that memory does not
+    /// suffice for, and the world is then as the steps before it leave it.
     pub fn run(&mut self, alloc: Global, steps: &[Step]) -> Result<Vec<Answer>, RunStopped>
         ensures done { IfOk result (λ answers. Run self.old steps.now answers.items self.new) }
         ensures stopped { IfErr result (λ stopped. Run self.old (take (length stopped.done.items) steps.now) stopped.done.items self.new) }

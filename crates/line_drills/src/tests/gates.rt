@@ -1,7 +1,7 @@
 //! Gates of the tests.
 use crate::Gate;
 use line_posts::Post;
-use line_tape::{Event, Tape};
+use line_tape::{EventRef, Tape};
 use std::sync::atomic::{AtomicBool, Ordering};
 use std::thread::yield_now;
 
@@ -32,8 +32,8 @@ fn has_received(tape: &Tape) -> bool {
         return false;
     }
     match tape.event(tape.len() - 1) {
-        Event::Recv { .. } => true,
-        Event::Send { .. } | Event::Check { .. } | Event::Mark { .. } => false,
+        EventRef::Recv { .. } => true,
+        EventRef::Send { .. } | EventRef::Check { .. } | EventRef::Mark { .. } => false,
     }
 }
 

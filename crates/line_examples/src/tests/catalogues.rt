@@ -38,7 +38,8 @@ fn is_same_row(one: &Row, other: &Row) -> bool {
         && one.reach.lanes() == other.reach.lanes()
 }
 
-/// Whether two catalogues show the same of a process: its rows, one by one, and the vector of where it stands.
+/// Whether two catalogues show the same of a process: its rows, one by one, and the vector of where
+/// it stands.
 fn show_the_same(one: &Catalogue, other: &Catalogue, p: ProcId) -> bool {
     if p.get() >= one.n() || p.get() >= other.n() {
         return false;
@@ -168,7 +169,8 @@ fn damaged_domino(alloc: Global) -> Result<Catalogue, Fail> {
     Ok(catalogue)
 }
 
-/// What a catalogue says of a failed first process: the choices below where it stands and below its initial state, and whether its check survives.
+/// What a catalogue says of a failed first process: the choices below where it stands and below its
+/// initial state, and whether its check survives.
 fn choices_of(catalogue: &Catalogue) -> Result<(Option<Choice>, Option<Choice>, bool), Fail> {
     let first = process(0)?;
     let lost = failed(&[0])?;

@@ -1,4 +1,5 @@
-//! Runs and judgements of texts over devices that fail or give a byte at a time, and the calls on one text.
+//! Runs and judgements of texts over devices that fail or give a byte at a time, and the calls on
+//! one text.
 ghost use Rattle.std.specs.Prelude.{◌<◌, ◌-◌, ◌^◌, None};
 
 use line_check::CertFault;
@@ -147,8 +148,8 @@ fn add_long(text: &mut Vec<u8>, fields: &[u8]) -> Result<(), AllocError> {
     text.extend_from_slice(b"\n")
 }
 
-/// A history and a check text, each of some 138,000 bytes, are put in pieces while they are written: each
-/// piece is full as soon as a record brings it to 65,536 bytes.
+/// A history and a check text, each of some 138,000 bytes, are put in pieces while they are
+/// written: each piece is full as soon as a record brings it to 65,536 bytes.
 #[test]
 fn puts_a_long_history_in_pieces(rt: HostRuntime) -> Result<(), Fail> {
     let mut text = Vec::from_slice(rt.alloc(), b"world,1,2,fifo\n")?;

@@ -143,7 +143,8 @@ fn put_replay(
     writer.put(draft)
 }
 
-// Writes the records of the messages that are replayed, or a front of them where a growth is refused.
+// Writes the records of the messages that are replayed, or a front of them where a growth is
+// refused.
 fn put_replays(
     writer: &mut RecordWriter,
     draft: &mut Draft,

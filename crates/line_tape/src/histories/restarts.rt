@@ -36,7 +36,8 @@ fn has_further(incarnation: u16, choice: Choice) -> bool
 }
 
 impl History {
-    /// Whether each process that goes back at the line has a further incarnation, so that a restart there can be.
+    /// Whether each process that goes back at the line has a further incarnation, so that a restart
+    /// there can be.
     pub fn has_further(&self, line: &Line) -> bool
         ensures { IsTrue result ↔ HaveFurther self.now.processes line.now }
     {
@@ -50,9 +51,13 @@ impl History {
         true
     }
 
-    /// Has each process go on from its choice of the line: what came after the line goes from the tapes, all marks and round numbers go, and a process that goes back does so under its next incarnation. It takes no memory and cannot fail.
+    /// Has each process go on from its choice of the line: what came after the line goes from the
+    /// tapes, all marks and round numbers go, and a process that goes back does so under its next
+    /// incarnation. It takes no memory and cannot fail.
     ///
-    /// What is in transit at the line (`transit`) is to be asked before. It looks once at each event that comes after the line, and twice at each before it that came since the last restart: over a whole run each event is looked at three times at most.
+    /// What is in transit at the line (`transit`) is to be asked before. It looks once at each
+    /// event that comes after the line, and twice at each before it that came since the last
+    /// restart: over a whole run each event is looked at three times at most.
     pub fn restart(&mut self, line: &Line)
         requires line { IsLine self.old.processes line.now }
         requires further { HaveFurther self.old.processes line.now }

@@ -8,7 +8,10 @@ use line_names::MsgName;
 
 /// A receipt of a message, with two links: each is 0, or one more than the number of a receipt.
 ///
-/// Where it is ahead, its number above those of all receipts before it from its sender, the links go back in a chain: `near` to the last one before it that is ahead and from its sender, and `far` to one further back, by jump pointers after Myers (An applicative random-access stack, 1983). Otherwise they lead down in a tree.
+/// Where it is ahead, its number above those of all receipts before it from its sender, the links
+/// go back in a chain: `near` to the last one before it that is ahead and from its sender, and
+/// `far` to one further back, by jump pointers after Myers (An applicative random-access stack,
+/// 1983). Otherwise they lead down in a tree.
 #[derive(Clone, Copy)]
 pub struct Receipt {
     pub number: u32,
@@ -43,7 +46,8 @@ impl Receipt {
         self.from == other.from && self.inc == other.inc && self.number == other.number
     }
 
-    /// The number whose bits, the lowest first, lead to it in the tree: those of the sender, of the number and of the incarnation.
+    /// The number whose bits, the lowest first, lead to it in the tree: those of the sender, of the
+    /// number and of the incarnation.
     pub fn key(&self) -> u64
         ensures { result ≡ key_of (message_of self.now) }
     {
@@ -51,7 +55,8 @@ impl Receipt {
     }
 }
 
-/// Where a search for a number goes on from a link to a receipt of a greater one: as far back as no receipt of the number is passed.
+/// Where a search for a number goes on from a link to a receipt of a greater one: as far back as no
+/// receipt of the number is passed.
 fn back_from(receipts: &[Receipt], link: u32, number: u32) -> u32
     requires chained { AreChained receipts.now }
     requires some { 0 < link }
@@ -71,7 +76,8 @@ fn back_from(receipts: &[Receipt], link: u32, number: u32) -> u32
     at.far
 }
 
-/// The receipt of the message that is ahead, searched from the last one of its sender that is; 0 if none is. The steps are logarithmic in the number of these.
+/// The receipt of the message that is ahead, searched from the last one of its sender that is; 0 if
+/// none is. The steps are logarithmic in the number of these.
 pub fn find_ahead(receipts: &[Receipt], last: u32, wanted: &Receipt) -> u32
     requires chained { AreChained receipts.now }
     requires last { IsLast receipts.now (length receipts.now) wanted.now.from last }
@@ -105,7 +111,8 @@ pub fn is_ahead(receipts: &[Receipt], last: u32, receipt: &Receipt) -> bool
 
 /// The receipt with its links back, where it comes next and is ahead.
 ///
-/// The heights are those of the trees that part the chain: two of one height at its end become one, and otherwise the receipt is a tree of its own.
+/// The heights are those of the trees that part the chain: two of one height at its end become one,
+/// and otherwise the receipt is a tree of its own.
 pub fn linked_back(receipts: &[Receipt], last: u32, receipt: Receipt) -> Receipt
     requires chained { AreChained receipts.now }
     requires last { IsLast receipts.now (length receipts.now) receipt.from last }

@@ -7,7 +7,9 @@ use std::marker::Model;
 
 /// Of each sender the link to the last of its receipts that is ahead, or 0.
 ///
-/// Sixteen senders in a row share a block of links, which is there from the first receipt of one of them on. So it costs a constant to find a link, and the memory goes with the senders that there are: 64 bytes for sixteen neighbours, and a kilobyte at most.
+/// Sixteen senders in a row share a block of links, which is there from the first receipt of one of
+/// them on. So it costs a constant to find a link, and the memory goes with the senders that there
+/// are: 64 bytes for sixteen neighbours, and a kilobyte at most.
 #[derive(Drop)]
 pub struct LastLinks {
     blocks: [u8; 16],
@@ -63,7 +65,8 @@ impl LastLinks {
         self.links[(block as usize - 1) * 16 + sender as usize % 16]
     }
 
-    /// Takes memory for so many further senders. There are 256 at most, so it never takes more than their room.
+    /// Takes memory for so many further senders. There are 256 at most, so it never takes more than
+    /// their room.
     #[inline(never)]
     fn grow(&mut self, k: usize) -> Result<(), AllocError>
         ensures same { (sender : ℕ) → end_of self.new sender ≡ end_of self.old sender }
@@ -75,7 +78,8 @@ impl LastLinks {
         self.links.reserve(k.min(further) * 16)
     }
 
-    /// Makes room for so many further senders. Where there is room, which is so for almost each event, it is one comparison.
+    /// Makes room for so many further senders. Where there is room, which is so for almost each
+    /// event, it is one comparison.
     pub fn reserve(&mut self, k: usize) -> Result<(), AllocError>
         ensures same { (sender : ℕ) → end_of self.new sender ≡ end_of self.old sender }
         ensures ok { OnOk result (k ≤ self.new.room) }

@@ -4,7 +4,8 @@ ghost use Rattle.line_tape.specs.Noted.{AreInTree, IsNode, IsPut, IsSeatOf, mess
 
 use super::chains::Receipt;
 
-/// A place in the tree for a receipt: below another one at one of its links, or at the root, where there is none above.
+/// A place in the tree for a receipt: below another one at one of its links, or at the root, where
+/// there is none above.
 #[derive(Clone, Copy)]
 pub struct Seat {
     pub above: u32,
@@ -25,9 +26,11 @@ pub fn link_at(receipts: &[Receipt], root: u32, seat: Seat) -> u32
     }
 }
 
-/// The seat that a receipt of the message has in the tree, or the empty one that the next such would have.
+/// The seat that a receipt of the message has in the tree, or the empty one that the next such
+/// would have.
 ///
-/// It takes at most one step more than a key has bits, and with numbers in a row a logarithm of how many receipts are in the tree.
+/// It takes at most one step more than a key has bits, and with numbers in a row a logarithm of how
+/// many receipts are in the tree.
 pub fn seat_of(receipts: &[Receipt], root: u32, wanted: &Receipt) -> Seat
     requires tree { AreInTree receipts.now root }
     ensures { IsSeatOf receipts.now root (message_of wanted.now) result.above result.far }

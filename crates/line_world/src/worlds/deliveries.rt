@@ -158,7 +158,8 @@ impl World {
         }
     }
 
-    /// Takes the marker that is first on a link, after the check of its round where the process has none.
+    /// Takes the marker that is first on a link, after the check of its round where the process has
+    /// none.
     fn deliver_marker(
         &mut self,
         alloc: Global,

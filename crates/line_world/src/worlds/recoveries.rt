@@ -15,7 +15,8 @@ use line_tape::State;
 use std::alloc::{AllocError, Global};
 
 impl World {
-    /// The plan for those of the set, in memory of its own: a plan has the room of a whole line, and what a step answers is moved often.
+    /// The plan for those of the set, in memory of its own: a plan has the room of a whole line,
+    /// and what a step answers is moved often.
     #[inline(never)]
     fn boxed_plan_for(&self, alloc: Global, failed: &ProcSet) -> Result<Box<Plan>, StepError>
         ensures plan { IfOk result (λ plan. IsPlan self.now failed.now plan.value) }
@@ -27,7 +28,8 @@ impl World {
         Ok(plan)
     }
 
-    /// Has all go on from the line of the plan for those of the set, and tells of each process the bytes that it goes on from, and its incarnation then.
+    /// Has all go on from the line of the plan for those of the set, and tells of each process the
+    /// bytes that it goes on from, and its incarnation then.
     fn go_back(
         &mut self,
         alloc: Global,

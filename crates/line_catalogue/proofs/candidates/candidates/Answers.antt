@@ -27,7 +27,7 @@ loop-receiver-preserved c =
     let r : ℕ = c.loop-receiver.receiver in
     let at : c.unwrap-q.result ≡ r = (rw c.unwrap-q.ensures at c.try_new.ensures).1 in
     let new : List (List ℕ) = c.add_receipts.new.rows.items in
-    let events : List Event = c.events_behind.result.now in
+    let events : List Event = c.events_behind.result in
     let are : events ≡ events_behind history line r = c.events_behind.ensures ∙ ap (λ (k : ℕ). events_behind history line k) at in
     let more : (names : List MsgName) → AreIn names c.loop-receiver.rows.items → AreIn (names ++ names_received events) new = c.in_ok-add_receipts.ensures.added in
     record {

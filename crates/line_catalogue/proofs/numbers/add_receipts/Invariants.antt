@@ -4,8 +4,8 @@ use Rattle.line_tape.specs.Transit.{names_received}
 use Rattle.line_catalogue.specs.Left.{AreIn}
 use Rattle.line_catalogue.proofs.numbers.add_receipts.Given as goal
 
-abbrev pub invariant-loop-event : goal.invariant-loop-event
-invariant-loop-event l = record {
+abbrev pub invariant-loop-i : goal.invariant-loop-i
+invariant-loop-i l = record {
   count : length l.rows.items ≡ length l.fn.rows.items;
-  added : (names : List MsgName) → AreIn names l.fn.rows.items → AreIn (names ++ names_received (take l.event-index l.events)) l.rows.items;
+  added : (names : List MsgName) → AreIn names l.fn.rows.items → AreIn (names ++ names_received (take l.i l.events)) l.rows.items;
 }

@@ -4,6 +4,7 @@ use Rattle.std.proofs.lemmas.List.{take_more, length-take}
 use Rattle.std.proofs.lemmas.Option.{get_or_from_slice_get}
 use Rattle.line_tape.specs.declared.events.Event.{Event}
 use Rattle.line_tape.specs.Event.{sends, NamesBelow}
+use Rattle.line_tape.specs.Shown.{shown}
 use Rattle.line_tape.proofs.RowLemmas.{sends_le}
 use Rattle.line_vectors.specs.Reach.{reach_of}
 use Rattle.line_vectors.proofs.ReachLemmas.{length-reach, reach-none}
@@ -26,7 +27,7 @@ append-requires-clause-named c =
     let events : List Event = c.args.tape.now.events in
     let i : ℕ = c.loop-i.i in
     let es : List Event = take i events in
-    let event : Event = c.event-event.result.now in
+    let event : Event = shown c.event-event.result in
     let within : i < length events = omega (arith, c.loop-i-test.true, c.len-i-end.ensures.value) in
     let at : get_or events i event ≡ event = get_or_from_slice_get events i event event c.event-event.ensures in
     let named : NamesBelow n event = subst (NamesBelow n) at (c.requires.named i event within) in
@@ -39,7 +40,7 @@ sends_with-sent-requires c =
     let events : List Event = c.args.tape.now.events in
     let i : ℕ = c.loop-i.i in
     let es : List Event = take i events in
-    let event : Event = c.event-event.result.now in
+    let event : Event = shown c.event-event.result in
     let within : i < length events = omega (arith, c.loop-i-test.true, c.len-i-end.ensures.value) in
     let at : get_or events i event ≡ event = get_or_from_slice_get events i event event c.event-event.ensures in
     let named : NamesBelow n event = subst (NamesBelow n) at (c.requires.named i event within) in
@@ -51,7 +52,7 @@ loop-i-preserved c =
     let events : List Event = c.args.tape.now.events in
     let i : ℕ = c.loop-i.i in
     let es : List Event = take i events in
-    let event : Event = c.event-event.result.now in
+    let event : Event = shown c.event-event.result in
     let within : i < length events = omega (arith, c.loop-i-test.true, c.len-i-end.ensures.value) in
     let at : get_or events i event ≡ event = get_or_from_slice_get events i event event c.event-event.ensures in
     let named : NamesBelow n event = subst (NamesBelow n) at (c.requires.named i event within) in

@@ -6,8 +6,8 @@ use Rattle.line_claims.specs.Ranges.{FitsWords}
 use Rattle.line_claims.specs.Records.{event_record}
 use Rattle.line_claims.proofs.writers.put_events.Given as goal
 
-abbrev pub invariant-loop-event : goal.invariant-loop-event
-invariant-loop-event l = record {
-  written : l.writer ≡ l.fn.writer ++ records_text (map event_record (take l.event-index l.events));
-  fits : AllByRecursion FitsWords (take l.event-index l.events);
+abbrev pub invariant-loop-i : goal.invariant-loop-i
+invariant-loop-i l = record {
+  written : l.writer ≡ l.fn.writer ++ records_text (map event_record (take l.i l.events));
+  fits : AllByRecursion FitsWords (take l.i l.events);
 }

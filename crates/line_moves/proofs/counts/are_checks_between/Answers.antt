@@ -1,5 +1,5 @@
 -- A front that has as many more checks as it has more events sends and receives the same.
-use Rattle.std.proofs.Common.{◌≡◌, ◌+◌, List, length, ap, arith}
+use Rattle.std.proofs.Common.{◌≡◌, ◌+◌, List, length, ap, ◌∙◌, arith}
 use Rattle.std.proofs.lemmas.Bool.{eqb-true}
 use Rattle.line_names.specs.declared.choices.Choice.TheVariants.{Check as AtCheck}
 use Rattle.line_tape.specs.declared.events.Event.{Event}
@@ -12,19 +12,27 @@ use Rattle.line_moves.proofs.counts.are_checks_between.Goals as goal
 pub returns-then-before-after-clause-sent : goal.returns-then-before-after-clause-sent
 returns-then-before-after-clause-sent c = λ t p.
     let tape : List Event = c.args.tape.now.events in
-    let before : length c.front-before.result.now ≡ length (front tape (AtCheck c.args.check)) = ap (λ (es : List Event). length es) c.front-before.ensures in
-    let after : length c.front-after.result.now ≡ length (front tape c.args.choice) = ap (λ (es : List Event). length es) c.front-after.ensures in
+    let before : c.len-before.result ≡ length (front tape (AtCheck c.args.check)) =
+    c.len-before.ensures ∙ ap (λ (es : List Event). length es) c.front.ensures
+    in
+    let after : c.len-after.result ≡ length (front tape c.args.choice) =
+    c.len-after.ensures ∙ ap (λ (es : List Event). length es) c.front-2.ensures
+    in
     let own : checks (front tape (AtCheck c.args.check)) ≡ c.args.check = checks_front tape c.args.check c.requires.check in
-    let same = eqb-true (length c.front-after.result.now + c.args.check) (length c.front-before.result.now + c.checks_before-checks.result) t in
+    let same = eqb-true (c.len-after.result + c.args.check) (c.len-before.result + c.checks_before-checks.result) t in
     same_sent p 0 tape (place tape (AtCheck c.args.check)) (place tape c.args.choice) (omega (arith, before, after, c.if-before-after.true))
     (omega (arith, before, after, own, c.checks_before-checks.ensures, same))
 
 pub returns-then-before-after-clause-received : goal.returns-then-before-after-clause-received
 returns-then-before-after-clause-received c = λ t.
     let tape : List Event = c.args.tape.now.events in
-    let before : length c.front-before.result.now ≡ length (front tape (AtCheck c.args.check)) = ap (λ (es : List Event). length es) c.front-before.ensures in
-    let after : length c.front-after.result.now ≡ length (front tape c.args.choice) = ap (λ (es : List Event). length es) c.front-after.ensures in
+    let before : c.len-before.result ≡ length (front tape (AtCheck c.args.check)) =
+    c.len-before.ensures ∙ ap (λ (es : List Event). length es) c.front.ensures
+    in
+    let after : c.len-after.result ≡ length (front tape c.args.choice) =
+    c.len-after.ensures ∙ ap (λ (es : List Event). length es) c.front-2.ensures
+    in
     let own : checks (front tape (AtCheck c.args.check)) ≡ c.args.check = checks_front tape c.args.check c.requires.check in
-    let same = eqb-true (length c.front-after.result.now + c.args.check) (length c.front-before.result.now + c.checks_before-checks.result) t in
+    let same = eqb-true (c.len-after.result + c.args.check) (c.len-before.result + c.checks_before-checks.result) t in
     same_received tape (place tape (AtCheck c.args.check)) (place tape c.args.choice) (omega (arith, before, after, c.if-before-after.true))
     (omega (arith, before, after, own, c.checks_before-checks.ensures, same))

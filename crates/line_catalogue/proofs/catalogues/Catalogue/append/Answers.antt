@@ -8,8 +8,8 @@ use Rattle.line_tape.specs.Views.{HistoryView, MarksView}
 use Rattle.line_tape.specs.History.{Process, tape_at, with_event}
 use Rattle.line_catalogue.specs.declared.rows.Row.{Row}
 use Rattle.line_catalogue.specs.Agreement.{AgreesNext}
-use Rattle.line_catalogue.specs.Kept.{present_at, IsCatalogue}
-use Rattle.line_catalogue.specs.Rows.{heard_more}
+use Rattle.line_catalogue.specs.Kept.{present_at, rows_at, IsCatalogue}
+use Rattle.line_catalogue.specs.Rows.{heard_more, row_added, with_row}
 use Rattle.line_catalogue.specs.Views.{CatalogueView, room_at}
 use Rattle.line_catalogue.proofs.CatalogueLemmas.{IsCatalogue-event, length-present, lesser_at}
 use Rattle.line_catalogue.proofs.catalogues.Catalogue.append.Goals as goal
@@ -41,7 +41,9 @@ append-requires-clause-named c =
     let seen : history ≡ c.args.self.now.processes = ap (λ (v : CatalogueView). v.processes) c.self.view_is in
     let within : c.args.p < length history = omega (arith, c.requires.process, ap (λ (xs : List Process). length xs) seen) in
     let long : length (present_at c.self.inside.rows.presents c.args.p) ≡ length c.args.self.now.processes = length-present history c.self.inside.marks c.self.inside.rows.rows c.self.inside.rows.presents c.args.p within c.self.invariant ∙ ap (λ (xs : List Process). length xs) seen in
-    subst (λ k. NamesBelow k c.args.event) (sym long) c.requires.named
+    let lanes : ℕ = length (present_at c.self.inside.rows.presents c.args.p) in
+    let named : NamesBelow lanes c.args.event = subst (λ k. NamesBelow k c.args.event) (sym long) c.requires.named in
+    subst (NamesBelow lanes) (sym c.as_ref.ensures) named
 
 pub invariant_of-self : goal.invariant_of-self
 invariant_of-self c =
@@ -59,8 +61,19 @@ invariant_of-self c =
     let tape_is : c.tape-tape.result.now.events ≡ tape_at history p = c.tape-tape.ensures.events ∙ ap (λ (v : HistoryView). tape_at v.processes p) c.history.ensures in
     let place_is : place ≡ length (tape_at history p) + 1 = ap (λ k. k + 1) (c.len-place.ensures.value ∙ ap (λ (es : List Event). length es) tape_is) in
     let sent_is : c.sends-sends.result ≡ sends (tape_at history p) = c.sends-sends.ensures.value ∙ ap sends tape_is in
+    let present : List ℕ = present_at presents p in
+    let rows_with : Event → List (List Row) =
+    λ e. set rows p (with_row (rows_at rows p) (row_added place c.sends-sends.result present e))
+    in
+    let presents_with : Event → List (List ℕ) = λ e. set presents p (heard_more present e) in
+    let rows_are : c.append.new.self.rows ≡ rows_with event =
+    c.append.ensures.rows ∙ ap rows_with c.as_ref.ensures
+    in
+    let presents_are : c.append.new.self.presents ≡ presents_with event =
+    c.append.ensures.presents ∙ ap presents_with c.as_ref.ensures
+    in
     let grown : c.append-2.new.self.processes ≡ with_event history p event = c.append-2.ensures.processes in
     subst (λ (xs : List Process). IsCatalogue xs marks c.append.new.self.rows c.append.new.self.presents) (sym grown)
-    (subst (λ (ys : List (List ℕ)). IsCatalogue (with_event history p event) marks c.append.new.self.rows ys) (sym c.append.ensures.presents)
-    (subst (λ (xs : List (List Row)). IsCatalogue (with_event history p event) marks xs (set presents p (heard_more (present_at presents p) event))) (sym c.append.ensures.rows)
+    (subst (λ (ys : List (List ℕ)). IsCatalogue (with_event history p event) marks c.append.new.self.rows ys) (sym presents_are)
+    (subst (λ (xs : List (List Row)). IsCatalogue (with_event history p event) marks xs (set presents p (heard_more (present_at presents p) event))) (sym rows_are)
     (IsCatalogue-event history marks rows presents p within event place c.sends-sends.result place_is sent_is named next c.self.invariant)))

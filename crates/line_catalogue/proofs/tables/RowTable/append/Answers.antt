@@ -2,6 +2,7 @@
 use Rattle.std.proofs.Common.{◌≡◌, ◌<◌, length, map, get_or, set, [], List, ℕ, sym, ap, ◌∙◌, arith}
 use Rattle.std.proofs.lemmas.List.{length-map}
 use Rattle.line_tape.specs.declared.events.Event.{Event}
+use Rattle.line_tape.specs.Shown.{shown}
 use Rattle.line_catalogue.specs.declared.rows.Row.{Row}
 use Rattle.line_catalogue.specs.Kept.{RowsView, TableView, rows_at, present_at}
 use Rattle.line_catalogue.specs.Plain.{plain, present_of, room_of}
@@ -22,7 +23,7 @@ returns-clause-rows c =
     let old : RowsView = c.index_mut.result.now in
     let new : RowsView = c.append.new.self in
     let is : old ≡ get_or items k old = c.index_mut.ensures.value in
-    let event : Event = c.args.event.now in
+    let event : Event = shown c.args.event.now in
     let with : List (List Row) → List (List ℕ) → ℕ → List Row = λ xs ys j. with_row (rows_at xs j) (row_added c.args.place c.args.sends (present_at ys j) event) in
     let there : plain new ≡ with (map plain items) (map present_of items) k =
     c.append.ensures.rows
@@ -45,7 +46,7 @@ returns-clause-presents c =
     let old : RowsView = c.index_mut.result.now in
     let new : RowsView = c.append.new.self in
     let is : old ≡ get_or items k old = c.index_mut.ensures.value in
-    let event : Event = c.args.event.now in
+    let event : Event = shown c.args.event.now in
     let there : present_of new ≡ heard_more (present_at (map present_of items) k) event = c.append.ensures.present ∙ ap (λ (ys : List ℕ). heard_more ys event) (sym (seen-old present_of [] items k old new within is)) in
     seen-written present_of [] items k old new within is ∙ ap (set (map present_of items) k) there ∙ ap (λ j. set (map present_of items) j (heard_more (present_at (map present_of items) j) event)) at
     ∙ ap (λ (ys : List (List ℕ)). set ys p (heard_more (present_at ys p) event)) presents

@@ -16,13 +16,13 @@ use Rattle.line_tape.proofs.tapes.Tape.cut.Goals as goal
 
 pub invariant_of-self : goal.invariant_of-self
 invariant_of-self c =
-    let items : List Event = c.self.inside.events.items in
+    let items : List Event = c.self.inside.log.events in
     let n : ℕ = c.row-kept.result.place in
     let kept : List Event = take n items in
     let seen : items ≡ c.args.self.now.events = ap (λ (t : TapeView). t.events) c.self.view_is in
     let fronts : front c.args.self.now.events c.args.choice ≡ kept = ap (λ k. take k c.args.self.now.events) (sym c.row-kept.ensures.place) ∙ ap (take n) (sym seen) in
     let few : n ≤ length items = omega (arith, c.row-kept.ensures.place, place_le c.args.self.now.events c.args.choice, ap (λ (xs : List Event). length xs) seen) in
-    let cut : c.truncate.new.self.items ≡ kept = c.truncate.ensures.items in
+    let cut : c.truncate.new.self.events ≡ kept = c.truncate.ensures.events in
     let rows : c.truncate-2.new.self.items ≡ take (checks kept) c.self.inside.checks.items = c.truncate-2.ensures.items ∙ ap (λ k. take k c.self.inside.checks.items) (c.checks_before-checks.ensures ∙ ap checks fronts) in
     let sent : c.row-kept.result.sends ≡ sends kept = c.row-kept.ensures.sends ∙ ap (λ (xs : List Event). sends xs) fronts in
     let incs : c.truncate-3.new.self.items ≡ take (sends kept) c.self.inside.incarnations.items = c.truncate-3.ensures.items ∙ ap (λ k. take k c.self.inside.incarnations.items) sent in

@@ -13,14 +13,14 @@ use Rattle.line_tape.proofs.tapes.Tape.sent_before.Goals as goal
 pub index-requires : goal.index-requires
 index-requires c =
     let tape : List Event = c.args.self.now.events in
-    let seen : c.self.inside.events.items ≡ tape = ap (λ (t : TapeView). t.events) c.self.view_is in
+    let seen : c.self.inside.log.events ≡ tape = ap (λ (t : TapeView). t.events) c.self.view_is in
     let few : sends (front tape c.args.choice) ≤ sends tape = omega (arith, ap length (sent_front tape (place tape c.args.choice)), length-take (sends (front tape c.args.choice)) (incarnations_sent tape)) in
     omega (arith, ap length c.self.invariant.checked.sent, ap (λ (xs : List Event). sends xs) seen, c.self.inside.incarnations.ok.0)
 
 pub returns-then-number-sends_before : goal.returns-then-number-sends_before
 returns-then-number-sends_before c =
     let tape : List Event = c.args.self.now.events in
-    let seen : c.self.inside.events.items ≡ tape = ap (λ (t : TapeView). t.events) c.self.view_is in
+    let seen : c.self.inside.log.events ≡ tape = ap (λ (t : TapeView). t.events) c.self.view_is in
     let kept : c.self.inside.incarnations.items ≡ incarnations_sent tape = c.self.invariant.checked.sent ∙ ap incarnations_sent seen in
     let at : Holds (front tape c.args.choice) c.index.result.now c.args.number = sent_at tape (place tape c.args.choice) c.args.number 0 (omega arith) c.index.result.now ∙ ap (λ xs. Some (get_or xs c.args.number c.index.result.now)) (sym kept) ∙ ap Some (sym c.index.ensures) in
     (λ h. at ∙ ap Some (eqb-true _ _ h), λ h. eq-eqb _ _ (same_Some _ _ (sym at ∙ h)))

@@ -15,32 +15,41 @@ use Rattle.line_tape.proofs.tapes.Tape.settle.Goals as goal
 
 pub place_checks-requires-clause-within : goal.place_checks-requires-clause-within
 place_checks-requires-clause-within c =
-    let left : c.deref.result.now ≡ filter_map restarted_event c.self.inside.events.items = c.deref.ensures.value ∙ c.restart_events.ensures.items in
-    omega (arith, ap (λ (xs : List Event). length xs) left, settled_within c.self.inside.events.items c.self.inside.checks.items c.self.inside.incarnations.items c.self.inside.addressees.items c.self.invariant.checked c.self.inside.settled c.self.invariant.unchanged)
+    let left : c.events.result ≡ filter_map restarted_event c.self.inside.log.events = c.events.ensures ∙ c.settle.ensures.events in
+    omega (arith, ap (λ (xs : List Event). length xs) left, settled_within c.self.inside.log.events c.self.inside.checks.items c.self.inside.incarnations.items c.self.inside.addressees.items c.self.invariant.checked c.self.inside.settled c.self.invariant.unchanged)
 
 pub place_checks-requires-clause-count : goal.place_checks-requires-clause-count
 place_checks-requires-clause-count c =
-    let left : c.deref.result.now ≡ filter_map restarted_event c.self.inside.events.items = c.deref.ensures.value ∙ c.restart_events.ensures.items in
-    c.self.invariant.checked.count ∙ sym (checks_left c.self.inside.events.items) ∙ ap checks (sym left)
+    let left : c.events.result ≡ filter_map restarted_event c.self.inside.log.events = c.events.ensures ∙ c.settle.ensures.events in
+    c.self.invariant.checked.count ∙ sym (checks_left c.self.inside.log.events) ∙ ap checks (sym left)
 
 pub place_checks-requires-clause-places : goal.place_checks-requires-clause-places
 place_checks-requires-clause-places c = λ index d early.
-    let left : c.deref.result.now ≡ filter_map restarted_event c.self.inside.events.items = c.deref.ensures.value ∙ c.restart_events.ensures.items in
-    settled_places c.self.inside.events.items c.self.inside.checks.items c.self.inside.incarnations.items c.self.inside.addressees.items c.self.invariant.checked c.self.inside.settled c.self.invariant.unchanged index d (omega (arith, ap (λ (xs : List Event). checks (take c.self.inside.settled xs)) left))
+    let left : c.events.result ≡ filter_map restarted_event c.self.inside.log.events = c.events.ensures ∙ c.settle.ensures.events in
+    settled_places c.self.inside.log.events c.self.inside.checks.items c.self.inside.incarnations.items c.self.inside.addressees.items c.self.invariant.checked c.self.inside.settled c.self.invariant.unchanged index d (omega (arith, ap (λ (xs : List Event). checks (take c.self.inside.settled xs)) left))
     ∙ ap (λ (xs : List Event). check_place xs (suc index)) (sym left)
 
 pub invariant_of-self : goal.invariant_of-self
 invariant_of-self c =
-    let items : List Event = c.self.inside.events.items in
-    let left : c.restart_events.new.events.items ≡ filter_map restarted_event items = c.restart_events.ensures.items in
-    let many : c.len.result ≡ length c.restart_events.new.events.items = omega (arith, c.len.ensures, c.restart_events.new.events.ok.0) in
-    let placed : WithPlaces (filter_map restarted_event items) c.self.inside.checks.items c.place_checks.new.rows.items = subst (λ (xs : List Event). WithPlaces xs c.self.inside.checks.items c.place_checks.new.rows.items) (c.deref.ensures.value ∙ left) c.place_checks.ensures.rows in
+    let items : List Event = c.self.inside.log.events in
+    let left : c.settle.new.self.events ≡ filter_map restarted_event items = c.settle.ensures.events in
+    let many : c.len.result ≡ length c.settle.new.self.events = omega (arith, c.len.ensures) in
+    let placed : WithPlaces (filter_map restarted_event items) c.self.inside.checks.items c.place_checks.new.rows.items = subst (λ (xs : List Event). WithPlaces xs c.self.inside.checks.items c.place_checks.new.rows.items) (c.events.ensures ∙ left) c.place_checks.ensures.rows in
     record {
       tape = subst IsTape (sym left) (IsTape-restarted items c.self.invariant.tape);
       checked = subst (λ (xs : List Event). AreRows xs c.place_checks.new.rows.items c.self.inside.incarnations.items c.self.inside.addressees.items) (sym left) (AreRows-restarted items c.self.inside.checks.items c.self.inside.incarnations.items c.self.inside.addressees.items c.self.invariant.checked c.place_checks.new.rows.items placed);
       received = c.self.invariant.received ∙ sym (names_restarted items) ∙ ap names_received (sym left);
-      unchanged = subst (λ (n : ℕ). AreSettled c.restart_events.new.events.items n) (sym many) (subst (λ (xs : List Event). AreSettled xs (length xs)) (sym left) (settled_left items));
+      unchanged = subst (λ (n : ℕ). AreSettled c.settle.new.self.events n) (sym many) (subst (λ (xs : List Event). AreSettled xs (length xs)) (sym left) (settled_left items));
     }
 
 pub returns-clause-limits : goal.returns-clause-limits
-returns-clause-limits c = subst IsTape (sym c.restart_events.ensures.items) (IsTape-restarted c.self.inside.events.items c.self.invariant.tape)
+returns-clause-limits c = subst IsTape (sym c.settle.ensures.events) (IsTape-restarted c.self.inside.log.events c.self.invariant.tape)
+
+pub place_checks-requires-clause-few : goal.place_checks-requires-clause-few
+place_checks-requires-clause-few c =
+    let left : c.events.result ≡ filter_map restarted_event c.self.inside.log.events = c.events.ensures ∙ c.settle.ensures.events in
+    omega (arith, ap (λ (xs : List Event). length xs) left, (IsTape-restarted c.self.inside.log.events c.self.invariant.tape).few)
+
+pub overflow_cast-self : goal.overflow_cast-self
+overflow_cast-self c =
+    omega (arith, ap (λ (xs : List Event). length xs) c.settle.ensures.events, (IsTape-restarted c.self.inside.log.events c.self.invariant.tape).few, c.len.ensures)

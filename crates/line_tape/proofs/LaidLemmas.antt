@@ -1,0 +1,277 @@
+-- What is kept of events, as they come and go.
+use Rattle.std.proofs.Common.{◌≡◌, ℕ, suc, ◌+◌, ◌*◌, ◌-◌, ◌<◌, ◌≤◌, List, [], ◌∷◌, ◌++◌, length, take, drop, map, get_or, Option, Some, None, refl, sym, ap, ◌∙◌, subst, arith}
+use Rattle.std.specs.List.{All, filter_map}
+use Rattle.std.proofs.lemmas.List.{append-nil, drop-append-le, drop-map, drop_at, get_or_append_left, get_or_push, length-append, length-drop, length-take-le, length_push, map-append, take-append-drop, take-append-le, take-map, take_more, take_all}
+use Rattle.std.proofs.lemmas.List.Elements.{All-nil, All-cons, All-head, All-tail}
+use Rattle.line_names.specs.declared.limits.TheConstants.{MOST_BODY}
+use Rattle.line_names.specs.declared.messages.MsgName.{MsgName}
+use Rattle.line_tape.specs.declared.events.Event.{Event}
+use Rattle.line_tape.specs.declared.events.Event.TheVariants.{Send, Recv, Check, Mark}
+use Rattle.line_tape.specs.declared.logs.KeptEvent.{KeptEvent}
+use Rattle.line_tape.specs.declared.logs.KeptEvent.TheVariants.{Send as KeptSend, Recv as KeptRecv, Check as KeptCheck, Mark as KeptMark}
+use Rattle.line_tape.specs.Event.{IsShort}
+use Rattle.line_tape.specs.Kept.{IsSettled}
+use Rattle.line_tape.specs.Laid.{Fits, IsLaid, body_of, event_of, kept_as, restarted_kept, states_of}
+use Rattle.line_tape.specs.Restart.{restarted_event}
+
+-- what stands among so many bytes and states stands among more
+fits-more : (event : KeptEvent) (B S B' S' : ℕ) → B ≤ B' → S ≤ S' → Fits B S event → Fits B' S' event
+fits-more (KeptSend to start inc len) B S B' S' b s fits = omega (arith, b, fits)
+fits-more (KeptRecv message) B S B' S' b s fits = fits
+fits-more (KeptCheck before round) B S B' S' b s fits = omega (arith, s, fits)
+fits-more (KeptMark from round) B S B' S' b s fits = fits
+
+-- how far events reach
+pub record Reaches (events : List KeptEvent) (b s B S : ℕ) : Type 0 where
+  pub bytes : b ≤ B
+  pub few : B ≤ b + MOST_BODY * length events
+  pub states : s ≤ S
+  pub fewer : S ≤ s + length events
+  pub fit : All (Fits B S) events
+
+pub laid-reaches : (events : List KeptEvent) (b s B S : ℕ) → IsLaid events b s B S → Reaches events b s B S
+laid-reaches [] b s B S laid = record {
+  bytes = omega (arith, laid.0);
+  few = omega (arith, laid.0);
+  states = omega (arith, laid.1);
+  fewer = omega (arith, laid.1);
+  fit = All-nil (Fits B S);
+}
+laid-reaches (KeptSend to start inc len ∷ rest) b s B S laid =
+    let far : Reaches rest (b + len) s B S = laid-reaches rest (b + len) s B S laid.2 in
+    record {
+      bytes = omega (arith, far.bytes);
+      few = omega (arith, far.few, laid.1);
+      states = far.states;
+      fewer = omega (arith, far.fewer);
+      fit = All-cons (Fits B S) (KeptSend to start inc len) rest (omega (arith, laid.0, far.bytes)) far.fit;
+    }
+laid-reaches (KeptRecv message ∷ rest) b s B S laid =
+    let far : Reaches rest b s B S = laid-reaches rest b s B S laid in
+    record {
+      bytes = far.bytes;
+      few = omega (arith, far.few);
+      states = far.states;
+      fewer = omega (arith, far.fewer);
+      fit = All-cons (Fits B S) (KeptRecv message) rest _ far.fit;
+    }
+laid-reaches (KeptCheck before round ∷ rest) b s B S laid =
+    let far : Reaches rest b (suc s) B S = laid-reaches rest b (suc s) B S laid.1 in
+    record {
+      bytes = far.bytes;
+      few = omega (arith, far.few);
+      states = omega (arith, far.states);
+      fewer = omega (arith, far.fewer);
+      fit = All-cons (Fits B S) (KeptCheck before round) rest (omega (arith, laid.0, far.states)) far.fit;
+    }
+laid-reaches (KeptMark from round ∷ rest) b s B S laid =
+    let far : Reaches rest b s B S = laid-reaches rest b s B S laid in
+    record {
+      bytes = far.bytes;
+      few = omega (arith, far.few);
+      states = far.states;
+      fewer = omega (arith, far.fewer);
+      fit = All-cons (Fits B S) (KeptMark from round) rest _ far.fit;
+    }
+
+-- events behind others
+pub laid-append : (events more : List KeptEvent) (b s B S B' S' : ℕ) → IsLaid events b s B S → IsLaid more B S B' S' → IsLaid (events ++ more) b s B' S'
+laid-append [] more b s B S B' S' laid next =
+    subst (λ k. IsLaid more k s B' S') (sym laid.0) (subst (λ k. IsLaid more B k B' S') (sym laid.1) next)
+laid-append (KeptSend to start inc len ∷ rest) more b s B S B' S' laid next =
+    (laid.0, laid.1, laid-append rest more (b + len) s B S B' S' laid.2 next)
+laid-append (KeptRecv message ∷ rest) more b s B S B' S' laid next = laid-append rest more b s B S B' S' laid next
+laid-append (KeptCheck before round ∷ rest) more b s B S B' S' laid next =
+    (laid.0, laid-append rest more b (suc s) B S B' S' laid.1 next)
+laid-append (KeptMark from round ∷ rest) more b s B S B' S' laid next = laid-append rest more b s B S B' S' laid next
+
+-- how far the first events reach, and the others from there on
+pub record Parted (events more : List KeptEvent) (b s B S : ℕ) : Type 0 where
+  pub byte : ℕ
+  pub state : ℕ
+  pub first : IsLaid events b s byte state
+  pub others : IsLaid more byte state B S
+
+pub laid-parts : (events more : List KeptEvent) (b s B S : ℕ) → IsLaid (events ++ more) b s B S → Parted events more b s B S
+laid-parts [] more b s B S laid = record { byte = b; state = s; first = (refl, refl); others = laid }
+laid-parts (KeptSend to start inc len ∷ rest) more b s B S laid =
+    let parts : Parted rest more (b + len) s B S = laid-parts rest more (b + len) s B S laid.2 in
+    record { byte = parts.byte; state = parts.state; first = (laid.0, laid.1, parts.first); others = parts.others }
+laid-parts (KeptRecv message ∷ rest) more b s B S laid =
+    let parts : Parted rest more b s B S = laid-parts rest more b s B S laid in
+    record { byte = parts.byte; state = parts.state; first = parts.first; others = parts.others }
+laid-parts (KeptCheck before round ∷ rest) more b s B S laid =
+    let parts : Parted rest more b (suc s) B S = laid-parts rest more b (suc s) B S laid.1 in
+    record { byte = parts.byte; state = parts.state; first = (laid.0, parts.first); others = parts.others }
+laid-parts (KeptMark from round ∷ rest) more b s B S laid =
+    let parts : Parted rest more b s B S = laid-parts rest more b s B S laid in
+    record { byte = parts.byte; state = parts.state; first = parts.first; others = parts.others }
+
+module _ (bodies more : List ℕ) (states others : List (List ℕ)) where
+  -- further bytes and states change no event
+  event-same : (event : KeptEvent) → Fits (length bodies) (length states) event → event_of (bodies ++ more) (states ++ others) event ≡ event_of bodies states event
+  event-same (KeptSend to start inc len) fits =
+      let dropped : drop start (bodies ++ more) ≡ drop start bodies ++ more = drop-append-le start bodies more (omega (arith, fits)) in
+      ap (Send to inc) (ap (take len) dropped ∙ take-append-le len (drop start bodies) more (omega (arith, fits, length-drop start bodies)))
+  event-same (KeptRecv message) fits = refl
+  event-same (KeptCheck before round) fits =
+      ap (λ (state : List ℕ). Check state round) (get_or_append_left states others [] before fits)
+  event-same (KeptMark from round) fits = refl
+
+  pub events-same : (events : List KeptEvent) → All (Fits (length bodies) (length states)) events → map (event_of (bodies ++ more) (states ++ others)) events ≡ map (event_of bodies states) events
+  events-same [] fits = refl
+  events-same (event ∷ rest) fits =
+      ap (λ (e : Event). e ∷ map (event_of (bodies ++ more) (states ++ others)) rest) (event-same event (All-head (Fits (length bodies) (length states)) event rest fits))
+      ∙ ap (λ (es : List Event). event_of bodies states event ∷ es) (events-same rest (All-tail (Fits (length bodies) (length states)) event rest fits))
+
+-- the first bytes and states tell the events that stand among them
+pub events-first : (bodies : List ℕ) (states : List (List ℕ)) (B S : ℕ) (events : List KeptEvent) → B ≤ length bodies → S ≤ length states → All (Fits B S) events → map (event_of (take B bodies) (take S states)) events ≡ map (event_of bodies states) events
+events-first bodies states B S events b s fits =
+    let bytes : B ≡ length (take B bodies) = sym (length-take-le B bodies b) in
+    let count : S ≡ length (take S states) = sym (length-take-le S states s) in
+    let inside : All (Fits (length (take B bodies)) (length (take S states))) events = subst (λ k. All (Fits k (length (take S states))) events) bytes (subst (λ k. All (Fits B k) events) count fits) in
+    sym (events-same (take B bodies) (drop B bodies) (take S states) (drop S states) events inside)
+    ∙ ap (λ (xs : List ℕ). map (event_of xs (take S states ++ drop S states)) events) (take-append-drop B bodies)
+    ∙ ap (λ (xs : List (List ℕ)). map (event_of bodies xs) events) (take-append-drop S states)
+
+-- a body that comes next
+pub body-next : (bodies body : List ℕ) (to inc : ℕ) (states : List (List ℕ)) → event_of (bodies ++ body) states (KeptSend to (length bodies) inc (length body)) ≡ Send to inc body
+body-next bodies body to inc states =
+    ap (Send to inc) (ap (take (length body)) (drop_at bodies body (length bodies) refl) ∙ take_all (length body) body (omega arith))
+
+-- what a restart leaves of the events
+pub events-restarted : (bodies : List ℕ) (states : List (List ℕ)) (events : List KeptEvent) → map (event_of bodies states) (filter_map restarted_kept events) ≡ filter_map restarted_event (map (event_of bodies states) events)
+events-restarted bodies states [] = refl
+events-restarted bodies states (KeptSend to start inc len ∷ rest) = ap (λ (es : List Event). event_of bodies states (KeptSend to start inc len) ∷ es) (events-restarted bodies states rest)
+events-restarted bodies states (KeptRecv message ∷ rest) = ap (λ (es : List Event). Recv message ∷ es) (events-restarted bodies states rest)
+events-restarted bodies states (KeptCheck before round ∷ rest) = ap (λ (es : List Event). event_of bodies states (KeptCheck before None) ∷ es) (events-restarted bodies states rest)
+events-restarted bodies states (KeptMark from round ∷ rest) = events-restarted bodies states rest
+
+pub laid-restarted : (events : List KeptEvent) (b s B S : ℕ) → IsLaid events b s B S → IsLaid (filter_map restarted_kept events) b s B S
+laid-restarted [] b s B S laid = laid
+laid-restarted (KeptSend to start inc len ∷ rest) b s B S laid = (laid.0, laid.1, laid-restarted rest (b + len) s B S laid.2)
+laid-restarted (KeptRecv message ∷ rest) b s B S laid = laid-restarted rest b s B S laid
+laid-restarted (KeptCheck before round ∷ rest) b s B S laid = (laid.0, laid-restarted rest b (suc s) B S laid.1)
+laid-restarted (KeptMark from round ∷ rest) b s B S laid = laid-restarted rest b s B S laid
+
+-- what is kept of an event that is settled is settled
+settled-one : (bodies : List ℕ) (states : List (List ℕ)) (event : KeptEvent) → IsSettled (event_of bodies states event) → restarted_kept event ≡ Some event
+settled-one bodies states (KeptSend to start inc len) settled = refl
+settled-one bodies states (KeptRecv message) settled = refl
+settled-one bodies states (KeptCheck before round) settled =
+    let none : None ≡ round = cc settled in
+    ap (λ r. Some (KeptCheck before r)) none
+settled-one bodies states (KeptMark from round) settled = absurd (cc settled)
+
+settled-each : (bodies : List ℕ) (states : List (List ℕ)) (events : List KeptEvent) → All IsSettled (map (event_of bodies states) events) → All (λ event. restarted_kept event ≡ Some event) events
+settled-each bodies states [] settled = All-nil (λ event. restarted_kept event ≡ Some event)
+settled-each bodies states (event ∷ rest) settled =
+    All-cons (λ event. restarted_kept event ≡ Some event) event rest (settled-one bodies states event (All-head IsSettled (event_of bodies states event) (map (event_of bodies states) rest) settled)) (settled-each bodies states rest (All-tail IsSettled (event_of bodies states event) (map (event_of bodies states) rest) settled))
+
+pub settled-kept : (bodies : List ℕ) (states : List (List ℕ)) (events : List KeptEvent) (n : ℕ) → All IsSettled (take n (map (event_of bodies states) events)) → All (λ event. restarted_kept event ≡ Some event) (take n events)
+settled-kept bodies states events n settled =
+    settled-each bodies states (take n events) (subst (All IsSettled) (take-map (event_of bodies states) n events) settled)
+
+-- the bytes and the states of the events are there
+pub laid_fit : (events : List KeptEvent) (B S : ℕ) → IsLaid events 0 0 B S → All (Fits B S) events
+laid_fit events B S laid = (laid-reaches events 0 0 B S laid).fit
+
+-- the first so many events, and those behind them
+pub events_of_first : (bodies : List ℕ) (states : List (List ℕ)) (events : List KeptEvent) (n : ℕ) → map (event_of bodies states) (take n events) ≡ take n (map (event_of bodies states) events)
+events_of_first bodies states events n = sym (take-map (event_of bodies states) n events)
+
+pub events_behind : (bodies : List ℕ) (states : List (List ℕ)) (events : List KeptEvent) (n : ℕ) → map (event_of bodies states) (drop n events) ≡ drop n (map (event_of bodies states) events)
+events_behind bodies states events n = sym (drop-map (event_of bodies states) n events)
+
+-- what the log is, where it has these events
+pub record IsLog (events : List KeptEvent) (bodies : List ℕ) (states : List (List ℕ)) (told : List Event) : Type 0 where
+  pub laid : IsLaid events 0 0 (length bodies) (length states)
+  pub shows : map (event_of bodies states) events ≡ told
+
+module _ (events : List KeptEvent) (bodies : List ℕ) (states : List (List ℕ)) (laid : IsLaid events 0 0 (length bodies) (length states)) where
+  abbrev told : List Event
+  told = map (event_of bodies states) events
+
+  -- one event more, whose bytes and state come next
+  added : (event : KeptEvent) (body : List ℕ) (more : List (List ℕ)) → IsLaid (event ∷ []) (length bodies) (length states) (length (bodies ++ body)) (length (states ++ more)) → IsLog (events ++ event ∷ []) (bodies ++ body) (states ++ more) (told ++ event_of (bodies ++ body) (states ++ more) event ∷ [])
+  added event body more next = record {
+    laid = laid-append events (event ∷ []) 0 0 (length bodies) (length states) (length (bodies ++ body)) (length (states ++ more)) laid next;
+    shows = map-append (event_of (bodies ++ body) (states ++ more)) events (event ∷ [])
+        ∙ ap (λ (es : List Event). es ++ event_of (bodies ++ body) (states ++ more) event ∷ []) (events-same bodies body states more events (laid_fit events (length bodies) (length states) laid));
+  }
+
+  pub send-added : (to inc : ℕ) (body : List ℕ) → length body ≤ MOST_BODY → IsLog (events ++ KeptSend to (length bodies) inc (length body) ∷ []) (bodies ++ body) states (told ++ Send to inc body ∷ [])
+  send-added to inc body short =
+      let event : KeptEvent = KeptSend to (length bodies) inc (length body) in
+      let next : IsLog (events ++ event ∷ []) (bodies ++ body) (states ++ []) (told ++ event_of (bodies ++ body) (states ++ []) event ∷ []) = added event body [] (refl, short, (sym (length-append bodies body), sym (ap (λ (xs : List (List ℕ)). length xs) (append-nil states)))) in
+      subst (λ (e : Event). IsLog (events ++ event ∷ []) (bodies ++ body) states (told ++ e ∷ [])) (body-next bodies body to inc states)
+      (subst (λ (xs : List (List ℕ)). IsLog (events ++ event ∷ []) (bodies ++ body) xs (told ++ event_of (bodies ++ body) xs event ∷ [])) (append-nil states) next)
+
+  pub recv-added : (message : MsgName) → IsLog (events ++ KeptRecv message ∷ []) bodies states (told ++ Recv message ∷ [])
+  recv-added message = record {
+    laid = laid-append events (KeptRecv message ∷ []) 0 0 (length bodies) (length states) (length bodies) (length states) laid (refl, refl);
+    shows = map-append (event_of bodies states) events (KeptRecv message ∷ []);
+  }
+
+  pub mark-added : (from round : ℕ) → IsLog (events ++ KeptMark from round ∷ []) bodies states (told ++ Mark from round ∷ [])
+  mark-added from round = record {
+    laid = laid-append events (KeptMark from round ∷ []) 0 0 (length bodies) (length states) (length bodies) (length states) laid (refl, refl);
+    shows = map-append (event_of bodies states) events (KeptMark from round ∷ []);
+  }
+
+  pub check-added : (state : List ℕ) (round : Option ℕ) → IsLog (events ++ KeptCheck (length states) round ∷ []) bodies (states ++ state ∷ []) (told ++ Check state round ∷ [])
+  check-added state round =
+      let event : KeptEvent = KeptCheck (length states) round in
+      let next : IsLog (events ++ event ∷ []) (bodies ++ []) (states ++ state ∷ []) (told ++ event_of (bodies ++ []) (states ++ state ∷ []) event ∷ []) = added event [] (state ∷ []) (refl, (sym (ap (λ (xs : List ℕ). length xs) (append-nil bodies)), omega (arith, length_push states state))) in
+      subst (λ (e : Event). IsLog (events ++ event ∷ []) bodies (states ++ state ∷ []) (told ++ e ∷ [])) (ap (λ (s : List ℕ). Check s round) (get_or_push states state [] (length states) refl))
+      (subst (λ (xs : List ℕ). IsLog (events ++ event ∷ []) xs (states ++ state ∷ []) (told ++ event_of xs (states ++ state ∷ []) event ∷ [])) (append-nil bodies) next)
+
+  -- an event more, whatever it is
+  pub event-added : (event : Event) → IsShort event → IsLog (events ++ kept_as (length bodies) (length states) event ∷ []) (bodies ++ body_of event) (states ++ states_of event) (told ++ event ∷ [])
+  event-added (Send to inc body) short = subst (λ (xs : List (List ℕ)). IsLog (events ++ KeptSend to (length bodies) inc (length body) ∷ []) (bodies ++ body) xs (told ++ Send to inc body ∷ [])) (sym (append-nil states)) (send-added to inc body short)
+  event-added (Recv message) short = subst (λ (xs : List ℕ). IsLog (events ++ KeptRecv message ∷ []) xs (states ++ []) (told ++ Recv message ∷ [])) (sym (append-nil bodies)) (subst (λ (xs : List (List ℕ)). IsLog (events ++ KeptRecv message ∷ []) bodies xs (told ++ Recv message ∷ [])) (sym (append-nil states)) (recv-added message))
+  event-added (Check state round) short = subst (λ (xs : List ℕ). IsLog (events ++ KeptCheck (length states) round ∷ []) xs (states ++ state ∷ []) (told ++ Check state round ∷ [])) (sym (append-nil bodies)) (check-added state round)
+  event-added (Mark from round) short = subst (λ (xs : List ℕ). IsLog (events ++ KeptMark from round ∷ []) xs (states ++ []) (told ++ Mark from round ∷ [])) (sym (append-nil bodies)) (subst (λ (xs : List (List ℕ)). IsLog (events ++ KeptMark from round ∷ []) bodies xs (told ++ Mark from round ∷ [])) (sym (append-nil states)) (mark-added from round))
+
+  module _ (first : List KeptEvent) where
+    -- all but a send
+    pub send-gone : (to start inc len : ℕ) → events ≡ first ++ KeptSend to start inc len ∷ [] → IsLog first (take start bodies) states (map (event_of bodies states) first)
+    send-gone to start inc len is =
+        let parts : Parted first (KeptSend to start inc len ∷ []) 0 0 (length bodies) (length states) = laid-parts first (KeptSend to start inc len ∷ []) 0 0 (length bodies) (length states) (subst (λ es. IsLaid es 0 0 (length bodies) (length states)) is laid) in
+        let within : start ≤ length bodies = omega (arith, parts.others.0, parts.others.2.0) in
+        let byte : parts.byte ≡ length (take start bodies) = sym parts.others.0 ∙ sym (length-take-le start bodies within) in
+        let before : IsLaid first 0 0 (length (take start bodies)) (length states) = subst (λ k. IsLaid first 0 0 k (length states)) byte (subst (λ k. IsLaid first 0 0 parts.byte k) parts.others.2.1 parts.first) in
+        record {
+          laid = before;
+          shows = sym (ap (λ (xs : List (List ℕ)). map (event_of (take start bodies) xs) first) (take_all (length states) states (omega arith)))
+              ∙ events-first bodies states start (length states) first within (omega arith) (subst (λ k. All (Fits k (length states)) first) (length-take-le start bodies within) (laid_fit first (length (take start bodies)) (length states) before));
+        }
+
+    -- all but a check
+    pub check-gone : (before : ℕ) (round : Option ℕ) → events ≡ first ++ KeptCheck before round ∷ [] → IsLog first bodies (take before states) (map (event_of bodies states) first)
+    check-gone before round is =
+        let parts : Parted first (KeptCheck before round ∷ []) 0 0 (length bodies) (length states) = laid-parts first (KeptCheck before round ∷ []) 0 0 (length bodies) (length states) (subst (λ es. IsLaid es 0 0 (length bodies) (length states)) is laid) in
+        let within : before ≤ length states = omega (arith, parts.others.0, parts.others.1.1) in
+        let state : parts.state ≡ length (take before states) = sym parts.others.0 ∙ sym (length-take-le before states within) in
+        let left : IsLaid first 0 0 (length bodies) (length (take before states)) = subst (λ k. IsLaid first 0 0 k (length (take before states))) parts.others.1.0 (subst (λ k. IsLaid first 0 0 parts.byte k) state parts.first) in
+        record {
+          laid = left;
+          shows = sym (ap (λ (xs : List ℕ). map (event_of xs (take before states)) first) (take_all (length bodies) bodies (omega arith)))
+              ∙ events-first bodies states (length bodies) before first (omega arith) within (subst (λ k. All (Fits (length bodies) k) first) (length-take-le before states within) (laid_fit first (length bodies) (length (take before states)) left));
+        }
+
+    -- all but an event without bytes and state
+    pub recv-gone : (message : MsgName) → events ≡ first ++ KeptRecv message ∷ [] → IsLog first bodies states (map (event_of bodies states) first)
+    recv-gone message is =
+        let parts : Parted first (KeptRecv message ∷ []) 0 0 (length bodies) (length states) = laid-parts first (KeptRecv message ∷ []) 0 0 (length bodies) (length states) (subst (λ es. IsLaid es 0 0 (length bodies) (length states)) is laid) in
+        record { laid = subst (λ k. IsLaid first 0 0 k (length states)) parts.others.0 (subst (λ k. IsLaid first 0 0 parts.byte k) parts.others.1 parts.first); shows = refl }
+
+    pub mark-gone : (from round : ℕ) → events ≡ first ++ KeptMark from round ∷ [] → IsLog first bodies states (map (event_of bodies states) first)
+    mark-gone from round is =
+        let parts : Parted first (KeptMark from round ∷ []) 0 0 (length bodies) (length states) = laid-parts first (KeptMark from round ∷ []) 0 0 (length bodies) (length states) (subst (λ es. IsLaid es 0 0 (length bodies) (length states)) is laid) in
+        record { laid = subst (λ k. IsLaid first 0 0 k (length states)) parts.others.0 (subst (λ k. IsLaid first 0 0 parts.byte k) parts.others.1 parts.first); shows = refl }
+
+-- all events but the last, and that one
+pub last_behind : (events : List KeptEvent) (n : ℕ) (event : KeptEvent) → n ≡ length events → 0 < n → event ≡ get_or events (n - 1) event → events ≡ take (n - 1) events ++ event ∷ []
+last_behind events n event count some is =
+    sym (take_all (n - 1 + 1) events (omega arith)) ∙ take_more events (n - 1) event (omega arith) ∙ ap (λ (e : KeptEvent). take (n - 1) events ++ e ∷ []) (sym is)

@@ -1,0 +1,59 @@
+-- How a tape keeps its events: each in a few bytes, and beside them the bytes of bodies and the states.
+use Rattle.std.specs.Prelude.{◌≡◌, ◌<◌, ◌≤◌, ◌+◌, ℕ, suc, List, [], ◌∷◌, Option, Some, None, drop, length, slice_index_or, take}
+use Rattle.line_names.specs.declared.limits.TheConstants.{MOST_BODY}
+use Rattle.line_tape.specs.declared.events.Event.{Event}
+use Rattle.line_tape.specs.declared.events.Event.TheVariants.{Send, Recv, Check, Mark}
+use Rattle.line_tape.specs.declared.logs.KeptEvent.{KeptEvent}
+use Rattle.line_tape.specs.declared.logs.KeptEvent.TheVariants.{Send as KeptSend, Recv as KeptRecv, Check as KeptCheck, Mark as KeptMark}
+
+-- the event that is kept so, beside these bytes and states
+abbrev pub event_of : List ℕ → List (List ℕ) → KeptEvent → Event
+event_of bodies states (KeptSend to start inc len) = Send to inc (take len (drop start bodies))
+event_of bodies states (KeptRecv message) = Recv message
+event_of bodies states (KeptCheck before round) = Check (slice_index_or states before []) round
+event_of bodies states (KeptMark from round) = Mark from round
+
+-- how an event is kept behind so many bytes and states
+abbrev pub kept_as : ℕ → ℕ → Event → KeptEvent
+kept_as bytes states (Send to inc body) = KeptSend to bytes inc (length body)
+kept_as bytes states (Recv message) = KeptRecv message
+kept_as bytes states (Check state round) = KeptCheck states round
+kept_as bytes states (Mark from round) = KeptMark from round
+
+-- the bytes of the event's body
+abbrev pub body_of : Event → List ℕ
+body_of (Send to inc body) = body
+body_of (Recv message) = []
+body_of (Check state round) = []
+body_of (Mark from round) = []
+
+-- its state, if it is a check
+abbrev pub states_of : Event → List (List ℕ)
+states_of (Send to inc body) = []
+states_of (Recv message) = []
+states_of (Check state round) = state ∷ []
+states_of (Mark from round) = []
+
+-- its bytes and its state are among so many
+abbrev pub Fits : ℕ → ℕ → KeptEvent → Type 0
+Fits bytes states (KeptSend to start inc len) = start + len ≤ bytes
+Fits bytes states (KeptRecv message) = Unit {0}
+Fits bytes states (KeptCheck before round) = before < states
+Fits bytes states (KeptMark from round) = Unit {0}
+
+-- behind so many bytes and states those of the events stand one after another, up to so many
+abbrev pub IsLaid : List KeptEvent → ℕ → ℕ → ℕ → ℕ → Type 0
+IsLaid [] byte state bytes states = (byte ≡ bytes) × (state ≡ states)
+IsLaid (KeptSend to start inc len ∷ rest) byte state bytes states =
+    (start ≡ byte) × (len ≤ MOST_BODY) × IsLaid rest (byte + len) state bytes states
+IsLaid (KeptRecv message ∷ rest) byte state bytes states = IsLaid rest byte state bytes states
+IsLaid (KeptCheck before round ∷ rest) byte state bytes states =
+    (before ≡ state) × IsLaid rest byte (suc state) bytes states
+IsLaid (KeptMark from round ∷ rest) byte state bytes states = IsLaid rest byte state bytes states
+
+-- what a restart leaves of an event that is kept so
+abbrev pub restarted_kept : KeptEvent → Option KeptEvent
+restarted_kept (KeptSend to start inc len) = Some (KeptSend to start inc len)
+restarted_kept (KeptRecv message) = Some (KeptRecv message)
+restarted_kept (KeptCheck before round) = Some (KeptCheck before None)
+restarted_kept (KeptMark from round) = None

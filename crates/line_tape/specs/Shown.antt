@@ -1,0 +1,12 @@
+-- The event that a tape shows.
+use Rattle.line_tape.specs.declared.events.Event.{Event}
+use Rattle.line_tape.specs.declared.events.Event.TheVariants.{Send, Recv, Check, Mark}
+use Rattle.line_tape.specs.declared.events.EventRef.{EventRef}
+use Rattle.line_tape.specs.declared.events.EventRef.TheVariants.{Send as SendRef, Recv as RecvRef, Check as CheckRef, Mark as MarkRef}
+
+-- the event that is shown so, its bytes lent
+abbrev pub shown : EventRef → Event
+shown (SendRef to inc body) = Send to inc body.now
+shown (RecvRef message) = Recv message
+shown (CheckRef state round) = Check state.now round
+shown (MarkRef from round) = Mark from round

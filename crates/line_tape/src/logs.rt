@@ -1,0 +1,347 @@
+//! The events of a tape, as it keeps and shows them.
+ghost use Rattle.std.specs.Prelude.{◌≡◌, ◌<◌, ◌≤◌, ◌+◌, ◌-◌, ◌^◌, ◌↔◌, if◌then◌else◌, [], ◌∷◌, ◌++◌, All, IsOk, IsTrue, None, OnOk, Some, drop, length, slice_get, take, vec_capacity, vec_len};
+ghost use Rattle.std.specs.List.{filter_map};
+ghost use Rattle.line_tape.specs.Event.{IsShort};
+ghost use Rattle.line_tape.specs.Kept.{IsSettled};
+ghost use Rattle.line_tape.specs.Laid.{body_of, kept_as, restarted_kept, states_of};
+ghost use Rattle.line_tape.specs.Restart.{restarted_event};
+ghost use Rattle.line_tape.specs.Shown.{shown};
+
+use crate::events::{Event, EventRef, State};
+use crate::limits::MOST_EVENTS;
+use line_names::{MOST_BODY, MsgName, ProcId};
+use std::alloc::{AllocError, Global};
+use std::marker::Model;
+
+/// An event in sixteen bytes: those of a body, and a state, are kept beside it.
+#[derive(Clone, Copy)]
+pub(crate) enum KeptEvent {
+    /// A message of `len` bytes, which stand behind `start` others.
+    Send {
+        to: ProcId,
+        start: u32,
+        inc: u16,
+        len: u8,
+    },
+    /// The receipt of a message.
+    Recv {
+        message: MsgName,
+    },
+    /// A check, whose state stands behind so many others.
+    Check {
+        before: u32,
+        round: Option<u32>,
+    },
+    /// The receipt of a marker.
+    Mark {
+        from: ProcId,
+        round: u32,
+    },
+}
+
+/// Takes the round off a check, and tells whether the event stays: marks don't.
+fn restart_event(event: &mut KeptEvent) -> bool
+    ensures { restarted_kept event.old ≡ (if result then Some event.new else None) }
+{
+    match event {
+        KeptEvent::Send { .. } => true,
+        KeptEvent::Recv { .. } => true,
+        KeptEvent::Check { round, .. } => {
+            *round = None;
+            true
+        }
+        KeptEvent::Mark { .. } => false,
+    }
+}
+
+/// Takes marks out and the rounds off checks, where a restart leaves the first `settled` events as
+/// they are.
+fn restart_events(events: &mut Vec<KeptEvent>, settled: usize)
+    requires within { settled ≤ vec_len events.old }
+    requires settled { All (λ event. restarted_kept event ≡ Some event)
+        (take settled events.old.items) }
+    ensures items { events.new.items ≡ filter_map restarted_kept events.old.items }
+    ensures few { vec_len events.new ≤ vec_len events.old }
+    ensures capacity { vec_capacity events.new ≡ vec_capacity events.old }
+{
+    let mut end = settled;
+    for i in settled..events.len() {
+        if restart_event(&mut events[i]) {
+            events.swap(i, end);
+            end += 1;
+        }
+    }
+    events.truncate(end);
+}
+
+/// An event as it is kept behind so many states. Its body, if it has one, goes behind the others,
+/// in room that was made for it.
+fn keep(bodies: &mut Vec<u8>, before: u32, event: &Event) -> KeptEvent
+    requires few { vec_len bodies.old + MOST_BODY < 2 ^ 32 }
+    requires short { IsShort event.now }
+    requires room { vec_len bodies.old + MOST_BODY ≤ vec_capacity bodies.old }
+    ensures kept { result ≡ kept_as (length bodies.old.items) before event.now }
+    ensures bodies { bodies.new.items ≡ bodies.old.items ++ body_of event.now }
+    ensures len { vec_len bodies.new ≤ vec_len bodies.old + MOST_BODY }
+    ensures capacity { vec_capacity bodies.old ≤ vec_capacity bodies.new }
+{
+    match event {
+        Event::Send { to, inc, body } => {
+            let bytes = body.bytes();
+            let start = bodies.len() as u32;
+            bodies.extend_from_slice(bytes).unwrap();
+            KeptEvent::Send {
+                to: *to,
+                start,
+                inc: *inc,
+                len: bytes.len() as u8,
+            }
+        }
+        Event::Recv { message } => KeptEvent::Recv { message: *message },
+        Event::Check { round, .. } => KeptEvent::Check {
+            before,
+            round: *round,
+        },
+        Event::Mark { from, round } => KeptEvent::Mark {
+            from: *from,
+            round: *round,
+        },
+    }
+}
+
+/// Keeps the state of an event, if it is a check, behind the others, in room that was made for it.
+fn keep_state(states: &mut Vec<State>, event: Event)
+    requires room { vec_len states.old < vec_capacity states.old }
+    ensures states { states.new.items ≡ states.old.items ++ states_of event }
+    ensures len { vec_len states.new ≤ vec_len states.old + 1 }
+    ensures capacity { vec_capacity states.old ≤ vec_capacity states.new }
+{
+    match event {
+        Event::Check { state, .. } => states.push_reserved(state),
+        Event::Send { .. } => {}
+        Event::Recv { .. } => {}
+        Event::Mark { .. } => {}
+    }
+}
+
+/// The events of a tape in their order, each in sixteen bytes, and beside them the bytes of bodies,
+/// one after another, and the states.
+#[derive(Drop)]
+pub(crate) struct Log {
+    events: Vec<KeptEvent>,
+    bodies: Vec<u8>,
+    states: Vec<State>,
+}
+
+impl Model for Log {
+    ghost use Rattle.std.specs.Prelude.{◌-◌, ◌/◌, length, map, min, vec_capacity, vec_len};
+    ghost use Rattle.line_names.specs.declared.limits.TheConstants.{MOST_BODY};
+    ghost use Rattle.line_tape.specs.Laid.{event_of, IsLaid};
+    ghost use Rattle.line_tape.specs.Views.{TapeView};
+
+    ghost Value = { TapeView };
+
+    ghost view = { λ l. record {
+      events = map (event_of l.bodies.items l.states.items) l.events.items;
+      room = min (vec_capacity l.events - vec_len l.events)
+          (min ((vec_capacity l.bodies - vec_len l.bodies) / MOST_BODY)
+          (vec_capacity l.states - vec_len l.states));
+    } };
+
+    ghost invariant = { λ l.
+        IsLaid l.events.items 0 0 (length l.bodies.items) (length l.states.items) };
+}
+
+impl Log {
+    /// The log of no events.
+    pub(crate) fn new(alloc: Global) -> Log
+        ensures { result.events ≡ [] }
+    {
+        Log {
+            events: Vec::new(alloc),
+            bodies: Vec::new(alloc),
+            states: Vec::new(alloc),
+        }
+    }
+
+    /// How many events there are.
+    pub(crate) fn len(&self) -> usize
+        ensures { result ≡ length self.now.events }
+    {
+        self.events.len()
+    }
+
+    #[tactic(auto, using(crate::proofs::LaidLemmas::laid_fit))]
+    /// The events, as they are shown.
+    pub(crate) fn events(&self) -> Events<'_>
+        ensures { result ≡ self.now.events }
+    {
+        Events {
+            events: self.events.as_slice(),
+            bodies: self.bodies.as_slice(),
+            states: self.states.as_slice(),
+        }
+    }
+
+    /// Makes room for so many further events.
+    pub(crate) fn reserve(&mut self, k: u32) -> Result<(), AllocError>
+        ensures same { self.new.events ≡ self.old.events }
+        ensures ok { OnOk result (k ≤ self.new.room) }
+        ensures succeeds { k ≤ self.old.room → IsOk result }
+        ensures room { self.old.room ≤ self.new.room }
+    {
+        let k = k as usize;
+        self.events.reserve(k)?;
+        self.bodies.reserve(k * MOST_BODY)?;
+        self.states.reserve(k)
+    }
+
+    /// Adds an event at the end, in room that was made for it. It takes no memory.
+    pub(crate) fn append(&mut self, event: Event)
+        requires room { 0 < self.old.room }
+        requires few { length self.old.events < MOST_EVENTS }
+        requires short { IsShort event }
+        ensures events { self.new.events ≡ self.old.events ++ event ∷ [] }
+        ensures room { self.old.room ≤ self.new.room + 1 }
+    {
+        let before = self.states.len() as u32;
+        let kept = keep(&mut self.bodies, before, &event);
+        self.events.push_reserved(kept);
+        keep_state(&mut self.states, event);
+    }
+
+    /// Lets go of the last event.
+    fn pop(&mut self)
+        requires { 0 < length self.old.events }
+        ensures events { self.new.events ≡ take (length self.old.events - 1) self.old.events }
+        ensures room { self.old.room ≤ self.new.room }
+    {
+        let last = self.events.len() - 1;
+        match &self.events[last] {
+            KeptEvent::Send { start, .. } => self.bodies.truncate(*start as usize),
+            KeptEvent::Recv { .. } => {}
+            KeptEvent::Check { before, .. } => self.states.truncate(*before as usize),
+            KeptEvent::Mark { .. } => {}
+        }
+        self.events.truncate(last);
+    }
+
+    /// Lets go of all but the first `end` events. It looks once at each that goes.
+    pub(crate) fn truncate(&mut self, end: usize)
+        ensures events { self.new.events ≡ take end self.old.events }
+        ensures room { self.old.room ≤ self.new.room }
+    {
+        while self.len() > end {
+            self.pop();
+        }
+    }
+
+    /// Takes marks out and the rounds off checks, where a restart leaves the first `settled` events
+    /// as they are. It looks once at each of the others.
+    pub(crate) fn settle(&mut self, settled: usize)
+        requires within { settled ≤ length self.old.events }
+        requires settled { All IsSettled (take settled self.old.events) }
+        ensures events { self.new.events ≡ filter_map restarted_event self.old.events }
+        ensures room { self.old.room ≤ self.new.room }
+    {
+        restart_events(&mut self.events, settled);
+    }
+}
+
+/// Events of a tape, in their order.
+#[derive(Drop)]
+pub struct Events<'a> {
+    events: &'a [KeptEvent],
+    bodies: &'a [u8],
+    states: &'a [State],
+}
+
+impl<'a> Model for Events<'a> {
+    ghost use Rattle.std.specs.Prelude.{All, List, length, map};
+    ghost use Rattle.line_tape.specs.declared.events.Event.{Event};
+    ghost use Rattle.line_tape.specs.Laid.{event_of, Fits};
+
+    ghost Value = { List Event };
+
+    ghost view = { λ s. map (event_of s.bodies.now s.states.now) s.events.now };
+
+    ghost invariant = { λ s. All (Fits (length s.bodies.now) (length s.states.now)) s.events.now };
+}
+
+impl<'a> Events<'a> {
+    /// How many they are.
+    pub fn len(&self) -> usize
+        ensures { result ≡ length self.now }
+    {
+        self.events.len()
+    }
+
+    /// Whether there is none.
+    pub fn is_empty(&self) -> bool
+        ensures { IsTrue result ↔ (self.now ≡ []) }
+    {
+        self.events.is_empty()
+    }
+
+    /// The one behind `i` others.
+    pub fn at(&self, i: usize) -> EventRef<'a>
+        requires { i < length self.now }
+        ensures { slice_get self.now i ≡ Some (shown result) }
+    {
+        let events = self.events;
+        let bodies = self.bodies;
+        let states = self.states;
+        match &events[i] {
+            KeptEvent::Send {
+                to,
+                start,
+                inc,
+                len,
+            } => {
+                let start = *start as usize;
+                EventRef::Send {
+                    to: *to,
+                    inc: *inc,
+                    body: &bodies[start..start + *len as usize],
+                }
+            }
+            KeptEvent::Recv { message } => EventRef::Recv { message: *message },
+            KeptEvent::Check { before, round } => EventRef::Check {
+                state: states[*before as usize].bytes(),
+                round: *round,
+            },
+            KeptEvent::Mark { from, round } => EventRef::Mark {
+                from: *from,
+                round: *round,
+            },
+        }
+    }
+
+    #[tactic(auto, using(crate::proofs::LaidLemmas::events_of_first))]
+    /// The first so many.
+    pub fn first(&self, end: usize) -> Events<'a>
+        requires { end ≤ length self.now }
+        ensures { result ≡ take end self.now }
+    {
+        let events = self.events;
+        Events {
+            events: &events[..end],
+            bodies: self.bodies,
+            states: self.states,
+        }
+    }
+
+    #[tactic(auto, using(crate::proofs::LaidLemmas::events_behind))]
+    /// Those behind the first so many.
+    pub fn behind(&self, start: usize) -> Events<'a>
+        requires { start ≤ length self.now }
+        ensures { result ≡ drop start self.now }
+    {
+        let events = self.events;
+        Events {
+            events: &events[start..],
+            bodies: self.bodies,
+            states: self.states,
+        }
+    }
+}
