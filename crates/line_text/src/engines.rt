@@ -337,11 +337,10 @@ fn script_of<S: Source>(alloc: Global, source: &mut S) -> Result<KeptScript, Tex
 /// The whole script is read, and every fault of it found, before the first command runs. A fault of
 /// the text is the first one, with the number of its record. `ReadFault` says that the source
 /// failed or that the input is too long, and `WriteFault` that the sink failed, both of record 0.
-/// Where memory does not suffice for a command, the fault 0 has the number of its record; elsewhere
-/// it is of record
-/// 0. It takes memory in proportion to the input. It puts the replies in pieces of some 64 KiB,
-///    also within a history, a bundle or listed rounds, and holds no more of them than such a piece
-///    and a record.
+/// Where memory does not suffice for a command, the fault 0 has the number of its record, and
+/// elsewhere record 0. It takes memory in proportion to the input. It puts the replies in pieces of
+/// some 64 KiB, also within a history, a bundle or listed rounds, and holds no more of them than
+/// such a piece and a record.
 pub fn run_text<S: Source, K: Sink>(
     alloc: Global,
     source: &mut S,

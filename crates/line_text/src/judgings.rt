@@ -98,9 +98,9 @@ fn verdict_text(alloc: Global, verdict: Option<CertFault>) -> Result<Vec<u8>, Al
 ///
 /// A fault of the text is the first one, with the number of its record; then nothing is judged and
 /// nothing written. `ReadFault` says that the source failed or that the input is too long,
-/// `WriteFault` that the sink failed, and the fault 0 that memory did not suffice, each of record
-/// 0. It takes time and memory in proportion to the input, and keeps beside it the history and the
-/// claim, each once.
+/// `WriteFault` that the sink failed, and the fault 0 that memory did not suffice; these are of
+/// record 0. It takes time and memory in proportion to the input, and keeps beside it the history
+/// and the claim, each once.
 pub fn check_text<S: Source, K: Sink>(
     alloc: Global,
     source: &mut S,
