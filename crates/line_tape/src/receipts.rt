@@ -67,7 +67,7 @@ fn first_of(receipts: &[Receipt], last: u32, root: u32, seat: Seat, wanted: &Rec
 /// The link to the first receipt of the message; 0 where it is not received.
 ///
 /// A number above all those received from its sender costs one look. The chain is asked before the
-/// tree, since most receipts are in it, and few of its steps leave the processor's caches.
+/// tree, since it has most of the receipts, so that few questions go down the tree.
 fn find(receipts: &[Receipt], last: u32, root: u32, wanted: &Receipt) -> u32
     requires chained { AreChained receipts.now }
     requires last { IsLast receipts.now (length receipts.now) wanted.now.from last }
