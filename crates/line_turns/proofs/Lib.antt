@@ -7,3 +7,5 @@ pub mod NameLemmas
 pub mod InboxLemmas
 pub mod GatherLemmas
 pub mod SameLemmas
+pub mod FlagLemmas
+pub mod CutFlagLemmas

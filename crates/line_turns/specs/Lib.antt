@@ -3,3 +3,4 @@ pub mod Turning
 pub mod Tables
 pub mod Channels
 pub mod Inboxes
+pub mod Flags

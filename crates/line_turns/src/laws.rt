@@ -1,20 +1,24 @@
 //! Laws of what is kept.
-ghost use Rattle.std.specs.Prelude.{◌≡◌, ◌≢◌, ◌<◌, ℕ, List, false, length, IsTrue, None, Some};
+ghost use Rattle.std.specs.Prelude.{◌≡◌, ◌≢◌, ◌<◌, ℕ, Bool, List, false, length, IsTrue, None, Some};
 ghost use Rattle.line_names.specs.declared.choices.Choice.{Choice};
 ghost use Rattle.line_tape.specs.declared.events.Event.{Event};
 ghost use Rattle.line_tape.specs.declared.events.Event.TheVariants.{Check};
 ghost use Rattle.line_tape.specs.Colours.{channel_unordered};
+ghost use Rattle.line_tape.specs.Event.{incarnation_of};
+ghost use Rattle.line_tape.specs.Fit.{IsFitUnordered};
 ghost use Rattle.line_tape.specs.History.{Process, tape_at, with_event};
 ghost use Rattle.line_tape.specs.Line.{IsLine};
 ghost use Rattle.line_tape.specs.Rounds.{checked_round, checks_of, has_check_of, is_check_of, is_checked};
-ghost use Rattle.line_tape.specs.Transit.{in_transit_between};
+ghost use Rattle.line_tape.specs.Transit.{in_transit_between, received_name};
 ghost use Rattle.line_turns.specs.Channels.{channels_at};
+ghost use Rattle.line_turns.specs.Flags.{AreFlagged};
 ghost use Rattle.line_turns.specs.Kept.{Turned, AreTurned};
 ghost use Rattle.line_turns.specs.Tables.{between, IsTable};
 ghost use Rattle.line_turns.specs.Turning.{TurningView, IsLastLine, IsTurning};
 
-/// What is kept goes on following the tapes by each event that is no check of a round, and what is
-/// kept of one round by each that is no check of it.
+/// What is kept goes on following the tapes: colours by each event that is no check of a round, what
+/// is kept of one round by each that is no check of it, and which sends are received by each that
+/// neither sends nor receives.
 ///
 /// The call does nothing: its contract is the law.
 pub fn other_events_keep()
@@ -22,6 +26,8 @@ pub fn other_events_keep()
         → AreTurned history colours → AreTurned (with_event history at event) colours }
     ensures turning { (history : List Process) (at : ℕ) (event : Event) (turning : TurningView) → at < length history → is_check_of turning.number event ≡ false
         → IsTurning history turning → IsTurning (with_event history at event) turning }
+    ensures received { (history : List Process) (at : ℕ) (event : Event) (flags : List (List Bool)) → at < length history → IsFitUnordered history
+        → received_name event ≡ None → incarnation_of event ≡ None → AreFlagged history flags → AreFlagged (with_event history at event) flags }
 {}
 
 /// How a round of colours is completed (Lai and Yang, Information Processing Letters 25(3), 1987):

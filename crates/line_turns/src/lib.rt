@@ -6,7 +6,8 @@
 //! `Turning` keeps the round that is open: which processes have their check of it, and the line
 //! that it makes. (An open round of markers keeps its number and its checks by it too.) `Channels`
 //! keeps what is in transit at a line from each process to each, which are the channels of a
-//! completed round; by `SharedChannels` several rounds hold the same ones.
+//! completed round; by `SharedChannels` several rounds hold the same ones. `ReceivedSends` keeps of
+//! each send whether it is received, by which a copy that comes again is known.
 //!
 //! The tapes are kept elsewhere: each clause speaks of any history that what is kept follows, and
 //! says how it goes on following it by each event and by a restart.
@@ -16,11 +17,13 @@ mod channels;
 mod colours;
 mod inboxes;
 mod laws;
+mod received;
 mod shares;
 mod turnings;
 
 pub use channels::Channels;
 pub use colours::Colours;
 pub use laws::{last_check_completes, other_events_keep};
+pub use received::ReceivedSends;
 pub use shares::SharedChannels;
 pub use turnings::Turning;

@@ -1,5 +1,5 @@
 -- What is known of a world once nothing refuses its step, and what a check of a round leaves of it.
-use Rattle.std.proofs.Common.{◌≡◌, ◌≢◌, ℕ, zero, suc, ◌<◌, ◌++◌, false, List, [], ◌∷◌, length, Option, Some, None, sym, ap, ◌∙◌, subst, arith}
+use Rattle.std.proofs.Common.{◌≡◌, ◌≢◌, ℕ, zero, suc, ◌<◌, ◌++◌, Bool, false, List, [], ◌∷◌, length, Option, Some, None, sym, ap, ◌∙◌, subst, arith}
 use Rattle.std.specs.Prelude.{◌&&◌, not, slice_get}
 use Rattle.std.proofs.lemmas.Bool.{both_ways}
 use Rattle.line_names.specs.declared.messages.MsgName.{MsgName}
@@ -7,6 +7,7 @@ use Rattle.line_tape.specs.declared.items.Item.{Item}
 use Rattle.line_tape.specs.declared.items.Item.TheVariants.{Message}
 use Rattle.line_tape.specs.History.{Process, tape_at}
 use Rattle.line_tape.specs.Rounds.{has_check_of}
+use Rattle.line_turns.specs.Flags.{AreFlagged}
 use Rattle.line_turns.specs.Kept.{Turned}
 use Rattle.line_turns.specs.Tables.{between}
 use Rattle.line_turns.specs.Turning.{TurningView}
@@ -21,9 +22,11 @@ use Rattle.line_moves.proofs.TurnFacts.{may_turn_none, open_is}
 use Rattle.line_moves.proofs.WorldLemmas.{items-world}
 use Rattle.line_world.specs.declared.steps.Step.TheVariants.{Begin, Turn}
 use Rattle.line_world.specs.declared.worlds.World.TheInside.{Inside}
+use Rattle.line_world.specs.Flagged.{AreFlaggedIn}
 use Rattle.line_world.specs.Machine.{Machine, is_open, items_on}
 use Rattle.line_world.specs.Refusals.{first_cause, link_causes, may_turn, refusal_of}
 use Rattle.line_world.proofs.DeliverLemmas.{first_in_order, from_within, picked_at, picked_message, picked_of, to_within}
+use Rattle.line_world.proofs.FlaggedLemmas.{flagged_unordered}
 use Rattle.line_world.proofs.SeenLemmas.{seen}
 use Rattle.line_world.proofs.StepLemmas.{may_begin, may_deliver, may_turn_at, turns_anew}
 use Rattle.line_world.proofs.TurnedFacts.{has_none, none_is_open}
@@ -38,6 +41,7 @@ IsKept w =
     IsWorld w.mode w.catalogue.processes w.links
     × AreRounds w.mode w.catalogue.processes w.last_round (opened w.mode w.running w.turning) w.rounds.items
     × ArePainted w.mode w.catalogue.processes w.colours
+    × AreFlaggedIn w.mode w.catalogue.processes w.received
 
 -- links that keep their order
 pub record IsInOrder (w : Inside) : Type 0 where
@@ -51,6 +55,7 @@ pub record IsColoured (w : Inside) : Type 0 where
   pub world : IsWorld Unordered w.catalogue.processes w.links
   pub are : AreRounds Unordered w.catalogue.processes w.last_round (opened_turning w.turning) w.rounds.items
   pub painted : IsPainted w.catalogue.processes w.colours
+  pub flagged : AreFlagged w.catalogue.processes w.received
 
 -- the item that a delivery picks
 pub record IsPicked (w : Inside) (from to pick : ℕ) (item : Item) : Type 0 where
@@ -103,6 +108,7 @@ module _ (w : Inside) (machine : Machine) (view : shown w ≡ machine) (kept : I
         world = subst (λ (m : Mode). IsWorld m w.catalogue.processes w.links) same kept.0;
         are = subst (λ (m : Mode). AreRounds m w.catalogue.processes w.last_round (opened m w.running w.turning) w.rounds.items) same kept.1;
         painted = subst (λ (m : Mode). ArePainted m w.catalogue.processes w.colours) same kept.2;
+        flagged = flagged_unordered w.mode w.catalogue.processes w.received same kept.3;
       }
 
   pub may_start : (p : ℕ) (state : List ℕ) → refusal_of machine (Begin p state) ≡ None → MayStart w p
@@ -176,11 +182,12 @@ module _ (w : Inside) (machine : Machine) (view : shown w ≡ machine) (kept : I
 -- what a world keeps true, said for links that keep their order
 pub ordered_kept : (w : Inside) → w.mode ≡ Fifo → (history after : List Process) → history ≡ after → (links : List (List (List Item))) (last : ℕ) (running : Option OpenView) (rounds : List Listed)
     → IsWorld Fifo history links → AreRounds Fifo after last running rounds
-    → IsWorld w.mode history links × AreRounds w.mode history last (opened w.mode running w.turning) rounds × ArePainted w.mode history w.colours
+    → IsWorld w.mode history links × AreRounds w.mode history last (opened w.mode running w.turning) rounds × ArePainted w.mode history w.colours × AreFlaggedIn w.mode history w.received
 ordered_kept w mode_is history after same links last running rounds world are = (
   subst (λ (m : Mode). IsWorld m history links) (sym mode_is) world,
   subst (λ (m : Mode). AreRounds m history last (opened m running w.turning) rounds) (sym mode_is) (subst (λ (h : List Process). AreRounds Fifo h last running rounds) (sym same) are),
   subst (λ (m : Mode). ArePainted m history w.colours) (sym mode_is) tt,
+  subst (λ (m : Mode). AreFlaggedIn m history w.received) (sym mode_is) tt,
 )
 
 -- and for others, once a round of colours is settled
@@ -189,8 +196,9 @@ pub coloured_kept : (w : Inside) → w.mode ≡ Unordered → (history middle af
     → IsWorld Unordered after w.links
     → AreRounds Unordered after last (left_open Unordered middle (Some (opened_by settled.round))) (w.rounds.items ++ newly_closed Unordered middle (Some (opened_by settled.round)))
     → IsPainted after colours
-    → IsWorld w.mode history w.links × AreRounds w.mode history last (opened w.mode w.running turning) rounds × ArePainted w.mode history colours
-coloured_kept w mode_is history middle after same last colours turning rounds settled world are painted =
+    → (received : List (List Bool)) → AreFlagged after received
+    → IsWorld w.mode history w.links × AreRounds w.mode history last (opened w.mode w.running turning) rounds × ArePainted w.mode history colours × AreFlaggedIn w.mode history received
+coloured_kept w mode_is history middle after same last colours turning rounds settled world are painted received flagged =
     let new : OpenView = opened_by settled.round in (
       subst (λ (m : Mode). IsWorld m history w.links) (sym mode_is) (subst (λ (h : List Process). IsWorld Unordered h w.links) (sym same) world),
       subst (λ (m : Mode). AreRounds m history last (opened m w.running turning) rounds) (sym mode_is)
@@ -198,6 +206,7 @@ coloured_kept w mode_is history middle after same last colours turning rounds se
           (subst (λ (o : Option OpenView). AreRounds Unordered after last o rounds) (sym settled.left)
           (subst (λ (ls : List Listed). AreRounds Unordered after last (left_open Unordered middle (Some new)) ls) (sym settled.listed) are))),
       subst (λ (m : Mode). ArePainted m history colours) (sym mode_is) (subst (λ (h : List Process). IsPainted h colours) (sym same) painted),
+      subst (λ (m : Mode). AreFlaggedIn m history received) (sym mode_is) (subst (λ (h : List Process). AreFlagged h received) (sym same) flagged),
     )
 
 -- there is an item at each place of a list

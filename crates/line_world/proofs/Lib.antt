@@ -5,6 +5,7 @@ pub mod SeenLemmas
 pub mod DeliverLemmas
 pub mod NameFacts
 pub mod PaintLemmas
+pub mod FlaggedLemmas
 pub mod TurnedFacts
 pub mod KnownFacts
 pub mod RunLemmas

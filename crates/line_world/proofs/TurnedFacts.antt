@@ -10,6 +10,7 @@ use Rattle.line_tape.specs.declared.items.Item.{Item}
 use Rattle.line_tape.specs.declared.items.Item.TheVariants.{Message}
 use Rattle.line_tape.specs.Colours.{colour, message_colour}
 use Rattle.line_tape.specs.Event.{Holds}
+use Rattle.line_tape.specs.Fit.{IsSentTo}
 use Rattle.line_tape.specs.History.{Process, tape_at, with_event}
 use Rattle.line_tape.specs.Rounds.{has_check_of, check_line, check_of, checks_of, is_check_of, is_checked}
 use Rattle.line_tape.specs.Transit.{in_transit_between}
@@ -169,11 +170,14 @@ module _ (history : List Process) (queues : List (List (List Item))) (colours : 
         abbrev middle : List Process
         middle = with_event history to (Check state (Some last))
 
-        middle_within : to < length middle
+        pub middle_within : to < length middle
         middle_within = omega (arith, to_within, length-with_event history to (Check state (Some last)))
 
+        pub sent_still : IsSentTo middle to message
+        sent_still = sent_to_event history to (Check state (Some last)) to message to_within (next_receipt history queues from to from_within to_within message named pick at world taken).0
+
         pub held_still : Holds (tape_at middle message.from) message.inc message.number
-        held_still = (sent_to_event history to (Check state (Some last)) to message to_within (next_receipt history queues from to from_within to_within message named pick at world taken).0).held
+        held_still = sent_still.held
 
         pub caught_world : IsWorld Unordered (with_event middle to (Recv message)) queues
         caught_world = IsWorld-caught history queues from to from_within to_within message named pick at world taken state last

@@ -5,3 +5,4 @@ pub mod Steps
 pub mod Runs
 pub mod Marked
 pub mod Sound
+pub mod Flagged

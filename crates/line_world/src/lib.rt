@@ -10,6 +10,7 @@
 #![tactic(auto)]
 
 mod laws;
+mod received;
 mod replies;
 mod steps;
 mod worlds;

@@ -14,6 +14,7 @@ mod recoveries;
 mod refusals;
 mod rounds;
 
+use crate::received::reserve_flag;
 use crate::replies::{Answer, Reply, RunStopped, StepError};
 use crate::steps::Step;
 use line_catalogue::Catalogue;
@@ -21,7 +22,7 @@ use line_moves::{Links, Listing, Mode, OpenRound, Round, add_check, put_message}
 use line_names::{Body, MOST_PROCESSES, ProcId, ProcSet};
 use line_plan::Plan;
 use line_tape::{CountError, History, Item, Marks, State};
-use line_turns::{Colours, Turning};
+use line_turns::{Colours, ReceivedSends, Turning};
 use std::alloc::Global;
 use std::marker::Model;
 
@@ -43,6 +44,8 @@ pub struct World {
     turning: Option<Turning>,
     /// The colours of the processes, where links keep no order.
     colours: Colours,
+    /// Which messages are received, where links keep no order.
+    received: ReceivedSends,
     rounds: Listing,
 }
 
@@ -54,6 +57,7 @@ impl Model for World {
     ghost use Rattle.line_moves.specs.Modes.{copies_in};
     ghost use Rattle.line_moves.specs.Openings.{opened};
     ghost use Rattle.line_moves.specs.Worlds.{names_on, ArePainted, AreRounds, IsWorld};
+    ghost use Rattle.line_world.specs.Flagged.{AreFlaggedIn};
 
     ghost view = { λ w. record {
       mode = w.mode;
@@ -66,7 +70,8 @@ impl Model for World {
 
     ghost invariant = { λ w. IsWorld w.mode w.catalogue.processes w.links
         × AreRounds w.mode w.catalogue.processes w.last_round (opened w.mode w.running w.turning) w.rounds.items
-        × ArePainted w.mode w.catalogue.processes w.colours };
+        × ArePainted w.mode w.catalogue.processes w.colours
+        × AreFlaggedIn w.mode w.catalogue.processes w.received };
 }
 
 impl World {
@@ -80,6 +85,7 @@ impl World {
         let catalogue = Catalogue::new(alloc, n)?;
         let links = Links::new(alloc, n)?;
         let colours = Colours::new(alloc, n)?;
+        let received = ReceivedSends::new(alloc, n)?;
         Ok(World {
             mode,
             catalogue,
@@ -88,6 +94,7 @@ impl World {
             running: None,
             turning: None,
             colours,
+            received,
             rounds: Listing::new(alloc),
         })
     }
@@ -158,6 +165,8 @@ impl World {
         if let Some(e) = self.send_refusal(from, to) {
             return Err(e);
         }
+        let history = self.catalogue.history();
+        reserve_flag(self.mode, history, &mut self.received, from)?;
         let message = put_message(&mut self.catalogue, &mut self.links, from, to, body)?;
         Ok(Reply::Sent { message })
     }

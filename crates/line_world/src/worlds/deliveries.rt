@@ -11,9 +11,10 @@ ghost use Rattle.line_world.specs.Refusals.{first_cause, link_causes, refusal_of
 ghost use Rattle.line_world.specs.Runs.{Takes};
 
 use super::World;
+use crate::received::{fate_of, set_flag};
 use crate::replies::{Reply, StepError};
 use line_moves::{
-    Fate, Mode, add_receipt, fate_of, is_forced, still_open, take_marker, take_message, turn_round,
+    Fate, Mode, add_receipt, is_forced, still_open, take_marker, take_message, turn_round,
 };
 use line_names::{MsgName, ProcId};
 use line_tape::{Item, State};
@@ -79,6 +80,7 @@ impl World {
             to,
             message,
         )?;
+        set_flag(self.mode, &mut self.received, message);
         Ok(Reply::Took {
             message: *message,
             forced: None,
@@ -123,6 +125,7 @@ impl World {
             1,
         )?;
         add_receipt(&mut self.catalogue, to, message);
+        self.received.receive(message);
         Ok(Reply::Took {
             message: *message,
             forced: Some(round),
@@ -148,7 +151,8 @@ impl World {
         ensures unrefused { IsErrOf result StepError.OutOfMemory → refusal_of self.old (Deliver from to pick state.now) ≡ None }
     {
         let _n = self.catalogue.n();
-        match fate_of(self.mode, self.catalogue.history(), to, message) {
+        let history = self.catalogue.history();
+        match fate_of(self.mode, history, &self.received, to, message) {
             Fate::Taken => match self.forced_round(to, message) {
                 Some(round) => self.take_forced(alloc, from, to, pick, state, message, round),
                 None => self.take(from, to, pick, state, message),

@@ -7,6 +7,7 @@ ghost use Rattle.line_world.specs.Runs.{Takes};
 ghost use Rattle.line_world.specs.Steps.{IsPlan, Recovers};
 
 use super::World;
+use crate::received::restart_flags;
 use crate::replies::{Reply, StepError};
 use line_moves::{restart_links, restarted_incarnations, restored_states};
 use line_names::ProcSet;
@@ -50,6 +51,7 @@ impl World {
         let incarnations = restarted_incarnations(alloc, history, &plan.line)?;
         let left = Vec::from_slice(alloc, plan.replays.as_slice())?;
         restart_links(self.mode, history, &mut self.links, &plan.line, &left)?;
+        restart_flags(self.mode, history, &mut self.received, &plan.line, &left);
         self.catalogue.restart_with(&plan.line, left);
         self.running = None;
         self.turning = None;

@@ -1,3 +1,4 @@
+use Rattle.line_turns.proofs.FlagLemmas.{AreFlagged-other}
 use Rattle.line_turns.proofs.TurnedLemmas.{AreTurned-kept}
 use Rattle.line_turns.proofs.TurningLemmas.{IsTurning-kept}
 use Rattle.line_turns.proofs.laws.other_events_keep.Goals as goal
@@ -7,3 +8,6 @@ returns-clause-colours c = AreTurned-kept
 
 pub returns-clause-turning : goal.returns-clause-turning
 returns-clause-turning c = IsTurning-kept
+
+pub returns-clause-received : goal.returns-clause-received
+returns-clause-received c = AreFlagged-other

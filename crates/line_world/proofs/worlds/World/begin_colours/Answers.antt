@@ -4,6 +4,7 @@ use Rattle.line_tape.specs.declared.events.Event.{Event}
 use Rattle.line_tape.specs.declared.events.Event.TheVariants.{Check as CheckEvent}
 use Rattle.line_tape.specs.History.{Process, with_event}
 use Rattle.line_turns.specs.Kept.{AreTurned}
+use Rattle.line_turns.proofs.FlagLemmas.{AreFlagged-other}
 use Rattle.line_moves.specs.declared.modes.Mode.{Mode}
 use Rattle.line_moves.specs.declared.modes.Mode.TheVariants.{Unordered}
 use Rattle.line_moves.specs.Listed.{Listed, newly_listed}
@@ -65,6 +66,7 @@ invariant_of-self-2 c =
     (begun_world history w.links w.colours last is.world is.painted w.turning w.rounds.items is.are closed at state may.within settled.round settled.number_is)
     (begun_rounds history w.links w.colours last is.world is.painted w.turning w.rounds.items is.are closed at state may.within settled.round settled.number_is c.turn_round.new.colours turned settled.follows)
     (begun_painted history w.links w.colours last is.world is.painted w.turning w.rounds.items is.are closed at state may.within settled.round settled.number_is c.turn_round.new.colours turned)
+    w.received (AreFlagged-other history at (CheckEvent state (Some (last + 1))) w.received may.within is.world.linked.fit refl refl is.flagged)
 
 pub returns-clause-done : goal.returns-clause-done
 returns-clause-done c =

@@ -14,7 +14,9 @@ use Rattle.line_moves.specs.Openings.{OpenView, opened}
 use Rattle.line_moves.specs.Worlds.{ArePainted, AreRounds, IsWorld}
 use Rattle.line_world.proofs.DeliverLemmas.{quiet_seen}
 use Rattle.line_moves.proofs.OpeningLemmas.{AreRounds-kept, IsOpening-kept, none_listed}
+use Rattle.line_world.proofs.FlaggedLemmas.{AreFlaggedIn-other}
 use Rattle.line_world.proofs.PaintLemmas.{ArePainted-check}
+use Rattle.line_world.specs.Flagged.{AreFlaggedIn}
 use Rattle.line_world.proofs.StepLemmas.{may_check}
 use Rattle.line_moves.proofs.WorldLemmas.{IsWorld-check}
 use Rattle.line_world.proofs.SeenLemmas.{seen}
@@ -35,6 +37,8 @@ invariant_of-self-2 c =
           (IsOpening-kept history c.args.at e within (λ r. refl) mode running (λ r p. refl) (λ r p. refl) c.self.invariant.1.opening) c.self.invariant.1),
       subst (λ (h : List Process). ArePainted mode h c.self.inside.colours) (sym c.in_ok-check.ensures.checked)
           (ArePainted-check history c.self.inside.links c.self.inside.colours mode c.self.invariant.0 c.args.at c.in_ok-state.state within c.self.invariant.2),
+      subst (λ (h : List Process). AreFlaggedIn mode h c.self.inside.received) (sym c.in_ok-check.ensures.checked)
+          (AreFlaggedIn-other mode history c.self.inside.links c.args.at e c.self.inside.received c.self.invariant.0 within refl refl c.self.invariant.3),
     )
 
 pub returns-clause-done : goal.returns-clause-done

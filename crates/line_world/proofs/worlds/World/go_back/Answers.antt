@@ -16,6 +16,7 @@ use Rattle.line_moves.specs.declared.modes.Mode.{Mode}
 use Rattle.line_world.specs.Machine.{Machine}
 use Rattle.line_moves.specs.Modes.{copies_in}
 use Rattle.line_turns.specs.Tables.{between}
+use Rattle.line_world.specs.Flagged.{AreFlaggedIn}
 use Rattle.line_world.specs.Refusals.{refusal_of, IsRefused}
 use Rattle.line_moves.specs.Restarts.{restored_states}
 use Rattle.line_world.specs.Steps.{restarted_machine}
@@ -86,6 +87,25 @@ pub restart_with-requires-clause-left : goal.restart_with-requires-clause-left
 restart_with-requires-clause-left c =
     c.in_ok-left.ensures.items ∙ c.as_slice.ensures.value ∙ c.requires.plan.replays ∙ ap (λ (m : Machine). in_transit m.history c.args.plan.now.line) (sym c.self.view_is)
 
+pub restart_flags-requires-clause-line : goal.restart_flags-requires-clause-line
+restart_flags-requires-clause-line c =
+    let same : c.history-history.result.now.processes ≡ c.args.self.now.history = c.history-history.ensures.processes ∙ ap (λ (m : Machine). m.history) c.self.view_is in
+    subst (λ (h : List Process). IsLine h c.args.plan.now.line) (sym same)
+    (IsLine-latest c.args.self.now.history c.args.self.now.marks c.args._failed.now c.args.plan.now.line c.requires.plan.latest)
+
+pub restart_flags-requires-clause-transit : goal.restart_flags-requires-clause-transit
+restart_flags-requires-clause-transit c =
+    let same : c.history-history.result.now.processes ≡ c.args.self.now.history = c.history-history.ensures.processes ∙ ap (λ (m : Machine). m.history) c.self.view_is in
+    c.deref-2.ensures.value
+    ∙ c.in_ok-left.ensures.items
+    ∙ c.as_slice.ensures.value
+    ∙ c.requires.plan.replays
+    ∙ ap (λ (h : List Process). in_transit h c.args.plan.now.line) (sym same)
+
+pub restart_flags-requires-clause-flagged : goal.restart_flags-requires-clause-flagged
+restart_flags-requires-clause-flagged c =
+    subst (λ (h : List Process). AreFlaggedIn c.self.inside.mode h c.self.inside.received) (sym c.history-history.ensures.processes) c.self.invariant.3
+
 pub invariant_of-self-2 : goal.invariant_of-self-2
 invariant_of-self-2 c =
     let mode : Mode = c.self.inside.mode in
@@ -105,13 +125,15 @@ invariant_of-self-2 c =
           (AreRounds-restarted mode old line c.self.inside.last_round (opened mode c.self.inside.running c.self.inside.turning) c.self.inside.rounds.items size c.self.invariant.1))),
       subst (λ (h : List Process). ArePainted mode h c.clear.new.self) (sym c.restart_with.ensures.processes)
           (ArePainted-restart mode old line c.self.inside.colours c.clear.new.self size (c.clear.ensures.restart old line size) c.self.invariant.2),
+      subst (λ (h : List Process). AreFlaggedIn mode h c.restart_flags.new.received) (sym c.restart_with.ensures.processes)
+          (subst (λ (h : List Process). AreFlaggedIn mode (restarted h line) c.restart_flags.new.received) c.history-history.ensures.processes c.restart_flags.ensures),
     )
 
 pub invariant_of-self : goal.invariant_of-self
 invariant_of-self c =
     let mode : Mode = c.self.inside.mode in
     let old : List Process = c.self.inside.catalogue.processes in
-    (subst (λ (queues : List (List (List Item))). IsWorld mode old queues) (sym c.in_err-restart_links.ensures.err) c.self.invariant.0, c.self.invariant.1, c.self.invariant.2)
+    (subst (λ (queues : List (List (List Item))). IsWorld mode old queues) (sym c.in_err-restart_links.ensures.err) c.self.invariant.0, c.self.invariant.1, c.self.invariant.2, c.self.invariant.3)
 
 pub returns-in_err-restart_links-clause-memory : goal.returns-in_err-restart_links-clause-memory
 returns-in_err-restart_links-clause-memory c = λ _.

@@ -15,9 +15,11 @@ use Rattle.line_moves.specs.Listed.{Listed}
 use Rattle.line_moves.specs.declared.modes.Mode.{Mode}
 use Rattle.line_tape.specs.declared.events.Event.{Event}
 use Rattle.line_moves.proofs.OpeningLemmas.{AreRounds-kept, IsOpening-kept, none_listed}
+use Rattle.line_moves.specs.Modes.{IsFitIn}
+use Rattle.line_world.specs.Flagged.{AreFlaggedIn}
 use Rattle.line_world.proofs.PaintLemmas.{ArePainted-send}
 use Rattle.line_world.proofs.StepLemmas.{Takes-refused, may_send, send_memory}
-use Rattle.line_moves.proofs.WorldLemmas.{IsWorld-send}
+use Rattle.line_moves.proofs.WorldLemmas.{IsFit-world, IsWorld-send}
 use Rattle.line_world.proofs.SeenLemmas.{Sends-seen, seen}
 use Rattle.line_world.proofs.worlds.World.send.Goals as goal
 
@@ -48,6 +50,43 @@ put_message-requires-clause-few c =
     let may = may_send c.args.self.now c.args.from c.args.to [] (sym (c.send_refusal.ensures []) ∙ c.in_default.is) in
     omega (arith, may.few, ap (λ (m : Machine). length (tape_at m.history c.args.from)) c.self.view_is)
 
+pub reserve_flag-requires-clause-from : goal.reserve_flag-requires-clause-from
+reserve_flag-requires-clause-from c =
+    let may = may_send c.args.self.now c.args.from c.args.to [] (sym (c.send_refusal.ensures []) ∙ c.in_default.is) in
+    omega (arith, may.named.from_within, ap (λ (m : Machine). length m.history) c.self.view_is, ap (λ (h : List Process). length h) c.history-history.ensures.processes)
+
+pub reserve_flag-requires-clause-fit : goal.reserve_flag-requires-clause-fit
+reserve_flag-requires-clause-fit c =
+    subst (λ (h : List Process). IsFitIn c.self.inside.mode h) (sym c.history-history.ensures.processes) (IsFit-world c.self.inside.mode c.self.inside.catalogue.processes c.self.inside.links c.self.invariant.0)
+
+pub reserve_flag-requires-clause-flagged : goal.reserve_flag-requires-clause-flagged
+reserve_flag-requires-clause-flagged c =
+    subst (λ (h : List Process). AreFlaggedIn c.self.inside.mode h c.self.inside.received) (sym c.history-history.ensures.processes) c.self.invariant.3
+
+pub returns-in_err-reserve_flag-clause-unrefused : goal.returns-in_err-reserve_flag-clause-unrefused
+returns-in_err-reserve_flag-clause-unrefused c = λ wanted. sym (c.send_refusal.ensures c.args.body.now) ∙ c.in_default.is
+
+pub invariant_of-self : goal.invariant_of-self
+invariant_of-self c = (
+  c.self.invariant.0,
+  c.self.invariant.1,
+  c.self.invariant.2,
+  subst (λ (h : List Process). AreFlaggedIn c.self.inside.mode h c.reserve_flag.new.received) c.history-history.ensures.processes c.reserve_flag.ensures.same,
+)
+
+pub invariant_of-self-in_err-message : goal.invariant_of-self-in_err-message
+invariant_of-self-in_err-message c =
+    let running : Option OpenView = opened c.self.inside.mode c.self.inside.running c.self.inside.turning in
+    let mode : Mode = c.self.inside.mode in
+    let history : List Process = c.self.inside.catalogue.processes in
+    let same : c.put_message.new.catalogue.processes ≡ history = c.in_err-message.ensures.err in (
+      subst (λ (h : List Process). IsWorld mode h c.put_message.new.links) (sym same)
+          (subst (λ (q : List (List (List Item))). IsWorld mode history q) (sym c.in_err-message.ensures.kept) c.self.invariant.0),
+      subst (λ (h : List Process). AreRounds mode h c.self.inside.last_round running c.self.inside.rounds.items) (sym same) c.self.invariant.1,
+      subst (λ (h : List Process). ArePainted mode h c.self.inside.colours) (sym same) c.self.invariant.2,
+      subst (λ (h : List Process). AreFlaggedIn mode h c.reserve_flag.new.received) (c.history-history.ensures.processes ∙ sym same) c.reserve_flag.ensures.same,
+    )
+
 pub invariant_of-self-2 : goal.invariant_of-self-2
 invariant_of-self-2 c =
     let running : Option OpenView = opened c.self.inside.mode c.self.inside.running c.self.inside.turning in
@@ -65,6 +104,9 @@ invariant_of-self-2 c =
           (IsOpening-kept history c.args.from e from_within (λ r. refl) mode running (λ r p. refl) (λ r p. refl) c.self.invariant.1.opening) c.self.invariant.1),
       subst (λ (h : List Process). ArePainted mode h c.self.inside.colours) (sym c.in_ok-message.ensures.sent)
           (ArePainted-send history c.self.inside.links c.self.inside.colours mode c.self.invariant.0 c.args.from c.args.to c.args.body.now from_within c.self.invariant.2),
+      subst (λ (h : List Process). AreFlaggedIn mode h c.reserve_flag.new.received) (sym c.in_ok-message.ensures.sent)
+          (subst (λ (h : List Process). AreFlaggedIn mode (with_event h c.args.from e) c.reserve_flag.new.received) c.history-history.ensures.processes
+          (c.in_ok-reserve_flag.ensures.ok c.args.to (incarnation_at history c.args.from) c.args.body.now)),
     )
 
 pub returns-clause-done : goal.returns-clause-done

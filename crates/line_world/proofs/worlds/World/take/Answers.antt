@@ -1,5 +1,5 @@
 -- The message is taken off its link and put on the tape, or its copy adds nothing.
-use Rattle.std.proofs.Common.{◌≡◌, ℕ, List, [], ◌∷◌, length, Option, None, refl, sym, ap, ◌∙◌, subst}
+use Rattle.std.proofs.Common.{◌≡◌, ℕ, List, [], ◌∷◌, length, Option, None, refl, sym, ap, ◌∙◌, subst, arith}
 use Rattle.line_names.specs.declared.messages.MsgName.{MsgName}
 use Rattle.line_tape.specs.declared.events.Event.{Event}
 use Rattle.line_tape.specs.declared.events.Event.TheVariants.{Recv}
@@ -25,6 +25,9 @@ use Rattle.line_world.specs.Runs.{Takes}
 use Rattle.line_world.specs.Steps.{reply_of}
 use Rattle.line_world.proofs.DeliverLemmas.{copies_off, quiet_seen, Takes-delivered}
 use Rattle.line_world.proofs.KnownFacts.{is_picked, IsPicked}
+use Rattle.line_turns.specs.Flags.{AreFlagged}
+use Rattle.line_world.specs.Flagged.{AreFlaggedIn}
+use Rattle.line_world.proofs.FlaggedLemmas.{flagged_unordered, sent_here}
 use Rattle.line_world.proofs.PaintLemmas.{ArePainted-take}
 use Rattle.line_world.proofs.SeenLemmas.{seen}
 use Rattle.line_world.proofs.worlds.World.take.Goals as goal
@@ -43,6 +46,14 @@ take_message-requires-clause-held c =
     IsWorld-held w.catalogue.processes w.links from to p.from_in p.to_in m p.of_sender c.args.pick p.at p.apart w.mode c.self.invariant.0 p.first
     (ap (λ (v : Machine). fate_of v.mode v.history to m) c.self.view_is ∙ c.requires.taken)
 
+pub set_flag-requires : goal.set_flag-requires
+set_flag-requires c = λ unordered.
+    let w : Inside = c.self.inside in
+    let p : IsPicked w c.args.from c.args.to c.args.pick (Message c.args.message.now) =
+    is_picked w c.args.self.now c.self.view_is c.self.invariant c.args.from c.args.to c.args.pick c.args._state.now c.requires.passed (Message c.args.message.now) c.requires.picked in
+    let flagged : AreFlagged w.catalogue.processes w.received = flagged_unordered w.mode w.catalogue.processes w.received unordered c.self.invariant.3 in
+    omega (arith, p.of_sender, p.from_in, flagged.count)
+
 pub invariant_of-self : goal.invariant_of-self
 invariant_of-self c =
     let w : Inside = c.self.inside in
@@ -57,6 +68,7 @@ invariant_of-self c =
       subst (λ (h : List Process). AreRounds mode h w.last_round new w.rounds.items) (sym same)
           (AreRounds-renewed mode history w.last_round old new w.rounds.items (c.in_err-take_message.ensures.number w.turning) opening c.self.invariant.1),
       subst (λ (h : List Process). ArePainted mode h w.colours) (sym same) c.self.invariant.2,
+      subst (λ (h : List Process). AreFlaggedIn mode h w.received) (sym same) c.self.invariant.3,
     )
 
 pub invariant_of-self-2 : goal.invariant_of-self-2
@@ -82,6 +94,9 @@ invariant_of-self-2 c =
       subst (λ (h : List Process). ArePainted mode h w.colours) (sym taken)
           (ArePainted-take history w.links w.colours from to p.from_in p.to_in m p.of_sender c.args.pick p.at mode c.self.invariant.0 fate_here
           (ap (λ (v : Machine). forced_round v.mode v.history to m) c.self.view_is ∙ c.requires.unforced) c.self.invariant.2),
+      subst (λ (h : List Process). AreFlaggedIn mode h c.set_flag.new.received) (sym taken)
+          (c.set_flag.ensures history to p.to_in (λ unordered. sent_here history w.links from to m c.args.pick mode p.from_in p.to_in p.at c.self.invariant.0 unordered
+          (IsWorld-held history w.links from to p.from_in p.to_in m p.of_sender c.args.pick p.at p.apart mode c.self.invariant.0 p.first fate_here)) c.self.invariant.3),
     )
 
 pub returns-clause-done : goal.returns-clause-done

@@ -1,5 +1,5 @@
 -- The process turns to the round of the message, and takes the message then.
-use Rattle.std.proofs.Common.{◌≡◌, ℕ, List, [], ◌∷◌, length, Option, Some, refl, sym, ap, ◌∙◌, subst}
+use Rattle.std.proofs.Common.{◌≡◌, ℕ, List, [], ◌∷◌, length, Option, Some, refl, sym, ap, ◌∙◌, subst, arith}
 use Rattle.line_names.specs.declared.messages.MsgName.{MsgName}
 use Rattle.line_tape.specs.declared.events.Event.{Event}
 use Rattle.line_tape.specs.declared.events.Event.TheVariants.{Recv as RecvEvent, Check as CheckEvent}
@@ -7,6 +7,7 @@ use Rattle.line_tape.specs.declared.items.Item.TheVariants.{Message}
 use Rattle.line_tape.specs.Event.{Holds}
 use Rattle.line_tape.specs.History.{Process, tape_at, with_event}
 use Rattle.line_turns.specs.Kept.{AreTurned}
+use Rattle.line_turns.proofs.FlagLemmas.{AreFlagged-other}
 use Rattle.line_moves.specs.declared.fates.Fate.{Fate}
 use Rattle.line_moves.specs.declared.fates.Fate.TheVariants.{Taken}
 use Rattle.line_moves.specs.declared.modes.Mode.{Mode}
@@ -25,7 +26,7 @@ use Rattle.line_world.specs.Steps.{reply_of}
 use Rattle.line_world.proofs.DeliverLemmas.{step_seen, Takes-delivered}
 use Rattle.line_world.proofs.KnownFacts.{coloured_kept, is_catch, IsCatch, IsPicked, MayCatch}
 use Rattle.line_world.proofs.SeenLemmas.{seen}
-use Rattle.line_world.proofs.TurnedFacts.{caught_newly, caught_painted, caught_rounds, caught_world, held_still, less_than_last, round_is}
+use Rattle.line_world.proofs.TurnedFacts.{caught_newly, caught_painted, caught_rounds, caught_world, held_still, less_than_last, middle_within, round_is, sent_still}
 use Rattle.line_world.proofs.worlds.World.take_forced.Goals as goal
 
 pub turn_round-requires-clause-first : goal.turn_round-requires-clause-first
@@ -64,6 +65,13 @@ add_receipt-requires-clause-held c =
     (held_still w.catalogue.processes w.links w.colours w.last_round may.coloured.world may.coloured.painted from to p.from_in p.to_in m p.of_sender c.args.pick p.at is.taken c.args.round is.forced may.kept.round w.rounds.items may.are
     c.args.state.now settled.round settled.number_is c.turn_round.new.colours)
 
+pub receive-requires : goal.receive-requires
+receive-requires c =
+    let w : Inside = c.self.inside in
+    let is : IsCatch w c.args.from c.args.to c.args.pick c.args.message.now c.args.round =
+    is_catch w c.args.self.now c.self.view_is c.self.invariant c.args.from c.args.to c.args.pick c.args.state.now c.requires.passed c.args.message.now c.args.round c.requires.picked c.requires.mode c.requires.taken c.requires.forced in
+    omega (arith, is.picked.of_sender, is.picked.from_in, is.catch.coloured.flagged.count)
+
 pub invariant_of-self-2 : goal.invariant_of-self-2
 invariant_of-self-2 c =
     let w : Inside = c.self.inside in
@@ -91,6 +99,12 @@ invariant_of-self-2 c =
     state settled.round settled.number_is c.turn_round.new.colours turned settled.follows)
     (caught_painted history w.links w.colours last may.coloured.world may.coloured.painted from to p.from_in p.to_in m p.of_sender c.args.pick p.at is.taken c.args.round is.forced may.kept.round w.rounds.items may.are
     state settled.round settled.number_is c.turn_round.new.colours turned)
+    c.receive.new.self (c.receive.ensures.received after to
+    (AreFlagged-other history to (CheckEvent state (Some last)) w.received p.to_in may.coloured.world.linked.fit refl refl may.coloured.flagged)
+    (middle_within history w.links w.colours last may.coloured.world may.coloured.painted from to p.from_in p.to_in m p.of_sender c.args.pick p.at is.taken c.args.round is.forced may.kept.round w.rounds.items may.are
+    state settled.round settled.number_is c.turn_round.new.colours)
+    (sent_still history w.links w.colours last may.coloured.world may.coloured.painted from to p.from_in p.to_in m p.of_sender c.args.pick p.at is.taken c.args.round is.forced may.kept.round w.rounds.items may.are
+    state settled.round settled.number_is c.turn_round.new.colours))
 
 pub returns-clause-done : goal.returns-clause-done
 returns-clause-done c =

@@ -4,6 +4,7 @@ use Rattle.line_tape.specs.declared.events.Event.{Event}
 use Rattle.line_tape.specs.declared.events.Event.TheVariants.{Check as CheckEvent}
 use Rattle.line_tape.specs.History.{Process, with_event}
 use Rattle.line_turns.specs.Kept.{AreTurned}
+use Rattle.line_turns.proofs.FlagLemmas.{AreFlagged-other}
 use Rattle.line_moves.specs.declared.modes.Mode.{Mode}
 use Rattle.line_moves.specs.declared.modes.Mode.TheVariants.{Unordered}
 use Rattle.line_moves.specs.Listed.{Listed, newly_listed}
@@ -56,6 +57,7 @@ invariant_of-self-2 c =
     (turned_world history w.links w.colours last may.coloured.world may.coloured.painted may.kept.round w.rounds.items may.are at may.within may.lacks state settled.round settled.number_is)
     (turned_rounds_are history w.links w.colours last may.coloured.world may.coloured.painted may.kept.round w.rounds.items may.are at may.within may.lacks state settled.round settled.number_is c.turn_round.new.colours turned settled.follows)
     (turned_painted history w.links w.colours last may.coloured.world may.coloured.painted may.kept.round w.rounds.items may.are at may.within may.lacks state settled.round settled.number_is c.turn_round.new.colours turned)
+    w.received (AreFlagged-other history at (CheckEvent state (Some last)) w.received may.within may.coloured.world.linked.fit refl refl may.coloured.flagged)
 
 pub returns-clause-done : goal.returns-clause-done
 returns-clause-done c =
