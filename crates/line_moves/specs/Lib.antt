@@ -1,4 +1,5 @@
 pub mod Modes
+pub mod LinkItems
 pub mod Rooms
 pub mod Queues
 pub mod Listed

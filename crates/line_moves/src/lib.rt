@@ -9,6 +9,7 @@
 
 mod counts;
 mod fates;
+mod link_items;
 mod links;
 mod listings;
 mod modes;

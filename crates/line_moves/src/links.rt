@@ -4,6 +4,7 @@ ghost use Rattle.line_moves.specs.Queues.{with_on_each, with_on_others};
 ghost use Rattle.line_turns.specs.Tables.{between, with_list};
 ghost use Rattle.line_moves.specs.Rooms.{queue_to, items_of, AreEmpty, IsCounted, QueueView};
 
+use crate::link_items::LinkItem;
 use line_names::ProcId;
 use line_tape::Item;
 use std::alloc::{AllocError, Global};
@@ -13,7 +14,7 @@ use std::marker::Model;
 /// What one link holds, the oldest first.
 #[derive(Drop)]
 struct Queue {
-    items: VecDeque<Item>,
+    items: VecDeque<LinkItem>,
     /// How many messages were counted that a restart is going to put at its end.
     counted: usize,
 }
@@ -66,7 +67,7 @@ impl Row {
     }
 
     /// Puts an item at the end of the link to a process.
-    fn push(&mut self, to: ProcId, item: Item) -> Result<(), AllocError>
+    fn push(&mut self, to: ProcId, item: LinkItem) -> Result<(), AllocError>
         requires { to < length self.old }
         ensures ok { OnOk result (items_of self.new ≡ slice_set (items_of self.old) to (slice_index_or (items_of self.old) to [] ++ item ∷ [])) }
         ensures err { OnErr result (items_of self.new ≡ items_of self.old) }
@@ -91,14 +92,14 @@ impl Row {
     }
 
     /// Puts an item at the end of each link but that to the process itself, in room made for it.
-    fn push_to_others(&mut self, own: ProcId, item: &Item)
+    fn push_to_others(&mut self, own: ProcId, item: LinkItem)
         requires { All (λ (queue : QueueView). 0 < queue.room) self.old }
-        ensures { items_of self.new ≡ with_on_others (items_of self.old) own item.now }
+        ensures { items_of self.new ≡ with_on_others (items_of self.old) own item }
     {
         for q in 0..self.queues.len() {
             if q != own.get() as usize {
                 let queue = &mut self.queues[q];
-                queue.items.push_back_reserved(*item);
+                queue.items.push_back_reserved(item);
             }
         }
         self.used = true;
@@ -151,7 +152,7 @@ impl Row {
     {
         self.used = true;
         let queue = &mut self.queues[to.get() as usize];
-        queue.items.push_back_reserved(item);
+        queue.items.push_back_reserved(LinkItem::of(item));
     }
 
     /// Takes all items off each link. It looks at none where nothing was put on one.
@@ -200,7 +201,7 @@ impl Links {
     }
 
     /// What a link holds.
-    fn items(&self, from: ProcId, to: ProcId) -> &VecDeque<Item>
+    fn items(&self, from: ProcId, to: ProcId) -> &VecDeque<LinkItem>
         requires from { from < length self.now }
         requires to { to < length (slice_index_or self.now from []) }
         ensures { result.now.items ≡ between self.now from to }
@@ -224,7 +225,7 @@ impl Links {
         ensures { result ≡ slice_get (between self.now from to) i }
     {
         match self.items(from, to).get(i) {
-            Some(item) => Some(*item),
+            Some(kept) => Some(kept.item()),
             None => None,
         }
     }
@@ -237,7 +238,7 @@ impl Links {
         ensures err { OnErr result (self.new ≡ self.old) }
     {
         let row = &mut self.rows[from.get() as usize];
-        row.push(to, item)
+        row.push(to, LinkItem::of(item))
     }
 
     /// Puts an item at the end of each link from a process to another, or on none where memory
@@ -251,7 +252,7 @@ impl Links {
     {
         let row = &mut self.rows[from.get() as usize];
         row.reserve()?;
-        row.push_to_others(from, &item);
+        row.push_to_others(from, LinkItem::of(item));
         Ok(())
     }
 

@@ -17,9 +17,10 @@ returns-clause-ok c =
     let at : c.get.result ≡ c.args.from = c.get.ensures.value in
     let seen : map items_of rows ≡ c.args.self.now = c.self.view_is in
     let within : c.get.result < length rows = omega (arith, c.requires.from, length-map rows items_of, ap (λ (xs : List (List (List Item))). length xs) seen) in
+    let row : List (List Item) = items_of c.index_mut-row.result.now in
     let with_item : List (List Item) → List (List Item) = λ row. set row to (get_or row to [] ++ item ∷ []) in
     on_ok_weaker c.push.result (λ put.
-    map-changed items_of rows c.get.result [] c.index_mut-row.result.now c.push.new.self with_item within c.index_mut-row.ensures.value put
+    map-changed items_of rows c.get.result [] c.index_mut-row.result.now c.push.new.self with_item within c.index_mut-row.ensures.value (put ∙ ap (λ (kept : Item). set row to (get_or row to [] ++ kept ∷ [])) c.of.ensures)
     ∙ ap (λ (from : ℕ). with_list (map items_of rows) from to (between (map items_of rows) from to ++ item ∷ [])) at
     ∙ ap (λ (queues : List (List (List Item))). with_list queues c.args.from to (between queues c.args.from to ++ item ∷ [])) seen) c.push.ensures.ok
 

@@ -22,6 +22,8 @@ returns-clause-ok c =
     let seen : map items_of rows ≡ c.args.self.now = c.self.view_is in
     let within : c.get.result < length rows = omega (arith, c.requires, length-map rows items_of, ap (λ (xs : List (List (List Item))). length xs) seen) in
     map-changed items_of rows c.get.result [] c.index_mut-row.result.now c.push_to_others.new.self (λ row. with_on_others row from item) within c.index_mut-row.ensures.value
-    (c.push_to_others.ensures ∙ ap (λ row. with_on_others row from item) c.in_ok-reserve.ensures.same)
+    (c.push_to_others.ensures
+    ∙ ap (λ (kept : Item). with_on_others (items_of c.reserve.new.self) from kept) c.of.ensures
+    ∙ ap (λ row. with_on_others row from item) c.in_ok-reserve.ensures.same)
     ∙ ap (λ (p : ℕ). set (map items_of rows) p (with_on_others (get_or (map items_of rows) p []) from item)) at
     ∙ ap (λ (queues : List (List (List Item))). with_on_each queues from item) seen

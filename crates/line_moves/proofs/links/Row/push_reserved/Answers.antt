@@ -24,7 +24,7 @@ returns-clause-items c =
     let seen : row ≡ c.args.self.now = c.self.view_is in
     let within : c.get.result < length row = omega (arith, at, c.requires.to, ap (λ (xs : List QueueView). length xs) seen) in
     map-changed held row c.get.result [] old new (λ (xs : List Item). xs ++ c.args.item ∷ []) within c.index_mut-queue.ensures.value
-    (c.push_back_reserved.ensures.items ∙ ap (λ (queue : QueueView). queue.held ++ c.args.item ∷ []) c.queue.view_is)
+    (c.push_back_reserved.ensures.items ∙ ap (λ (kept : Item). c.queue.inside.items.items ++ kept ∷ []) c.of.ensures ∙ ap (λ (queue : QueueView). queue.held ++ c.args.item ∷ []) c.queue.view_is)
     ∙ ap (λ (k : ℕ). set (items_of row) k (get_or (items_of row) k [] ++ c.args.item ∷ [])) at
     ∙ ap (λ (xs : List QueueView). set (items_of xs) c.args.to (get_or (items_of xs) c.args.to [] ++ c.args.item ∷ [])) seen
 

@@ -10,7 +10,7 @@ use Rattle.line_moves.proofs.links.Row.push_to_others.Goals as goal
 pub loop-q-preserved : goal.loop-q-preserved
 loop-q-preserved c =
     let own : ℕ = c.args.own in
-    let item : Item = c.args.item.now in
+    let item : Item = c.args.item in
     let q : ℕ = c.loop-q.q in
     let before : List QueueView = c.self.inside.queues.items in
     let row : List QueueView = c.loop-q.self-inside.queues.items in
@@ -28,5 +28,5 @@ loop-q-preserved c =
 
 pub returns : goal.returns
 returns c =
-    AreSent-end c.args.own c.args.item.now c.loop-q.q c.self.inside.queues.items c.loop-q.self-inside.queues.items c.loop-q.invariant (omega (arith, c.loop-q-test.false, c.loop-q.invariant.count))
-    ∙ ap (λ (xs : List QueueView). with_on_others (items_of xs) c.args.own c.args.item.now) c.self.view_is
+    AreSent-end c.args.own c.args.item c.loop-q.q c.self.inside.queues.items c.loop-q.self-inside.queues.items c.loop-q.invariant (omega (arith, c.loop-q-test.false, c.loop-q.invariant.count))
+    ∙ ap (λ (xs : List QueueView). with_on_others (items_of xs) c.args.own c.args.item) c.self.view_is
