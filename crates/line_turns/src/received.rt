@@ -49,7 +49,8 @@ impl Flags {
 
     /// Has a flag for one more than so many sends, which have theirs.
     fn reserve(&mut self, sends: u32) -> Result<(), AllocError>
-        ensures same { (number : ℕ) → slice_index_or self.new number false ≡ slice_index_or self.old number false }
+        ensures same { (number : ℕ)
+            → slice_index_or self.new number false ≡ slice_index_or self.old number false }
         ensures ok { OnOk result (sends ≤ length self.old → sends < length self.new) }
         ensures more { length self.old ≤ length self.new }
         ensures err { OnErr result (self.new ≡ self.old) }
@@ -105,8 +106,8 @@ impl ReceivedSends {
     /// looks at no tape.
     pub fn has(&self, message: &MsgName) -> bool
         requires { message.now.from < length self.now }
-        ensures { (history : List Process) (to : ℕ) → AreFlagged history self.now → IsSentTo history to message.now
-            → result ≡ has_received (tape_at history to) message.now }
+        ensures { (history : List Process) (to : ℕ) → AreFlagged history self.now
+            → IsSentTo history to message.now → result ≡ has_received (tape_at history to) message.now }
     {
         self.processes[message.from.get() as usize].is_set(message.number)
     }
@@ -118,9 +119,12 @@ impl ReceivedSends {
     /// it is.
     pub fn reserve(&mut self, p: ProcId, sends: u32) -> Result<(), AllocError>
         requires { p < length self.old }
-        ensures same { (history : List Process) → AreFlagged history self.old → AreFlagged history self.new }
-        ensures ok { OnOk result ((history : List Process) (to inc : ℕ) (body : List ℕ) → AreFlagged history self.old → IsFitUnordered history
-            → sends ≡ Events.sends (tape_at history p) → AreFlagged (with_event history p (Send to inc body)) self.new) }
+        ensures same { (history : List Process)
+            → AreFlagged history self.old → AreFlagged history self.new }
+        ensures ok { OnOk result ((history : List Process) (to inc : ℕ) (body : List ℕ)
+            → AreFlagged history self.old → IsFitUnordered history
+            → sends ≡ Events.sends (tape_at history p)
+            → AreFlagged (with_event history p (Send to inc body)) self.new) }
         ensures err { OnErr result (self.new ≡ self.old) }
         ensures count { length self.new ≡ length self.old }
     {
@@ -130,7 +134,8 @@ impl ReceivedSends {
     /// The process that the message is for receives it. It takes constant time.
     pub fn receive(&mut self, message: &MsgName)
         requires { message.now.from < length self.old }
-        ensures received { (history : List Process) (to : ℕ) → AreFlagged history self.old → to < length history → IsSentTo history to message.now
+        ensures received { (history : List Process) (to : ℕ) → AreFlagged history self.old
+            → to < length history → IsSentTo history to message.now
             → AreFlagged (with_event history to (Recv message.now)) self.new }
         ensures count { length self.new ≡ length self.old }
     {
@@ -141,7 +146,8 @@ impl ReceivedSends {
     fn cut(&mut self, history: &History, line: &Line)
         requires line { IsLine history.now.processes line.now }
         requires count { length self.old ≡ length history.now.processes }
-        ensures cut { (p : ℕ) → p < length self.old → flags_of self.new p ≡ take (Events.sends (events_before history.now.processes line.now p)) (flags_of self.old p) }
+        ensures cut { (p : ℕ) → p < length self.old → flags_of self.new p
+            ≡ take (Events.sends (events_before history.now.processes line.now p)) (flags_of self.old p) }
         ensures count { length self.new ≡ length self.old }
     {
         let n = history.n();
@@ -155,7 +161,8 @@ impl ReceivedSends {
     /// None of these messages is received any longer.
     fn clear(&mut self, messages: &[MsgName])
         requires { All (λ (message : Name). message.from < length self.old) messages.now }
-        ensures cleared { (p number : ℕ) → flag_at self.new p number ≡ (flag_at self.old p number && not (names_send messages.now p number)) }
+        ensures cleared { (p number : ℕ) → flag_at self.new p number
+            ≡ (flag_at self.old p number && not (names_send messages.now p number)) }
         ensures lengths { (p : ℕ) → length (flags_of self.new p) ≡ length (flags_of self.old p) }
         ensures count { length self.new ≡ length self.old }
     {
@@ -171,7 +178,8 @@ impl ReceivedSends {
         requires line { IsLine history.now.processes line.now }
         requires count { length self.old ≡ length history.now.processes }
         requires transit { messages.now ≡ in_transit history.now.processes line.now }
-        ensures restart { AreFlagged history.now.processes self.old → AreFlagged (restarted history.now.processes line.now) self.new }
+        ensures restart { AreFlagged history.now.processes self.old
+            → AreFlagged (restarted history.now.processes line.now) self.new }
         ensures count { length self.new ≡ length self.old }
     {
         self.cut(history, line);

@@ -41,8 +41,9 @@ pub(crate) fn reserve_flag(
 /// Sets the flag of a message that a process receives.
 pub(crate) fn set_flag(mode: Mode, received: &mut ReceivedSends, message: &MsgName)
     requires { mode ≡ Unordered → message.now.from < length received.old }
-    ensures { (history : List Process) (to : ℕ) → to < length history → (mode ≡ Unordered → IsSentTo history to message.now)
-        → AreFlaggedIn mode history received.old → AreFlaggedIn mode (with_event history to (Recv message.now)) received.new }
+    ensures { (history : List Process) (to : ℕ) → to < length history
+        → (mode ≡ Unordered → IsSentTo history to message.now) → AreFlaggedIn mode history received.old
+        → AreFlaggedIn mode (with_event history to (Recv message.now)) received.new }
 {
     match mode {
         Mode::Fifo => {}
@@ -80,7 +81,8 @@ pub(crate) fn fate_of(
 ) -> Fate
     requires from { message.now.from < length history.now.processes }
     requires flagged { AreFlaggedIn mode history.now.processes received.now }
-    requires to { mode ≡ Unordered → Holds (tape_at history.now.processes message.now.from) message.now.inc message.now.number
+    requires to { mode ≡ Unordered
+        → Holds (tape_at history.now.processes message.now.from) message.now.inc message.now.number
         → IsSentTo history.now.processes _to message.now }
     ensures { result ≡ fate_of mode history.now.processes _to message.now }
 {
