@@ -82,11 +82,7 @@ pub(crate) fn mark_of(n: u32, row: &Row) -> Result<Event, Fault>
 pub(crate) fn is_event(row: &Row) -> bool
     ensures { result ≡ spec.is_event row.now }
 {
-    let first = row.field(0);
-    first == b"send".as_slice()
-        || first == b"recv".as_slice()
-        || first == b"check".as_slice()
-        || first == b"mark".as_slice()
+    matches!(row.field(0), b"send" | b"recv" | b"check" | b"mark")
 }
 
 /// The event of such a record. What a list has gives way to the bytes of a message.
@@ -101,18 +97,22 @@ pub(crate) fn event_of(
     ensures named { IfOk result (NamesBelow n) }
     ensures short { IfOk result (λ event. HasLongState event → ⊥) }
 {
-    let first = row.field(0);
-    if first == b"send".as_slice() {
-        let event = send_of(n, row, bytes)?;
-        Ok(event)
-    } else if first == b"recv".as_slice() {
-        let event = recv_of(n, row)?;
-        Ok(event)
-    } else if first == b"check".as_slice() {
-        let event = check_of(alloc, row)?;
-        Ok(event)
-    } else {
-        let event = mark_of(n, row)?;
-        Ok(event)
+    match row.field(0) {
+        b"send" => {
+            let event = send_of(n, row, bytes)?;
+            Ok(event)
+        }
+        b"recv" => {
+            let event = recv_of(n, row)?;
+            Ok(event)
+        }
+        b"check" => {
+            let event = check_of(alloc, row)?;
+            Ok(event)
+        }
+        _ => {
+            let event = mark_of(n, row)?;
+            Ok(event)
+        }
     }
 }

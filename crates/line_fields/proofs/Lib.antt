@@ -1,6 +1,7 @@
 pub mod DigitLemmas
 pub mod FieldLemmas
 pub mod HexLemmas
+pub mod LineLemmas
 pub mod MachineLemmas
 pub mod NumLemmas
 pub mod PlainLemmas
@@ -8,4 +9,3 @@ pub mod ReadAgain
 pub mod RoundLemmas
 pub mod RowLemmas
 pub mod TextLemmas
-pub mod WriterLemmas

@@ -65,7 +65,7 @@ no_quotes (b ∷ rest) plain =
     let p = and_parts (is_field_byte b) (is_plain_field rest) plain in
     rw (no_quotes_byte b p.0, no_quotes rest p.1) refl
 
-field_text-plain : (field : List ℕ) → is_plain_field field ≡ true → field_text plain_writer field ≡ field
+pub field_text-plain : (field : List ℕ) → is_plain_field field ≡ true → field_text plain_writer field ≡ field
 field_text-plain field plain = rw (no_quotes field plain) refl
 
 -- the fields of a plain record are joined by commas

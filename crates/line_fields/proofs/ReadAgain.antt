@@ -10,13 +10,13 @@ use Rattle.line_fields.specs.Texts.{has_name, is_field_byte, is_plain_field, is_
 use Rattle.line_fields.proofs.PlainLemmas.{not_mark, not_true}
 
 -- no byte of a list is the mark
-abbrev is_clear : ℕ → List ℕ → Bool
+abbrev pub is_clear : ℕ → List ℕ → Bool
 is_clear mark xs = list_all (λ b. not (b == mark)) xs
 
 not_same : (b mark : ℕ) → not (b == mark) ≡ true → (b == mark) ≡ false
 not_same b mark h = not_true (b == mark) h
 
-cut-clear : (mark : ℕ) (xs : List ℕ) → is_clear mark xs ≡ true → cut mark xs ≡ (xs, [])
+pub cut-clear : (mark : ℕ) (xs : List ℕ) → is_clear mark xs ≡ true → cut mark xs ≡ (xs, [])
 unfolding cut
 cut-clear mark [] clear = refl
 cut-clear mark (b ∷ rest) clear =
@@ -34,7 +34,7 @@ cut-mark mark (b ∷ xs) rest clear =
 parts-mark : (mark : ℕ) (xs rest : List ℕ) → is_clear mark xs ≡ true → parts mark (xs ++ (mark ∷ rest)) ≡ xs ∷ parts mark rest
 parts-mark mark xs rest clear = rw (cut-mark mark xs rest clear) refl
 
-parts-clear : (mark : ℕ) (xs : List ℕ) → is_clear mark xs ≡ true → parts mark xs ≡ xs ∷ []
+pub parts-clear : (mark : ℕ) (xs : List ℕ) → is_clear mark xs ≡ true → parts mark xs ≡ xs ∷ []
 parts-clear mark xs clear = rw (cut-clear mark xs clear) refl
 
 without-clear : (mark : ℕ) (xs ys : List ℕ) → is_clear mark xs ≡ true → without mark (xs ++ ys) ≡ xs ++ without mark ys
@@ -45,7 +45,7 @@ without-clear mark (b ∷ xs) ys clear =
     rw (not_same b mark p.0, without-clear mark xs ys p.1) refl
 
 -- a byte that no written field has
-plain_is_clear : (mark : ℕ) (xs : List ℕ) → is_field_byte mark ≡ false → is_plain_field xs ≡ true → is_clear mark xs ≡ true
+pub plain_is_clear : (mark : ℕ) (xs : List ℕ) → is_field_byte mark ≡ false → is_plain_field xs ≡ true → is_clear mark xs ≡ true
 plain_is_clear mark [] bad plain = refl
 plain_is_clear mark (b ∷ rest) bad plain =
     let p = and_parts (is_field_byte b) (is_plain_field rest) plain in

@@ -1,11 +1,9 @@
 //! A record that is put together, field by field, to be written.
 
-ghost use Rattle.std.specs.Prelude.{◌≡◌, ◌<◌, ◌++◌, ◌∷◌, [], true, IsTrue, OnErr, OnOk, decimal};
-ghost use Rattle.std.specs.List.{list_all};
-ghost use Rattle.csv.specs.Records.{fields_of, partial_of};
-ghost use Rattle.line_fields.specs.Texts.{hex_digit, hex_text, is_plain_field};
+ghost use Rattle.std.specs.Prelude.{◌≡◌, ◌<◌, ◌++◌, ◌∷◌, [], IsTrue, OnErr, OnOk, decimal};
+ghost use Rattle.line_fields.specs.Texts.{has_name, hex_digit, hex_text, is_plain_field, record_text};
 
-use csv::ByteRecord;
+use crate::lines::Line;
 use itoa::Buffer;
 use std::alloc::{AllocError, Global};
 use std::marker::Model;
@@ -13,44 +11,21 @@ use std::marker::Model;
 /// A record that is put together to be written. Its fields need no quotes.
 ///
 /// Each call that adds a field takes memory in proportion to that field. Where a growth is refused
-/// the draft has no fields any more.
+/// the draft has no fields any more. It holds a writer of `csv` with a buffer of some 8 KiB, and up
+/// to some 64 KiB more that this writer has written. So one is best kept for many records.
 #[derive(Drop)]
 pub struct Draft {
-    pub(crate) record: ByteRecord,
+    line: Line,
     digits: Vec<u8>,
     decimal: Buffer,
 }
 
 impl Model for Draft {
-    ghost use Rattle.std.specs.Prelude.{◌≡◌, ℕ, List, [], true};
-    ghost use Rattle.std.specs.List.{list_all};
-    ghost use Rattle.csv.specs.Records.{fields_of, partial_of};
-    ghost use Rattle.line_fields.specs.Texts.{is_plain_field};
+    ghost use Rattle.std.specs.Prelude.{ℕ, List};
 
     ghost Value = { List (List ℕ) };
 
-    ghost view = { λ s. fields_of s.record };
-
-    ghost invariant = { λ s. (partial_of s.record ≡ []) × (list_all is_plain_field (fields_of s.record) ≡ true) };
-}
-
-// Adds a field, or leaves none.
-fn push(row: &mut ByteRecord, field: &[u8]) -> Result<(), AllocError>
-    requires whole { partial_of row.old ≡ [] }
-    requires plain { list_all is_plain_field (fields_of row.old) ≡ true }
-    requires plain_field { is_plain_field field.now ≡ true }
-    ensures whole { partial_of row.new ≡ [] }
-    ensures plain { list_all is_plain_field (fields_of row.new) ≡ true }
-    ensures ok { OnOk result (fields_of row.new ≡ fields_of row.old ++ field.now ∷ []) }
-    ensures err { OnErr result (fields_of row.new ≡ []) }
-{
-    match row.push_field(field) {
-        Ok(()) => Ok(()),
-        Err(refused) => {
-            row.clear();
-            Err(refused)
-        }
-    }
+    ghost view = { λ s. s.line };
 }
 
 // The hexadecimal digits, of lower case.
@@ -77,22 +52,24 @@ fn push_hex(out: &mut Vec<u8>, bytes: &[u8]) -> Result<(), AllocError>
 }
 
 impl Draft {
-    /// A draft without fields. It takes no memory.
+    /// A draft without fields. It takes no memory but its own.
     pub fn new(alloc: Global) -> Draft
         ensures { result ≡ [] }
     {
         Draft {
-            record: ByteRecord::new(alloc),
+            line: Line::new(alloc),
             digits: Vec::new(alloc),
             decimal: Buffer::new(),
         }
     }
 
     /// Takes all fields away, and keeps their room for the next record.
+    ///
+    /// It costs nothing where there are none, and else some 8 KiB are cleared.
     pub fn clear(&mut self)
         ensures { self.new ≡ [] }
     {
-        self.record.clear();
+        self.line.clear();
     }
 
     /// Adds a field of plain text, such as the name of a record.
@@ -101,7 +78,7 @@ impl Draft {
         ensures ok { OnOk result (self.new ≡ self.old ++ word.now ∷ []) }
         ensures err { OnErr result (self.new ≡ []) }
     {
-        push(&mut self.record, word)
+        self.line.add(word)
     }
 
     /// Adds a number, without leading zeros.
@@ -109,7 +86,7 @@ impl Draft {
         ensures ok { OnOk result (self.new ≡ self.old ++ decimal value ∷ []) }
         ensures err { OnErr result (self.new ≡ []) }
     {
-        push(&mut self.record, self.decimal.format(value).as_bytes())
+        self.line.add(self.decimal.format(value).as_bytes())
     }
 
     /// Adds bytes, as two hexadecimal digits of lower case each.
@@ -119,11 +96,22 @@ impl Draft {
     {
         self.digits.clear();
         match push_hex(&mut self.digits, bytes) {
-            Ok(()) => push(&mut self.record, self.digits.as_slice()),
+            Ok(()) => self.line.add(self.digits.as_slice()),
             Err(refused) => {
                 self.clear();
                 Err(refused)
             }
         }
+    }
+
+    // Writes the record behind some bytes, which stay as they are where a growth is refused, and
+    // takes its fields away.
+    pub(crate) fn put_behind(&mut self, out: &mut Vec<u8>) -> Result<(), AllocError>
+        requires { IsTrue (has_name self.old) }
+        ensures ok { OnOk result (out.new.items ≡ out.old.items ++ record_text self.old) }
+        ensures err { OnErr result (out.new.items ≡ out.old.items) }
+        ensures cleared { self.new ≡ [] }
+    {
+        self.line.put_behind(out)
     }
 }

@@ -7,6 +7,7 @@ mod drafts;
 mod faults;
 mod fields;
 mod laws;
+mod lines;
 mod records;
 mod writers;
 

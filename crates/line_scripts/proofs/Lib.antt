@@ -3,4 +3,5 @@ pub mod FailedLemmas
 pub mod FaultLemmas
 pub mod KeepingLemmas
 pub mod LaterLemmas
+pub mod NameLemmas
 pub mod ReadLemmas

@@ -3,3 +3,4 @@ pub mod Reads
 pub mod Records
 pub mod Ranges
 pub mod Keeping
+pub mod Names

@@ -10,6 +10,7 @@ ghost use Rattle.line_scripts.specs.Keeping.{MayHave, of_found, with_bytes};
 ghost use Rattle.line_scripts.specs.Scripts as spec;
 
 use crate::keeping::Bare;
+use crate::names::{Name, name_of};
 use line_claims::{LAST_VERSION, failed_of, most_in, plain, want};
 use line_fields::{Fault, ReadError, Row, hex_into, number};
 use line_names::{MOST_BODY, ProcId, ProcSet};
@@ -187,53 +188,47 @@ pub(crate) fn command_of(
     ensures fits { IfOk result (λ bare. MayHave bare (length bytes.new.items)) }
 {
     bytes.clear();
-    let name = row.field(0);
-    if name == b"send".as_slice() {
-        send_of(n, row, bytes)
-    } else if name == b"deliver".as_slice() {
-        deliver_of(n, row, bytes)
-    } else if name == b"check".as_slice() {
-        match with_state(n, row, bytes)? {
+    let Some(name) = name_of(row.field(0)) else {
+        return Err(ReadError::Fault(Fault::BadRecord));
+    };
+    match name {
+        Name::Send => send_of(n, row, bytes),
+        Name::Deliver => deliver_of(n, row, bytes),
+        Name::Check => match with_state(n, row, bytes)? {
             Some(at) => Ok(Bare::Check { at }),
             None => Ok(no_process()),
-        }
-    } else if name == b"begin".as_slice() {
-        match with_state(n, row, bytes)? {
+        },
+        Name::Begin => match with_state(n, row, bytes)? {
             Some(at) => Ok(Bare::Begin { at }),
             None => Ok(no_process()),
-        }
-    } else if name == b"turn".as_slice() {
-        match with_state(n, row, bytes)? {
+        },
+        Name::Turn => match with_state(n, row, bytes)? {
             Some(at) => Ok(Bare::Turn { at }),
             None => Ok(no_process()),
-        }
-    } else if name == b"damage".as_slice() {
-        match with_check(n, row)? {
+        },
+        Name::Damage => match with_check(n, row)? {
             Some((at, check)) => Ok(Bare::Damage { at, check }),
             None => Ok(no_process()),
-        }
-    } else if name == b"bar".as_slice() {
-        match with_check(n, row)? {
+        },
+        Name::Bar => match with_check(n, row)? {
             Some((at, check)) => Ok(Bare::Bar { at, check }),
             None => Ok(no_process()),
-        }
-    } else if name == b"recover".as_slice() {
-        match with_failed(alloc, n, row)? {
+        },
+        Name::Recover => match with_failed(alloc, n, row)? {
             Some(failed) => Ok(Bare::Recover(failed)),
             None => Ok(no_process()),
+        },
+        Name::Rounds => {
+            want(row.len() == 1, Fault::BadRecord)?;
+            Ok(Bare::Rounds)
         }
-    } else if name == b"rounds".as_slice() {
-        want(row.len() == 1, Fault::BadRecord)?;
-        Ok(Bare::Rounds)
-    } else if name == b"history".as_slice() {
-        want(row.len() == 1, Fault::BadRecord)?;
-        Ok(Bare::History)
-    } else if name == b"bundle".as_slice() {
-        match with_failed(alloc, n, row)? {
+        Name::History => {
+            want(row.len() == 1, Fault::BadRecord)?;
+            Ok(Bare::History)
+        }
+        Name::Bundle => match with_failed(alloc, n, row)? {
             Some(failed) => Ok(Bare::Bundle(failed)),
             None => Ok(no_process()),
-        }
-    } else {
-        Err(ReadError::Fault(Fault::BadRecord))
+        },
     }
 }

@@ -4,6 +4,7 @@
 mod commands;
 mod keeping;
 mod laws;
+mod names;
 mod scripts;
 
 pub use commands::Command;

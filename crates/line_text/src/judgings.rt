@@ -59,7 +59,7 @@ fn valid_text(alloc: Global) -> Result<Vec<u8>, AllocError>
     let mut draft = Draft::new(alloc);
     let mut text = Vec::new(alloc);
     draft.word(b"valid")?;
-    put_record(alloc, &mut text, &draft)?;
+    put_record(&mut text, &mut draft)?;
     Ok(text)
 }
 
@@ -74,7 +74,7 @@ fn invalid_text(alloc: Global, fault: CertFault) -> Result<Vec<u8>, AllocError>
     add_entry(&mut draft, fault.entry)?;
     draft.number(u64::from(code))?;
     draft.word(name_of(code).as_bytes())?;
-    put_record(alloc, &mut text, &draft)?;
+    put_record(&mut text, &mut draft)?;
     Ok(text)
 }
 

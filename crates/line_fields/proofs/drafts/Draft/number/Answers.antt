@@ -1,5 +1,5 @@
 use Rattle.line_fields.proofs.PlainLemmas.{plain_decimal}
 use Rattle.line_fields.proofs.drafts.Draft.number.Goals as goal
 
-pub push-requires-clause-plain_field : goal.push-requires-clause-plain_field
-push-requires-clause-plain_field c = rw (c.as_bytes.ensures.value, c.format.ensures.text) (plain_decimal c.args.value c.ranges.value.fits)
+pub add-requires : goal.add-requires
+add-requires c = rw (c.as_bytes.ensures.value, c.format.ensures.text) (plain_decimal c.args.value c.ranges.value.fits)

@@ -1,0 +1,42 @@
+//! The names of commands, which the first fields of records spell.
+
+ghost use Rattle.std.specs.Prelude.{◌≡◌, ◌≢◌, IfNone, IfSome};
+ghost use Rattle.line_scripts.specs.declared.names.Name.{Name};
+ghost use Rattle.line_scripts.specs.Names.{text_of};
+
+/// The name of a command.
+#[derive(Clone, Copy)]
+pub(crate) enum Name {
+    Send,
+    Deliver,
+    Check,
+    Begin,
+    Turn,
+    Damage,
+    Bar,
+    Recover,
+    Rounds,
+    History,
+    Bundle,
+}
+
+/// The name that a field spells, if it spells one.
+pub(crate) fn name_of(field: &[u8]) -> Option<Name>
+    ensures found { IfSome result (λ name. field.now ≡ text_of name) }
+    ensures none { IfNone result ((name : Name) → field.now ≢ text_of name) }
+{
+    match field {
+        b"send" => Some(Name::Send),
+        b"deliver" => Some(Name::Deliver),
+        b"check" => Some(Name::Check),
+        b"begin" => Some(Name::Begin),
+        b"turn" => Some(Name::Turn),
+        b"damage" => Some(Name::Damage),
+        b"bar" => Some(Name::Bar),
+        b"recover" => Some(Name::Recover),
+        b"rounds" => Some(Name::Rounds),
+        b"history" => Some(Name::History),
+        b"bundle" => Some(Name::Bundle),
+        _ => None,
+    }
+}
