@@ -93,6 +93,31 @@ def build_all(below: workspace.Below, order: list[str], at_once: int, what: str)
     return True
 
 
+def is_built(program: pathlib.Path) -> bool:
+    """Whether a program is there, and no file of code of the repository is newer."""
+    try:
+        since = program.stat().st_mtime
+    except FileNotFoundError:
+        return False
+    return all(it.stat().st_mtime <= since for it in workspace.ROOT.glob("crates/*/src/**/*.rt"))
+
+
+def build_program(name: str) -> pathlib.Path:
+    """Proves and builds a program of the repository, where it is not built from the code as it is.
+
+    Answers where the program is. One that is not proved ends all.
+    """
+    program = workspace.ROOT / "crates" / name / "out" / name
+    if not is_built(program):
+        below = workspace.stands_on()
+        order = workspace.needed([name], below)
+        what = f"proving the {len(order)} crates of {name}, where they are not proved yet"
+        if not build_all(below, order, workspace.lanes(), what):
+            sys.exit(1)
+        program.touch()
+    return program
+
+
 def copy_text(source: pathlib.Path, target: pathlib.Path) -> None:
     """Writes a file with the text of another."""
     target.parent.mkdir(parents=True, exist_ok=True)

@@ -1,4 +1,4 @@
-use Rattle.stress.proofs.generation.Goals as goal
+use Rattle.line_stress.proofs.generation.Goals as goal
 
 pub gather-requires-clause-generation : goal.gather-requires-clause-generation
 gather-requires-clause-generation g c = c.in_ok-collector.ensures.generation c.requires.generation

@@ -3,7 +3,7 @@ use Rattle.std.proofs.Common.{subst}
 use Rattle.std.proofs.lemmas.Option.{get_or_from_slice_get, slice_get_within}
 use Rattle.line_tape.specs.Event.{IsShort}
 use Rattle.line_tape.specs.Shown.{shown}
-use Rattle.stress.proofs.texts.push_tape.Goals as goal
+use Rattle.line_stress.proofs.texts.push_tape.Goals as goal
 
 pub to_event-requires : goal.to_event-requires
 to_event-requires c =

@@ -1,5 +1,5 @@
 use Rattle.line_posts.proofs.ReportLemmas.{more_then}
-use Rattle.stress.proofs.workers.RandomWorkWork.collect.Goals as goal
+use Rattle.line_stress.proofs.workers.RandomWorkWork.collect.Goals as goal
 
 pub loop-look-preserved : goal.loop-look-preserved
 loop-look-preserved c = more_then _ _ _ c.loop-look.invariant c.look.ensures

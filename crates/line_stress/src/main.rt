@@ -1,7 +1,7 @@
 //! Generations of workers in threads under stress: random calls, failures of random workers at
 //! random turns, damage and restarts, and a collector that plans all the while. Each generation is
-//! printed as records, for a checker of another make to judge; the checker of the repository judges
-//! each plan here.
+//! printed as records, which `scripts/stress_workers` judges by the definitions; the checker of the
+//! repository judges each plan here.
 //!
 //! Words: the seed, the number of the first lineage, how many lineages at most, and the seconds
 //! after which no lineage begins. A lineage is a fleet and the generations that go on from it; what
@@ -309,6 +309,10 @@ fn lineages<R: Threads + Wait + Sync + Print + Clock>(
 fn main(rt: HostRuntime) -> Result<()> {
     let mut words = [1u64, 0, 1, 1];
     for (place, word) in env::args(&rt)?.skip(1).take(4).enumerate() {
+        if word.as_str() == "--help" {
+            println!(rt; "Usage: line_stress SEED FIRST_LINEAGE LINEAGES SECONDS")?;
+            return Ok(());
+        }
         if let Some(number) = words.get_mut(place) {
             *number = word.parse::<u64>()?;
         }

@@ -1,5 +1,5 @@
 use Rattle.line_posts.specs.Collected.{HasCollectedMore}
-use Rattle.stress.proofs.workers.RandomWorkWork.collect.Given as goal
+use Rattle.line_stress.proofs.workers.RandomWorkWork.collect.Given as goal
 
 abbrev pub invariant-loop-look : goal.invariant-loop-look
 invariant-loop-look l = HasCollectedMore l.fn.collector l.collector
