@@ -65,6 +65,14 @@ impl Reach {
         Ok(Reach { lanes })
     }
 
+    /// How many lanes it has: one for each process.
+    pub fn n(&self) -> usize
+        ensures value { result ≡ length self.now }
+        ensures limit { length self.now ≤ MOST_PROCESSES }
+    {
+        self.lanes.len()
+    }
+
     /// The same vector, its lanes lent.
     pub fn as_ref(&self) -> ReachRef<'_>
         ensures { result ≡ self.now }

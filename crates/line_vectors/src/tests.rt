@@ -81,6 +81,6 @@ fn lent_lanes(rt: HostRuntime) -> Result<(), Fail> {
     let mut reach = Reach::new(rt.alloc(), 2)?;
     reach.set_to_lent(&lent);
     assert_eq!(rt; reach.lanes(), lent.lanes());
-    assert_eq!(rt; reach.as_ref().beyond(&sent), 1);
+    assert_eq!(rt; (reach.n(), reach.as_ref().beyond(&sent)), (2, 1));
     Ok(())
 }
