@@ -10,7 +10,7 @@ use Rattle.line_tape.specs.Event.{checks, sends, NamesBelow}
 use Rattle.line_tape.specs.History.{Process, tape_at, with_event}
 use Rattle.line_tape.specs.Views.{MarksView, no_marks, with_bar, with_mark, bar_at, damaged_at}
 use Rattle.line_tape.proofs.RowLemmas.{checks-push}
-use Rattle.line_catalogue.specs.declared.rows.Row.{Row}
+use Rattle.line_catalogue.specs.declared.kept_rows.Row.{Row}
 use Rattle.line_catalogue.specs.Agreement.{AgreesNext}
 use Rattle.line_catalogue.specs.Damage.{AreOnChecks}
 use Rattle.line_catalogue.specs.Kept.{rows_at, present_at, IsCatalogue}

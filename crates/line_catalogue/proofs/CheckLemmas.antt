@@ -24,7 +24,7 @@ use Rattle.line_tape.proofs.RowLemmas.{checks_front}
 use Rattle.line_tape.proofs.StayLemmas.{front_restarted, front_take}
 use Rattle.line_vectors.specs.Reach.{heard, reach_of}
 use Rattle.line_vectors.proofs.ReachLemmas.{reach-deaf, reach-none, reach-recv, reach_of-left}
-use Rattle.line_catalogue.specs.declared.rows.Row.{Row}
+use Rattle.line_catalogue.specs.declared.kept_rows.Row.{Row}
 use Rattle.line_catalogue.specs.Rows.{IsRow, AreInStep, AreRows, WithPlaces, heard_more, new_row, no_row, row_added, rows_kept, vector_at, with_damage, with_row}
 
 -- whether a check is among the marked ones, with one more

@@ -8,3 +8,4 @@ pub mod NumberLemmas
 pub mod OpenLemmas
 pub mod LeftLemmas
 pub mod DamageLemmas
+pub mod LaidLemmas

@@ -18,7 +18,7 @@ use Rattle.line_tape.specs.Views.{MarksView, damaged_at}
 use Rattle.line_tape.proofs.CutLemmas.{checks_left, checks_take, received_left, sent_left}
 use Rattle.line_tape.proofs.EachLemmas.{each_at, length-each, restarted-each, damage-each, kept_damage}
 use Rattle.line_tape.proofs.LineLemmas.{front-empty, tape_at-past}
-use Rattle.line_catalogue.specs.declared.rows.Row.{Row}
+use Rattle.line_catalogue.specs.declared.kept_rows.Row.{Row}
 use Rattle.line_catalogue.specs.Agreement.{EventAgrees, Agrees}
 use Rattle.line_catalogue.specs.Damage.{AreOnChecks}
 use Rattle.line_catalogue.specs.Kept.{rows_at, present_at, IsCatalogue}

@@ -3,7 +3,7 @@ use Rattle.std.specs.Prelude.{◌≡◌, ℕ, ◌<◌, List, [], length, slice_i
 use Rattle.line_tape.specs.History.{Process, tape_at}
 use Rattle.line_tape.specs.Views.{MarksView, damaged_at}
 use Rattle.line_vectors.specs.Reach.{reach_of}
-use Rattle.line_catalogue.specs.declared.rows.Row.{Row}
+use Rattle.line_catalogue.specs.declared.kept_rows.Row.{Row}
 use Rattle.line_catalogue.specs.Agreement.{Agrees}
 use Rattle.line_catalogue.specs.Damage.{AreOnChecks}
 use Rattle.line_catalogue.specs.Rows.{AreRows}
@@ -27,14 +27,6 @@ rows_at rows p = slice_index_or rows p []
 -- the vector of where process p stands
 abbrev pub present_at : List (List ℕ) → ℕ → List ℕ
 present_at presents p = slice_index_or presents p []
-
--- each of the vectors has n lanes
-abbrev pub AreEven : ℕ → List (List ℕ) → Type 0
-AreEven n vectors = (i : ℕ) (d : List ℕ) → i < length vectors → length (slice_index_or vectors i d) ≡ n
-
--- the vector of each of the rows has n lanes
-abbrev pub AreRowsEven : ℕ → List Row → Type 0
-AreRowsEven n rows = (c : ℕ) (d : Row) → c < length rows → length (slice_index_or rows c d).reach ≡ n
 
 -- an agreeing history, marks of its checks, and the rows and vectors that tell of both
 pub record IsCatalogue (history : List Process) (marks : MarksView) (rows : List (List Row)) (presents : List (List ℕ)) : Type 0 where

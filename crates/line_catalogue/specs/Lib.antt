@@ -3,6 +3,7 @@ pub mod Damage
 pub mod Rows
 pub mod Views
 pub mod Kept
+pub mod Laid
 pub mod Plain
 pub mod Refusals
 pub mod Left

@@ -1,6 +1,6 @@
 -- What a table shows of each of its processes.
 use Rattle.std.specs.Prelude.{ℕ, List}
-use Rattle.line_catalogue.specs.declared.rows.Row.{Row}
+use Rattle.line_catalogue.specs.declared.kept_rows.Row.{Row}
 use Rattle.line_catalogue.specs.Kept.{RowsView}
 
 -- its rows

@@ -9,7 +9,7 @@ use Rattle.line_tape.specs.Event.{checks, sends}
 use Rattle.line_tape.specs.Front.{place, front}
 use Rattle.line_vectors.specs.Reach.{reach_of, nearest}
 use Rattle.line_vectors.specs.Vectors.{noted}
-use Rattle.line_catalogue.specs.declared.rows.Row.{Row}
+use Rattle.line_catalogue.specs.declared.kept_rows.Row.{Row}
 
 -- the row tells how many events and sends stand before check c, whether it is among the damaged ones, and its vector, of n lanes
 pub record IsRow (n : ℕ) (tape : List Event) (damaged : List ℕ) (c : ℕ) (row : Row) : Type 0 where

@@ -21,13 +21,13 @@ ghost use Rattle.line_vectors.specs.Vectors.{Fits};
 
 use crate::additions::test_event;
 use crate::agreement::{agrees, are_on_checks};
+use crate::kept_rows::Rows;
 use crate::ledgers::Ledger;
 use crate::refusals::{AddError, CatalogueError, DamageError};
-use crate::rows::Row;
 use crate::tables::RowTable;
 use line_names::{Choice, Line, MOST_PROCESSES, MsgName, ProcId, ProcSet};
 use line_tape::{BarError, CountError, Event, History, MOST_EVENTS, Marks};
-use line_vectors::Reach;
+use line_vectors::ReachRef;
 use std::alloc::{AllocError, Global};
 use std::marker::Model;
 
@@ -35,8 +35,9 @@ use std::marker::Model;
 ///
 /// It answers what a planner asks of choices from rows that it keeps beside them, one for each
 /// check, and grows with its history event by event. A row has the vector of its check, and each
-/// process one of where it stands: how much was received from each other process before. So a
-/// history of n processes takes 4n bytes more for each check, and no question looks at its events.
+/// process one of where it stands: how much was received from each other process before. So a check
+/// takes sixteen bytes more, and 4n among n processes where its process received something since
+/// the check before; and no question looks at events.
 #[derive(Drop)]
 pub struct Catalogue {
     ledger: Ledger,
@@ -134,9 +135,9 @@ impl Catalogue {
 
     /// What is known of each check of a process: first its initial state, then the checks in their
     /// order. It costs nothing.
-    pub fn rows(&self, p: ProcId) -> &[Row]
+    pub fn rows(&self, p: ProcId) -> Rows<'_>
         requires { p < length self.now.processes }
-        ensures { AreRows (length self.now.processes) (tape_at self.now.processes p) (damaged_at self.now.marks p) result.now }
+        ensures { AreRows (length self.now.processes) (tape_at self.now.processes p) (damaged_at self.now.marks p) result }
     {
         self.rows.at(p)
     }
@@ -149,10 +150,12 @@ impl Catalogue {
     {
         match choice {
             Choice::Check(0) => true,
-            Choice::Check(c) => match self.rows.at(p).get(c as usize) {
-                Some(row) => !row.damaged && self.marks.allows(p, choice),
-                None => false,
-            },
+            Choice::Check(c) => {
+                let rows = self.rows.at(p);
+                (c as usize) < rows.len()
+                    && !rows.at(c as usize).damaged
+                    && self.marks.allows(p, choice)
+            }
             Choice::Now => !failed.has(p) && self.marks.allows(p, Choice::Now),
         }
     }
@@ -199,11 +202,11 @@ impl Catalogue {
     ///
     /// It fits the sends before a line exactly where each message received before the choice is
     /// sent before the line.
-    pub fn reach(&self, p: ProcId, choice: Choice) -> &Reach
+    pub fn reach(&self, p: ProcId, choice: Choice) -> ReachRef<'_>
         requires process { p < length self.now.processes }
         requires choice { HasChoice (tape_at self.now.processes p) choice }
-        ensures value { result.now ≡ reach_before self.now.processes p choice }
-        ensures decides { (line : List Choice) → Fits result.now (sents_of self.now.processes line)
+        ensures value { result ≡ reach_before self.now.processes p choice }
+        ensures decides { (line : List Choice) → Fits result (sents_of self.now.processes line)
             ↔ AreSentBefore self.now.processes line (front (tape_at self.now.processes p) choice) }
     {
         let _n = self.ledger.history().n();
@@ -247,8 +250,8 @@ impl Catalogue {
         self.ledger.append(p, event);
     }
 
-    /// Adds an event at the end of the tape of a process. A check costs a vector; any other event
-    /// costs the same however much was added before.
+    /// Adds an event at the end of the tape of a process. A check costs a vector where something was
+    /// received since the last one; any other event costs the same however much was added before.
     pub fn add(&mut self, p: ProcId, event: Event) -> Result<(), AddError>
         ensures ok { OnOk result (self.new.processes ≡ with_event self.old.processes p event) }
         ensures err { OnErr result (self.new.processes ≡ self.old.processes) }

@@ -10,6 +10,7 @@ mod additions;
 mod agreement;
 mod candidates;
 mod catalogues;
+mod kept_rows;
 mod laws;
 mod ledgers;
 mod numbers;
@@ -19,6 +20,6 @@ mod tables;
 mod transits;
 
 pub use catalogues::Catalogue;
+pub use kept_rows::{Row, Rows};
 pub use laws::{lanes_name_orphans, numbers_decide, vectors_decide};
 pub use refusals::{AddError, CatalogueError, DamageError};
-pub use rows::Row;

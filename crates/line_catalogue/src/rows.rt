@@ -1,53 +1,45 @@
 //! What is known of the checks of one process, and of where it stands.
-ghost use Rattle.std.specs.Prelude.{◌≡◌, ◌<◌, ◌≤◌, ◌+◌, ◌-◌, ℕ, [], ◌∷◌, ◌++◌, length, replicate, vec_len, vec_capacity, IfOk, IsOk, OnOk};
+ghost use Rattle.std.specs.Prelude.{◌≡◌, ◌<◌, ◌≤◌, ◌+◌, ◌-◌, ℕ, Bool, false, List, [], ◌∷◌, ◌++◌, if◌then◌else◌, length, map, replicate, vec_len, vec_capacity, IfOk, IsOk, OnOk};
 ghost use Rattle.line_names.specs.declared.choices.Choice.TheVariants.{Check as AtCheck};
 ghost use Rattle.line_tape.specs.Event.{checks, NamesBelow};
 ghost use Rattle.line_tape.specs.Shown.{shown};
 ghost use Rattle.line_vectors.specs.Reach.{nearest};
-ghost use Rattle.line_catalogue.specs.Kept.{AreEven, AreRowsEven};
+ghost use Rattle.line_catalogue.specs.Laid.{AreLaid, EndWith, row_of};
 ghost use Rattle.line_catalogue.specs.Rows.{AreInStep, WithPlaces, heard_more, new_row, row_added, rows_kept, vector_at, with_damage, with_row};
 
+use crate::kept_rows::{KeptRow, Rows};
 use line_names::{Choice, MOST_PROCESSES, MsgName};
-use line_tape::{EventRef, Tape};
-use line_vectors::{LAST_NUMBER, Reach};
+use line_tape::{EventRef, MOST_EVENTS, Tape};
+use line_vectors::{LAST_NUMBER, Reach, ReachRef};
 use std::alloc::{AllocError, Global};
 use std::marker::Model;
-
-/// What is known of a check: how many events of its tape, and how many sends among them, stand
-/// before the choice of it, whether it is damaged, and how much the process had heard of each other
-/// one.
-#[derive(Drop)]
-pub struct Row {
-    pub place: u32,
-    pub sends: u32,
-    pub damaged: bool,
-    pub reach: Reach,
-}
 
 /// The rows of one process, from its initial state on, and the vector of where it stands.
 #[derive(Drop)]
 pub struct ProcessRows {
-    rows: Vec<Row>,
+    rows: Vec<KeptRow>,
+    /// The vectors of the rows, one behind the other.
+    lanes: Vec<u32>,
     present: Reach,
-    /// Vectors that lie ready for the rows of checks to come.
-    spares: Vec<Reach>,
+    /// Whether something was received since the last vector among the lanes.
+    heard: bool,
 }
 
 impl Model for ProcessRows {
-    ghost use Rattle.std.specs.Prelude.{◌-◌, min, length, vec_len, vec_capacity};
+    ghost use Rattle.std.specs.Prelude.{◌-◌, ◌/◌, map, min, length, vec_len, vec_capacity};
     ghost use Rattle.line_catalogue.specs.Kept.{RowsView};
+    ghost use Rattle.line_catalogue.specs.Laid.{AreLaid, row_of};
 
     ghost Value = { RowsView };
 
-    ghost use Rattle.line_catalogue.specs.Kept.{AreEven, AreRowsEven};
-
     ghost view = { λ p. record {
-      rows = p.rows.items;
+      rows = map (row_of (length p.present) p.lanes.items) p.rows.items;
       present = p.present;
-      room = min (vec_capacity p.rows - vec_len p.rows) (vec_len p.spares);
+      room = min (vec_capacity p.rows - vec_len p.rows)
+          ((vec_capacity p.lanes - vec_len p.lanes) / length p.present);
     } };
 
-    ghost invariant = { λ p. AreRowsEven (length p.present) p.rows.items × AreEven (length p.present) p.spares.items };
+    ghost invariant = { λ p. AreLaid p.lanes.items p.rows.items p.heard p.present };
 }
 
 /// The name under which a vector notes a message.
@@ -61,72 +53,122 @@ fn nearest(message: &MsgName) -> MsgName
     }
 }
 
-/// Adds the row of a check, with a copy of a vector, in memory that lies ready.
-fn add_row(rows: &mut Vec<Row>, spares: &mut Vec<Reach>, present: &Reach, place: u32, sends: u32)
-    requires some { 0 < vec_len spares.old }
-    requires room { vec_len rows.old < vec_capacity rows.old }
-    requires even { AreEven (length present.now) spares.old.items }
-    ensures rows { rows.new.items ≡ rows.old.items ++ new_row place sends present.now ∷ [] }
-    ensures len { vec_len rows.new ≡ vec_len rows.old + 1 }
-    ensures capacity { vec_capacity rows.old ≤ vec_capacity rows.new }
-    ensures spent { vec_len spares.old ≡ vec_len spares.new + 1 }
-    ensures even { AreEven (length present.now) spares.new.items }
+/// Puts the vector of where a process stands behind the others, unless it is the last of them
+/// already, in room that was made for it.
+fn lay(lanes: &mut Vec<u32>, present: &Reach, heard: bool)
+    requires last { heard ≡ false → EndWith lanes.old.items present.now }
+    requires room { vec_len lanes.old + length present.now ≤ vec_capacity lanes.old }
+    ensures items { lanes.new.items ≡ lanes.old.items ++ (if heard then present.now else []) }
+    ensures last { EndWith lanes.new.items present.now }
+    ensures len { vec_len lanes.new ≤ vec_len lanes.old + length present.now }
+    ensures capacity { vec_capacity lanes.old ≤ vec_capacity lanes.new }
 {
-    let mut reach = spares.pop().unwrap();
-    reach.set_to(present);
-    rows.push(Row {
+    if heard {
+        lanes.extend_from_slice(present.lanes()).unwrap();
+    }
+}
+
+/// Adds the row of a check, with the vector of where the process stands, in room that was made for
+/// both.
+fn add_row(
+    rows: &mut Vec<KeptRow>,
+    lanes: &mut Vec<u32>,
+    present: &Reach,
+    heard: bool,
+    place: u32,
+    sends: u32,
+)
+    requires laid { AreLaid lanes.old.items rows.old.items heard present.now }
+    requires few { vec_len rows.old ≤ MOST_EVENTS }
+    requires room { vec_len rows.old < vec_capacity rows.old }
+    requires vector { vec_len lanes.old + length present.now ≤ vec_capacity lanes.old }
+    ensures rows { map (row_of (length present.now) lanes.new.items) rows.new.items
+        ≡ map (row_of (length present.now) lanes.old.items) rows.old.items ++ new_row place sends present.now ∷ [] }
+    ensures laid { AreLaid lanes.new.items rows.new.items false present.now }
+    ensures len { vec_len rows.new ≡ vec_len rows.old + 1 }
+    ensures capacity { vec_capacity rows.new ≡ vec_capacity rows.old }
+    ensures lanes { vec_len lanes.new ≤ vec_len lanes.old + length present.now }
+    ensures lanes_capacity { vec_capacity lanes.old ≤ vec_capacity lanes.new }
+{
+    lay(lanes, present, heard);
+    let n = present.n();
+    let start = (lanes.len() - n) as u32;
+    rows.push_reserved(KeptRow {
         place,
         sends,
+        start,
         damaged: false,
-        reach,
-    })
-    .unwrap();
+    });
 }
 
 /// Follows an event of the tape: a receipt is noted, and a check has a row of its own.
 fn follow(
-    rows: &mut Vec<Row>,
-    spares: &mut Vec<Reach>,
+    rows: &mut Vec<KeptRow>,
+    lanes: &mut Vec<u32>,
     present: &mut Reach,
+    heard: &mut bool,
     event: &EventRef<'_>,
     place: u32,
     sends: u32,
 )
-    requires some { 0 < vec_len spares.old }
+    requires laid { AreLaid lanes.old.items rows.old.items heard.old present.old }
+    requires few { vec_len rows.old ≤ MOST_EVENTS }
     requires room { vec_len rows.old < vec_capacity rows.old }
-    requires even { AreEven (length present.old) spares.old.items }
+    requires vector { vec_len lanes.old + length present.old ≤ vec_capacity lanes.old }
     requires named { NamesBelow (length present.old) (shown event.now) }
-    ensures rows { rows.new.items
-        ≡ with_row rows.old.items (row_added place sends present.old (shown event.now)) }
+    ensures rows { map (row_of (length present.old) lanes.new.items) rows.new.items
+        ≡ with_row (map (row_of (length present.old) lanes.old.items) rows.old.items)
+        (row_added place sends present.old (shown event.now)) }
     ensures present { present.new ≡ heard_more present.old (shown event.now) }
     ensures lanes { length present.new ≡ length present.old }
-    ensures even { AreRowsEven (length present.old) rows.old.items → AreRowsEven (length present.old) rows.new.items }
-    ensures spares { AreEven (length present.old) spares.new.items }
+    ensures laid { AreLaid lanes.new.items rows.new.items heard.new present.new }
     ensures room { vec_capacity rows.old - vec_len rows.old ≤ vec_capacity rows.new - vec_len rows.new + 1 }
-    ensures spent { vec_len spares.old ≤ vec_len spares.new + 1 }
+    ensures vector { vec_capacity lanes.old - vec_len lanes.old
+        ≤ vec_capacity lanes.new - vec_len lanes.new + length present.old }
 {
     match event {
         EventRef::Send { .. } => {}
-        EventRef::Recv { message } => present.note(&nearest(message)),
-        EventRef::Check { .. } => add_row(rows, spares, present, place, sends),
+        EventRef::Recv { message } => {
+            present.note(&nearest(message));
+            *heard = true;
+        }
+        EventRef::Check { .. } => {
+            add_row(rows, lanes, present, *heard, place, sends);
+            *heard = false;
+        }
         EventRef::Mark { .. } => {}
     }
 }
 
-/// Lets go of the rows behind a choice, whose vector becomes that of where the process stands.
-fn go_back(rows: &mut Vec<Row>, present: &mut Reach, choice: Choice)
-    requires even { AreRowsEven (length present.old) rows.old.items }
+/// Lets go of the rows and vectors behind a choice, whose vector becomes that of where the process
+/// stands.
+fn go_back(
+    rows: &mut Vec<KeptRow>,
+    lanes: &mut Vec<u32>,
+    present: &mut Reach,
+    heard: &mut bool,
+    choice: Choice,
+)
+    requires laid { AreLaid lanes.old.items rows.old.items heard.old present.old }
     requires there { (c : ℕ) → choice ≡ AtCheck c → c < vec_len rows.old }
-    ensures rows { rows.new.items ≡ rows_kept choice rows.old.items }
-    ensures present { present.new ≡ vector_at rows.old.items present.old choice }
+    ensures rows { map (row_of (length present.old) lanes.new.items) rows.new.items
+        ≡ rows_kept choice (map (row_of (length present.old) lanes.old.items) rows.old.items) }
+    ensures present { present.new
+        ≡ vector_at (map (row_of (length present.old) lanes.old.items) rows.old.items) present.old choice }
     ensures lanes { length present.new ≡ length present.old }
-    ensures even { AreRowsEven (length present.old) rows.new.items }
+    ensures laid { AreLaid lanes.new.items rows.new.items heard.new present.new }
     ensures room { vec_capacity rows.old - vec_len rows.old ≤ vec_capacity rows.new - vec_len rows.new }
+    ensures vector { vec_capacity lanes.old - vec_len lanes.old ≤ vec_capacity lanes.new - vec_len lanes.new }
 {
     match choice {
         Choice::Check(c) => {
-            present.set_to(&rows[c as usize].reach);
+            let n = present.n();
+            let start = rows[c as usize].start as usize;
+            let end = start + n;
+            present.set_to_lent(&ReachRef::of(&lanes[start..end]));
             rows.truncate(c as usize + 1);
+            lanes.truncate(end);
+            *heard = false;
         }
         Choice::Now => {}
     }
@@ -134,10 +176,12 @@ fn go_back(rows: &mut Vec<Row>, present: &mut Reach, choice: Choice)
 
 /// Notes anew where the checks stand on a tape, from the last one back to one that stands where it
 /// did.
-fn place_rows(rows: &mut Vec<Row>, tape: &Tape)
+fn place_rows(rows: &mut Vec<KeptRow>, tape: &Tape)
     requires count { vec_len rows.old ≡ checks tape.now.events + 1 }
-    requires in_step { AreInStep tape.now.events rows.old.items }
-    ensures rows { WithPlaces tape.now.events rows.old.items rows.new.items }
+    ensures rows { (n : ℕ) (lanes : List ℕ) → AreInStep tape.now.events (map (row_of n lanes) rows.old.items)
+        → WithPlaces tape.now.events (map (row_of n lanes) rows.old.items) (map (row_of n lanes) rows.new.items) }
+    ensures laid { (lanes : List ℕ) (heard : Bool) (present : List ℕ)
+        → AreLaid lanes rows.old.items heard present → AreLaid lanes rows.new.items heard present }
     ensures room { (vec_capacity rows.new ≡ vec_capacity rows.old) × (vec_len rows.new ≡ vec_len rows.old) }
 {
     for c in (0..tape.checks() + 1).rev() {
@@ -149,77 +193,67 @@ fn place_rows(rows: &mut Vec<Row>, tape: &Tape)
     }
 }
 
-/// Makes spare vectors, as long as this one, until there are so many.
-fn fill(spares: &mut Vec<Reach>, like: &Reach, k: usize) -> Result<(), AllocError>
-    requires even { AreEven (length like.now) spares.old.items }
-    ensures even { AreEven (length like.now) spares.new.items }
-    ensures ok { OnOk result (k ≤ vec_len spares.new) }
-    ensures more { vec_len spares.old ≤ vec_len spares.new }
-    ensures succeeds { k ≤ vec_len spares.old → IsOk result }
-{
-    for _i in spares.len()..k {
-        spares.push(like.copy()?)?;
-    }
-    Ok(())
-}
-
-/// The only row of a process that has done nothing.
-fn first_rows(alloc: Global, n: u32) -> Result<Vec<Row>, AllocError>
-    requires { n ≤ MOST_PROCESSES }
-    ensures { IfOk result (λ rows. rows.items ≡ new_row 0 0 (replicate n 0) ∷ []) }
-{
-    let mut rows = Vec::with_capacity(alloc, 1)?;
-    let reach = Reach::new(alloc, n)?;
-    rows.push(Row {
-        place: 0,
-        sends: 0,
-        damaged: false,
-        reach,
-    })?;
-    Ok(rows)
-}
-
 /// Notes that a check is damaged.
-fn set_damaged(rows: &mut Vec<Row>, check: u32)
+fn set_damaged(rows: &mut Vec<KeptRow>, check: u32)
     requires { check < vec_len rows.old }
-    ensures rows { rows.new.items ≡ with_damage rows.old.items check }
+    ensures rows { (n : ℕ) (lanes : List ℕ)
+        → map (row_of n lanes) rows.new.items ≡ with_damage (map (row_of n lanes) rows.old.items) check }
+    ensures laid { (lanes : List ℕ) (heard : Bool) (present : List ℕ)
+        → AreLaid lanes rows.old.items heard present → AreLaid lanes rows.new.items heard present }
     ensures room { (vec_capacity rows.new ≡ vec_capacity rows.old) × (vec_len rows.new ≡ vec_len rows.old) }
 {
     rows[check as usize].damaged = true;
 }
 
+/// The only row of a process that has done nothing.
+fn first_rows(alloc: Global) -> Result<Vec<KeptRow>, AllocError>
+    ensures { IfOk result (λ rows. rows.items ≡ record { place = 0; sends = 0; start = 0; damaged = false } ∷ []) }
+{
+    let mut rows = Vec::with_capacity(alloc, 1)?;
+    rows.push(KeptRow {
+        place: 0,
+        sends: 0,
+        start: 0,
+        damaged: false,
+    })?;
+    Ok(rows)
+}
+
 impl ProcessRows {
     /// The rows of one of `n` processes that has done nothing yet.
     pub fn new(alloc: Global, n: u32) -> Result<ProcessRows, AllocError>
-        requires { n ≤ MOST_PROCESSES }
+        requires some { 0 < n }
+        requires few { n ≤ MOST_PROCESSES }
         ensures rows { IfOk result (λ process. process.rows ≡ new_row 0 0 (replicate n 0) ∷ []) }
         ensures present { IfOk result (λ process. process.present ≡ replicate n 0) }
     {
-        let rows = first_rows(alloc, n)?;
+        let rows = first_rows(alloc)?;
         let present = Reach::new(alloc, n)?;
-        let spares = Vec::new(alloc);
+        let lanes = Vec::from_slice(alloc, present.lanes())?;
         Ok(ProcessRows {
             rows,
+            lanes,
             present,
-            spares,
+            heard: false,
         })
     }
 
     /// The rows.
-    pub fn rows(&self) -> &[Row]
-        ensures { result.now ≡ self.now.rows }
+    pub fn rows(&self) -> Rows<'_>
+        ensures { result ≡ self.now.rows }
     {
-        self.rows.as_slice()
+        let n = self.present.n();
+        Rows::of(self.rows.as_slice(), self.lanes.as_slice(), n)
     }
 
     /// The vector of a choice.
-    pub fn reach(&self, choice: Choice) -> &Reach
+    pub fn reach(&self, choice: Choice) -> ReachRef<'_>
         requires { (c : ℕ) → choice ≡ AtCheck c → c < length self.now.rows }
-        ensures { result.now ≡ vector_at self.now.rows self.now.present choice }
+        ensures { result ≡ vector_at self.now.rows self.now.present choice }
     {
         match choice {
-            Choice::Check(c) => &self.rows[c as usize].reach,
-            Choice::Now => &self.present,
+            Choice::Check(c) => self.rows().at(c as usize).reach,
+            Choice::Now => self.present.as_ref(),
         }
     }
 
@@ -230,13 +264,16 @@ impl ProcessRows {
         ensures succeeds { k ≤ self.old.room → IsOk result }
         ensures room { self.old.room ≤ self.new.room }
     {
-        fill(&mut self.spares, &self.present, k as usize)?;
-        self.rows.reserve(k as usize)
+        let k = k as usize;
+        let n = self.present.n();
+        self.lanes.reserve(k * n)?;
+        self.rows.reserve(k)
     }
 
     /// Follows an event of the tape, in room that was made for it; the place and the sends are
     /// those of the row, where it is a check.
     pub fn append(&mut self, event: &EventRef<'_>, place: u32, sends: u32)
+        requires few { length self.old.rows ≤ MOST_EVENTS }
         requires room { 0 < self.old.room }
         requires named { NamesBelow (length self.old.present) (shown event.now) }
         ensures rows { self.new.rows
@@ -247,8 +284,9 @@ impl ProcessRows {
     {
         follow(
             &mut self.rows,
-            &mut self.spares,
+            &mut self.lanes,
             &mut self.present,
+            &mut self.heard,
             event,
             place,
             sends,
@@ -275,7 +313,13 @@ impl ProcessRows {
         ensures present { self.new.present ≡ vector_at self.old.rows self.old.present choice }
         ensures room { self.old.room ≤ self.new.room }
     {
-        go_back(&mut self.rows, &mut self.present, choice);
+        go_back(
+            &mut self.rows,
+            &mut self.lanes,
+            &mut self.present,
+            &mut self.heard,
+            choice,
+        );
         place_rows(&mut self.rows, tape);
     }
 }

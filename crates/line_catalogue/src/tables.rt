@@ -13,10 +13,11 @@ ghost use Rattle.line_catalogue.specs.Damage.{AreOnChecks};
 ghost use Rattle.line_catalogue.specs.Kept.{present_at, rows_at};
 ghost use Rattle.line_catalogue.specs.Rows.{AreInStep, AreRows, WithPlaces, heard_more, row_added, rows_kept, vector_at, with_damage, with_row};
 
-use crate::rows::{ProcessRows, Row};
+use crate::kept_rows::Rows;
+use crate::rows::ProcessRows;
 use line_names::{Choice, Line, MOST_PROCESSES, ProcId};
 use line_tape::{EventRef, History, MOST_EVENTS, Marks, Tape};
-use line_vectors::Reach;
+use line_vectors::ReachRef;
 use std::alloc::{AllocError, Global};
 use std::marker::Model;
 
@@ -57,6 +58,7 @@ fn sends_with(event: &EventRef<'_>, before: u32) -> u32
 
 /// The rows of a tape, with no damage, and its vector. It looks once at each event.
 fn rows_of_tape(alloc: Global, n: u32, tape: &Tape) -> Result<ProcessRows, AllocError>
+    requires some { 0 < n }
     requires few { n ≤ MOST_PROCESSES }
     requires named { All (NamesBelow n) tape.now.events }
     ensures rows { IfOk result (λ process. AreRows n tape.now.events [] process.rows) }
@@ -94,6 +96,7 @@ fn rows_of(
     marks: &Marks,
     p: ProcId,
 ) -> Result<ProcessRows, AllocError>
+    requires some { 0 < n }
     requires few { n ≤ MOST_PROCESSES }
     requires named { All (NamesBelow n) tape.now.events }
     ensures rows { IfOk result (λ process.
@@ -131,18 +134,18 @@ impl RowTable {
     }
 
     /// The rows of a process.
-    pub fn at(&self, p: ProcId) -> &[Row]
+    pub fn at(&self, p: ProcId) -> Rows<'_>
         requires { p < length self.now.rows }
-        ensures { result.now ≡ rows_at self.now.rows p }
+        ensures { result ≡ rows_at self.now.rows p }
     {
         self.table[p.get() as usize].rows()
     }
 
     /// The vector of a choice of a process.
-    pub fn reach(&self, p: ProcId, choice: Choice) -> &Reach
+    pub fn reach(&self, p: ProcId, choice: Choice) -> ReachRef<'_>
         requires process { p < length self.now.rows }
         requires choice { (c : ℕ) → choice ≡ AtCheck c → c < length (rows_at self.now.rows p) }
-        ensures { result.now ≡ vector_at (rows_at self.now.rows p) (present_at self.now.presents p) choice }
+        ensures { result ≡ vector_at (rows_at self.now.rows p) (present_at self.now.presents p) choice }
     {
         self.table[p.get() as usize].reach(choice)
     }
@@ -163,6 +166,7 @@ impl RowTable {
     /// Follows an event that comes to the tape of a process, in room that was made for it.
     pub fn append(&mut self, p: ProcId, event: &EventRef<'_>, place: u32, sends: u32)
         requires process { p < length self.old.rows }
+        requires few { length (rows_at self.old.rows p) ≤ MOST_EVENTS }
         requires named { NamesBelow (length (present_at self.old.presents p)) (shown event.now) }
         requires room { 0 < slice_index_or self.old.rooms p 0 }
         ensures rows { self.new.rows

@@ -9,7 +9,8 @@
 //! `Sent` the other; what is asked of both is asked of the kernels of line_lanes.
 //!
 //! A vector of n processes has n lanes of four bytes. Making one and copying one take memory; no
-//! other call does.
+//! other call does. `ReachRef` is a vector whose lanes something else keeps, as one of many in a
+//! list.
 #![tactic(auto)]
 
 mod laws;
@@ -21,7 +22,7 @@ pub use laws::{
     kept_vectors_stay, lanes_are_greatest, present_vectors_are_the_choices, receipts_note,
 };
 pub use limits::LAST_NUMBER;
-pub use reaches::Reach;
+pub use reaches::{Reach, ReachRef};
 pub use sents::Sent;
 
 #[cfg(test)]

@@ -27,6 +27,23 @@ impl Model for Reach {
     ghost invariant = { λ r. length r.lanes.items ≤ MOST_PROCESSES };
 }
 
+/// A vector whose lanes something else keeps.
+#[derive(Drop)]
+pub struct ReachRef<'a> {
+    lanes: &'a [u32],
+}
+
+impl<'a> Model for ReachRef<'a> {
+    ghost use Rattle.std.specs.Prelude.{List, ℕ, ◌≤◌, length};
+    ghost use Rattle.line_names.specs.declared.limits.TheConstants.{MOST_PROCESSES};
+
+    ghost Value = { List ℕ };
+
+    ghost view = { λ r. r.lanes.now };
+
+    ghost invariant = { λ r. length r.lanes.now ≤ MOST_PROCESSES };
+}
+
 impl Reach {
     /// The vector of nothing, of `n` processes: all lanes are 0.
     pub fn new(alloc: Global, n: u32) -> Result<Reach, AllocError>
@@ -48,12 +65,29 @@ impl Reach {
         Ok(Reach { lanes })
     }
 
+    /// How many lanes it has: one for each process.
+    pub fn n(&self) -> usize
+        ensures value { result ≡ length self.now }
+        ensures limit { length self.now ≤ MOST_PROCESSES }
+    {
+        self.lanes.len()
+    }
+
+    /// The same vector, its lanes lent.
+    pub fn as_ref(&self) -> ReachRef<'_>
+        ensures { result ≡ self.now }
+    {
+        ReachRef {
+            lanes: self.lanes.as_slice(),
+        }
+    }
+
     /// One more than the greatest number noted of a process's messages, or 0.
     pub fn lane(&self, p: ProcId) -> u32
         requires { p < length self.now }
         ensures { result ≡ slice_index self.now p }
     {
-        self.lanes[p.get() as usize]
+        self.as_ref().lane(p)
     }
 
     /// The lanes in the order of the processes.
@@ -86,9 +120,15 @@ impl Reach {
         requires { length self.old ≡ length other.now }
         ensures { self.new ≡ other.now }
     {
-        self.lanes
-            .as_mut_slice()
-            .copy_from_slice(other.lanes.as_slice());
+        self.set_to_lent(&other.as_ref());
+    }
+
+    /// Takes the lanes of a lent vector in place of its own.
+    pub fn set_to_lent(&mut self, other: &ReachRef<'_>)
+        requires { length self.old ≡ length other.now }
+        ensures { self.new ≡ other.now }
+    {
+        self.lanes.as_mut_slice().copy_from_slice(other.lanes);
     }
 
     /// Whether no lane is over its process's count of sends.
@@ -96,7 +136,7 @@ impl Reach {
         requires { length self.now ≡ length sent.now }
         ensures { IsTrue result ↔ Fits self.now sent.now }
     {
-        all_le(self.lanes.as_slice(), sent.counts())
+        self.as_ref().fits(sent)
     }
 
     /// The first process whose lane is over its count of sends, if there is one.
@@ -104,7 +144,56 @@ impl Reach {
         requires { length self.now ≡ length sent.now }
         ensures { MatchOption result (Fits self.now sent.now) (IsFirstBeyond self.now sent.now) }
     {
-        match first_over(self.lanes.as_slice(), sent.counts()) {
+        self.as_ref().first_beyond(sent)
+    }
+
+    /// How many lanes are over their processes' counts of sends.
+    pub fn beyond(&self, sent: &Sent) -> usize
+        requires { length self.now ≡ length sent.now }
+        ensures { result ≡ over_count self.now sent.now }
+    {
+        self.as_ref().beyond(sent)
+    }
+}
+
+impl<'a> ReachRef<'a> {
+    /// The vector of these lanes.
+    pub fn of(lanes: &'a [u32]) -> ReachRef<'a>
+        requires { length lanes.now ≤ MOST_PROCESSES }
+        ensures { result ≡ lanes.now }
+    {
+        ReachRef { lanes }
+    }
+
+    /// One more than the greatest number noted of a process's messages, or 0.
+    pub fn lane(&self, p: ProcId) -> u32
+        requires { p < length self.now }
+        ensures { result ≡ slice_index self.now p }
+    {
+        self.lanes[p.get() as usize]
+    }
+
+    /// The lanes in the order of the processes.
+    pub fn lanes(&self) -> &'a [u32]
+        ensures { result.now ≡ self.now }
+    {
+        self.lanes
+    }
+
+    /// Whether no lane is over its process's count of sends.
+    pub fn fits(&self, sent: &Sent) -> bool
+        requires { length self.now ≡ length sent.now }
+        ensures { IsTrue result ↔ Fits self.now sent.now }
+    {
+        all_le(self.lanes, sent.counts())
+    }
+
+    /// The first process whose lane is over its count of sends, if there is one.
+    pub fn first_beyond(&self, sent: &Sent) -> Option<ProcId>
+        requires { length self.now ≡ length sent.now }
+        ensures { MatchOption result (Fits self.now sent.now) (IsFirstBeyond self.now sent.now) }
+    {
+        match first_over(self.lanes, sent.counts()) {
             Some(p) => Some(ProcId::try_new(p as u32, self.lanes.len() as u32).unwrap()),
             None => None,
         }
@@ -115,6 +204,6 @@ impl Reach {
         requires { length self.now ≡ length sent.now }
         ensures { result ≡ over_count self.now sent.now }
     {
-        count_over(self.lanes.as_slice(), sent.counts())
+        count_over(self.lanes, sent.counts())
     }
 }

@@ -1,5 +1,5 @@
 //! What vectors answer of messages that are noted one by one.
-use crate::{Reach, Sent};
+use crate::{Reach, ReachRef, Sent};
 use line_names::{MsgName, ProcId};
 use std::test::Fail;
 
@@ -64,5 +64,23 @@ fn merges_and_copies(rt: HostRuntime) -> Result<(), Fail> {
     assert_eq!(rt; copy.lanes(), reach.lanes());
     other.set_to(&copy);
     assert_eq!(rt; other.lanes(), reach.lanes());
+    Ok(())
+}
+
+#[test]
+fn lent_lanes(rt: HostRuntime) -> Result<(), Fail> {
+    let first = ProcId::try_new(0, 2).unwrap();
+    let second = ProcId::try_new(1, 2).unwrap();
+    let lanes = [7, 4, 2];
+    let lent = ReachRef::of(&lanes[1..]);
+    assert_eq!(rt; (lent.lane(first), lent.lane(second)), (4, 2));
+    let mut sent = Sent::new(rt.alloc(), 2)?;
+    sent.set(first, 4);
+    assert!(rt; !lent.fits(&sent));
+    assert_eq!(rt; lent.first_beyond(&sent), Some(second));
+    let mut reach = Reach::new(rt.alloc(), 2)?;
+    reach.set_to_lent(&lent);
+    assert_eq!(rt; reach.lanes(), lent.lanes());
+    assert_eq!(rt; (reach.n(), reach.as_ref().beyond(&sent)), (2, 1));
     Ok(())
 }

@@ -31,7 +31,7 @@ fn made_of(rt: &impl Abort, alloc: Global, history: &History) -> Result<Catalogu
 }
 
 /// Whether two rows tell the same of a check.
-fn is_same_row(one: &Row, other: &Row) -> bool {
+fn is_same_row(one: &Row<'_>, other: &Row<'_>) -> bool {
     one.place == other.place
         && one.sends == other.sends
         && one.damaged == other.damaged
@@ -50,7 +50,7 @@ fn show_the_same(one: &Catalogue, other: &Catalogue, p: ProcId) -> bool {
         return false;
     }
     for i in 0..rows.len() {
-        if !is_same_row(&rows[i], &others[i]) {
+        if !is_same_row(&rows.at(i), &others.at(i)) {
             return false;
         }
     }
@@ -238,12 +238,12 @@ fn ends_with(catalogue: &Catalogue, p: ProcId, row: (u32, u32, bool), lanes: &[u
     if p.get() >= catalogue.n() {
         return false;
     }
-    match catalogue.rows(p).last() {
-        Some(last) => {
-            (last.place, last.sends, last.damaged) == row && last.reach.lanes() == lanes
-        }
-        None => false,
+    let rows = catalogue.rows(p);
+    if rows.is_empty() {
+        return false;
     }
+    let last = rows.at(rows.len() - 1);
+    (last.place, last.sends, last.damaged) == row && last.reach.lanes() == lanes
 }
 
 #[test]

@@ -3,7 +3,7 @@ use Rattle.std.proofs.Common.{◌+◌, ◌≤◌, ◌<◌, ℕ, List, sym, ◌�
 use Rattle.line_tape.specs.declared.events.Event.{Event}
 use Rattle.line_tape.specs.Event.{checks}
 use Rattle.line_tape.specs.Views.{damaged_at}
-use Rattle.line_catalogue.specs.declared.rows.Row.{Row}
+use Rattle.line_catalogue.specs.declared.kept_rows.Row.{Row}
 use Rattle.line_catalogue.proofs.DamageLemmas.{AreTold, AreTold-none, AreTold-more, AreTold-all}
 use Rattle.line_catalogue.proofs.tables.rows_of.Goals as goal
 

@@ -5,10 +5,10 @@ use Rattle.std.proofs.lemmas.Option.{get_or_from_slice_get}
 use Rattle.line_tape.specs.declared.events.Event.{Event}
 use Rattle.line_tape.specs.Event.{sends, NamesBelow}
 use Rattle.line_tape.specs.Shown.{shown}
-use Rattle.line_tape.proofs.RowLemmas.{sends_le}
+use Rattle.line_tape.proofs.RowLemmas.{checks_le, sends_le}
 use Rattle.line_vectors.specs.Reach.{reach_of}
 use Rattle.line_vectors.proofs.ReachLemmas.{length-reach, reach-none}
-use Rattle.line_catalogue.specs.declared.rows.Row.{Row}
+use Rattle.line_catalogue.specs.declared.kept_rows.Row.{Row}
 use Rattle.line_catalogue.specs.Kept.{RowsView}
 use Rattle.line_catalogue.specs.Rows.{AreRows, heard_more, row_added, with_row}
 use Rattle.line_catalogue.proofs.CheckLemmas.{AreRows-added, AreRows-start, heard-added}
@@ -20,6 +20,13 @@ loop-i-init c = record {
   present = c.in_ok-process.ensures.present ∙ sym (reach-none c.args.n);
   sent_is = refl;
 }
+
+pub append-requires-clause-few : goal.append-requires-clause-few
+append-requires-clause-few c =
+    let events : List Event = c.args.tape.now.events in
+    let i : ℕ = c.loop-i.i in
+    let within : i < length events = omega (arith, c.loop-i-test.true, c.len-i-end.ensures.value) in
+    omega (arith, within, ap (λ (xs : List Row). length xs) c.reserve.ensures.same.0, c.loop-i.invariant.rows.count, checks_le (take i events), length-take i events, c.len-i-end.ensures.limits.few)
 
 pub append-requires-clause-named : goal.append-requires-clause-named
 append-requires-clause-named c =

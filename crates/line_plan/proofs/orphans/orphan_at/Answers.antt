@@ -16,7 +16,7 @@ use Rattle.line_plan.proofs.orphans.orphan_at.Goals as goal
 pub name_of-requires : goal.name_of-requires
 name_of-requires c =
     let history : List Process = c.args.catalogue.now.processes in
-    let lanes : List ℕ = c.reach-reach.result.now in
+    let lanes : List ℕ = c.reach-reach.result in
     let is : length lanes ≡ length history = ap (λ (xs : List ℕ). length xs) c.reach-reach.ensures.value ∙ length-reach (length history) (front (tape_at history c.args.at) c.at-choice.result) in
     omega (arith, c.in-Some.ensures.within, is, ap (λ (h : List Process). length h) c.history-history.ensures.processes)
 
@@ -29,7 +29,7 @@ returns-then-lane-lt-LAST_NUMBER c =
     let q : ℕ = c.args.at in
     let choice : Choice = choice_at line q in
     let events : List Event = front (tape_at history q) choice in
-    let lanes : List ℕ = c.reach-reach.result.now in
+    let lanes : List ℕ = c.reach-reach.result in
     let is : lanes ≡ reach_of n events = c.reach-reach.ensures.value ∙ ap (reach_before history q) c.at-choice.ensures in
     let within : p < n = omega (arith, c.in-Some.ensures.within, ap (λ (xs : List ℕ). length xs) is, length-reach n events) in
     let lane : c.lane-lane.result ≡ get_or (reach_of n events) p 0 = c.lane-lane.ensures ∙ ap (λ (xs : List ℕ). get_or xs p 0) is in
@@ -49,7 +49,7 @@ returns-in-None c =
     let q : ℕ = c.args.at in
     let choice : Choice = choice_at line q in
     let events : List Event = front (tape_at history q) choice in
-    let is : c.reach-reach.result.now ≡ reach_of n events = c.reach-reach.ensures.value ∙ ap (reach_before history q) c.at-choice.ensures in
+    let is : c.reach-reach.result ≡ reach_of n events = c.reach-reach.ensures.value ∙ ap (reach_before history q) c.at-choice.ensures in
     let limits : IsHistory history = subst IsHistory c.history-history.ensures.processes c.n-n.ensures.limits in
     let fits : Fits (reach_of n events) (sents_of history line) = subst (Fits (reach_of n events)) c.requires.sent (subst (λ (xs : List ℕ). Fits xs c.args.sent.now) is c.in-None.ensures) in
     (fits-decide history line q choice limits c.history-history.ensures.agrees).0 fits

@@ -4,9 +4,10 @@ use Rattle.std.proofs.lemmas.Bool.{cases_lt}
 use Rattle.line_tape.specs.declared.events.Event.{Event}
 use Rattle.line_tape.specs.declared.limits.TheConstants.{MOST_EVENTS}
 use Rattle.line_tape.specs.Event.{sends, NamesBelow}
+use Rattle.line_tape.proofs.RowLemmas.{checks_le}
 use Rattle.line_tape.specs.Views.{HistoryView, MarksView}
 use Rattle.line_tape.specs.History.{Process, tape_at, with_event}
-use Rattle.line_catalogue.specs.declared.rows.Row.{Row}
+use Rattle.line_catalogue.specs.declared.kept_rows.Row.{Row}
 use Rattle.line_catalogue.specs.Agreement.{AgreesNext}
 use Rattle.line_catalogue.specs.Kept.{present_at, rows_at, IsCatalogue}
 use Rattle.line_catalogue.specs.Rows.{heard_more, row_added, with_row}
@@ -34,6 +35,20 @@ append-requires-2-clause-few c =
 pub append-requires-2-clause-room : goal.append-requires-2-clause-room
 append-requires-2-clause-room c =
     omega (arith, c.requires.room, ap (λ (v : CatalogueView). room_at v c.args.p) c.self.view_is, lesser_at c.self.inside.ledger.rooms c.self.inside.rows.rooms c.args.p)
+
+pub append-requires-clause-few : goal.append-requires-clause-few
+append-requires-clause-few c =
+    let history : List Process = c.self.inside.ledger.processes in
+    let p : ℕ = c.args.p in
+    let tape_is : c.tape-tape.result.now.events ≡ tape_at history p = c.tape-tape.ensures.events ∙ ap (λ (v : HistoryView). tape_at v.processes p) c.history.ensures in
+    let few : length (tape_at history p) ≢ MOST_EVENTS = subst (λ (v : CatalogueView). length (tape_at v.processes p) ≢ MOST_EVENTS) (sym c.self.view_is) c.requires.few in
+    let most : length (tape_at history p) ≤ MOST_EVENTS = subst (λ (es : List Event). length es ≤ MOST_EVENTS) tape_is c.len-place.ensures.limits.few in
+    let within : p < length history = omega (arith, c.requires.process, ap (λ (v : CatalogueView). length v.processes) c.self.view_is) in
+    let count = (c.self.invariant.shown p within).count in
+    elim (cases_lt (length (tape_at history p)) MOST_EVENTS) [
+      | inl less ↦ omega (arith, less, checks_le (tape_at history p), count)
+      | inr past ↦ absurd (few (omega (arith, most, past)))
+    ]
 
 pub append-requires-clause-named : goal.append-requires-clause-named
 append-requires-clause-named c =

@@ -7,7 +7,7 @@ use Rattle.line_tape.specs.History.{Process, tape_at}
 use Rattle.line_tape.specs.Line.{IsLine, IsConsistent}
 use Rattle.line_tape.specs.Restart.{restarted}
 use Rattle.line_tape.specs.Views.{HistoryView, MarksView}
-use Rattle.line_catalogue.specs.declared.rows.Row.{Row}
+use Rattle.line_catalogue.specs.declared.kept_rows.Row.{Row}
 use Rattle.line_catalogue.specs.Kept.{rows_at, present_at, IsCatalogue}
 use Rattle.line_catalogue.specs.Rows.{AreInStep, WithPlaces, rows_kept, vector_at}
 use Rattle.line_catalogue.specs.Views.{CatalogueView}

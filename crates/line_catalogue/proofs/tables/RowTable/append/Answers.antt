@@ -3,7 +3,7 @@ use Rattle.std.proofs.Common.{◌≡◌, ◌<◌, length, map, get_or, set, [], 
 use Rattle.std.proofs.lemmas.List.{length-map}
 use Rattle.line_tape.specs.declared.events.Event.{Event}
 use Rattle.line_tape.specs.Shown.{shown}
-use Rattle.line_catalogue.specs.declared.rows.Row.{Row}
+use Rattle.line_catalogue.specs.declared.kept_rows.Row.{Row}
 use Rattle.line_catalogue.specs.Kept.{RowsView, TableView, rows_at, present_at}
 use Rattle.line_catalogue.specs.Plain.{plain, present_of, room_of}
 use Rattle.line_catalogue.specs.Rows.{heard_more, row_added, with_row}

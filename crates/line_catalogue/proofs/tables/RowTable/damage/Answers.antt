@@ -1,7 +1,7 @@
 -- One row of one process changes.
 use Rattle.std.proofs.Common.{◌≡◌, ◌<◌, length, map, get_or, set, [], List, ℕ, sym, ap, ◌∙◌, arith}
 use Rattle.std.proofs.lemmas.List.{length-map}
-use Rattle.line_catalogue.specs.declared.rows.Row.{Row}
+use Rattle.line_catalogue.specs.declared.kept_rows.Row.{Row}
 use Rattle.line_catalogue.specs.Kept.{RowsView, TableView, rows_at}
 use Rattle.line_catalogue.specs.Plain.{plain, present_of, room_of}
 use Rattle.line_catalogue.specs.Rows.{with_damage}

@@ -6,7 +6,7 @@ use Rattle.line_tape.specs.declared.events.Event.{Event}
 use Rattle.line_tape.specs.History.{Process, tape_at}
 use Rattle.line_tape.specs.Views.{MarksView, damaged_at}
 use Rattle.line_vectors.specs.Reach.{reach_of}
-use Rattle.line_catalogue.specs.declared.rows.Row.{Row}
+use Rattle.line_catalogue.specs.declared.kept_rows.Row.{Row}
 use Rattle.line_catalogue.specs.Kept.{RowsView, rows_at, present_at}
 use Rattle.line_catalogue.specs.Plain.{plain, present_of}
 use Rattle.line_catalogue.specs.Rows.{AreRows}

@@ -6,7 +6,7 @@ use Rattle.line_names.specs.declared.choices.Choice.{Choice}
 use Rattle.line_names.specs.Lines.{choice_at}
 use Rattle.line_tape.specs.declared.events.Event.{Event}
 use Rattle.line_tape.specs.History.{Process, tape_at}
-use Rattle.line_catalogue.specs.declared.rows.Row.{Row}
+use Rattle.line_catalogue.specs.declared.kept_rows.Row.{Row}
 use Rattle.line_catalogue.specs.Kept.{RowsView, rows_at, present_at}
 use Rattle.line_catalogue.specs.Plain.{plain, present_of, room_of}
 use Rattle.line_catalogue.specs.Rows.{WithPlaces, rows_kept, vector_at}
