@@ -8,7 +8,7 @@ use Rattle.line_names.specs.declared.messages.MsgName.{MsgName}
 use Rattle.line_tape.specs.declared.events.Event.{Event}
 use Rattle.line_tape.specs.declared.events.Event.TheVariants.{Send, Recv, Check, Mark}
 use Rattle.line_tape.specs.declared.logs.KeptEvent.{KeptEvent}
-use Rattle.line_tape.specs.declared.logs.KeptEvent.TheVariants.{Send as KeptSend, Recv as KeptRecv, Check as KeptCheck, Mark as KeptMark}
+use Rattle.line_tape.specs.declared.logs.KeptEvent.TheVariants.{Send as KeptSend, Recv as KeptRecv, Check as KeptCheck, BareCheck as KeptBareCheck, Mark as KeptMark}
 use Rattle.line_tape.specs.Event.{IsShort}
 use Rattle.line_tape.specs.Kept.{IsSettled}
 use Rattle.line_tape.specs.Laid.{Fits, IsLaid, body_of, event_of, kept_as, restarted_kept, states_of}
@@ -19,6 +19,7 @@ fits-more : (event : KeptEvent) (B S B' S' : ℕ) → B ≤ B' → S ≤ S' → 
 fits-more (KeptSend to start inc len) B S B' S' b s fits = omega (arith, b, fits)
 fits-more (KeptRecv message) B S B' S' b s fits = fits
 fits-more (KeptCheck before round) B S B' S' b s fits = omega (arith, s, fits)
+fits-more (KeptBareCheck round) B S B' S' b s fits = fits
 fits-more (KeptMark from round) B S B' S' b s fits = fits
 
 -- how far events reach
@@ -64,6 +65,15 @@ laid-reaches (KeptCheck before round ∷ rest) b s B S laid =
       fewer = omega (arith, far.fewer);
       fit = All-cons (Fits B S) (KeptCheck before round) rest (omega (arith, laid.0, far.states)) far.fit;
     }
+laid-reaches (KeptBareCheck round ∷ rest) b s B S laid =
+    let far : Reaches rest b s B S = laid-reaches rest b s B S laid in
+    record {
+      bytes = far.bytes;
+      few = omega (arith, far.few);
+      states = far.states;
+      fewer = omega (arith, far.fewer);
+      fit = All-cons (Fits B S) (KeptBareCheck round) rest _ far.fit;
+    }
 laid-reaches (KeptMark from round ∷ rest) b s B S laid =
     let far : Reaches rest b s B S = laid-reaches rest b s B S laid in
     record {
@@ -83,6 +93,7 @@ laid-append (KeptSend to start inc len ∷ rest) more b s B S B' S' laid next =
 laid-append (KeptRecv message ∷ rest) more b s B S B' S' laid next = laid-append rest more b s B S B' S' laid next
 laid-append (KeptCheck before round ∷ rest) more b s B S B' S' laid next =
     (laid.0, laid-append rest more b (suc s) B S B' S' laid.1 next)
+laid-append (KeptBareCheck round ∷ rest) more b s B S B' S' laid next = laid-append rest more b s B S B' S' laid next
 laid-append (KeptMark from round ∷ rest) more b s B S B' S' laid next = laid-append rest more b s B S B' S' laid next
 
 -- how far the first events reach, and the others from there on
@@ -103,6 +114,9 @@ laid-parts (KeptRecv message ∷ rest) more b s B S laid =
 laid-parts (KeptCheck before round ∷ rest) more b s B S laid =
     let parts : Parted rest more b (suc s) B S = laid-parts rest more b (suc s) B S laid.1 in
     record { byte = parts.byte; state = parts.state; first = (laid.0, parts.first); others = parts.others }
+laid-parts (KeptBareCheck round ∷ rest) more b s B S laid =
+    let parts : Parted rest more b s B S = laid-parts rest more b s B S laid in
+    record { byte = parts.byte; state = parts.state; first = parts.first; others = parts.others }
 laid-parts (KeptMark from round ∷ rest) more b s B S laid =
     let parts : Parted rest more b s B S = laid-parts rest more b s B S laid in
     record { byte = parts.byte; state = parts.state; first = parts.first; others = parts.others }
@@ -116,6 +130,7 @@ module _ (bodies more : List ℕ) (states others : List (List ℕ)) where
   event-same (KeptRecv message) fits = refl
   event-same (KeptCheck before round) fits =
       ap (λ (state : List ℕ). Check state round) (get_or_append_left states others [] before fits)
+  event-same (KeptBareCheck round) fits = refl
   event-same (KeptMark from round) fits = refl
 
   pub events-same : (events : List KeptEvent) → All (Fits (length bodies) (length states)) events → map (event_of (bodies ++ more) (states ++ others)) events ≡ map (event_of bodies states) events
@@ -145,6 +160,7 @@ events-restarted bodies states [] = refl
 events-restarted bodies states (KeptSend to start inc len ∷ rest) = ap (λ (es : List Event). event_of bodies states (KeptSend to start inc len) ∷ es) (events-restarted bodies states rest)
 events-restarted bodies states (KeptRecv message ∷ rest) = ap (λ (es : List Event). Recv message ∷ es) (events-restarted bodies states rest)
 events-restarted bodies states (KeptCheck before round ∷ rest) = ap (λ (es : List Event). event_of bodies states (KeptCheck before None) ∷ es) (events-restarted bodies states rest)
+events-restarted bodies states (KeptBareCheck round ∷ rest) = ap (λ (es : List Event). Check [] None ∷ es) (events-restarted bodies states rest)
 events-restarted bodies states (KeptMark from round ∷ rest) = events-restarted bodies states rest
 
 pub laid-restarted : (events : List KeptEvent) (b s B S : ℕ) → IsLaid events b s B S → IsLaid (filter_map restarted_kept events) b s B S
@@ -152,6 +168,7 @@ laid-restarted [] b s B S laid = laid
 laid-restarted (KeptSend to start inc len ∷ rest) b s B S laid = (laid.0, laid.1, laid-restarted rest (b + len) s B S laid.2)
 laid-restarted (KeptRecv message ∷ rest) b s B S laid = laid-restarted rest b s B S laid
 laid-restarted (KeptCheck before round ∷ rest) b s B S laid = (laid.0, laid-restarted rest b (suc s) B S laid.1)
+laid-restarted (KeptBareCheck round ∷ rest) b s B S laid = laid-restarted rest b s B S laid
 laid-restarted (KeptMark from round ∷ rest) b s B S laid = laid-restarted rest b s B S laid
 
 -- what is kept of an event that is settled is settled
@@ -161,6 +178,9 @@ settled-one bodies states (KeptRecv message) settled = refl
 settled-one bodies states (KeptCheck before round) settled =
     let none : None ≡ round = cc settled in
     ap (λ r. Some (KeptCheck before r)) none
+settled-one bodies states (KeptBareCheck round) settled =
+    let none : None ≡ round = cc settled in
+    ap (λ r. Some (KeptBareCheck r)) none
 settled-one bodies states (KeptMark from round) settled = absurd (cc settled)
 
 settled-each : (bodies : List ℕ) (states : List (List ℕ)) (events : List KeptEvent) → All IsSettled (map (event_of bodies states) events) → All (λ event. restarted_kept event ≡ Some event) events
@@ -213,6 +233,12 @@ module _ (events : List KeptEvent) (bodies : List ℕ) (states : List (List ℕ)
     shows = map-append (event_of bodies states) events (KeptRecv message ∷ []);
   }
 
+  pub bare-added : (round : Option ℕ) → IsLog (events ++ KeptBareCheck round ∷ []) bodies states (told ++ Check [] round ∷ [])
+  bare-added round = record {
+    laid = laid-append events (KeptBareCheck round ∷ []) 0 0 (length bodies) (length states) (length bodies) (length states) laid (refl, refl);
+    shows = map-append (event_of bodies states) events (KeptBareCheck round ∷ []);
+  }
+
   pub mark-added : (from round : ℕ) → IsLog (events ++ KeptMark from round ∷ []) bodies states (told ++ Mark from round ∷ [])
   mark-added from round = record {
     laid = laid-append events (KeptMark from round ∷ []) 0 0 (length bodies) (length states) (length bodies) (length states) laid (refl, refl);
@@ -230,7 +256,8 @@ module _ (events : List KeptEvent) (bodies : List ℕ) (states : List (List ℕ)
   pub event-added : (event : Event) → IsShort event → IsLog (events ++ kept_as (length bodies) (length states) event ∷ []) (bodies ++ body_of event) (states ++ states_of event) (told ++ event ∷ [])
   event-added (Send to inc body) short = subst (λ (xs : List (List ℕ)). IsLog (events ++ KeptSend to (length bodies) inc (length body) ∷ []) (bodies ++ body) xs (told ++ Send to inc body ∷ [])) (sym (append-nil states)) (send-added to inc body short)
   event-added (Recv message) short = subst (λ (xs : List ℕ). IsLog (events ++ KeptRecv message ∷ []) xs (states ++ []) (told ++ Recv message ∷ [])) (sym (append-nil bodies)) (subst (λ (xs : List (List ℕ)). IsLog (events ++ KeptRecv message ∷ []) bodies xs (told ++ Recv message ∷ [])) (sym (append-nil states)) (recv-added message))
-  event-added (Check state round) short = subst (λ (xs : List ℕ). IsLog (events ++ KeptCheck (length states) round ∷ []) xs (states ++ state ∷ []) (told ++ Check state round ∷ [])) (sym (append-nil bodies)) (check-added state round)
+  event-added (Check [] round) short = subst (λ (xs : List ℕ). IsLog (events ++ KeptBareCheck round ∷ []) xs (states ++ []) (told ++ Check [] round ∷ [])) (sym (append-nil bodies)) (subst (λ (xs : List (List ℕ)). IsLog (events ++ KeptBareCheck round ∷ []) bodies xs (told ++ Check [] round ∷ [])) (sym (append-nil states)) (bare-added round))
+  event-added (Check (byte ∷ state) round) short = subst (λ (xs : List ℕ). IsLog (events ++ KeptCheck (length states) round ∷ []) xs (states ++ (byte ∷ state) ∷ []) (told ++ Check (byte ∷ state) round ∷ [])) (sym (append-nil bodies)) (check-added (byte ∷ state) round)
   event-added (Mark from round) short = subst (λ (xs : List ℕ). IsLog (events ++ KeptMark from round ∷ []) xs (states ++ []) (told ++ Mark from round ∷ [])) (sym (append-nil bodies)) (subst (λ (xs : List (List ℕ)). IsLog (events ++ KeptMark from round ∷ []) bodies xs (told ++ Mark from round ∷ [])) (sym (append-nil states)) (mark-added from round))
 
   module _ (first : List KeptEvent) where
@@ -264,6 +291,11 @@ module _ (events : List KeptEvent) (bodies : List ℕ) (states : List (List ℕ)
     pub recv-gone : (message : MsgName) → events ≡ first ++ KeptRecv message ∷ [] → IsLog first bodies states (map (event_of bodies states) first)
     recv-gone message is =
         let parts : Parted first (KeptRecv message ∷ []) 0 0 (length bodies) (length states) = laid-parts first (KeptRecv message ∷ []) 0 0 (length bodies) (length states) (subst (λ es. IsLaid es 0 0 (length bodies) (length states)) is laid) in
+        record { laid = subst (λ k. IsLaid first 0 0 k (length states)) parts.others.0 (subst (λ k. IsLaid first 0 0 parts.byte k) parts.others.1 parts.first); shows = refl }
+
+    pub bare-gone : (round : Option ℕ) → events ≡ first ++ KeptBareCheck round ∷ [] → IsLog first bodies states (map (event_of bodies states) first)
+    bare-gone round is =
+        let parts : Parted first (KeptBareCheck round ∷ []) 0 0 (length bodies) (length states) = laid-parts first (KeptBareCheck round ∷ []) 0 0 (length bodies) (length states) (subst (λ es. IsLaid es 0 0 (length bodies) (length states)) is laid) in
         record { laid = subst (λ k. IsLaid first 0 0 k (length states)) parts.others.0 (subst (λ k. IsLaid first 0 0 parts.byte k) parts.others.1 parts.first); shows = refl }
 
     pub mark-gone : (from round : ℕ) → events ≡ first ++ KeptMark from round ∷ [] → IsLog first bodies states (map (event_of bodies states) first)

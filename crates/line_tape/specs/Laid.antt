@@ -1,23 +1,25 @@
--- How a tape keeps its events: each in a few bytes, and beside them the bytes of bodies and the states.
+-- How a tape keeps its events: each in a few bytes, and beside them the bytes of bodies and states.
 use Rattle.std.specs.Prelude.{◌≡◌, ◌<◌, ◌≤◌, ◌+◌, ℕ, suc, List, [], ◌∷◌, Option, Some, None, drop, length, slice_index_or, take}
 use Rattle.line_names.specs.declared.limits.TheConstants.{MOST_BODY}
 use Rattle.line_tape.specs.declared.events.Event.{Event}
 use Rattle.line_tape.specs.declared.events.Event.TheVariants.{Send, Recv, Check, Mark}
 use Rattle.line_tape.specs.declared.logs.KeptEvent.{KeptEvent}
-use Rattle.line_tape.specs.declared.logs.KeptEvent.TheVariants.{Send as KeptSend, Recv as KeptRecv, Check as KeptCheck, Mark as KeptMark}
+use Rattle.line_tape.specs.declared.logs.KeptEvent.TheVariants.{Send as KeptSend, Recv as KeptRecv, Check as KeptCheck, BareCheck as KeptBareCheck, Mark as KeptMark}
 
 -- the event that is kept so, beside these bytes and states
 abbrev pub event_of : List ℕ → List (List ℕ) → KeptEvent → Event
 event_of bodies states (KeptSend to start inc len) = Send to inc (take len (drop start bodies))
 event_of bodies states (KeptRecv message) = Recv message
 event_of bodies states (KeptCheck before round) = Check (slice_index_or states before []) round
+event_of bodies states (KeptBareCheck round) = Check [] round
 event_of bodies states (KeptMark from round) = Mark from round
 
--- how an event is kept behind so many bytes and states
+-- how an event is kept behind so many bytes and states: a check without bytes by itself
 abbrev pub kept_as : ℕ → ℕ → Event → KeptEvent
 kept_as bytes states (Send to inc body) = KeptSend to bytes inc (length body)
 kept_as bytes states (Recv message) = KeptRecv message
-kept_as bytes states (Check state round) = KeptCheck states round
+kept_as bytes states (Check [] round) = KeptBareCheck round
+kept_as bytes states (Check (byte ∷ state) round) = KeptCheck states round
 kept_as bytes states (Mark from round) = KeptMark from round
 
 -- the bytes of the event's body
@@ -27,11 +29,12 @@ body_of (Recv message) = []
 body_of (Check state round) = []
 body_of (Mark from round) = []
 
--- its state, if it is a check
+-- its state, if it is a check that stores bytes
 abbrev pub states_of : Event → List (List ℕ)
 states_of (Send to inc body) = []
 states_of (Recv message) = []
-states_of (Check state round) = state ∷ []
+states_of (Check [] round) = []
+states_of (Check (byte ∷ state) round) = (byte ∷ state) ∷ []
 states_of (Mark from round) = []
 
 -- its bytes and its state are among so many
@@ -39,6 +42,7 @@ abbrev pub Fits : ℕ → ℕ → KeptEvent → Type 0
 Fits bytes states (KeptSend to start inc len) = start + len ≤ bytes
 Fits bytes states (KeptRecv message) = Unit {0}
 Fits bytes states (KeptCheck before round) = before < states
+Fits bytes states (KeptBareCheck round) = Unit {0}
 Fits bytes states (KeptMark from round) = Unit {0}
 
 -- behind so many bytes and states those of the events stand one after another, up to so many
@@ -49,6 +53,7 @@ IsLaid (KeptSend to start inc len ∷ rest) byte state bytes states =
 IsLaid (KeptRecv message ∷ rest) byte state bytes states = IsLaid rest byte state bytes states
 IsLaid (KeptCheck before round ∷ rest) byte state bytes states =
     (before ≡ state) × IsLaid rest byte (suc state) bytes states
+IsLaid (KeptBareCheck round ∷ rest) byte state bytes states = IsLaid rest byte state bytes states
 IsLaid (KeptMark from round ∷ rest) byte state bytes states = IsLaid rest byte state bytes states
 
 -- what a restart leaves of an event that is kept so
@@ -56,4 +61,5 @@ abbrev pub restarted_kept : KeptEvent → Option KeptEvent
 restarted_kept (KeptSend to start inc len) = Some (KeptSend to start inc len)
 restarted_kept (KeptRecv message) = Some (KeptRecv message)
 restarted_kept (KeptCheck before round) = Some (KeptCheck before None)
+restarted_kept (KeptBareCheck round) = Some (KeptBareCheck None)
 restarted_kept (KeptMark from round) = None

@@ -1,6 +1,7 @@
 //! The events of a tape, as it keeps and shows them.
-ghost use Rattle.std.specs.Prelude.{◌≡◌, ◌<◌, ◌≤◌, ◌+◌, ◌-◌, ◌^◌, ◌↔◌, if◌then◌else◌, [], ◌∷◌, ◌++◌, All, IsOk, IsTrue, None, OnOk, Some, drop, length, slice_get, take, vec_capacity, vec_len};
+ghost use Rattle.std.specs.Prelude.{◌≡◌, ◌<◌, ◌≤◌, ◌+◌, ◌-◌, ◌^◌, ◌↔◌, ℕ, Option, if◌then◌else◌, [], ◌∷◌, ◌++◌, All, IsOk, IsTrue, None, OnOk, Some, drop, length, slice_get, take, vec_capacity, vec_len};
 ghost use Rattle.std.specs.List.{filter_map};
+ghost use Rattle.line_tape.specs.declared.events.Event.TheVariants.{Check};
 ghost use Rattle.line_tape.specs.Event.{IsShort};
 ghost use Rattle.line_tape.specs.Kept.{IsSettled};
 ghost use Rattle.line_tape.specs.Laid.{body_of, kept_as, restarted_kept, states_of};
@@ -13,7 +14,7 @@ use line_names::{MOST_BODY, MsgName, ProcId};
 use std::alloc::{AllocError, Global};
 use std::marker::Model;
 
-/// An event in sixteen bytes: those of a body, and a state, are kept beside it.
+/// An event in sixteen bytes: those of a body or a state are kept beside it.
 #[derive(Clone, Copy)]
 pub(crate) enum KeptEvent {
     /// A message of `len` bytes, which stand behind `start` others.
@@ -32,12 +33,19 @@ pub(crate) enum KeptEvent {
         before: u32,
         round: Option<u32>,
     },
+    /// A check that stores no bytes.
+    BareCheck {
+        round: Option<u32>,
+    },
     /// The receipt of a marker.
     Mark {
         from: ProcId,
         round: u32,
     },
 }
+
+// What an event takes on a tape, beside its bytes.
+const _: () = prove!(size_of::<KeptEvent>() == 16);
 
 /// Takes the round off a check, and tells whether the event stays: marks don't.
 fn restart_event(event: &mut KeptEvent) -> bool
@@ -48,6 +56,10 @@ fn restart_event(event: &mut KeptEvent) -> bool
         KeptEvent::Recv { .. } => true,
         KeptEvent::Check { round, .. } => {
             *round = None;
+            true
+        }
+        KeptEvent::BareCheck { .. } => {
+            *event = KeptEvent::BareCheck { round: None };
             true
         }
         KeptEvent::Mark { .. } => false,
@@ -74,6 +86,17 @@ fn restart_events(events: &mut Vec<KeptEvent>, settled: usize)
     events.truncate(end);
 }
 
+/// A check as it is kept behind so many states: one that stores no bytes by itself.
+fn keep_check(before: u32, state: &State, round: Option<u32>) -> KeptEvent
+    ensures { (bytes : ℕ) → result ≡ kept_as bytes before (Check state.now round) }
+{
+    if state.bytes().is_empty() {
+        KeptEvent::BareCheck { round }
+    } else {
+        KeptEvent::Check { before, round }
+    }
+}
+
 /// An event as it is kept behind so many states. Its body, if it has one, goes behind the others,
 /// in room that was made for it.
 fn keep(bodies: &mut Vec<u8>, before: u32, event: &Event) -> KeptEvent
@@ -98,10 +121,7 @@ fn keep(bodies: &mut Vec<u8>, before: u32, event: &Event) -> KeptEvent
             }
         }
         Event::Recv { message } => KeptEvent::Recv { message: *message },
-        Event::Check { round, .. } => KeptEvent::Check {
-            before,
-            round: *round,
-        },
+        Event::Check { state, round } => keep_check(before, state, *round),
         Event::Mark { from, round } => KeptEvent::Mark {
             from: *from,
             round: *round,
@@ -109,15 +129,28 @@ fn keep(bodies: &mut Vec<u8>, before: u32, event: &Event) -> KeptEvent
     }
 }
 
-/// Keeps the state of an event, if it is a check, behind the others, in room that was made for it.
-fn keep_state(states: &mut Vec<State>, event: Event)
+/// Keeps the state of a check behind the others, in room that was made for it; one without bytes
+/// takes no place.
+fn keep_state(states: &mut Vec<State>, state: State)
+    requires room { vec_len states.old < vec_capacity states.old }
+    ensures states { (round : Option ℕ) → states.new.items ≡ states.old.items ++ states_of (Check state round) }
+    ensures len { vec_len states.new ≤ vec_len states.old + 1 }
+    ensures capacity { vec_capacity states.old ≤ vec_capacity states.new }
+{
+    if !state.bytes().is_empty() {
+        states.push_reserved(state);
+    }
+}
+
+/// Keeps the state of an event, if it is a check, in room that was made for it.
+fn keep_state_of(states: &mut Vec<State>, event: Event)
     requires room { vec_len states.old < vec_capacity states.old }
     ensures states { states.new.items ≡ states.old.items ++ states_of event }
     ensures len { vec_len states.new ≤ vec_len states.old + 1 }
     ensures capacity { vec_capacity states.old ≤ vec_capacity states.new }
 {
     match event {
-        Event::Check { state, .. } => states.push_reserved(state),
+        Event::Check { state, .. } => keep_state(states, state),
         Event::Send { .. } => {}
         Event::Recv { .. } => {}
         Event::Mark { .. } => {}
@@ -125,7 +158,7 @@ fn keep_state(states: &mut Vec<State>, event: Event)
 }
 
 /// The events of a tape in their order, each in sixteen bytes, and beside them the bytes of bodies,
-/// one after another, and the states.
+/// one after another, and the states that have bytes.
 #[derive(Drop)]
 pub(crate) struct Log {
     events: Vec<KeptEvent>,
@@ -207,7 +240,7 @@ impl Log {
         let before = self.states.len() as u32;
         let kept = keep(&mut self.bodies, before, &event);
         self.events.push_reserved(kept);
-        keep_state(&mut self.states, event);
+        keep_state_of(&mut self.states, event);
     }
 
     /// Lets go of the last event.
@@ -221,6 +254,7 @@ impl Log {
             KeptEvent::Send { start, .. } => self.bodies.truncate(*start as usize),
             KeptEvent::Recv { .. } => {}
             KeptEvent::Check { before, .. } => self.states.truncate(*before as usize),
+            KeptEvent::BareCheck { .. } => {}
             KeptEvent::Mark { .. } => {}
         }
         self.events.truncate(last);
@@ -308,6 +342,10 @@ impl<'a> Events<'a> {
             KeptEvent::Recv { message } => EventRef::Recv { message: *message },
             KeptEvent::Check { before, round } => EventRef::Check {
                 state: states[*before as usize].bytes(),
+                round: *round,
+            },
+            KeptEvent::BareCheck { round } => EventRef::Check {
+                state: &[],
                 round: *round,
             },
             KeptEvent::Mark { from, round } => EventRef::Mark {

@@ -5,8 +5,8 @@ use Rattle.line_tape.specs.declared.events.Event.{Event}
 use Rattle.line_tape.specs.declared.logs.KeptEvent.{KeptEvent}
 use Rattle.line_tape.specs.Laid.{IsLaid, event_of}
 use Rattle.line_tape.specs.Views.{TapeView}
-use Rattle.line_tape.proofs.LaidLemmas.{IsLog, last_behind, events_of_first, send-gone, recv-gone, check-gone, mark-gone}
-use Rattle.line_tape.proofs.logs.Log.pop.Goals.{in-Send, in-Recv, in-Check, in-Mark}
+use Rattle.line_tape.proofs.LaidLemmas.{IsLog, last_behind, events_of_first, send-gone, recv-gone, check-gone, bare-gone, mark-gone}
+use Rattle.line_tape.proofs.logs.Log.pop.Goals.{in-Send, in-Recv, in-Check, in-BareCheck, in-Mark}
 use Rattle.line_tape.proofs.logs.Log.pop.Goals as goal
 
 left : (c : goal.After-truncate-2) → IsLog c.truncate-2.new.self.items c.match-index.self-inside.bodies.items c.match-index.self-inside.states.items (map (event_of c.self.inside.bodies.items c.self.inside.states.items) (take (c.len-last.result - 1) c.self.inside.events.items))
@@ -26,6 +26,8 @@ left c =
           rw (c.truncate-2.ensures.items, w.self-inside-is) (recv-gone events bodies states laid first _ (is ∙ ap (λ (e : KeptEvent). first ++ e ∷ []) w.in-Recv.is))
       | in-Check w ↦
           rw (c.truncate-2.ensures.items, w.self-inside-is, w.truncate-in-Check.ensures.items) (check-gone events bodies states laid first _ _ (is ∙ ap (λ (e : KeptEvent). first ++ e ∷ []) w.in-Check.is))
+      | in-BareCheck w ↦
+          rw (c.truncate-2.ensures.items, w.self-inside-is) (bare-gone events bodies states laid first _ (is ∙ ap (λ (e : KeptEvent). first ++ e ∷ []) w.in-BareCheck.is))
       | in-Mark w ↦
           rw (c.truncate-2.ensures.items, w.self-inside-is) (mark-gone events bodies states laid first _ _ (is ∙ ap (λ (e : KeptEvent). first ++ e ∷ []) w.in-Mark.is))
     ]
