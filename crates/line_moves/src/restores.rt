@@ -45,7 +45,7 @@ pub fn restored_states(
     for q in 0..n {
         let p = ProcId::try_new(q, n).unwrap();
         let state = restored(alloc, history, line, p)?;
-        states.push(state)?;
+        states.push_reserved(state);
     }
     Ok(states)
 }
@@ -78,7 +78,7 @@ pub fn restarted_incarnations(
     let mut incarnations = Vec::with_capacity(alloc, n as usize)?;
     for q in 0..n {
         let p = ProcId::try_new(q, n).unwrap();
-        incarnations.push(restarted_incarnation(history, line, p))?;
+        incarnations.push_reserved(restarted_incarnation(history, line, p));
     }
     Ok(incarnations)
 }

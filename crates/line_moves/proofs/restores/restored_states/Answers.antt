@@ -1,5 +1,5 @@
 -- One process more has its bytes.
-use Rattle.std.proofs.Common.{◌≡◌, ℕ, List, [], ◌∷◌, ◌++◌, map, Option, sym, ap, ◌∙◌, arith}
+use Rattle.std.proofs.Common.{◌≡◌, ℕ, ◌+◌, List, [], ◌∷◌, ◌++◌, map, Option, sym, ap, ◌∙◌, arith}
 use Rattle.std.specs.List.{range_with_len}
 use Rattle.std.proofs.lemmas.List.FromFn.{map-range_with_len_more}
 use Rattle.line_names.specs.Lines.{choice_at}
@@ -11,8 +11,11 @@ pub loop-q-preserved : goal.loop-q-preserved
 loop-q-preserved c =
     let f : ℕ → Option (List ℕ) = λ p. restored (tape_at c.args.history.now.processes p) (choice_at c.args.line.now p) in
     let at : c.unwrap-p.result ≡ c.loop-q.q = (rw c.unwrap-p.ensures at c.try_new.ensures).1 in
-    let here : c.in_ok-state.state ≡ f c.loop-q.q = c.in_ok-state.ensures ∙ ap f at in
-    c.in_ok-push.ensures.items
-    ∙ ap (λ (xs : List (Option (List ℕ))). xs ++ c.in_ok-state.state ∷ []) c.loop-q.invariant
-    ∙ ap (λ (x : Option (List ℕ)). map f (range_with_len 0 c.loop-q.q) ++ x ∷ []) here
-    ∙ sym (map-range_with_len_more f 0 c.loop-q.q c.loop-q.q (omega arith))
+    let here : c.in_ok-state.state ≡ f c.loop-q.q = c.in_ok-state.ensures ∙ ap f at in (
+      c.push_reserved.ensures.items
+          ∙ ap (λ (xs : List (Option (List ℕ))). xs ++ c.in_ok-state.state ∷ []) c.loop-q.invariant.0
+          ∙ ap (λ (x : Option (List ℕ)). map f (range_with_len 0 c.loop-q.q) ++ x ∷ []) here
+          ∙ sym (map-range_with_len_more f 0 c.loop-q.q c.loop-q.q (omega arith)),
+      c.push_reserved.ensures.len ∙ ap (λ (k : ℕ). k + 1) c.loop-q.invariant.1,
+      c.push_reserved.ensures.capacity ∙ c.loop-q.invariant.2,
+    )
