@@ -1,4 +1,4 @@
--- How the rows of a process are kept: their vectors stand among lanes, one behind the other, and rows next to each other may have one between them.
+-- How the rows of a process are kept: each says where its vector stands among the lanes of all.
 use Rattle.std.specs.Prelude.{◌≡◌, ℕ, ◌+◌, ◌-◌, ◌*◌, ◌<◌, ◌≤◌, Bool, false, List, drop, length, slice_index_or, take}
 use Rattle.line_catalogue.specs.declared.kept_rows.KeptRow.{KeptRow}
 use Rattle.line_catalogue.specs.declared.kept_rows.Row.{Row}
@@ -16,7 +16,7 @@ AreAmong n lanes rows = (c : ℕ) (d : KeptRow) → c < length rows → (slice_i
 abbrev pub EndWith : List ℕ → List ℕ → Type 0
 EndWith lanes vector = drop (length lanes - length vector) lanes ≡ vector
 
--- no vector of a row stands before that of an earlier one, there are no more of them than rows, and the last one is that of where the process stands unless it heard something since
+-- the vectors stand in the order of their rows, at most one for each, and the last is the present one unless something was heard since
 pub record AreLaid (lanes : List ℕ) (rows : List KeptRow) (heard : Bool) (present : List ℕ) : Type 0 where
   pub some : 0 < length present
   pub among : AreAmong (length present) (length lanes) rows

@@ -45,7 +45,8 @@ impl<'a> Model for Rows<'a> {
 
     ghost view = { λ r. map (row_of r.n r.lanes.now) r.rows.now };
 
-    ghost invariant = { λ r. (r.n ≤ MOST_PROCESSES) × AreAmong r.n (length r.lanes.now) r.rows.now };
+    ghost invariant = { λ r.
+        (r.n ≤ MOST_PROCESSES) × AreAmong r.n (length r.lanes.now) r.rows.now };
 }
 
 impl<'a> Rows<'a> {

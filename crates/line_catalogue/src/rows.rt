@@ -83,7 +83,8 @@ fn add_row(
     requires room { vec_len rows.old < vec_capacity rows.old }
     requires vector { vec_len lanes.old + length present.now ≤ vec_capacity lanes.old }
     ensures rows { map (row_of (length present.now) lanes.new.items) rows.new.items
-        ≡ map (row_of (length present.now) lanes.old.items) rows.old.items ++ new_row place sends present.now ∷ [] }
+        ≡ map (row_of (length present.now) lanes.old.items) rows.old.items
+        ++ new_row place sends present.now ∷ [] }
     ensures laid { AreLaid lanes.new.items rows.new.items false present.now }
     ensures len { vec_len rows.new ≡ vec_len rows.old + 1 }
     ensures capacity { vec_capacity rows.new ≡ vec_capacity rows.old }
@@ -122,7 +123,8 @@ fn follow(
     ensures present { present.new ≡ heard_more present.old (shown event.now) }
     ensures lanes { length present.new ≡ length present.old }
     ensures laid { AreLaid lanes.new.items rows.new.items heard.new present.new }
-    ensures room { vec_capacity rows.old - vec_len rows.old ≤ vec_capacity rows.new - vec_len rows.new + 1 }
+    ensures room { vec_capacity rows.old - vec_len rows.old
+        ≤ vec_capacity rows.new - vec_len rows.new + 1 }
     ensures vector { vec_capacity lanes.old - vec_len lanes.old
         ≤ vec_capacity lanes.new - vec_len lanes.new + length present.old }
 {
@@ -154,11 +156,14 @@ fn go_back(
     ensures rows { map (row_of (length present.old) lanes.new.items) rows.new.items
         ≡ rows_kept choice (map (row_of (length present.old) lanes.old.items) rows.old.items) }
     ensures present { present.new
-        ≡ vector_at (map (row_of (length present.old) lanes.old.items) rows.old.items) present.old choice }
+        ≡ vector_at (map (row_of (length present.old) lanes.old.items) rows.old.items)
+        present.old choice }
     ensures lanes { length present.new ≡ length present.old }
     ensures laid { AreLaid lanes.new.items rows.new.items heard.new present.new }
-    ensures room { vec_capacity rows.old - vec_len rows.old ≤ vec_capacity rows.new - vec_len rows.new }
-    ensures vector { vec_capacity lanes.old - vec_len lanes.old ≤ vec_capacity lanes.new - vec_len lanes.new }
+    ensures room { vec_capacity rows.old - vec_len rows.old
+        ≤ vec_capacity rows.new - vec_len rows.new }
+    ensures vector { vec_capacity lanes.old - vec_len lanes.old
+        ≤ vec_capacity lanes.new - vec_len lanes.new }
 {
     match choice {
         Choice::Check(c) => {
@@ -178,8 +183,10 @@ fn go_back(
 /// did.
 fn place_rows(rows: &mut Vec<KeptRow>, tape: &Tape)
     requires count { vec_len rows.old ≡ checks tape.now.events + 1 }
-    ensures rows { (n : ℕ) (lanes : List ℕ) → AreInStep tape.now.events (map (row_of n lanes) rows.old.items)
-        → WithPlaces tape.now.events (map (row_of n lanes) rows.old.items) (map (row_of n lanes) rows.new.items) }
+    ensures rows { (n : ℕ) (lanes : List ℕ)
+        → AreInStep tape.now.events (map (row_of n lanes) rows.old.items)
+        → WithPlaces tape.now.events (map (row_of n lanes) rows.old.items)
+        (map (row_of n lanes) rows.new.items) }
     ensures laid { (lanes : List ℕ) (heard : Bool) (present : List ℕ)
         → AreLaid lanes rows.old.items heard present → AreLaid lanes rows.new.items heard present }
     ensures room { (vec_capacity rows.new ≡ vec_capacity rows.old) × (vec_len rows.new ≡ vec_len rows.old) }
@@ -197,7 +204,8 @@ fn place_rows(rows: &mut Vec<KeptRow>, tape: &Tape)
 fn set_damaged(rows: &mut Vec<KeptRow>, check: u32)
     requires { check < vec_len rows.old }
     ensures rows { (n : ℕ) (lanes : List ℕ)
-        → map (row_of n lanes) rows.new.items ≡ with_damage (map (row_of n lanes) rows.old.items) check }
+        → map (row_of n lanes) rows.new.items
+        ≡ with_damage (map (row_of n lanes) rows.old.items) check }
     ensures laid { (lanes : List ℕ) (heard : Bool) (present : List ℕ)
         → AreLaid lanes rows.old.items heard present → AreLaid lanes rows.new.items heard present }
     ensures room { (vec_capacity rows.new ≡ vec_capacity rows.old) × (vec_len rows.new ≡ vec_len rows.old) }
@@ -207,7 +215,8 @@ fn set_damaged(rows: &mut Vec<KeptRow>, check: u32)
 
 /// The only row of a process that has done nothing.
 fn first_rows(alloc: Global) -> Result<Vec<KeptRow>, AllocError>
-    ensures { IfOk result (λ rows. rows.items ≡ record { place = 0; sends = 0; start = 0; damaged = false } ∷ []) }
+    ensures { IfOk result (λ rows.
+        rows.items ≡ record { place = 0; sends = 0; start = 0; damaged = false } ∷ []) }
 {
     let mut rows = Vec::with_capacity(alloc, 1)?;
     rows.push(KeptRow {
