@@ -1,9 +1,18 @@
--- Memory did not suffice for a command, and then the sink failed: a front of what was told is put.
-use Rattle.std.proofs.Common.{refl, ap, ◌∙◌}
+-- The sink failed where the end of the text was put, or also memory did not suffice for a command: a front of what was told is put.
+use Rattle.std.proofs.Common.{length, refl, ap, ◌∙◌}
 use Rattle.line_devices.specs.Devices.{one_more}
 use Rattle.line_text.proofs.RunLemmas.{stops_front, stops_with}
 use Rattle.line_text.proofs.PieceLemmas.{puts_front_of_held}
 use Rattle.line_text.proofs.engines.run_commands.Goals as goal
+
+pub returns-in-Ok-clause-write : goal.returns-in-Ok-clause-write
+returns-in-Ok-clause-write g c code =
+    let run = c.in-Ok.ensures.ok in
+    let front = rw c.text.ensures at c.in-Err.ensures.err in (
+      rw c.fault_of.ensures refl,
+      c.in-Err.ensures.failed ∙ ap one_more c.in-Ok.ensures.sound,
+      record { done = length c.args.commands.now; told = run.told; end = c.do_commands.new.world; run = run.run; text = puts_front_of_held _ _ _ _ _ run.text front },
+    )
 
 pub returns-in-Err-Memory-clause-write : goal.returns-in-Err-Memory-clause-write
 returns-in-Err-Memory-clause-write g c code =
