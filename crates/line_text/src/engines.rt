@@ -338,9 +338,11 @@ fn script_of<S: Source>(alloc: Global, source: &mut S) -> Result<KeptScript, Tex
 /// the text is the first one, with the number of its record. `ReadFault` says that the source
 /// failed or that the input is too long, and `WriteFault` that the sink failed, both of record 0.
 /// Where memory does not suffice for a command, the fault 0 has the number of its record, and
-/// elsewhere record 0. It takes memory in proportion to the input. It puts the replies in pieces of
-/// some 64 KiB, also within a history, a bundle or listed rounds, and holds no more of them than
-/// such a piece and a record.
+/// elsewhere record 0. Among a given number of processes it takes memory in proportion to the
+/// input, and beside that what the channels of all listed rounds hold: where many messages stay in
+/// transit through many rounds that is the product of both. It puts the replies in pieces of some
+/// 64 KiB, also within a history, a bundle or listed rounds, and holds no more of them than such a
+/// piece and a record.
 pub fn run_text<S: Source, K: Sink>(
     alloc: Global,
     source: &mut S,
