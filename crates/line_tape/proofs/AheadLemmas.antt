@@ -29,7 +29,7 @@ ahead_alike rs os n i h l a = record {
 
 pub aside_alike : (rs os : List Receipt) (n i : ℕ) → AreAlike rs os n → i < n → IsAside rs i → IsAside os i
 aside_alike rs os n i h l a = record {
-  first = λ j e same. a.first j e (h.each j (omega arith) ∙ same ∙ sym (h.each i l));
+  first = λ j e behind same. a.first j e (λ ahead. behind (ahead_alike rs os n j h (omega arith) ahead)) (h.each j (omega arith) ∙ same ∙ sym (h.each i l));
   behind = λ ahead. a.behind (ahead_alike os rs n i (alike_back rs os n h) l ahead);
 }
 

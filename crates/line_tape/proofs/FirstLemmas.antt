@@ -40,9 +40,24 @@ pub none_received : (rs : List Receipt) (root above : ℕ) (far : Bool) (m : Msg
 none_received rs root above far m seat empty ahead i l named = elim (first_among rs m (length rs)) [
   | inl none ↦ none i l named
   | inr (k, low, e, f) ↦
-      let aside : IsAside rs k = record { first = λ j lj same. f j lj (same ∙ e); behind = λ a. ahead k low a e } in
+      let aside : IsAside rs k = record { first = λ j lj behind same. f j lj (same ∙ e); behind = λ a. ahead k low a e } in
       absurd (omega (arith, empty, seat.found k low aside e))
 ]
+
+-- where a message has no receipt in the tree, each of its receipts is ahead
+pub only_ahead : (rs : List Receipt) (root above : ℕ) (far : Bool) (m : MsgName) → IsSeatOf rs root m above far → seated rs root above far ≡ 0
+    → (i : ℕ) → i < length rs → (IsAhead rs i → ⊥) → name_at rs i ≢ m
+only_ahead rs root above far m seat empty i l = none_below (suc i) (omega arith) i (omega arith)
+  where
+    none_below : (n : ℕ) → n ≤ length rs → (j : ℕ) → j < n → (IsAhead rs j → ⊥) → name_at rs j ≢ m
+    none_below zero few j low behind named = absurd (omega arith)
+    none_below (suc n) few j low behind named = elim (cases_lt j n) [
+      | inl g ↦ absurd (none_below n (omega arith) j g behind named)
+      | inr g ↦
+          let is : j ≡ n = omega arith in
+          let aside : IsAside rs j = record { first = λ k lk other same. none_below n (omega arith) k (omega arith) other (same ∙ named); behind = behind } in
+          absurd (omega (arith, empty, seat.found j (omega arith) aside named))
+    ]
 
 -- a receipt that is ahead is the first of its message
 pub ahead_first : (rs : List Receipt) (i j : ℕ) (m : MsgName) → IsAhead rs i → name_at rs i ≡ m → j < i → name_at rs j ≢ m
@@ -52,9 +67,9 @@ ahead_first rs i j m a named l same =
     let w : number_of (name_at rs j) < number_of (name_at rs i) = a.above j l (ap from_of e) in
     omega arith
 
--- and so is one in the tree
-pub aside_first : (rs : List Receipt) (i j : ℕ) (m : MsgName) → IsAside rs i → name_at rs i ≡ m → j < i → name_at rs j ≢ m
-aside_first rs i j m a named l same = a.first j l (same ∙ sym named)
+-- and so is one in the tree, where none that is ahead is of its message
+pub aside_first : (rs : List Receipt) (i j : ℕ) (m : MsgName) → IsAside rs i → (IsAhead rs j → name_at rs j ≢ m) → name_at rs i ≡ m → j < i → name_at rs j ≢ m
+aside_first rs i j m a none named l same = a.first j l (λ ahead. none ahead same) (same ∙ sym named)
 
 name_in : (rs : List Receipt) (i : ℕ) (m : MsgName) → i < length rs → get_or (map message_of rs) i m ≡ name_at rs i
 name_in rs i m l =

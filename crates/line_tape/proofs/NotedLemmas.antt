@@ -12,7 +12,8 @@ use Rattle.line_tape.specs.declared.limits.TheConstants.{MOST_EVENTS}
 use Rattle.line_tape.specs.declared.receipts.chains.Receipt.{Receipt}
 use Rattle.line_tape.specs.Ends.{EndsView, IsEndPut, end_of}
 use Rattle.line_tape.specs.Noted.{AreAlike, AreInTree, AreNoted, IsAhead, IsAside, IsBack, IsLast, IsLed, IsNode, IsPut, IsSeatOf, key_of, message_of, name_at, receipt_at, seated}
-use Rattle.line_tape.proofs.AheadLemmas.{chained_less, chained_more, ends_put, from_of, last_alike, last_here, last_is_here, last_longer, last_shorter, number_of}
+use Rattle.line_tape.proofs.AheadLemmas.{ahead_alike, aside_alike, chained_less, chained_more, ends_put, from_of, last_alike, last_here, last_is_here, last_longer, last_shorter, number_of}
+use Rattle.line_tape.proofs.FirstLemmas.{only_ahead}
 use Rattle.line_tape.proofs.SeatLemmas.{node_alike, node_le, same_seat, seated-append, seated-take, tree_less, tree_more, tree_same}
 
 abbrev near_of : Receipt → ℕ
@@ -163,29 +164,29 @@ links_put rs more os root other above link n i far short node put same l a = (go
       | inr (e, f) ↦ absurd ((node.each i (sym e)).1.behind a)
     ]
 
--- a receipt more of a message that is received
+-- a receipt more of a message that has one in the tree
 pub noted_again : (rs : List Receipt) (last : EndsView) (root : ℕ) (r : Receipt) → AreNoted rs last root → length rs < MOST_EVENTS → r.from < MOST_PROCESSES
     → ((i : ℕ) × (i < length rs) × ((name_at rs i).from ≡ r.from) × (r.number ≤ (name_at rs i).number))
-    → ((i : ℕ) × (i < length rs) × (name_at rs i ≡ message_of r)) → AreNoted (rs ++ r ∷ []) last root
-noted_again rs last root r noted few sender below (i, l, named) =
+    → ((i : ℕ) × (i < length rs) × IsAside rs i × (name_at rs i ≡ message_of r)) → AreNoted (rs ++ r ∷ []) last root
+noted_again rs last root r noted few sender below (i, l, aside, named) =
     let n : ℕ = length rs in
     let os : List Receipt = rs ++ r ∷ [] in
     let h : AreAlike rs os n = more_alike rs r in
     let name : name_at os n ≡ message_of r = ap message_of (more_here rs r) in
     let long : length os ≡ suc n = omega (arith, length_push rs r) in
-    noted_behind rs os last root root r noted few long h name sender (more_links rs r) below (tree_same rs os root n refl long h noted.tree (λ link side low. seated-append rs (r ∷ []) root link side low) (λ a. a.first i l (sym (h.each i l) ∙ named ∙ sym name)))
+    noted_behind rs os last root root r noted few long h name sender (more_links rs r) below (tree_same rs os root n refl long h noted.tree (λ link side low. seated-append rs (r ∷ []) root link side low) (λ a. a.first i l (aside_alike rs os n i h l aside).behind (sym (h.each i l) ∙ named ∙ sym name)))
 
 leaf_of : (r : Receipt) (side : Bool) → r.near ≡ 0 → r.far ≡ 0 → (if side then r.far else r.near) ≡ 0
 leaf_of r true near far = far
 leaf_of r false near far = near
 
--- a receipt more that is the first of its message, in an empty seat
+-- a receipt more, in the seat of its message that was empty
 pub noted_aside : (rs os : List Receipt) (last : EndsView) (root other above : ℕ) (far : Bool) (r : Receipt) → AreNoted rs last root → length rs < MOST_EVENTS → length os ≡ suc (length rs) → r.from < MOST_PROCESSES
     → r.near ≡ 0 → r.far ≡ 0
     → ((i : ℕ) × (i < length rs) × ((name_at rs i).from ≡ r.from) × (r.number ≤ (name_at rs i).number))
-    → ((i : ℕ) → i < length rs → name_at rs i ≢ message_of r) → seated rs root above far ≡ 0
+    → seated rs root above far ≡ 0
     → IsSeatOf rs root (message_of r) above far → IsPut (rs ++ r ∷ []) root os other above far (length rs + 1) → AreNoted os last other
-noted_aside rs os last root other above far r noted few long sender near back below none was seat put =
+noted_aside rs os last root other above far r noted few long sender near back below was seat put =
     let n : ℕ = length rs in
     let more : List Receipt = rs ++ r ∷ [] in
     let h : AreAlike rs more n = more_alike rs r in
@@ -195,7 +196,7 @@ noted_aside rs os last root other above far r noted few long sender near back be
     let low : above ≤ n = node_le rs above seat.node in
     let there : seated os other above far ≡ suc n = omega (arith, put.there) in
     let aside : IsAside os n = record {
-      first = λ j l same. none j l (alike.each j l ∙ same ∙ name);
+      first = λ j l behind same. only_ahead rs root above far (message_of r) seat was j l (λ a. behind (ahead_alike rs os n j alike l a)) (alike.each j l ∙ same ∙ name);
       behind = λ a. not_ahead rs os r alike name below a;
     } in
     noted_behind rs os last root other r noted few long alike name sender (λ i l a. links_put rs more os root other above (n + 1) n i far refl seat.node put (λ link side low. seated-append rs (r ∷ []) root link side low) l a) below
@@ -327,8 +328,12 @@ module _ (rs items : List Receipt) (last : EndsView) (root : ℕ) (seen : rs ≡
 
   pub added_again : (new : List Receipt) (r : Receipt) → new ≡ items ++ r ∷ [] → r.from < MOST_PROCESSES
       → ((i : ℕ) × (i < length rs) × ((name_at rs i).from ≡ r.from) × (r.number ≤ (name_at rs i).number))
-      → ((i : ℕ) × (i < length rs) × (name_at rs i ≡ message_of r)) → AreNoted new last root
-  added_again new r pushed sender below named = subst (λ (xs : List Receipt). AreNoted xs last root) (sym (pushed_so new r pushed)) (noted_again rs last root r noted_so few_so sender below named)
+      → (above : ℕ) (far : Bool) → IsSeatOf rs root (message_of r) above far → seated rs root above far ≢ 0 → AreNoted new last root
+  added_again new r pushed sender below above far seat some =
+      let k : ℕ = seated rs root above far - 1 in
+      let is : seated rs root above far ≡ suc k = omega arith in
+      let there : (k < length rs) × IsAside rs k = (noted_so.tree.nodes above far seat.node).each k is in
+      subst (λ (xs : List Receipt). AreNoted xs last root) (sym (pushed_so new r pushed)) (noted_again rs last root r noted_so few_so sender below (k, there.0, there.1, seat.named k is))
 
   pub pushed_node : (new : List Receipt) (r : Receipt) (link : ℕ) → new ≡ items ++ r ∷ [] → IsNode rs link → IsNode new link
   pushed_node new r link pushed node =
@@ -338,11 +343,11 @@ module _ (rs items : List Receipt) (last : EndsView) (root : ℕ) (seen : rs ≡
   pub added_aside : (mid os : List Receipt) (other above link : ℕ) (far : Bool) (r : Receipt) → mid ≡ items ++ r ∷ [] → link ≡ length items + 1
       → length os ≡ suc (length items) → r.from < MOST_PROCESSES → r.near ≡ 0 → r.far ≡ 0
       → ((i : ℕ) × (i < length rs) × ((name_at rs i).from ≡ r.from) × (r.number ≤ (name_at rs i).number))
-      → ((i : ℕ) → i < length rs → name_at rs i ≢ message_of r) → seated rs root above far ≡ 0
+      → seated rs root above far ≡ 0
       → IsSeatOf rs root (message_of r) above far → IsPut mid root os other above far link → AreNoted os last other
-  added_aside mid os other above link far r pushed is long sender near back below none was seat put =
+  added_aside mid os other above link far r pushed is long sender near back below was seat put =
       let many : length rs ≡ length items = ap (λ (xs : List Receipt). length xs) seen in
-      noted_aside rs os last root other above far r noted_so few_so (omega arith) sender near back below none was seat (subst (λ k. IsPut (rs ++ r ∷ []) root os other above far k) (omega arith) (subst (λ (xs : List Receipt). IsPut xs root os other above far link) (pushed_so mid r pushed) put))
+      noted_aside rs os last root other above far r noted_so few_so (omega arith) sender near back below was seat (subst (λ k. IsPut (rs ++ r ∷ []) root os other above far k) (omega arith) (subst (λ (xs : List Receipt). IsPut xs root os other above far link) (pushed_so mid r pushed) put))
 
 -- and before the last receipt goes
 module _ (rs items : List Receipt) (last : EndsView) (root n k link : ℕ) (seen : rs ≡ items) (before : AreNoted items last root) (long : length items ≡ suc n) (here : k ≡ n) (is : link ≡ suc n) where

@@ -75,8 +75,8 @@ walk_goes_on rs root d link m here other before i l a named = go (before i l a n
 -- two receipts aside of one message are one
 pub aside_once : (rs : List Receipt) (i j : ℕ) → IsAside rs i → IsAside rs j → name_at rs i ≡ name_at rs j → i ≡ j
 aside_once rs i j a b same = elim (cases_lt i j) [
-  | inl l ↦ absurd (b.first i l same)
-  | inr g ↦ elim (cases_lt j i) [ inl l ↦ absurd (a.first j l (sym same)) | inr k ↦ omega arith ]
+  | inl l ↦ absurd (b.first i l a.behind same)
+  | inr g ↦ elim (cases_lt j i) [ inl l ↦ absurd (a.first j l b.behind (sym same)) | inr k ↦ omega arith ]
 ]
 
 -- the walk ends at a receipt of the message

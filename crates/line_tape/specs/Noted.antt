@@ -27,9 +27,9 @@ name_at receipts i = message_of (receipt_at receipts i)
 pub record IsAhead (receipts : List Receipt) (i : ℕ) : Type 0 where
   pub above : (j : ℕ) → j < i → (name_at receipts j).from ≡ (name_at receipts i).from → (name_at receipts j).number < (name_at receipts i).number
 
--- this receipt is the first of its message, and not ahead
+-- this receipt is not ahead, and the first such one of its message
 pub record IsAside (receipts : List Receipt) (i : ℕ) : Type 0 where
-  pub first : (j : ℕ) → j < i → name_at receipts j ≢ name_at receipts i
+  pub first : (j : ℕ) → j < i → (IsAhead receipts j → ⊥) → name_at receipts j ≢ name_at receipts i
   pub behind : IsAhead receipts i → ⊥
 
 -- a link to one of the first n receipts that is ahead and from this sender; a link is 0 or one more than the number of a receipt
@@ -63,7 +63,7 @@ next_down receipts root (suc i) far = seated receipts root (suc i) far
 
 -- the number whose bits, the lowest first, lead to a message
 abbrev pub key_of : MsgName → ℕ
-key_of message = (message.inc * 4294967296 + message.number) * 256 + message.from
+key_of message = (message.inc * 256 + message.from) * 4294967296 + message.number
 
 -- the key with its d lowest bits gone
 abbrev pub rest_of_key : ℕ → ℕ → ℕ

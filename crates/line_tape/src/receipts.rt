@@ -2,7 +2,7 @@
 ghost use Rattle.std.specs.Prelude.{◌≡◌, ◌≢◌, ◌<◌, ◌≤◌, ◌+◌, ◌-◌, ◌↔◌, ℕ, suc, [], ◌∷◌, ◌++◌, Contains, IsOk, IsTrue, List, OnOk, length, map, take, vec_capacity, vec_len};
 ghost use Rattle.line_names.specs.declared.limits.TheConstants.{MOST_PROCESSES};
 ghost use Rattle.line_tape.specs.declared.events.Event.{Event};
-ghost use Rattle.line_tape.specs.Noted.{AreChained, AreInTree, AreNoted, IsLast, IsSeatOf, message_of, name_at, seated};
+ghost use Rattle.line_tape.specs.Noted.{AreChained, AreInTree, AreNoted, IsLast, message_of, name_at};
 ghost use Rattle.line_tape.specs.Transit.{names_received};
 
 mod chains;
@@ -16,7 +16,7 @@ use ends::LastLinks;
 use line_names::MsgName;
 use std::alloc::{AllocError, Global};
 use std::marker::Model;
-use trees::{Seat, link_at, put, seat_of};
+use trees::{link_at, put, seat_of};
 
 /// The receipts of a tape in their order, so that the first of a message is found.
 ///
@@ -45,29 +45,10 @@ impl Model for Receipts {
     ghost invariant = { λ r. AreNoted r.receipts.items r.last r.root };
 }
 
-/// The link to the first receipt of the message, which has that seat in the tree or none; 0 where
-/// it is not received.
-fn first_of(receipts: &[Receipt], last: u32, root: u32, seat: Seat, wanted: &Receipt) -> u32
-    requires chained { AreChained receipts.now }
-    requires last { IsLast receipts.now (length receipts.now) wanted.now.from last }
-    requires tree { AreInTree receipts.now root }
-    requires seat { IsSeatOf receipts.now root (message_of wanted.now) seat.above seat.far }
-    ensures found { (i : ℕ) → result ≡ suc i → (i < length receipts.now) × (name_at receipts.now i ≡ message_of wanted.now)
-        × ((j : ℕ) → j < i → name_at receipts.now j ≢ message_of wanted.now) }
-    ensures none { result ≡ 0 → (i : ℕ) → i < length receipts.now → name_at receipts.now i ≢ message_of wanted.now }
-    ensures empty { result ≡ 0 → seated receipts.now root seat.above seat.far ≡ 0 }
-{
-    let link = link_at(receipts, root, seat);
-    if link != 0 {
-        return link;
-    }
-    find_ahead(receipts, last, wanted)
-}
-
 /// The link to the first receipt of the message; 0 where it is not received.
 ///
 /// A number above all those received from its sender costs one look. The chain is asked before the
-/// tree, since it has most of the receipts, so that few questions go down the tree.
+/// tree: it has most of the receipts, and a receipt in it is the first one of its message.
 fn find(receipts: &[Receipt], last: u32, root: u32, wanted: &Receipt) -> u32
     requires chained { AreChained receipts.now }
     requires last { IsLast receipts.now (length receipts.now) wanted.now.from last }
@@ -88,6 +69,9 @@ fn find(receipts: &[Receipt], last: u32, root: u32, wanted: &Receipt) -> u32
 }
 
 /// Takes in a further receipt, in room that was made for it.
+///
+/// One that is not ahead is put in the tree, unless one of its message is there. Whether one of the
+/// chain is of its message is not asked.
 fn add(receipts: &mut Vec<Receipt>, last: &mut LastLinks, root: &mut u32, receipt: Receipt)
     requires noted { AreNoted receipts.old.items last.old root.old }
     requires sender { receipt.from < MOST_PROCESSES }
@@ -112,9 +96,9 @@ fn add(receipts: &mut Vec<Receipt>, last: &mut LastLinks, root: &mut u32, receip
         return;
     }
     let seat = seat_of(before, *root, &receipt);
-    let first = first_of(before, end, *root, seat, &receipt);
+    let known = link_at(before, *root, seat);
     receipts.push(receipt).unwrap();
-    if first != 0 {
+    if known != 0 {
         return;
     }
     put(receipts, root, seat, link);

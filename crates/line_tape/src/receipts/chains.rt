@@ -46,12 +46,12 @@ impl Receipt {
         self.from == other.from && self.inc == other.inc && self.number == other.number
     }
 
-    /// The number whose bits, the lowest first, lead to it in the tree: those of the sender, of the
-    /// number and of the incarnation.
+    /// The number whose bits, the lowest first, lead to it in the tree: those of the number, of the
+    /// sender and of the incarnation. Receipts differ soonest in the bits of the number.
     pub fn key(&self) -> u64
         ensures { result ≡ key_of (message_of self.now) }
     {
-        (u64::from(self.inc) * 4_294_967_296 + u64::from(self.number)) * 256 + u64::from(self.from)
+        (u64::from(self.inc) * 256 + u64::from(self.from)) * 4_294_967_296 + u64::from(self.number)
     }
 }
 

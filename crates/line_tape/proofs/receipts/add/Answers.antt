@@ -1,10 +1,9 @@
--- The receipt is ahead, or of a message that is received, or the first of its message and in the tree.
-use Rattle.std.proofs.Common.{◌≡◌, ◌<◌, ◌+◌, ◌++◌, ◌∷◌, ◌-◌, ◌≢◌, [], ℕ, suc, List, length, ap, ◌∙◌, arith, rules}
+-- The receipt is ahead, or of a message that has one in the tree, or put there.
+use Rattle.std.proofs.Common.{◌≡◌, ◌<◌, ◌+◌, ◌++◌, ◌∷◌, [], suc, List, length, ap, ◌∙◌, sym, arith, rules}
 use Rattle.std.proofs.lemmas.List.{length_push}
 use Rattle.line_tape.specs.declared.receipts.chains.Receipt.{Receipt}
 use Rattle.line_tape.specs.declared.limits.TheConstants.{MOST_EVENTS}
 use Rattle.line_tape.specs.Ends.{IsEndPut}
-use Rattle.line_tape.specs.Noted.{message_of, name_at}
 use Rattle.line_tape.proofs.NotedLemmas.{added_again, added_ahead, added_aside, pushed_node}
 use Rattle.line_tape.proofs.receipts.add.Goals as goal
 
@@ -27,15 +26,12 @@ put-requires c =
     let pushed : c.push-2.new.self.items ≡ items ++ c.args.receipt ∷ [] = search rules in
     record { node = pushed_node c.as_slice-before.result.now items c.args.last.now c.args.root.now c.as_slice-before.ensures.value c.requires.noted few c.push-2.new.self.items c.args.receipt c.seat_of-seat.result.above pushed c.seat_of-seat.ensures.node }
 
-pub returns-then-first-ne0-clause-noted : goal.returns-then-first-ne0-clause-noted
-returns-then-first-ne0-clause-noted c =
+pub returns-then-known-ne0-clause-noted : goal.returns-then-known-ne0-clause-noted
+returns-then-known-ne0-clause-noted c =
     let items : List Receipt = c.args.receipts.now.items in
     let few : length items < MOST_EVENTS = omega (arith, c.args.receipts.now.ok.0) in
     let pushed : c.push-2.new.self.items ≡ items ++ c.args.receipt ∷ [] = search rules in
-    let k : ℕ = c.first_of-first.result - 1 in
-    let some : c.first_of-first.result ≡ suc k = omega arith in
-    let found : (k < length c.as_slice-before.result.now) × (name_at c.as_slice-before.result.now k ≡ message_of c.args.receipt) × ((j : ℕ) → j < k → name_at c.as_slice-before.result.now j ≢ message_of c.args.receipt) = c.first_of-first.ensures.found k some in
-    added_again c.as_slice-before.result.now items c.args.last.now c.args.root.now c.as_slice-before.ensures.value c.requires.noted few c.push-2.new.self.items c.args.receipt pushed c.requires.sender (c.is_ahead.ensures.no c.if-is_ahead.false) (k, found.0, found.1)
+    added_again c.as_slice-before.result.now items c.args.last.now c.args.root.now c.as_slice-before.ensures.value c.requires.noted few c.push-2.new.self.items c.args.receipt pushed c.requires.sender (c.is_ahead.ensures.no c.if-is_ahead.false) c.seat_of-seat.result.above c.seat_of-seat.result.far c.seat_of-seat.ensures (λ none. c.if-known-ne0.true (c.link_at-known.ensures ∙ none))
 
 pub returns-clause-noted : goal.returns-clause-noted
 returns-clause-noted c =
@@ -46,4 +42,4 @@ returns-clause-noted c =
     let more : length c.push-2.new.self.items ≡ length items + 1 = ap (λ (xs : List Receipt). length xs) pushed ∙ omega (arith, length_push items c.args.receipt) in
     let long : length c.put.new.receipts.items ≡ suc (length items) = omega (arith, c.put.ensures.len, c.put.new.receipts.ok.0, c.push-2.new.self.ok.0) in
     added_aside c.as_slice-before.result.now items c.args.last.now c.args.root.now c.as_slice-before.ensures.value c.requires.noted few c.push-2.new.self.items c.put.new.receipts.items c.put.new.root c.seat_of-seat.result.above (c.len.result + 1) c.seat_of-seat.result.far c.args.receipt pushed link long c.requires.sender c.requires.links.0 c.requires.links.1 (c.is_ahead.ensures.no c.if-is_ahead.false)
-    (c.first_of-first.ensures.none c.if-first-ne0.false) (c.first_of-first.ensures.empty c.if-first-ne0.false) c.seat_of-seat.ensures c.put.ensures.put
+    (sym c.link_at-known.ensures ∙ c.if-known-ne0.false) c.seat_of-seat.ensures c.put.ensures.put
