@@ -1,7 +1,7 @@
 //! A record that is put together, field by field, to be written.
 
-ghost use Rattle.std.specs.Prelude.{◌≡◌, ◌<◌, ◌++◌, ◌∷◌, [], IsTrue, OnErr, OnOk, decimal};
-ghost use Rattle.line_fields.specs.Texts.{has_name, hex_digit, hex_text, is_plain_field, record_text};
+ghost use Rattle.std.specs.Prelude.{◌≡◌, ◌++◌, ◌∷◌, [], IsTrue, OnErr, OnOk, decimal};
+ghost use Rattle.line_fields.specs.Texts.{has_name, hex_text, is_plain_field, record_text};
 
 use crate::lines::Line;
 use itoa::Buffer;
@@ -10,13 +10,13 @@ use std::marker::Model;
 
 /// A record that is put together to be written. Its fields need no quotes.
 ///
-/// Each call that adds a field takes memory in proportion to that field. Where a growth is refused
-/// the draft has no fields any more. It holds a writer of `csv` with a buffer of some 8 KiB, and up
-/// to some 64 KiB more that this writer has written. So one is best kept for many records.
+/// A call that adds a field takes time in proportion to that field, and memory only where the room
+/// of the records before is too small. Where a growth is refused the draft has no fields any more.
+/// It keeps the room of its longest record, up to some twice its bytes. So one is best kept for
+/// many records.
 #[derive(Drop)]
 pub struct Draft {
     line: Line,
-    digits: Vec<u8>,
     decimal: Buffer,
 }
 
@@ -28,29 +28,6 @@ impl Model for Draft {
     ghost view = { λ s. s.line };
 }
 
-// The hexadecimal digits, of lower case.
-static DIGITS: [u8; 16] = *b"0123456789abcdef";
-
-// The digit, of lower case, that stands for a value below 16.
-fn hex_digit(value: u8) -> u8
-    requires { value < 16 }
-    ensures { result ≡ hex_digit value }
-{
-    DIGITS[usize::from(value)]
-}
-
-// Writes bytes in hexadecimal.
-#[tactic(auto, unfolding(crate::specs::Texts::hex_text))]
-fn push_hex(out: &mut Vec<u8>, bytes: &[u8]) -> Result<(), AllocError>
-    ensures { OnOk result (out.new.items ≡ out.old.items ++ hex_text bytes.now) }
-{
-    for byte in bytes {
-        let pair = [hex_digit(*byte / 16), hex_digit(*byte % 16)];
-        out.extend_from_slice(&pair)?;
-    }
-    Ok(())
-}
-
 impl Draft {
     /// A draft without fields. It takes no memory but its own.
     pub fn new(alloc: Global) -> Draft
@@ -58,14 +35,12 @@ impl Draft {
     {
         Draft {
             line: Line::new(alloc),
-            digits: Vec::new(alloc),
             decimal: Buffer::new(),
         }
     }
 
-    /// Takes all fields away, and keeps their room for the next record.
-    ///
-    /// It costs nothing where there are none, and else some 8 KiB are cleared.
+    /// Takes all fields away, and keeps their room for the next record. It costs the same for any
+    /// number of fields.
     pub fn clear(&mut self)
         ensures { self.new ≡ [] }
     {
@@ -94,14 +69,7 @@ impl Draft {
         ensures ok { OnOk result (self.new ≡ self.old ++ hex_text bytes.now ∷ []) }
         ensures err { OnErr result (self.new ≡ []) }
     {
-        self.digits.clear();
-        match push_hex(&mut self.digits, bytes) {
-            Ok(()) => self.line.add(self.digits.as_slice()),
-            Err(refused) => {
-                self.clear();
-                Err(refused)
-            }
-        }
+        self.line.add_hex(bytes)
     }
 
     // Writes the record behind some bytes, which stay as they are where a growth is refused, and

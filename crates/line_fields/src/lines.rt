@@ -1,93 +1,104 @@
-//! A record that `csv` writes, field by field.
+//! A record that is written field by field, as the text of its line.
 
-ghost use Rattle.std.specs.Prelude.{◌≡◌, ◌≤◌, ◌++◌, ◌∷◌, [], ℕ, IsTrue, OnErr, OnOk, drop, length};
-ghost use Rattle.csv.specs.Writing.{writer_under};
-ghost use Rattle.line_fields.specs.Texts.{has_name, is_plain_field, record_text};
-ghost use Rattle.line_fields.specs.Writers.{IsInRecord, IsWriting, fields_from, text_of};
+ghost use Rattle.std.specs.Prelude.{◌≡◌, ◌≤◌, ◌<◌, ◌++◌, ◌∷◌, ◌+◌, ◌*◌, ◌^◌, [], true, IsTrue, OnErr, OnOk, length, vec_capacity, vec_len};
+ghost use Rattle.line_fields.specs.Texts.{has_name, hex_digit, hex_text, is_plain_field, record_text};
+ghost use Rattle.line_fields.specs.Writers.{text_before};
 
-use csv::{Error, Writer, WriterBuilder};
 use std::alloc::{AllocError, Global};
 use std::marker::Model;
 
-// Where the writer of `csv` has written so many bytes, another takes its place.
-const MOST_WRITTEN: usize = 32768;
-
-/// The fields of a record, which `csv` writes as they come.
-///
-/// Where a growth is refused nothing is known of what a writer of `csv` holds. So it writes a
-/// record at a time, which is then added to the text elsewhere.
+/// The fields of a record: the text of its line so far.
 #[derive(Drop)]
 pub(crate) struct Line {
-    alloc: Global,
-    writer: Writer<Vec<u8>>,
-    // Where the text of this record begins.
-    start: usize,
-    // Whether there may be a field.
+    // The fields, joined by commas.
+    text: Vec<u8>,
+    // Whether there is a field, which may be an empty one.
     begun: bool,
 }
 
 impl Model for Line {
-    ghost use Rattle.std.specs.Prelude.{◌≡◌, ℕ, List, false};
-    ghost use Rattle.csv.specs.Writing.{fields_written};
-    ghost use Rattle.line_fields.specs.Writers.{IsInRecord, fields_from};
+    ghost use Rattle.std.specs.Prelude.{◌≡◌, ℕ, List, [], false};
+    ghost use Rattle.line_fields.specs.Writers.{fields_so_far};
 
     ghost Value = { List (List ℕ) };
 
-    ghost view = { λ s. fields_from s.start s.writer };
+    ghost view = { λ s. fields_so_far s.begun s.text.items };
 
-    ghost invariant = { λ s. IsInRecord s.start s.writer × (s.begun ≡ false → fields_written s.writer ≡ 0) };
+    ghost invariant = { λ s. s.begun ≡ false → s.text.items ≡ [] };
 }
 
-// A writer of `csv` over memory, for records of any lengths.
-fn writer_over(alloc: Global) -> Writer<Vec<u8>>
-    ensures writing { IsWriting result }
-    ensures text { text_of result ≡ [] }
+// The hexadecimal digits, of lower case.
+static DIGITS: [u8; 16] = *b"0123456789abcdef";
+
+// The digit, of lower case, that stands for a value below 16.
+fn hex_digit(value: u8) -> u8
+    requires { value < 16 }
+    ensures { result ≡ hex_digit value }
 {
-    WriterBuilder::new()
-        .flexible(true)
-        .from_writer(Vec::new(alloc))
+    DIGITS[usize::from(value)]
 }
 
-// Another writer in place of one, and where its first record begins. It stands apart, and seldom
-// runs: what calls it has no room of a writer's size among its own variables.
-#[cold]
-#[inline(never)]
-fn renew(alloc: Global, writer: &mut Writer<Vec<u8>>) -> usize
-    ensures writing { IsWriting writer.new }
-    ensures start { result ≡ length (text_of writer.new) }
+// Writes bytes in hexadecimal, where there is room for their digits.
+#[tactic(auto, unfolding(crate::specs::Texts::hex_text))]
+fn push_hex(out: &mut Vec<u8>, bytes: &[u8])
+    requires { vec_len out.old + 2 * length bytes.now ≤ vec_capacity out.old }
+    ensures { out.new.items ≡ out.old.items ++ hex_text bytes.now }
 {
-    *writer = writer_over(alloc);
-    0
-}
-
-// An error of `csv` over memory is answered as want of memory.
-fn let_go(_error: Error) -> AllocError {
-    AllocError
-}
-
-// Ends a record whose first field has a byte, and lets it out.
-fn end(writer: &mut Writer<Vec<u8>>) -> Result<(), Error>
-    ensures writing { (start : ℕ) → IsInRecord start writer.old → OnOk result (IsWriting writer.new) }
-    ensures within { (start : ℕ) → IsInRecord start writer.old → IsTrue (has_name (fields_from start writer.old))
-        → OnOk result (start ≤ length (writer_under writer.new).items) }
-    ensures text { (start : ℕ) → IsInRecord start writer.old → IsTrue (has_name (fields_from start writer.old))
-        → OnOk result (drop start (writer_under writer.new).items ≡ record_text (fields_from start writer.old)) }
-{
-    writer.end_record()?;
-    writer.flush()
-}
-
-// Where the next record begins: behind what was written, or, where that is much, in another writer.
-fn next_start(alloc: Global, writer: &mut Writer<Vec<u8>>) -> usize
-    requires { IsWriting writer.old }
-    ensures writing { IsWriting writer.new }
-    ensures start { result ≡ length (text_of writer.new) }
-{
-    let written = writer.get_ref().len();
-    if written > MOST_WRITTEN {
-        return renew(alloc, writer);
+    for byte in bytes {
+        let (high, low) = (*byte / 16, *byte % 16);
+        out.push_reserved(hex_digit(high));
+        out.push_reserved(hex_digit(low));
     }
-    written
+}
+
+// Writes bytes, where there is room for them.
+fn push_text(out: &mut Vec<u8>, bytes: &[u8])
+    requires { vec_len out.old + length bytes.now ≤ vec_capacity out.old }
+    ensures text { out.new.items ≡ out.old.items ++ bytes.now }
+    ensures len { vec_len out.new ≡ vec_len out.old + length bytes.now }
+    ensures capacity { vec_capacity out.old ≤ vec_capacity out.new }
+{
+    let Ok(()) = out.extend_from_slice(bytes) else {
+        unreachable!()
+    };
+}
+
+// Makes room for a field of so many bytes, and begins it, behind a comma where there is one before
+// it. Where a growth is refused nothing changes.
+fn begin(text: &mut Vec<u8>, begun: &mut bool, bytes: usize) -> Result<(), AllocError>
+    requires { bytes + 1 < 2 ^ 64 }
+    ensures begun { OnOk result (begun.new ≡ true) }
+    ensures ok { OnOk result (text.new.items ≡ text_before begun.old text.old.items) }
+    ensures room { OnOk result (vec_len text.new + bytes ≤ vec_capacity text.new) }
+    ensures err { OnErr result ((begun.new ≡ begun.old) × (text.new.items ≡ text.old.items)) }
+{
+    text.reserve(bytes + 1)?;
+    if *begun {
+        text.push_reserved(b',');
+    }
+    *begun = true;
+    Ok(())
+}
+
+// Writes a line and a line feed behind some bytes, which stay as they are where a growth is
+// refused.
+fn put_line(out: &mut Vec<u8>, line: &[u8]) -> Result<(), AllocError>
+    ensures ok { OnOk result (out.new.items ≡ out.old.items ++ (line.now ++ 10 ∷ [])) }
+    ensures err { OnErr result (out.new.items ≡ out.old.items) }
+{
+    out.reserve(line.len() + 1)?;
+    push_text(out, line);
+    out.push_reserved(b'\n');
+    Ok(())
+}
+
+// Takes all fields away where a growth was refused.
+#[cold]
+fn give_up(line: &mut Line, refused: AllocError) -> AllocError
+    ensures { line.new ≡ [] }
+{
+    line.clear();
+    refused
 }
 
 impl Line {
@@ -96,21 +107,17 @@ impl Line {
         ensures { result ≡ [] }
     {
         Line {
-            alloc,
-            writer: writer_over(alloc),
-            start: 0,
+            text: Vec::new(alloc),
             begun: false,
         }
     }
 
-    /// Takes all fields away.
+    /// Takes all fields away, and keeps their room.
     pub fn clear(&mut self)
         ensures { self.new ≡ [] }
     {
-        if self.begun {
-            self.start = renew(self.alloc, &mut self.writer);
-            self.begun = false;
-        }
+        self.text.clear();
+        self.begun = false;
     }
 
     /// Adds a field that needs no quotes, or leaves none where a growth is refused.
@@ -119,16 +126,27 @@ impl Line {
         ensures ok { OnOk result (self.new ≡ self.old ++ field.now ∷ []) }
         ensures err { OnErr result (self.new ≡ []) }
     {
-        match self.writer.write_field(field) {
+        match begin(&mut self.text, &mut self.begun, field.len()) {
             Ok(()) => {
-                self.begun = true;
+                push_text(&mut self.text, field);
                 Ok(())
             }
-            Err(error) => {
-                self.start = renew(self.alloc, &mut self.writer);
-                self.begun = false;
-                Err(let_go(error))
+            Err(refused) => Err(give_up(self, refused)),
+        }
+    }
+
+    /// Adds a field of two hexadecimal digits for each byte, or leaves none where a growth is
+    /// refused.
+    pub fn add_hex(&mut self, bytes: &[u8]) -> Result<(), AllocError>
+        ensures ok { OnOk result (self.new ≡ self.old ++ hex_text bytes.now ∷ []) }
+        ensures err { OnErr result (self.new ≡ []) }
+    {
+        match begin(&mut self.text, &mut self.begun, 2 * bytes.len()) {
+            Ok(()) => {
+                push_hex(&mut self.text, bytes);
+                Ok(())
             }
+            Err(refused) => Err(give_up(self, refused)),
         }
     }
 
@@ -140,18 +158,8 @@ impl Line {
         ensures err { OnErr result (out.new.items ≡ out.old.items) }
         ensures cleared { self.new ≡ [] }
     {
-        match end(&mut self.writer) {
-            Ok(()) => {
-                let put = out.extend_from_slice(&self.writer.get_ref()[self.start..]);
-                self.start = next_start(self.alloc, &mut self.writer);
-                self.begun = false;
-                put
-            }
-            Err(error) => {
-                self.start = renew(self.alloc, &mut self.writer);
-                self.begun = false;
-                Err(let_go(error))
-            }
-        }
+        let put = put_line(out, self.text.as_slice());
+        self.clear();
+        put
     }
 }
