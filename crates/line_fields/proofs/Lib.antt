@@ -8,4 +8,5 @@ pub mod PlainLemmas
 pub mod ReadAgain
 pub mod RoundLemmas
 pub mod RowLemmas
+pub mod SpanLemmas
 pub mod TextLemmas

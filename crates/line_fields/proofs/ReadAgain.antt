@@ -31,13 +31,13 @@ cut-mark mark (b ∷ xs) rest clear =
     let p = and_parts (not (b == mark)) (is_clear mark xs) clear in
     rw (not_same b mark p.0, cut-mark mark xs rest p.1) refl
 
-parts-mark : (mark : ℕ) (xs rest : List ℕ) → is_clear mark xs ≡ true → parts mark (xs ++ (mark ∷ rest)) ≡ xs ∷ parts mark rest
+pub parts-mark : (mark : ℕ) (xs rest : List ℕ) → is_clear mark xs ≡ true → parts mark (xs ++ (mark ∷ rest)) ≡ xs ∷ parts mark rest
 parts-mark mark xs rest clear = rw (cut-mark mark xs rest clear) refl
 
 pub parts-clear : (mark : ℕ) (xs : List ℕ) → is_clear mark xs ≡ true → parts mark xs ≡ xs ∷ []
 parts-clear mark xs clear = rw (cut-clear mark xs clear) refl
 
-without-clear : (mark : ℕ) (xs ys : List ℕ) → is_clear mark xs ≡ true → without mark (xs ++ ys) ≡ xs ++ without mark ys
+pub without-clear : (mark : ℕ) (xs ys : List ℕ) → is_clear mark xs ≡ true → without mark (xs ++ ys) ≡ xs ++ without mark ys
 unfolding without
 without-clear mark [] ys clear = refl
 without-clear mark (b ∷ xs) ys clear =

@@ -1,11 +1,26 @@
--- What a reader of `csv` still has to give.
-use Rattle.std.specs.Prelude.{◌≡◌, ℕ, List, [], ◌∷◌, ◌++◌, true, Option, Some, None, if◌then◌else◌, IsSome}
+-- What a row holds, and what a reader still has to give.
+use Rattle.std.specs.Prelude.{◌≡◌, ◌≤◌, ◌-◌, ℕ, List, [], ◌∷◌, ◌++◌, true, Option, Some, None, if◌then◌else◌, IsSome, drop, length, take}
 use Rattle.std.specs.Borrow.{Bor}
 use Rattle.csv.specs.Machine.{step, is_end, fields_after, field_after, ends_at_end}
 use Rattle.csv.specs.Reading.{default_config, source_of, Ready, reader_trim, reader_config, reader_state, is_flexible}
 use Rattle.csv.specs.declared.reader.Reader.{Reader}
 use Rattle.csv.specs.declared.reader.Trim.TheVariants as trim
 use Rattle.csv.specs.declared.parser.State.{State}
+use Rattle.line_fields.specs.declared.records.Span.{Span}
+use Rattle.line_fields.specs.Records.{Record, parts, records_of_lines}
+
+-- the part of some bytes that a span names
+abbrev pub part_of : List ℕ → Span → List ℕ
+part_of bytes span = take (span.end - span.start) (drop span.start bytes)
+
+-- a span lies within some bytes
+pub record IsWithin (bytes : List ℕ) (span : Span) : Type 0 where
+  pub ordered : span.start ≤ span.end
+  pub within : span.end ≤ length bytes
+
+-- the records of a text without carriage returns
+abbrev pub records_of_lines_in : List ℕ → List Record
+records_of_lines_in text = records_of_lines (parts 10 text)
 
 -- the rows that csv's machine makes of a text, from a state and a row at hand
 unfoldable pub rows_from : State → List (List ℕ) → List ℕ → List ℕ → List (List (List ℕ))

@@ -1,28 +1,39 @@
-//! The records of an input text, one at a time, read by `csv`.
+//! The records of an input text, one at a time. A text with carriage returns is read by `csv`.
 
-ghost use Rattle.std.specs.Prelude.{◌≡◌, ◌==◌, ◌+◌, ◌≤◌, ◌∷◌, [], IfOk, IsTrue, MatchBool, OnErr, length};
+ghost use Rattle.std.specs.Prelude.{◌≡◌, ◌==◌, ◌+◌, ◌≤◌, ◌∷◌, [], true, false, All, IfOk, IsTrue, MatchBool, OnErr, OnOk, length, map};
 ghost use Rattle.csv.specs.Records.{fields_of};
-ghost use Rattle.line_fields.specs.Bytes.{is_input_text};
-ghost use Rattle.line_fields.specs.Records.{field, records_of_text};
-ghost use Rattle.line_fields.specs.Rows.{IsReading, rows_left};
+ghost use Rattle.line_fields.specs.Bytes.{begins_with_feed, is_input_text};
+ghost use Rattle.line_fields.specs.Records.{field, is_line, parts, records_of_text};
+ghost use Rattle.line_fields.specs.Rows.{IsReading, IsWithin, part_of, records_of_lines_in, rows_left};
 
 use csv::{ByteRecord, Error, Reader, ReaderBuilder};
+use memchr::memchr;
 use std::alloc::{AllocError, Global};
 use std::marker::Model;
+
+/// Where a field begins and ends in the bytes of its row.
+#[derive(Clone, Copy)]
+struct Span {
+    start: usize,
+    end: usize,
+}
 
 /// The fields of a record that was read.
 #[derive(Drop)]
 pub struct Row {
-    record: ByteRecord,
+    bytes: Vec<u8>,
+    spans: Vec<Span>,
 }
 
 impl Model for Row {
-    ghost use Rattle.std.specs.Prelude.{ℕ, List};
-    ghost use Rattle.csv.specs.Records.{fields_of};
+    ghost use Rattle.std.specs.Prelude.{All, ℕ, List, map};
+    ghost use Rattle.line_fields.specs.Rows.{IsWithin, part_of};
 
     ghost Value = { List (List ℕ) };
 
-    ghost view = { λ s. fields_of s.record };
+    ghost view = { λ s. map (part_of s.bytes.items) s.spans.items };
+
+    ghost invariant = { λ s. All (IsWithin s.bytes.items) s.spans.items };
 }
 
 impl Row {
@@ -31,7 +42,8 @@ impl Row {
         ensures { result ≡ [] }
     {
         Row {
-            record: ByteRecord::new(alloc),
+            bytes: Vec::new(alloc),
+            spans: Vec::new(alloc),
         }
     }
 
@@ -39,22 +51,22 @@ impl Row {
     pub fn len(&self) -> usize
         ensures { result ≡ length self.now }
     {
-        self.record.len()
+        self.spans.len()
     }
 
     /// Whether it has no fields.
     pub fn is_empty(&self) -> bool
         ensures { result ≡ (length self.now == 0) }
     {
-        self.record.is_empty()
+        self.spans.is_empty()
     }
 
     /// The field at a place, counted from 0, or an empty one past the last.
     pub fn field(&self, place: usize) -> &[u8]
         ensures { result.now ≡ field self.now place }
     {
-        match self.record.get(place) {
-            Some(field) => field,
+        match self.spans.get(place) {
+            Some(span) => &self.bytes[span.start..span.end],
             None => b"",
         }
     }
@@ -64,18 +76,125 @@ impl Row {
 #[derive(Drop)]
 pub struct RecordReader<'a> {
     alloc: Global,
+    // What is left of a text without carriage returns.
+    rest: &'a [u8],
+    // What reads a text that has some, and the record that it read last.
     reader: Reader<&'a [u8]>,
+    record: ByteRecord,
 }
 
 impl<'a> Model for RecordReader<'a> {
-    ghost use Rattle.std.specs.Prelude.{ℕ, List};
-    ghost use Rattle.line_fields.specs.Rows.{IsReading, rows_left};
+    ghost use Rattle.std.specs.Prelude.{◌++◌, ℕ, List};
+    ghost use Rattle.line_fields.specs.Rows.{IsReading, records_of_lines_in, rows_left};
 
     ghost Value = { List (List (List ℕ)) };
 
-    ghost view = { λ s. rows_left s.reader };
+    ghost view = { λ s. records_of_lines_in s.rest.now ++ rows_left s.reader };
 
     ghost invariant = { λ s. IsReading s.reader };
+}
+
+// The fields of a line, each where it stands in it.
+fn split(line: &[u8], spans: &mut Vec<Span>) -> Result<(), AllocError>
+    ensures within { OnOk result (All (IsWithin line.now) spans.new.items) }
+    ensures fields { OnOk result (map (part_of line.now) spans.new.items ≡ parts 44 line.now) }
+{
+    spans.clear();
+    let mut start = 0;
+    for end in 0..line.len() {
+        if line[end] == b',' {
+            spans.push(Span { start, end })?;
+            start = end + 1;
+        }
+    }
+    spans.push(Span {
+        start,
+        end: line.len(),
+    })?;
+    Ok(())
+}
+
+// The fields of a record of `csv`, one behind the other, and where each stands.
+fn gather(fields: &ByteRecord, bytes: &mut Vec<u8>, spans: &mut Vec<Span>) -> Result<(), AllocError>
+    ensures within { OnOk result (All (IsWithin bytes.new.items) spans.new.items) }
+    ensures fields { OnOk result (map (part_of bytes.new.items) spans.new.items ≡ fields_of fields.now) }
+{
+    bytes.clear();
+    spans.clear();
+    for place in 0..fields.len() {
+        let Some(field) = fields.get(place) else {
+            unreachable!()
+        };
+        let start = bytes.len();
+        bytes.extend_from_slice(field)?;
+        spans.push(Span {
+            start,
+            end: bytes.len(),
+        })?;
+    }
+    Ok(())
+}
+
+impl Row {
+    // Takes all fields away.
+    fn clear(&mut self)
+        ensures { self.new ≡ [] }
+    {
+        self.spans.clear();
+    }
+
+    // Puts the fields of a line in place of those of the row, or none where a growth is refused.
+    fn read_line(&mut self, line: &[u8]) -> Result<(), AllocError>
+        ensures ok { OnOk result (self.new ≡ parts 44 line.now) }
+        ensures err { OnErr result (self.new ≡ []) }
+    {
+        self.bytes.clear();
+        self.spans.clear();
+        let put = self.bytes.extend_from_slice(line);
+        if put.is_ok() && split(&self.bytes, &mut self.spans).is_ok() {
+            return Ok(());
+        }
+        self.spans.clear();
+        Err(AllocError)
+    }
+
+    // Puts the fields of a record of `csv` in place of those of the row, or none where a growth is
+    // refused.
+    fn read_record(&mut self, fields: &ByteRecord) -> Result<(), AllocError>
+        ensures ok { OnOk result (self.new ≡ fields_of fields.now) }
+        ensures err { OnErr result (self.new ≡ []) }
+    {
+        if gather(fields, &mut self.bytes, &mut self.spans).is_ok() {
+            return Ok(());
+        }
+        self.spans.clear();
+        Err(AllocError)
+    }
+}
+
+// A text without the feeds that it begins with.
+fn without_feeds(text: &[u8]) -> &[u8]
+    ensures same { records_of_lines_in result.now ≡ records_of_lines_in text.now }
+    ensures begins { begins_with_feed result.now ≡ false }
+{
+    let mut rest = text;
+    while let [b'\n', others @ ..] = rest {
+        rest = others;
+    }
+    rest
+}
+
+// The first line of a text that has a byte, and what stands behind it; both are empty where there is
+// none.
+fn first_line(text: &[u8]) -> (&[u8], &[u8])
+    ensures some { is_line result.0.now ≡ true → records_of_lines_in text.now ≡ parts 44 result.0.now ∷ records_of_lines_in result.1.now }
+    ensures none { is_line result.0.now ≡ false → (records_of_lines_in text.now ≡ []) × (records_of_lines_in result.1.now ≡ []) }
+{
+    let rest = without_feeds(text);
+    match memchr(b'\n', rest) {
+        Some(end) => (&rest[..end], &rest[end + 1..]),
+        None => (rest, b""),
+    }
 }
 
 // A reader of `csv` over a text: no header row, and records of any lengths.
@@ -90,6 +209,22 @@ fn reader_over(alloc: Global, text: &[u8]) -> Reader<&[u8]>
         .from_reader(alloc, text)
 }
 
+// A reader of `csv` that has nothing to read.
+fn reader_of_nothing<'a>(alloc: Global) -> Reader<&'a [u8]>
+    ensures reading { IsReading result }
+    ensures ended { rows_left result ≡ [] }
+{
+    reader_over(alloc, b"")
+}
+
+// Leaves a reader of `csv` nothing to read.
+fn close(alloc: Global, reader: &mut Reader<&[u8]>)
+    ensures reading { IsReading reader.new }
+    ensures ended { rows_left reader.new ≡ [] }
+{
+    *reader = reader_of_nothing(alloc);
+}
+
 // The next record of a reader of `csv`.
 fn read(reader: &mut Reader<&[u8]>, row: &mut ByteRecord) -> Result<bool, Error>
     requires { IsReading reader.old }
@@ -98,42 +233,35 @@ fn read(reader: &mut Reader<&[u8]>, row: &mut ByteRecord) -> Result<bool, Error>
     reader.read_byte_record(row)
 }
 
-// A reader with nothing left, and a row without fields.
-fn close(alloc: Global, reader: &mut Reader<&[u8]>, row: &mut ByteRecord)
-    ensures reading { IsReading reader.new }
-    ensures ended { rows_left reader.new ≡ [] }
-    ensures cleared { fields_of row.new ≡ [] }
-{
-    *reader = reader_over(alloc, b"");
-    row.clear();
-}
-
 // An error of `csv` on a plain text, over memory, is answered as want of memory.
 fn let_go(_error: Error) -> AllocError {
     AllocError
 }
 
-// The next record, or the end, after which the reader is closed.
-fn read_or_close(
+// The next record of a reader of `csv` in an empty row, or the end, after which the reader has
+// nothing left.
+fn read_row(
     alloc: Global,
     reader: &mut Reader<&[u8]>,
-    row: &mut ByteRecord,
+    fields: &mut ByteRecord,
+    row: &mut Row,
 ) -> Result<bool, AllocError>
-    requires { IsReading reader.old }
-    ensures reading { IsReading reader.new }
-    ensures ok { IfOk result (λ found. MatchBool found (rows_left reader.old ≡ fields_of row.new ∷ rows_left reader.new) ((rows_left reader.old ≡ []) × (rows_left reader.new ≡ []) × (fields_of row.new ≡ []))) }
-    ensures err { OnErr result ((rows_left reader.new ≡ []) × (fields_of row.new ≡ [])) }
+    requires reading { IsReading reader.old }
+    requires empty { row.old ≡ [] }
+    ensures reading { OnOk result (IsReading reader.new) }
+    ensures ok { IfOk result (λ found. MatchBool found (rows_left reader.old ≡ row.new ∷ rows_left reader.new) ((rows_left reader.old ≡ []) × (rows_left reader.new ≡ []) × (row.new ≡ []))) }
+    ensures err { OnErr result (row.new ≡ []) }
 {
-    match read(reader, row) {
-        Ok(true) => Ok(true),
+    match read(reader, fields) {
+        Ok(true) => {
+            row.read_record(fields)?;
+            Ok(true)
+        }
         Ok(false) => {
-            close(alloc, reader, row);
+            close(alloc, reader);
             Ok(false)
         }
-        Err(error) => {
-            close(alloc, reader, row);
-            Err(let_go(error))
-        }
+        Err(error) => Err(let_go(error)),
     }
 }
 
@@ -146,9 +274,19 @@ impl<'a> RecordReader<'a> {
         ensures records { result ≡ records_of_text text.entry.now }
         ensures few { length result ≤ length text.entry.now + 1 }
     {
-        RecordReader {
-            alloc,
-            reader: reader_over(alloc, text),
+        match memchr(b'\r', text) {
+            None => RecordReader {
+                alloc,
+                rest: text,
+                reader: reader_of_nothing(alloc),
+                record: ByteRecord::new(alloc),
+            },
+            Some(_) => RecordReader {
+                alloc,
+                rest: b"",
+                reader: reader_over(alloc, text),
+                record: ByteRecord::new(alloc),
+            },
         }
     }
 
@@ -161,6 +299,18 @@ impl<'a> RecordReader<'a> {
         ensures ok { IfOk result (λ found. MatchBool found (self.old ≡ row.new ∷ self.new) ((self.old ≡ []) × (self.new ≡ []) × (row.new ≡ []))) }
         ensures err { OnErr result ((self.new ≡ []) × (row.new ≡ [])) }
     {
-        read_or_close(self.alloc, &mut self.reader, &mut row.record)
+        row.clear();
+        let (line, rest) = first_line(self.rest);
+        self.rest = rest;
+        let read = if line.is_empty() {
+            read_row(self.alloc, &mut self.reader, &mut self.record, row)
+        } else {
+            row.read_line(line).map(|()| true)
+        };
+        if read.is_err() {
+            self.rest = b"";
+            close(self.alloc, &mut self.reader);
+        }
+        read
     }
 }

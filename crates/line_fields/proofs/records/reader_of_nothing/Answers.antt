@@ -1,6 +1,6 @@
 use Rattle.std.proofs.Common.{◌∙◌}
 use Rattle.line_fields.proofs.TextLemmas.{empty_is_input, records_of_nothing}
-use Rattle.line_fields.proofs.records.close.Goals as goal
+use Rattle.line_fields.proofs.records.reader_of_nothing.Goals as goal
 
 pub reader_over-requires : goal.reader_over-requires
 reader_over-requires c = empty_is_input
