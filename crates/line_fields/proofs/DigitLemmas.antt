@@ -1,5 +1,9 @@
 -- The table of digits says of each byte what its definition does.
-use Rattle.std.proofs.Common.{◌≡◌, ◌<◌, ℕ, zero, suc, ◌-◌, ◌==◌, ◌&&◌, not, Bool, true, false, Result, Ok, Err, refl, get_or, inl, inr, arith, eq-zero-or-pos, ne_eqb}
+use Rattle.std.specs.Int.Digits.{digits_of}
+use Rattle.std.specs.Prelude.{decimal}
+use Rattle.std.proofs.lemmas.Fmt.{decimal-digits_of}
+use Rattle.std.proofs.lemmas.Int.Digits.{digits_of_step}
+use Rattle.std.proofs.Common.{◌≡◌, ◌<◌, ◌≤◌, ◌+◌, ◌/◌, ◌%◌, ◌∙◌, ◌++◌, ◌∷◌, [], ℕ, List, ap, map, zero, suc, ◌-◌, ◌==◌, ◌&&◌, not, Bool, true, false, Result, Ok, Err, refl, get_or, inl, inr, arith, eq-zero-or-pos, ne_eqb}
 use Rattle.std.specs.Prelude.{nat_le, if◌then◌else◌}
 use Rattle.std.proofs.lemmas.Bool.{and_parts, eqb-true}
 use Rattle.line_fields.specs.declared.faults.Fault.{Fault}
@@ -63,3 +67,17 @@ digit_at byte lt =
     let told = entry_below 256 byte refl lt in
     says (nat_le 48 byte && nat_le byte 57) (nat_le 65 byte && nat_le byte 70)
     (nat_le 97 byte && nat_le byte 102) (byte - 48) (byte - 55) (byte - 87) (get_or VALUES byte 0) told
+
+no_hundreds : (n : ℕ) → n < 100 → (n / 10) / 10 ≡ 0
+no_hundreds n high = omega (arith, high)
+
+one_digit : (n : ℕ) → n < 100 → (n / 10) % 10 ≡ n / 10
+one_digit n high = omega (arith, high)
+
+-- the digits of a number of two digits
+pub decimal_pair : (n : ℕ) → 10 ≤ n → n < 100 → decimal n ≡ (48 + n / 10) ∷ (48 + n % 10) ∷ []
+decimal_pair n low high =
+    let none : digits_of 10 ((n / 10) / 10) ≡ [] = ap (digits_of 10) (no_hundreds n high) in
+    let tens : digits_of 10 (n / 10) ≡ (n / 10) ∷ [] =
+    digits_of_step 10 (n / 10) (omega arith) (omega (arith, low)) ∙ ap (λ (ds : List ℕ). ds ++ ((n / 10) % 10) ∷ []) none ∙ ap (λ (d : ℕ). d ∷ []) (one_digit n high) in
+    decimal-digits_of n (omega (arith, low)) (omega (arith, high)) ∙ ap (map (λ d. 48 + d)) (digits_of_step 10 n (omega arith) (omega (arith, low)) ∙ ap (λ (ds : List ℕ). ds ++ (n % 10) ∷ []) tens)

@@ -61,6 +61,9 @@ impl Draft {
         ensures ok { OnOk result (self.new ≡ self.old ++ decimal value ∷ []) }
         ensures err { OnErr result (self.new ≡ []) }
     {
+        if value < 100 {
+            return self.line.add_small(value as u8);
+        }
         self.line.add(self.decimal.format(value).as_bytes())
     }
 

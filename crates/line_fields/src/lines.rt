@@ -1,6 +1,6 @@
 //! A record that is written field by field, as the text of its line.
 
-ghost use Rattle.std.specs.Prelude.{◌≡◌, ◌≤◌, ◌<◌, ◌++◌, ◌∷◌, ◌+◌, ◌*◌, ◌^◌, [], true, IsTrue, OnErr, OnOk, length, vec_capacity, vec_len};
+ghost use Rattle.std.specs.Prelude.{◌≡◌, ◌≤◌, ◌<◌, ◌++◌, ◌∷◌, ◌+◌, ◌*◌, ◌^◌, [], true, IsTrue, OnErr, OnOk, length, vec_capacity, vec_len, decimal};
 ghost use Rattle.line_fields.specs.Texts.{has_name, hex_digit, hex_text, is_plain_field, record_text};
 ghost use Rattle.line_fields.specs.Writers.{text_before};
 
@@ -48,6 +48,20 @@ fn push_hex(out: &mut Vec<u8>, bytes: &[u8])
         let (high, low) = (*byte / 16, *byte % 16);
         out.push_reserved(hex_digit(high));
         out.push_reserved(hex_digit(low));
+    }
+}
+
+// Writes a number below 100, where there is room for two digits.
+fn push_small(out: &mut Vec<u8>, value: u8)
+    requires small { value < 100 }
+    requires room { vec_len out.old + 2 ≤ vec_capacity out.old }
+    ensures { out.new.items ≡ out.old.items ++ decimal value }
+{
+    if value < 10 {
+        out.push_reserved(b'0' + value);
+    } else {
+        out.push_reserved(b'0' + value / 10);
+        out.push_reserved(b'0' + value % 10);
     }
 }
 
@@ -129,6 +143,21 @@ impl Line {
         match begin(&mut self.text, &mut self.begun, field.len()) {
             Ok(()) => {
                 push_text(&mut self.text, field);
+                Ok(())
+            }
+            Err(refused) => Err(give_up(self, refused)),
+        }
+    }
+
+    /// Adds a number below 100, or leaves no field where a growth is refused.
+    pub fn add_small(&mut self, value: u8) -> Result<(), AllocError>
+        requires { value < 100 }
+        ensures ok { OnOk result (self.new ≡ self.old ++ decimal value ∷ []) }
+        ensures err { OnErr result (self.new ≡ []) }
+    {
+        match begin(&mut self.text, &mut self.begun, 2) {
+            Ok(()) => {
+                push_small(&mut self.text, value);
                 Ok(())
             }
             Err(refused) => Err(give_up(self, refused)),
