@@ -1,99 +1,23 @@
 -- The fields of a line, each where it stands in it, and the lines of a text without carriage returns.
-use Rattle.std.proofs.Common.{◌≡◌, ◌≤◌, ◌<◌, ◌==◌, ◌∙◌, ◌++◌, ◌∷◌, ◌+◌, ◌-◌, ℕ, List, [], Some, None, true, false, not, All, length, drop, take, map, get_or, refl, ap, sym, subst, inl, inr, arith, zero, suc, append_assoc}
-use Rattle.std.specs.Prelude.{Err, Ok, OnErr, Result}
+use Rattle.std.proofs.Common.{◌≡◌, ◌≤◌, ◌<◌, ◌==◌, ◌∙◌, ◌++◌, ◌∷◌, ◌+◌, ◌-◌, ℕ, List, [], Some, None, true, false, not, All, length, drop, take, map, get_or, refl, ap, sym, subst, inl, inr, arith, zero, suc, append_assoc, le-leb}
+use Rattle.std.specs.Prelude.{Bool, Err, IfOk, MatchBool, Ok, OnErr, Result}
 use Rattle.std.proofs.Math.Seq.{take-suc, take-append-add, drop-append_seam}
+use Rattle.std.proofs.Math.Nat.{eq-or-lt_of_le}
+use Rattle.std.specs.Prelude.{nat_le}
 use Rattle.std.proofs.lemmas.Bool.{cases_Bool, eqb-true}
-use Rattle.std.proofs.lemmas.List.{append-nil, take-append-drop, length-append, length-drop, length-take-le, take_all, take-append-le, drop-append-le, drop_more, get_or-drop, get_or-take, map-append}
+use Rattle.std.proofs.lemmas.List.{append-nil, take-append-drop, length-append, length-drop, length-take-le, take_all, drop_all, take-append-le, drop-append-le, drop_more, get_or-drop, get_or-take, map-append}
 use Rattle.std.proofs.lemmas.List.Elements.{All-nil, All-push, All-head, All-tail, All-from_get_or}
 use Rattle.std.proofs.lemmas.List.Folds.{list_all-append}
 use Rattle.std.proofs.lemmas.List.Sums.{list_all-from_AllPass}
 use Rattle.csv.specs.Records.{field_at}
-use Rattle.memchr.specs.Find.{NoneBefore, Nowhere, Passes, is_byte}
+use Rattle.memchr.specs.Find.{Nowhere, Passes, is_byte}
 use Rattle.line_fields.specs.Bytes.{begins_with_feed}
 use Rattle.line_fields.specs.Records.{Record, cut, is_line, parts, records_of_lines, records_of_text, without}
-use Rattle.line_fields.specs.Rows.{IsWithin, part_of, records_of_lines_in}
+use Rattle.line_fields.specs.Rows.{IsLineEnd, IsWithin, part_of, records_of_lines_in, span_of}
 use Rattle.line_fields.specs.declared.records.Span.{Span}
 use Rattle.line_fields.proofs.FieldLemmas.{field_found}
 use Rattle.line_fields.proofs.ReadAgain.{is_clear, parts-clear, parts-mark, without-clear}
 use Rattle.line_fields.proofs.TextLemmas.{rest_is}
-
--- a line is cut into fields as far as a place, where a field is at hand that began before it
-pub record IsCut (line : List ℕ) (spans : List Span) (start end : ℕ) : Type 0 where
-  pub ordered : start ≤ end
-  pub within : All (IsWithin line) spans
-  pub clear : is_clear 44 (take (end - start) (drop start line)) ≡ true
-  pub cut : (rest : List ℕ) → parts 44 (take start line ++ rest) ≡ map (part_of line) spans ++ parts 44 rest
-
-pub cut_begins : (line : List ℕ) → IsCut line [] 0 0
-cut_begins line = record { ordered = omega arith; within = All-nil (IsWithin line); clear = refl; cut = λ rest. refl }
-
--- the list as far as a place, and one place further
-one_further : (xs : List ℕ) (start end : ℕ) → start ≤ end → end < length xs
-    → take ((end + 1) - start) (drop start xs) ≡ take (end - start) (drop start xs) ++ (get_or xs end 0 ∷ [])
-one_further xs start end le lt =
-    let long = length-drop start xs in
-    let k : ℕ = end - start in
-    let next : (end + 1) - start ≡ suc k = omega arith in
-    let place : start + k ≡ end = omega arith in
-    let at : get_or (drop start xs) k 0 ≡ get_or xs end 0 = get_or-drop start xs k 0 ∙ ap (λ (i : ℕ). get_or xs i 0) place in
-    ap (λ (n : ℕ). take n (drop start xs)) next ∙ take-suc (drop start xs) k 0 (omega (arith, long)) ∙ ap (λ (b : ℕ). take k (drop start xs) ++ (b ∷ [])) at
-
--- a list as far as one place is that as far as another, and what lies between
-between : (xs : List ℕ) (start end : ℕ) → start ≤ end → end ≤ length xs → take end xs ≡ take start xs ++ take (end - start) (drop start xs)
-between xs start end le within =
-    let front : List ℕ = take start xs in
-    let long : length front ≡ start = length-take-le start xs (omega (arith, le, within)) in
-    let whole : end ≡ length front + (end - start) = omega (arith, long, le) in
-    ap (λ (n : ℕ). take n xs) whole ∙ ap (λ (ys : List ℕ). take (length front + (end - start)) ys) (sym (take-append-drop start xs))
-    ∙ take-append-add front (drop start xs) (end - start)
-
-pub cut_goes_on : (line : List ℕ) (spans : List Span) (start end : ℕ) → IsCut line spans start end → end < length line → (get_or line end 0 == 44) ≡ false → IsCut line spans start (end + 1)
-cut_goes_on line spans start end so lt other =
-    let more = one_further line start end so.ordered lt in
-    let clear : is_clear 44 (take (end - start) (drop start line) ++ (get_or line end 0 ∷ [])) ≡ true =
-    rw (list_all-append (λ b. not (b == 44)) (take (end - start) (drop start line)) (get_or line end 0 ∷ []), so.clear, other) refl in
-    record { ordered = omega (arith, so.ordered); within = so.within; clear = ap (is_clear 44) more ∙ clear; cut = so.cut }
-
--- a span, made of where it begins and ends
-abbrev pub span_of : ℕ → ℕ → Span
-span_of start end = record { start = start; end = end }
-
-plus_one : (n : ℕ) → n + 1 ≡ suc n
-plus_one n = omega arith
-
-nothing_is_clear : (xs : List ℕ) (n : ℕ) → is_clear 44 (take (n - n) (drop n xs)) ≡ true
-nothing_is_clear xs n =
-    let none : n - n ≡ 0 = omega arith in
-    ap (λ (k : ℕ). is_clear 44 (take k (drop n xs))) none
-
-pub cut_at_comma : (line : List ℕ) (spans : List Span) (start end : ℕ) → IsCut line spans start end → end < length line → get_or line end 0 ≡ 44 → IsCut line (spans ++ span_of start end ∷ []) (end + 1) (end + 1)
-cut_at_comma line spans start end so lt comma =
-    let part : List ℕ = take (end - start) (drop start line) in
-    let front : take (end + 1) line ≡ (take start line ++ part) ++ (44 ∷ []) =
-    ap (λ (n : ℕ). take n line) (plus_one end) ∙ take-suc line end 0 lt ∙ ap (λ (b : ℕ). take end line ++ (b ∷ [])) comma ∙ ap (λ (xs : List ℕ). xs ++ (44 ∷ [])) (between line start end so.ordered (omega arith)) in
-    record {
-      ordered = omega arith;
-      within = All-push (IsWithin line) spans (span_of start end) so.within (record { ordered = so.ordered; within = omega arith });
-      clear = nothing_is_clear line (end + 1);
-      cut = λ rest.
-          ap (λ (xs : List ℕ). parts 44 (xs ++ rest)) front
-          ∙ ap (parts 44) (append_assoc (take start line ++ part) (44 ∷ []) rest ∙ append_assoc (take start line) part (44 ∷ rest))
-          ∙ so.cut (part ++ (44 ∷ rest))
-          ∙ ap (λ (fields : Record). map (part_of line) spans ++ fields) (parts-mark 44 part rest so.clear)
-          ∙ sym (append_assoc (map (part_of line) spans) (part ∷ []) (parts 44 rest))
-          ∙ ap (λ (fields : Record). fields ++ parts 44 rest) (sym (map-append (part_of line) spans (span_of start end ∷ [])));
-    }
-
-pub cut_ends : (line : List ℕ) (spans : List Span) (start : ℕ) → IsCut line spans start (length line) → map (part_of line) (spans ++ span_of start (length line) ∷ []) ≡ parts 44 line
-cut_ends line spans start so =
-    let part : List ℕ = take (length line - start) (drop start line) in
-    let rest : part ≡ drop start line = rest_is line start in
-    map-append (part_of line) spans (span_of start (length line) ∷ [])
-    ∙ ap (λ (fields : Record). map (part_of line) spans ++ fields) (sym (parts-clear 44 part so.clear))
-    ∙ sym (so.cut part) ∙ ap (λ (xs : List ℕ). parts 44 (take start line ++ xs)) rest ∙ ap (parts 44) (take-append-drop start line)
-
-pub ends_within : (line : List ℕ) (spans : List Span) (start : ℕ) → IsCut line spans start (length line) → All (IsWithin line) (spans ++ span_of start (length line) ∷ [])
-ends_within line spans start so = All-push (IsWithin line) spans (span_of start (length line)) so.within (record { ordered = so.ordered; within = omega arith })
 
 -- bytes that are added behind leave what spans name as it is
 all_stay : (bytes more : List ℕ) (spans : List Span) → All (IsWithin bytes) spans → All (IsWithin (bytes ++ more)) spans
@@ -114,6 +38,131 @@ parts_stay bytes more (span ∷ others) all =
     let one = part_stays bytes more span (All-head (IsWithin bytes) span others all) in
     let rest = parts_stay bytes more others (All-tail (IsWithin bytes) span others all) in
     ap (λ (x : List ℕ). x ∷ map (part_of (bytes ++ more)) others) one ∙ ap (λ (xs : Record). part_of bytes span ∷ xs) rest
+
+-- a text is cut into fields as far as a place, where a field is at hand that began before it
+pub record IsCut (text : List ℕ) (spans : List Span) (start end : ℕ) : Type 0 where
+  pub ordered : start ≤ end
+  pub inside : end ≤ length text
+  pub within : All (IsWithin (take end text)) spans
+  pub clear : is_clear 44 (take (end - start) (drop start text)) ≡ true
+  pub no_feed : is_clear 10 (take end text) ≡ true
+  pub cut : (rest : List ℕ) → parts 44 (take start text ++ rest) ≡ map (part_of text) spans ++ parts 44 rest
+
+pub cut_begins : (text : List ℕ) → IsCut text [] 0 0
+cut_begins text = record { ordered = omega arith; inside = omega arith; within = All-nil (IsWithin []); clear = refl; no_feed = refl; cut = λ rest. refl }
+
+plus_one : (n : ℕ) → n + 1 ≡ suc n
+plus_one n = omega arith
+
+-- a list as far as a place, and one place further
+further : (xs : List ℕ) (end : ℕ) → end < length xs → take (end + 1) xs ≡ take end xs ++ get_or xs end 0 ∷ []
+further xs end lt = ap (λ (n : ℕ). take n xs) (plus_one end) ∙ take-suc xs end 0 lt
+
+one_further : (xs : List ℕ) (start end : ℕ) → start ≤ end → end < length xs
+    → take ((end + 1) - start) (drop start xs) ≡ take (end - start) (drop start xs) ++ get_or xs end 0 ∷ []
+one_further xs start end le lt =
+    let long = length-drop start xs in
+    let k : ℕ = end - start in
+    let next : (end + 1) - start ≡ suc k = omega arith in
+    let place : start + k ≡ end = omega arith in
+    let at : get_or (drop start xs) k 0 ≡ get_or xs end 0 = get_or-drop start xs k 0 ∙ ap (λ (i : ℕ). get_or xs i 0) place in
+    ap (λ (n : ℕ). take n (drop start xs)) next ∙ take-suc (drop start xs) k 0 (omega (arith, long)) ∙ ap (λ (b : ℕ). take k (drop start xs) ++ b ∷ []) at
+
+-- a list as far as one place is that as far as another, and what lies between
+between : (xs : List ℕ) (start end : ℕ) → start ≤ end → end ≤ length xs → take end xs ≡ take start xs ++ take (end - start) (drop start xs)
+between xs start end le within =
+    let front : List ℕ = take start xs in
+    let long : length front ≡ start = length-take-le start xs (omega (arith, le, within)) in
+    let whole : end ≡ length front + (end - start) = omega (arith, long, le) in
+    ap (λ (n : ℕ). take n xs) whole ∙ ap (λ (ys : List ℕ). take (length front + (end - start)) ys) (sym (take-append-drop start xs))
+    ∙ take-append-add front (drop start xs) (end - start)
+
+clear_more : (mark : ℕ) (xs : List ℕ) (b : ℕ) → is_clear mark xs ≡ true → (b == mark) ≡ false → is_clear mark (xs ++ b ∷ []) ≡ true
+clear_more mark xs b clear other = rw (list_all-append (λ c. not (c == mark)) xs (b ∷ []), clear, other) refl
+
+within_more : (text : List ℕ) (spans : List Span) (end : ℕ) → end < length text → All (IsWithin (take end text)) spans → All (IsWithin (take (end + 1) text)) spans
+within_more text spans end lt all = subst (λ (xs : List ℕ). All (IsWithin xs) spans) (sym (further text end lt)) (all_stay (take end text) (get_or text end 0 ∷ []) spans all)
+
+no_further : (n : ℕ) → n ≡ n + 0
+no_further n = omega arith
+
+one_more : (n k : ℕ) → (n + k) + 1 ≡ n + suc k
+one_more n k = omega arith
+
+pub cut_goes_on : (text : List ℕ) (spans : List Span) (start end : ℕ) → IsCut text spans start end → end < length text → (get_or text end 0 == 44) ≡ false → (get_or text end 0 == 10) ≡ false
+    → IsCut text spans start (end + 1)
+cut_goes_on text spans start end so lt other no_feed = record {
+  ordered = omega (arith, so.ordered);
+  inside = omega arith;
+  within = within_more text spans end lt so.within;
+  clear = ap (is_clear 44) (one_further text start end so.ordered lt) ∙ clear_more 44 (take (end - start) (drop start text)) (get_or text end 0) so.clear other;
+  no_feed = ap (is_clear 10) (further text end lt) ∙ clear_more 10 (take end text) (get_or text end 0) so.no_feed no_feed;
+  cut = so.cut;
+}
+
+above_is_no : (b mark : ℕ) → nat_le b 44 ≡ false → mark ≤ 44 → (b == mark) ≡ false
+above_is_no b mark above low = elim (cases_Bool (b == mark)) [
+  | inl e ↦ cc (sym above ∙ le-leb b 44 (omega (arith, eqb-true b mark e)))
+  | inr e ↦ e
+]
+
+-- as far as bytes above the comma go
+pub cut_runs : (text : List ℕ) (spans : List Span) (start end k : ℕ) → IsCut text spans start end → end + k ≤ length text
+    → ((i : ℕ) → end ≤ i → i < end + k → nat_le (get_or text i 0) 44 ≡ false) → IsCut text spans start (end + k)
+cut_runs text spans start end zero so inside above = subst (λ n. IsCut text spans start n) (no_further end) so
+cut_runs text spans start end (suc k) so inside above =
+    let shorter : end + k ≤ length text = omega (arith, inside) in
+    let before = cut_runs text spans start end k so shorter (λ i low high. above i low (omega (arith, high))) in
+    let here : nat_le (get_or text (end + k) 0) 44 ≡ false = above (end + k) (omega arith) (omega arith) in
+    subst (λ n. IsCut text spans start n) (one_more end k)
+    (cut_goes_on text spans start (end + k) before (omega (arith, inside)) (above_is_no (get_or text (end + k) 0) 44 here (omega arith)) (above_is_no (get_or text (end + k) 0) 10 here (omega arith)))
+
+nothing_is_clear : (xs : List ℕ) (n : ℕ) → is_clear 44 (take (n - n) (drop n xs)) ≡ true
+nothing_is_clear xs n =
+    let none : n - n ≡ 0 = omega arith in
+    ap (λ (k : ℕ). is_clear 44 (take k (drop n xs))) none
+
+pub cut_at_comma : (text : List ℕ) (spans : List Span) (start end : ℕ) → IsCut text spans start end → end < length text → get_or text end 0 ≡ 44 → IsCut text (spans ++ span_of start end ∷ []) (end + 1) (end + 1)
+cut_at_comma text spans start end so lt comma =
+    let part : List ℕ = take (end - start) (drop start text) in
+    let front : take (end + 1) text ≡ (take start text ++ part) ++ (44 ∷ []) =
+    further text end lt ∙ ap (λ (b : ℕ). take end text ++ (b ∷ [])) comma ∙ ap (λ (xs : List ℕ). xs ++ (44 ∷ [])) (between text start end so.ordered (omega arith)) in
+    let long : length (take (end + 1) text) ≡ end + 1 = length-take-le (end + 1) text (omega arith) in
+    let no_feed : (get_or text end 0 == 10) ≡ false = ap (λ (b : ℕ). b == 10) comma in
+    record {
+      ordered = omega arith;
+      inside = omega arith;
+      within = All-push (IsWithin (take (end + 1) text)) spans (span_of start end) (within_more text spans end lt so.within) (record { ordered = so.ordered; within = omega (arith, long) });
+      clear = nothing_is_clear text (end + 1);
+      no_feed = ap (is_clear 10) (further text end lt) ∙ clear_more 10 (take end text) (get_or text end 0) so.no_feed no_feed;
+      cut = λ rest.
+          ap (λ (xs : List ℕ). parts 44 (xs ++ rest)) front
+          ∙ ap (parts 44) (append_assoc (take start text ++ part) (44 ∷ []) rest ∙ append_assoc (take start text) part (44 ∷ rest))
+          ∙ so.cut (part ++ (44 ∷ rest))
+          ∙ ap (λ (fields : Record). map (part_of text) spans ++ fields) (parts-mark 44 part rest so.clear)
+          ∙ sym (append_assoc (map (part_of text) spans) (part ∷ []) (parts 44 rest))
+          ∙ ap (λ (fields : Record). fields ++ parts 44 rest) (sym (map-append (part_of text) spans (span_of start end ∷ [])));
+    }
+
+-- the last field of a line ends with it
+pub ends_within : (text : List ℕ) (spans : List Span) (start end : ℕ) → IsCut text spans start end → All (IsWithin (take end text)) (spans ++ span_of start end ∷ [])
+ends_within text spans start end so =
+    let long : length (take end text) ≡ end = length-take-le end text so.inside in
+    All-push (IsWithin (take end text)) spans (span_of start end) so.within (record { ordered = so.ordered; within = omega (arith, long) })
+
+pub cut_ends : (text : List ℕ) (spans : List Span) (start end : ℕ) → IsCut text spans start end → map (part_of (take end text)) (spans ++ span_of start end ∷ []) ≡ parts 44 (take end text)
+cut_ends text spans start end so =
+    let part : List ℕ = take (end - start) (drop start text) in
+    let all : List Span = spans ++ span_of start end ∷ [] in
+    let whole : take end text ++ drop end text ≡ text = take-append-drop end text in
+    sym (parts_stay (take end text) (drop end text) all (ends_within text spans start end so))
+    ∙ ap (λ (xs : List ℕ). map (part_of xs) all) whole
+    ∙ map-append (part_of text) spans (span_of start end ∷ [])
+    ∙ ap (λ (fields : Record). map (part_of text) spans ++ fields) (sym (parts-clear 44 part so.clear))
+    ∙ sym (so.cut part) ∙ ap (parts 44) (sym (between text start end so.ordered so.inside))
+
+pub line_ends : (text : List ℕ) (spans : List Span) (start end : ℕ) → IsCut text spans start end → (end < length text → get_or text end 0 ≡ 10) → IsLineEnd text end
+line_ends text spans start end so feed = record { within = so.inside; no_feed = so.no_feed; feed = feed }
 
 new_part : (bytes more : List ℕ) → part_of (bytes ++ more) (span_of (length bytes) (length (bytes ++ more))) ≡ more
 new_part bytes more =
@@ -170,37 +219,49 @@ clear_before mark xs end le none =
 kept : (line : List ℕ) (lines : List (List ℕ)) → is_line line ≡ true → records_of_lines (line ∷ lines) ≡ parts 44 line ∷ records_of_lines lines
 kept line lines some = rw some refl
 
-pub line_found : (xs : List ℕ) (end : ℕ) → NoneBefore (Passes (is_byte 10) xs) 0 (length xs) end × Passes (is_byte 10) xs end → is_line (take end xs) ≡ true
-    → records_of_lines_in xs ≡ parts 44 (take end xs) ∷ records_of_lines_in (take (length xs - (end + 1)) (drop (end + 1) xs))
-line_found xs end first some =
-    let at : get_or xs end 0 ≡ 10 = eqb-true (get_or xs end 0) 10 first.1 in
-    let behind : drop end xs ≡ 10 ∷ drop (end + 1) xs = drop_more xs end 0 first.0.high ∙ ap (λ (b : ℕ). b ∷ drop (end + 1) xs) at in
-    let whole : xs ≡ take end xs ++ (10 ∷ drop (end + 1) xs) = sym (take-append-drop end xs) ∙ ap (λ (ys : List ℕ). take end xs ++ ys) behind in
-    let clear = clear_before 10 xs end (omega (arith, first.0.high)) first.0.before in
-    ap records_of_lines_in whole ∙ ap records_of_lines (parts-mark 10 (take end xs) (drop (end + 1) xs) clear) ∙ kept (take end xs) (parts 10 (drop (end + 1) xs)) some
-    ∙ ap (λ (ys : List ℕ). parts 44 (take end xs) ∷ records_of_lines_in ys) (sym (rest_is xs (end + 1)))
+-- the first line of a text that begins with no feed has a byte
+feed_first : (c : ℕ) → c ≡ 10 → (c == 10) ≡ true
+feed_first c e = ap (λ (b : ℕ). b == 10) e
 
-pub last_line : (xs : List ℕ) → Nowhere (Passes (is_byte 10) xs) 0 (length xs) → is_line xs ≡ true → records_of_lines_in xs ≡ parts 44 xs ∷ records_of_lines_in []
-unfolding cut
-last_line xs none some =
-    let all : take (length xs) xs ≡ xs = take_all (length xs) xs (omega arith) in
-    let clear : is_clear 10 xs ≡ true = subst (λ (ys : List ℕ). is_clear 10 ys ≡ true) all (clear_before 10 xs (length xs) (omega arith) none) in
-    ap records_of_lines (parts-clear 10 xs clear) ∙ kept xs [] some
+some_line : (text : List ℕ) (end : ℕ) → IsLineEnd text end → is_line text ≡ true → begins_with_feed text ≡ false → is_line (take end text) ≡ true
+some_line [] end ends some begins = cc some
+some_line (c ∷ rest) zero ends some begins = cc (sym begins ∙ feed_first c (ends.feed (omega arith)))
+some_line (c ∷ rest) (suc end) ends some begins = refl
+
+feed_follows : (text : List ℕ) (end : ℕ) → IsLineEnd text end → end < length text → is_line (take end text) ≡ true
+    → records_of_lines_in text ≡ parts 44 (take end text) ∷ records_of_lines_in (drop (end + 1) text)
+feed_follows text end ends lt some =
+    let feed : get_or text end 0 ≡ 10 = ends.feed lt in
+    let rest : drop end text ≡ 10 ∷ drop (end + 1) text = drop_more text end 0 lt ∙ ap (λ (b : ℕ). b ∷ drop (end + 1) text) feed in
+    let whole : text ≡ take end text ++ (10 ∷ drop (end + 1) text) = sym (take-append-drop end text) ∙ ap (λ (ys : List ℕ). take end text ++ ys) rest in
+    ap records_of_lines_in whole ∙ ap records_of_lines (parts-mark 10 (take end text) (drop (end + 1) text) ends.no_feed) ∙ kept (take end text) (parts 10 (drop (end + 1) text)) some
 
 pub nothing_in : records_of_lines_in [] ≡ []
 unfolding cut
 nothing_in = refl
 
+text_ends : (text : List ℕ) (end : ℕ) → IsLineEnd text end → end ≡ length text → is_line text ≡ true
+    → records_of_lines_in text ≡ parts 44 (take end text) ∷ records_of_lines_in (drop (end + 1) text)
+text_ends text end ends at some =
+    let all : take end text ≡ text = take_all end text (omega (arith, at)) in
+    let none : drop (end + 1) text ≡ [] = drop_all (end + 1) text (omega (arith, at)) in
+    let clear : is_clear 10 text ≡ true = subst (λ (ys : List ℕ). is_clear 10 ys ≡ true) all ends.no_feed in
+    ap records_of_lines (parts-clear 10 text clear) ∙ kept text [] some
+    ∙ ap (λ (fields : Record). fields ∷ []) (ap (parts 44) (sym all))
+    ∙ ap (λ (records : List Record). parts 44 (take end text) ∷ records) (sym (ap records_of_lines_in none ∙ nothing_in))
+
+-- the first record of a text is that of its first line
+pub first_record : (text : List ℕ) (end : ℕ) → IsLineEnd text end → is_line text ≡ true → begins_with_feed text ≡ false
+    → records_of_lines_in text ≡ parts 44 (take end text) ∷ records_of_lines_in (drop (end + 1) text)
+first_record text end ends some begins = elim (eq-or-lt_of_le ends.within) [
+  | inl at ↦ text_ends text end ends at some
+  | inr lt ↦ feed_follows text end ends lt (some_line text end ends some begins)
+]
+
 pub no_line : (xs : List ℕ) → is_line xs ≡ false → records_of_lines_in xs ≡ []
 unfolding cut
 no_line [] none = refl
 no_line (c ∷ rest) none = cc none
-
--- a line that ends where a text begins is empty, so that the text begins with a feed
-pub not_first : (xs : List ℕ) (end : ℕ) → NoneBefore (Passes (is_byte 10) xs) 0 (length xs) end × Passes (is_byte 10) xs end → begins_with_feed xs ≡ false → is_line (take end xs) ≡ true
-not_first [] end first feed = absurd (omega (arith, first.0.high))
-not_first (c ∷ rest) zero first feed = cc (sym feed ∙ first.1)
-not_first (c ∷ rest) (suc end) first feed = refl
 
 -- a text without carriage returns
 pub without_returns : (xs : List ℕ) → Nowhere (Passes (is_byte 13) xs) 0 (length xs) → records_of_text xs ≡ records_of_lines_in xs
@@ -214,3 +275,11 @@ without_returns xs none =
 pub with_error : {A E : Type 0} → {P : Type 0} → (r : Result A E) → (Q : Type 0) → P → OnErr r Q → OnErr r (P × Q)
 with_error (Ok x) Q p q = tt
 with_error (Err e) Q p q = (p, q)
+
+-- where nothing is left of the lines, what a reader of `csv` gives is all
+pub read_by_csv : {E : Type 0} → (r : Result Bool E) → (before after old : List Record) (row : Record)
+    → IfOk r (λ found. MatchBool found (before ≡ row ∷ after) ((before ≡ []) × (after ≡ []) × (row ≡ []))) → old ≡ before
+    → IfOk r (λ found. MatchBool found (old ≡ row ∷ (records_of_lines_in [] ++ after)) ((old ≡ []) × (records_of_lines_in [] ++ after ≡ []) × (row ≡ [])))
+read_by_csv (Ok true) before after old row h is = is ∙ h ∙ ap (λ (rs : List Record). row ∷ (rs ++ after)) (sym nothing_in)
+read_by_csv (Ok false) before after old row h is = (is ∙ h.0, ap (λ (rs : List Record). rs ++ after) nothing_in ∙ h.1, h.2)
+read_by_csv (Err e) before after old row h is = tt

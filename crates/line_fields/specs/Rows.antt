@@ -1,5 +1,6 @@
 -- What a row holds, and what a reader still has to give.
-use Rattle.std.specs.Prelude.{◌≡◌, ◌≤◌, ◌-◌, ℕ, List, [], ◌∷◌, ◌++◌, true, Option, Some, None, if◌then◌else◌, IsSome, drop, length, take}
+use Rattle.std.specs.List.{list_all}
+use Rattle.std.specs.Prelude.{◌≡◌, ◌≤◌, ◌<◌, ◌==◌, ◌-◌, not, slice_index_or, ℕ, List, [], ◌∷◌, ◌++◌, true, Option, Some, None, if◌then◌else◌, IsSome, drop, length, take}
 use Rattle.std.specs.Borrow.{Bor}
 use Rattle.csv.specs.Machine.{step, is_end, fields_after, field_after, ends_at_end}
 use Rattle.csv.specs.Reading.{default_config, source_of, Ready, reader_trim, reader_config, reader_state, is_flexible}
@@ -13,10 +14,20 @@ use Rattle.line_fields.specs.Records.{Record, parts, records_of_lines}
 abbrev pub part_of : List ℕ → Span → List ℕ
 part_of bytes span = take (span.end - span.start) (drop span.start bytes)
 
+-- a span, made of where it begins and ends
+abbrev pub span_of : ℕ → ℕ → Span
+span_of start end = record { start = start; end = end }
+
 -- a span lies within some bytes
 pub record IsWithin (bytes : List ℕ) (span : Span) : Type 0 where
   pub ordered : span.start ≤ span.end
   pub within : span.end ≤ length bytes
+
+-- the first line of a text ends at that place, before a feed or where the text ends
+pub record IsLineEnd (text : List ℕ) (end : ℕ) : Type 0 where
+  pub within : end ≤ length text
+  pub no_feed : list_all (λ byte. not (byte == 10)) (take end text) ≡ true
+  pub feed : end < length text → slice_index_or text end 0 ≡ 10
 
 -- the records of a text without carriage returns
 abbrev pub records_of_lines_in : List ℕ → List Record

@@ -1,15 +1,18 @@
 //! The records of an input text, one at a time. A text with carriage returns is read by `csv`.
 
-ghost use Rattle.std.specs.Prelude.{◌≡◌, ◌==◌, ◌+◌, ◌≤◌, ◌∷◌, [], true, false, All, IfOk, IsTrue, MatchBool, OnErr, OnOk, length, map};
+ghost use Rattle.std.specs.Prelude.{◌≡◌, ◌==◌, ◌+◌, ◌≤◌, ◌∷◌, [], true, false, All, IfOk, IsTrue, MatchBool, OnErr, OnOk, length, map, ℕ, ◌<◌, nat_le, not, slice_index_or, take, drop, ◌++◌};
+ghost use Rattle.std.specs.List.{prefix_len};
+ghost use Rattle.std.specs.Simd.Lanes.{chunk};
 ghost use Rattle.csv.specs.Records.{fields_of};
 ghost use Rattle.line_fields.specs.Bytes.{begins_with_feed, is_input_text};
 ghost use Rattle.line_fields.specs.Records.{field, is_line, parts, records_of_text};
-ghost use Rattle.line_fields.specs.Rows.{IsReading, IsWithin, part_of, records_of_lines_in, rows_left};
+ghost use Rattle.line_fields.specs.Rows.{IsLineEnd, IsReading, IsWithin, part_of, records_of_lines_in, rows_left};
 
 use csv::{ByteRecord, Error, Reader, ReaderBuilder};
 use memchr::memchr;
 use std::alloc::{AllocError, Global};
 use std::marker::Model;
+use std::simd::prelude::*;
 
 /// Where a field begins and ends in the bytes of its row.
 #[derive(Clone, Copy)]
@@ -94,24 +97,59 @@ impl<'a> Model for RecordReader<'a> {
     ghost invariant = { λ s. IsReading s.reader };
 }
 
-// The fields of a line, each where it stands in it.
-fn split(line: &[u8], spans: &mut Vec<Span>) -> Result<(), AllocError>
-    ensures within { OnOk result (All (IsWithin line.now) spans.new.items) }
-    ensures fields { OnOk result (map (part_of line.now) spans.new.items ≡ parts 44 line.now) }
+// How many bytes stand before the first of sixteen that is no greater than the comma.
+fn run_of_sixteen(text: &[u8], at: usize) -> usize
+    requires { at + 16 ≤ length text.now }
+    ensures { result ≡ prefix_len (λ byte. not (nat_le byte 44)) (chunk at 16 text.now) }
+{
+    let low = u8x16::from_slice(&text[at..])
+        .simd_le(u8x16::splat(b','))
+        .to_bitmask();
+    if low == 0 {
+        16
+    } else {
+        low.trailing_zeros() as usize
+    }
+}
+
+// How many of the next sixteen bytes, or near the end of a text of the next one, stand before the
+// first that is no greater than the comma.
+fn run(text: &[u8], at: usize) -> usize
+    requires { at < length text.now }
+    ensures within { at + result ≤ length text.now }
+    ensures above { (k : ℕ) → at ≤ k → k < at + result → nat_le (slice_index_or text.now k 0) 44 ≡ false }
+{
+    if text.len() - at < 16 {
+        return usize::from(text[at] > b',');
+    }
+    run_of_sixteen(text, at)
+}
+
+// The fields of the first line of a text, each where it stands in it, and where that line ends.
+//
+// A byte that is above the comma is neither a comma nor a line feed.
+fn split(text: &[u8], spans: &mut Vec<Span>) -> Result<usize, AllocError>
+    ensures line { IfOk result (λ end. IsLineEnd text.now end) }
+    ensures within { IfOk result (λ end. All (IsWithin (take end text.now)) spans.new.items) }
+    ensures fields { IfOk result (λ end. map (part_of (take end text.now)) spans.new.items ≡ parts 44 (take end text.now)) }
 {
     spans.clear();
     let mut start = 0;
-    for end in 0..line.len() {
-        if line[end] == b',' {
-            spans.push(Span { start, end })?;
-            start = end + 1;
+    let mut at = 0;
+    while at < text.len() {
+        at += run(text, at);
+        if at == text.len() || text[at] == b'\n' {
+            spans.push(Span { start, end: at })?;
+            return Ok(at);
         }
+        if text[at] == b',' {
+            spans.push(Span { start, end: at })?;
+            start = at + 1;
+        }
+        at += 1;
     }
-    spans.push(Span {
-        start,
-        end: line.len(),
-    })?;
-    Ok(())
+    spans.push(Span { start, end: at })?;
+    Ok(at)
 }
 
 // The fields of a record of `csv`, one behind the other, and where each stands.
@@ -143,16 +181,19 @@ impl Row {
         self.spans.clear();
     }
 
-    // Puts the fields of a line in place of those of the row, or none where a growth is refused.
-    fn read_line(&mut self, line: &[u8]) -> Result<(), AllocError>
-        ensures ok { OnOk result (self.new ≡ parts 44 line.now) }
+    // Puts the fields of the first line of a text in place of those of the row, or none where a
+    // growth is refused, and says where that line ends.
+    fn read_line(&mut self, text: &[u8]) -> Result<usize, AllocError>
+        ensures line { IfOk result (λ end. IsLineEnd text.now end) }
+        ensures ok { IfOk result (λ end. self.new ≡ parts 44 (take end text.now)) }
         ensures err { OnErr result (self.new ≡ []) }
     {
+        self.clear();
         self.bytes.clear();
-        self.spans.clear();
-        let put = self.bytes.extend_from_slice(line);
-        if put.is_ok() && split(&self.bytes, &mut self.spans).is_ok() {
-            return Ok(());
+        if let Ok(end) = split(text, &mut self.spans) {
+            if self.bytes.extend_from_slice(&text[..end]).is_ok() {
+                return Ok(end);
+            }
         }
         self.spans.clear();
         Err(AllocError)
@@ -184,17 +225,27 @@ fn without_feeds(text: &[u8]) -> &[u8]
     rest
 }
 
-// The first line of a text that has a byte, and what stands behind it; both are empty where there is
-// none.
-fn first_line(text: &[u8]) -> (&[u8], &[u8])
-    ensures some { is_line result.0.now ≡ true → records_of_lines_in text.now ≡ parts 44 result.0.now ∷ records_of_lines_in result.1.now }
-    ensures none { is_line result.0.now ≡ false → (records_of_lines_in text.now ≡ []) × (records_of_lines_in result.1.now ≡ []) }
+// What stands behind the line of a text that ends at a place.
+fn behind(text: &[u8], end: usize) -> &[u8]
+    ensures { result.now ≡ drop (end + 1) text.now }
 {
-    let rest = without_feeds(text);
-    match memchr(b'\n', rest) {
-        Some(end) => (&rest[..end], &rest[end + 1..]),
-        None => (rest, b""),
+    if end < text.len() {
+        &text[end + 1..]
+    } else {
+        b""
     }
+}
+
+// Puts the fields of the first line of a text in place of those of a row, and answers what stands
+// behind that line.
+fn read_first<'a>(text: &'a [u8], row: &mut Row) -> Result<&'a [u8], AllocError>
+    requires some { is_line text.now ≡ true }
+    requires begins { begins_with_feed text.now ≡ false }
+    ensures ok { IfOk result (λ rest. records_of_lines_in text.now ≡ row.new ∷ records_of_lines_in rest.now) }
+    ensures err { OnErr result (row.new ≡ []) }
+{
+    let end = row.read_line(text)?;
+    Ok(behind(text, end))
 }
 
 // A reader of `csv` over a text: no header row, and records of any lengths.
@@ -300,17 +351,24 @@ impl<'a> RecordReader<'a> {
         ensures err { OnErr result ((self.new ≡ []) × (row.new ≡ [])) }
     {
         row.clear();
-        let (line, rest) = first_line(self.rest);
-        self.rest = rest;
-        let read = if line.is_empty() {
-            read_row(self.alloc, &mut self.reader, &mut self.record, row)
-        } else {
-            row.read_line(line).map(|()| true)
-        };
-        if read.is_err() {
-            self.rest = b"";
-            close(self.alloc, &mut self.reader);
+        let rest = without_feeds(self.rest);
+        self.rest = b"";
+        if rest.is_empty() {
+            let read = read_row(self.alloc, &mut self.reader, &mut self.record, row);
+            if read.is_err() {
+                close(self.alloc, &mut self.reader);
+            }
+            return read;
         }
-        read
+        match read_first(rest, row) {
+            Ok(behind) => {
+                self.rest = behind;
+                Ok(true)
+            }
+            Err(refused) => {
+                close(self.alloc, &mut self.reader);
+                Err(refused)
+            }
+        }
     }
 }

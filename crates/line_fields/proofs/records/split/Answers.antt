@@ -1,30 +1,38 @@
-use Rattle.std.proofs.Common.{◌≡◌, arith, length, rules, subst}
-use Rattle.line_fields.proofs.SpanLemmas.{IsCut, cut_at_comma, cut_begins, cut_ends, cut_goes_on, ends_within}
+use Rattle.std.proofs.Common.{◌+◌, arith, rules}
+use Rattle.line_fields.proofs.SpanLemmas.{cut_at_comma, cut_ends, cut_goes_on, cut_runs, line_ends}
 use Rattle.line_fields.proofs.records.split.Goals as goal
-use Rattle.line_fields.proofs.records.split.Goals.{then-line-end-eq44+in_ok-push, else-line-end-eq44}
+use Rattle.line_fields.proofs.records.split.Goals.{then-at-text-via-then-at-text, then-at-text-via-else-at-text+then-text-at-eq10, then-text-at-eq44+in_ok-push-2, else-text-at-eq44}
 
-pub loop-end-init : goal.loop-end-init
-loop-end-init c = search (rules, cut_begins c.args.line.now)
+pub returns-then-at-text-clause-line : goal.returns-then-at-text-clause-line
+returns-then-at-text-clause-line c =
+    let text = c.args.text.now in
+    let s = c.loop-at in
+    let moved = cut_runs text s.spans.items s.start s.at c.run-at.result s.invariant c.run-at.ensures.within c.run-at.ensures.above in
+    line_ends text s.spans.items s.start (s.at + c.run-at.result) moved
+    (λ lt. elim c.then-at-text.branch [
+      | then-at-text-via-then-at-text w ↦ absurd (omega (arith, lt, w.if-at-text.true))
+      | then-at-text-via-else-at-text+then-text-at-eq10 w ↦ w.if-text-at-eq10.true
+    ])
 
-pub loop-end-preserved : goal.loop-end-preserved
-loop-end-preserved c =
-    let line = c.args.line.now in
-    let s = c.loop-end in
-    elim c.if-line-end-eq44.branch [
-      | then-line-end-eq44+in_ok-push w ↦ rw (w.spans-is, w.start-is, w.in_ok-push.ensures.items) (cut_at_comma line s.spans.items s.start s.end s.invariant c.loop-end-test.true (search rules))
-      | else-line-end-eq44 w ↦ rw (w.spans-is, w.start-is) (cut_goes_on line s.spans.items s.start s.end s.invariant c.loop-end-test.true (search rules))
+pub returns-then-at-text-clause-fields : goal.returns-then-at-text-clause-fields
+returns-then-at-text-clause-fields c =
+    let text = c.args.text.now in
+    let s = c.loop-at in
+    let moved = cut_runs text s.spans.items s.start s.at c.run-at.result s.invariant c.run-at.ensures.within c.run-at.ensures.above in
+    rw c.in_ok-push.ensures.items (cut_ends text s.spans.items s.start (s.at + c.run-at.result) moved)
+
+pub loop-at-preserved : goal.loop-at-preserved
+loop-at-preserved c =
+    let text = c.args.text.now in
+    let s = c.loop-at in
+    let moved = cut_runs text s.spans.items s.start s.at c.run-at.result s.invariant c.run-at.ensures.within c.run-at.ensures.above in
+    elim c.if-text-at-eq44.branch [
+      | then-text-at-eq44+in_ok-push-2 w ↦
+          rw (w.spans-is, w.start-is, w.in_ok-push-2.ensures.items) (cut_at_comma text s.spans.items s.start (s.at + c.run-at.result) moved (search rules) w.if-text-at-eq44.true)
+      | else-text-at-eq44 w ↦
+          rw (w.spans-is, w.start-is) (cut_goes_on text s.spans.items s.start (s.at + c.run-at.result) moved (search rules) (search rules) (search rules))
     ]
-
-pub returns-clause-within : goal.returns-clause-within
-returns-clause-within c =
-    let line = c.args.line.now in
-    let s = c.loop-end in
-    let ends : s.end ≡ length line = omega (arith, c.loop-end-test.false, s.auto.end-end) in
-    rw c.in_ok-push-2.ensures.items (ends_within line s.spans.items s.start (subst (λ n. IsCut line s.spans.items s.start n) ends s.invariant))
 
 pub returns-clause-fields : goal.returns-clause-fields
 returns-clause-fields c =
-    let line = c.args.line.now in
-    let s = c.loop-end in
-    let ends : s.end ≡ length line = omega (arith, c.loop-end-test.false, s.auto.end-end) in
-    rw c.in_ok-push-2.ensures.items (cut_ends line s.spans.items s.start (subst (λ n. IsCut line s.spans.items s.start n) ends s.invariant))
+    rw c.in_ok-push-3.ensures.items (cut_ends c.args.text.now c.loop-at.spans.items c.loop-at.start c.loop-at.at c.loop-at.invariant)

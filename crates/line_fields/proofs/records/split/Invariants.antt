@@ -1,5 +1,9 @@
+use Rattle.std.proofs.Common.{◌-◌, length}
 use Rattle.line_fields.proofs.SpanLemmas.{IsCut}
 use Rattle.line_fields.proofs.records.split.Given as goal
 
-abbrev pub invariant-loop-end : goal.invariant-loop-end
-invariant-loop-end l = IsCut l.line l.spans.items l.start l.end
+abbrev pub invariant-loop-at : goal.invariant-loop-at
+invariant-loop-at l = IsCut l.text l.spans.items l.start l.at
+
+abbrev pub decreases-loop-at : goal.decreases-loop-at
+decreases-loop-at l = length l.text - l.at
