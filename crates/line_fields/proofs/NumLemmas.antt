@@ -93,3 +93,18 @@ pub num_bad : (least most : ℕ) (text : List ℕ) → num_after least most 0 te
 unfolding num
 num_bad least most text h =
     bad_parts (length text == 0) (all_ascii_digits text) (nat_le least (digits_value 10 text)) (nat_le (digits_value 10 text) most) (digits_value 10 text) h
+
+-- one digit
+below_ten : (d : ℕ) → 0 * 10 + (d - 48) ≡ d - 48
+below_ten d = omega arith
+
+pub num_digit : (least most d : ℕ) → is_ascii_digit d ≡ true → d - 48 ≤ most → num least most (d ∷ []) ≡ (if nat_le least (d - 48) then Ok (d - 48) else Err BadNumber)
+num_digit least most d h le =
+    num_is least most (d ∷ []) refl ∙ num_more least most 0 d [] h ∙ ap (λ (n : ℕ). num_after least most n []) (below_ten d) ∙ num_end least most (d - 48) le
+
+pub num_digit_large : (least most d : ℕ) → is_ascii_digit d ≡ true → most < d - 48 → num least most (d ∷ []) ≡ Err BadNumber
+num_digit_large least most d h lt =
+    num_is least most (d ∷ []) refl ∙ num_more least most 0 d [] h ∙ ap (λ (n : ℕ). num_after least most n []) (below_ten d) ∙ num_large least most (d - 48) [] lt
+
+pub num_one_bad : (least most d : ℕ) → is_ascii_digit d ≡ false → num least most (d ∷ []) ≡ Err BadNumber
+num_one_bad least most d h = num_is least most (d ∷ []) refl ∙ num_no_digit least most 0 d [] h

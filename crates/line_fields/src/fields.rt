@@ -1,6 +1,6 @@
 //! The numbers and the bytes that fields spell.
 
-ghost use Rattle.std.specs.Prelude.{◌≡◌, ◌≤◌, IfOk};
+ghost use Rattle.std.specs.Prelude.{◌≡◌, ◌≤◌, ◌∷◌, [], IfOk};
 ghost use Rattle.line_fields.specs.Fields.{Gives, digit, num};
 ghost use Rattle.line_fields.specs.Fields as spec;
 
@@ -28,6 +28,24 @@ static VALUES: [u8; 256] = [
     255, 255, 255,
 ];
 
+// The number that a field of one byte spells, in a range.
+fn of_digit(digit: u8, least: u64, most: u64) -> Result<u64, Fault>
+    ensures exact { result ≡ num least most (digit ∷ []) }
+    ensures within { IfOk result (λ n. (least ≤ n) × (n ≤ most)) }
+{
+    if !digit.is_ascii_digit() {
+        return Err(Fault::BadNumber);
+    }
+    let value = u64::from(digit - b'0');
+    if most < value {
+        return Err(Fault::BadNumber);
+    }
+    if value < least {
+        return Err(Fault::BadNumber);
+    }
+    Ok(value)
+}
+
 /// The number that the digits of a field spell, leading zeros among them, in a range.
 ///
 /// Refused as `BadNumber`: a field that is empty, has a byte that is no digit, or spells a number
@@ -37,6 +55,9 @@ pub fn number(text: &[u8], least: u64, most: u64) -> Result<u64, Fault>
     ensures exact { result ≡ num least most text.now }
     ensures within { IfOk result (λ n. (least ≤ n) × (n ≤ most)) }
 {
+    if let [digit] = text {
+        return of_digit(*digit, least, most);
+    }
     let most_tens = most / 10;
     let mut value = 0u64;
     let mut rest = text;

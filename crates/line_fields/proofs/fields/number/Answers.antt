@@ -30,11 +30,11 @@ returns-then-is_empty-clause-exact c =
       | then-is_empty-via-then-is_empty w ↦ sym (num_empty _ _ _ (sym c.is_empty.ensures ∙ w.if-is_empty.true))
       | then-is_empty-via-else-is_empty+then-value-least w ↦
           let below : nat_le c.args.least c.loop-rest.value ≡ false = lt-leb _ _ w.if-value-least.true in
-          sym (num_bad _ _ _ (sym c.loop-rest.invariant.same ∙ end_at _ _ _ _ c.in_default.len_below c.loop-rest.invariant.small ∙ rw below refl))
+          sym (num_bad _ _ _ (sym c.loop-rest.invariant.same ∙ end_at _ _ _ _ c.in_default-rest.len_below c.loop-rest.invariant.small ∙ rw below refl))
     ]
 
 pub returns-clause-exact : goal.returns-clause-exact
 returns-clause-exact c =
     let some = sym c.is_empty.ensures ∙ c.if-is_empty.false in
     let least = le-leb _ _ c.if-value-least.false in
-    sym (num_is _ _ _ some ∙ (sym c.loop-rest.invariant.same ∙ end_at _ _ _ _ c.in_default.len_below c.loop-rest.invariant.small ∙ rw least refl))
+    sym (num_is _ _ _ some ∙ (sym c.loop-rest.invariant.same ∙ end_at _ _ _ _ c.in_default-rest.len_below c.loop-rest.invariant.small ∙ rw least refl))
