@@ -12,8 +12,8 @@ use std::marker::Model;
 ///
 /// A call that adds a field takes time in proportion to that field, and memory only where the room
 /// of the records before is too small. Where a growth is refused the draft has no fields any more.
-/// It keeps the room of its longest record, up to some twice its bytes. So one is best kept for
-/// many records.
+/// It keeps room for the records to come, 64 KiB at most while it has no fields. So one is best kept
+/// for many records.
 #[derive(Drop)]
 pub struct Draft {
     line: Line,
@@ -39,8 +39,8 @@ impl Draft {
         }
     }
 
-    /// Takes all fields away, and keeps their room for the next record. It costs the same for any
-    /// number of fields.
+    /// Takes all fields away, and keeps their room for the next record, where it is 64 KiB or less.
+    /// It costs the same for any number of fields.
     pub fn clear(&mut self)
         ensures { self.new ≡ [] }
     {

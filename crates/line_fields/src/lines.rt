@@ -7,9 +7,13 @@ ghost use Rattle.line_fields.specs.Writers.{text_before};
 use std::alloc::{AllocError, Global};
 use std::marker::Model;
 
+// Room for more bytes is given back with the fields.
+const MOST_KEPT: usize = 65_536;
+
 /// The fields of a record: the text of its line so far.
 #[derive(Drop)]
 pub(crate) struct Line {
+    alloc: Global,
     // The fields, joined by commas.
     text: Vec<u8>,
     // Whether there is a field, which may be an empty one.
@@ -121,15 +125,19 @@ impl Line {
         ensures { result ≡ [] }
     {
         Line {
+            alloc,
             text: Vec::new(alloc),
             begun: false,
         }
     }
 
-    /// Takes all fields away, and keeps their room.
+    /// Takes all fields away, and keeps their room where it is not much.
     pub fn clear(&mut self)
         ensures { self.new ≡ [] }
     {
+        if self.text.capacity() > MOST_KEPT {
+            self.text = Vec::new(self.alloc);
+        }
         self.text.clear();
         self.begun = false;
     }
