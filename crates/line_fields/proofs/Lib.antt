@@ -1,12 +1,9 @@
 pub mod DigitLemmas
-pub mod FieldLemmas
 pub mod HexLemmas
 pub mod LineLemmas
-pub mod MachineLemmas
 pub mod NumLemmas
 pub mod PlainLemmas
 pub mod ReadAgain
 pub mod RoundLemmas
-pub mod RowLemmas
 pub mod SpanLemmas
 pub mod TextLemmas

@@ -1,23 +1,23 @@
--- The fields of a line, each where it stands in it, and the lines of a text without carriage returns.
-use Rattle.std.proofs.Common.{◌≡◌, ◌≤◌, ◌<◌, ◌==◌, ◌∙◌, ◌++◌, ◌∷◌, ◌+◌, ◌-◌, ℕ, List, [], Some, None, true, false, not, All, length, drop, take, map, get_or, refl, ap, sym, subst, inl, inr, arith, zero, suc, append_assoc, le-leb}
-use Rattle.std.specs.Prelude.{Bool, Err, IfOk, MatchBool, Ok, OnErr, Result}
-use Rattle.std.proofs.Math.Seq.{take-suc, take-append-add, drop-append_seam}
-use Rattle.std.proofs.Math.Nat.{eq-or-lt_of_le}
+-- The fields of a line, each where it stands in it, and the lines of an input text.
+use Rattle.std.proofs.Common.{◌≡◌, ◌≤◌, ◌<◌, ◌==◌, ◌||◌, ◌∙◌, ◌++◌, ◌∷◌, ◌+◌, ◌-◌, ℕ, List, [], Bool, true, false, not, All, length, drop, take, map, get_or, refl, ap, sym, subst, inl, inr, arith, zero, suc, append_assoc, le-leb}
 use Rattle.std.specs.Prelude.{nat_le}
-use Rattle.std.proofs.lemmas.Bool.{cases_Bool, eqb-true}
-use Rattle.std.proofs.lemmas.List.{append-nil, take-append-drop, length-append, length-drop, length-take-le, take_all, drop_all, take-append-le, drop-append-le, drop_more, get_or-drop, get_or-take, map-append}
-use Rattle.std.proofs.lemmas.List.Elements.{All-nil, All-push, All-head, All-tail, All-from_get_or}
+use Rattle.std.specs.List.{list_all}
+use Rattle.std.proofs.Math.Seq.{take-suc, take-append-add}
+use Rattle.std.proofs.Math.Nat.{eq-or-lt_of_le}
+use Rattle.std.proofs.lemmas.Bool.{and_parts, cases_Bool, eqb-true}
+use Rattle.std.proofs.lemmas.List.{append-nil, take-append-drop, length-append, length-drop, length-take-le, take_all, drop_all, take-append-le, drop-append-le, drop_more, get_or-drop, map-append}
+use Rattle.std.proofs.lemmas.List.Elements.{All-nil, All-push, All-head, All-tail}
 use Rattle.std.proofs.lemmas.List.Folds.{list_all-append}
-use Rattle.std.proofs.lemmas.List.Sums.{list_all-from_AllPass}
-use Rattle.csv.specs.Records.{field_at}
-use Rattle.memchr.specs.Find.{Nowhere, Passes, is_byte}
-use Rattle.line_fields.specs.Bytes.{begins_with_feed}
+use Rattle.line_fields.specs.Bytes.{begins_with_feed, is_allowed, is_input_text}
 use Rattle.line_fields.specs.Records.{Record, cut, is_line, parts, records_of_lines, records_of_text, without}
-use Rattle.line_fields.specs.Rows.{IsLineEnd, IsWithin, part_of, records_of_lines_in, span_of}
+use Rattle.line_fields.specs.Rows.{IsLineEnd, IsWithin, begins_with_end, is_end, part_of}
 use Rattle.line_fields.specs.declared.records.Span.{Span}
-use Rattle.line_fields.proofs.FieldLemmas.{field_found}
 use Rattle.line_fields.proofs.ReadAgain.{is_clear, parts-clear, parts-mark, without-clear}
 use Rattle.line_fields.proofs.TextLemmas.{rest_is}
+
+-- a span, made of where it begins and ends
+abbrev pub span_of : ℕ → ℕ → Span
+span_of start end = record { start = start; end = end }
 
 -- bytes that are added behind leave what spans name as it is
 all_stay : (bytes more : List ℕ) (spans : List Span) → All (IsWithin bytes) spans → All (IsWithin (bytes ++ more)) spans
@@ -39,17 +39,21 @@ parts_stay bytes more (span ∷ others) all =
     let rest = parts_stay bytes more others (All-tail (IsWithin bytes) span others all) in
     ap (λ (x : List ℕ). x ∷ map (part_of (bytes ++ more)) others) one ∙ ap (λ (xs : Record). part_of bytes span ∷ xs) rest
 
+-- no byte of a list ends a line
+abbrev pub has_no_end : List ℕ → Bool
+has_no_end xs = list_all (λ byte. not (is_end byte)) xs
+
 -- a text is cut into fields as far as a place, where a field is at hand that began before it
 pub record IsCut (text : List ℕ) (spans : List Span) (start end : ℕ) : Type 0 where
   pub ordered : start ≤ end
   pub inside : end ≤ length text
   pub within : All (IsWithin (take end text)) spans
   pub clear : is_clear 44 (take (end - start) (drop start text)) ≡ true
-  pub no_feed : is_clear 10 (take end text) ≡ true
+  pub no_end : has_no_end (take end text) ≡ true
   pub cut : (rest : List ℕ) → parts 44 (take start text ++ rest) ≡ map (part_of text) spans ++ parts 44 rest
 
 pub cut_begins : (text : List ℕ) → IsCut text [] 0 0
-cut_begins text = record { ordered = omega arith; inside = omega arith; within = All-nil (IsWithin []); clear = refl; no_feed = refl; cut = λ rest. refl }
+cut_begins text = record { ordered = omega arith; inside = omega arith; within = All-nil (IsWithin []); clear = refl; no_end = refl; cut = λ rest. refl }
 
 plus_one : (n : ℕ) → n + 1 ≡ suc n
 plus_one n = omega arith
@@ -77,6 +81,9 @@ between xs start end le within =
     ap (λ (n : ℕ). take n xs) whole ∙ ap (λ (ys : List ℕ). take (length front + (end - start)) ys) (sym (take-append-drop start xs))
     ∙ take-append-add front (drop start xs) (end - start)
 
+no_end_more : (xs : List ℕ) (b : ℕ) → has_no_end xs ≡ true → is_end b ≡ false → has_no_end (xs ++ b ∷ []) ≡ true
+no_end_more xs b before here = rw (list_all-append (λ byte. not (is_end byte)) xs (b ∷ []), before, here) refl
+
 clear_more : (mark : ℕ) (xs : List ℕ) (b : ℕ) → is_clear mark xs ≡ true → (b == mark) ≡ false → is_clear mark (xs ++ b ∷ []) ≡ true
 clear_more mark xs b clear other = rw (list_all-append (λ c. not (c == mark)) xs (b ∷ []), clear, other) refl
 
@@ -89,14 +96,14 @@ no_further n = omega arith
 one_more : (n k : ℕ) → (n + k) + 1 ≡ n + suc k
 one_more n k = omega arith
 
-pub cut_goes_on : (text : List ℕ) (spans : List Span) (start end : ℕ) → IsCut text spans start end → end < length text → (get_or text end 0 == 44) ≡ false → (get_or text end 0 == 10) ≡ false
+pub cut_goes_on : (text : List ℕ) (spans : List Span) (start end : ℕ) → IsCut text spans start end → end < length text → (get_or text end 0 == 44) ≡ false → is_end (get_or text end 0) ≡ false
     → IsCut text spans start (end + 1)
-cut_goes_on text spans start end so lt other no_feed = record {
+cut_goes_on text spans start end so lt other no_end = record {
   ordered = omega (arith, so.ordered);
   inside = omega arith;
   within = within_more text spans end lt so.within;
   clear = ap (is_clear 44) (one_further text start end so.ordered lt) ∙ clear_more 44 (take (end - start) (drop start text)) (get_or text end 0) so.clear other;
-  no_feed = ap (is_clear 10) (further text end lt) ∙ clear_more 10 (take end text) (get_or text end 0) so.no_feed no_feed;
+  no_end = ap has_no_end (further text end lt) ∙ no_end_more (take end text) (get_or text end 0) so.no_end no_end;
   cut = so.cut;
 }
 
@@ -105,6 +112,9 @@ above_is_no b mark above low = elim (cases_Bool (b == mark)) [
   | inl e ↦ cc (sym above ∙ le-leb b 44 (omega (arith, eqb-true b mark e)))
   | inr e ↦ e
 ]
+
+above_is_no_end : (b : ℕ) → nat_le b 44 ≡ false → is_end b ≡ false
+above_is_no_end b above = rw (above_is_no b 10 above (omega arith), above_is_no b 13 above (omega arith)) refl
 
 -- as far as bytes above the comma go
 pub cut_runs : (text : List ℕ) (spans : List Span) (start end k : ℕ) → IsCut text spans start end → end + k ≤ length text
@@ -115,7 +125,7 @@ cut_runs text spans start end (suc k) so inside above =
     let before = cut_runs text spans start end k so shorter (λ i low high. above i low (omega (arith, high))) in
     let here : nat_le (get_or text (end + k) 0) 44 ≡ false = above (end + k) (omega arith) (omega arith) in
     subst (λ n. IsCut text spans start n) (one_more end k)
-    (cut_goes_on text spans start (end + k) before (omega (arith, inside)) (above_is_no (get_or text (end + k) 0) 44 here (omega arith)) (above_is_no (get_or text (end + k) 0) 10 here (omega arith)))
+    (cut_goes_on text spans start (end + k) before (omega (arith, inside)) (above_is_no (get_or text (end + k) 0) 44 here (omega arith)) (above_is_no_end (get_or text (end + k) 0) here))
 
 nothing_is_clear : (xs : List ℕ) (n : ℕ) → is_clear 44 (take (n - n) (drop n xs)) ≡ true
 nothing_is_clear xs n =
@@ -128,13 +138,13 @@ cut_at_comma text spans start end so lt comma =
     let front : take (end + 1) text ≡ (take start text ++ part) ++ (44 ∷ []) =
     further text end lt ∙ ap (λ (b : ℕ). take end text ++ (b ∷ [])) comma ∙ ap (λ (xs : List ℕ). xs ++ (44 ∷ [])) (between text start end so.ordered (omega arith)) in
     let long : length (take (end + 1) text) ≡ end + 1 = length-take-le (end + 1) text (omega arith) in
-    let no_feed : (get_or text end 0 == 10) ≡ false = ap (λ (b : ℕ). b == 10) comma in
+    let no_end : is_end (get_or text end 0) ≡ false = ap is_end comma in
     record {
       ordered = omega arith;
       inside = omega arith;
       within = All-push (IsWithin (take (end + 1) text)) spans (span_of start end) (within_more text spans end lt so.within) (record { ordered = so.ordered; within = omega (arith, long) });
       clear = nothing_is_clear text (end + 1);
-      no_feed = ap (is_clear 10) (further text end lt) ∙ clear_more 10 (take end text) (get_or text end 0) so.no_feed no_feed;
+      no_end = ap has_no_end (further text end lt) ∙ no_end_more (take end text) (get_or text end 0) so.no_end no_end;
       cut = λ rest.
           ap (λ (xs : List ℕ). parts 44 (xs ++ rest)) front
           ∙ ap (parts 44) (append_assoc (take start text ++ part) (44 ∷ []) rest ∙ append_assoc (take start text) part (44 ∷ rest))
@@ -161,125 +171,129 @@ cut_ends text spans start end so =
     ∙ ap (λ (fields : Record). map (part_of text) spans ++ fields) (sym (parts-clear 44 part so.clear))
     ∙ sym (so.cut part) ∙ ap (parts 44) (sym (between text start end so.ordered so.inside))
 
-pub line_ends : (text : List ℕ) (spans : List Span) (start end : ℕ) → IsCut text spans start end → (end < length text → get_or text end 0 ≡ 10) → IsLineEnd text end
-line_ends text spans start end so feed = record { within = so.inside; no_feed = so.no_feed; feed = feed }
+pub line_ends : (text : List ℕ) (spans : List Span) (start end : ℕ) → IsCut text spans start end → (end < length text → is_end (get_or text end 0) ≡ true) → IsLineEnd text end
+line_ends text spans start end so there = record { within = so.inside; no_end = so.no_end; end_there = there }
 
-new_part : (bytes more : List ℕ) → part_of (bytes ++ more) (span_of (length bytes) (length (bytes ++ more))) ≡ more
-new_part bytes more =
-    let long = length-append bytes more in
-    let left : length (bytes ++ more) - length bytes ≡ length more = omega (arith, long) in
-    ap (λ (n : ℕ). take n (drop (length bytes) (bytes ++ more))) left ∙ ap (λ (xs : List ℕ). take (length more) xs) (drop-append_seam bytes more) ∙ take_all (length more) more (omega arith)
+-- a list without an end of a line has neither of the two bytes
+neither : (b : ℕ) → not (is_end b) ≡ true → (not (b == 10) ≡ true) × (not (b == 13) ≡ true)
+neither b h = elim (cases_Bool (b == 10)) [
+  | inl e ↦ cc (sym (ap (λ (x : Bool). not (x || (b == 13))) e) ∙ h)
+  | inr e ↦ (ap not e, sym (ap (λ (x : Bool). not (x || (b == 13))) e) ∙ h)
+]
 
--- one field more behind those before
-pub one_more_within : (bytes more : List ℕ) (spans : List Span) → All (IsWithin bytes) spans → All (IsWithin (bytes ++ more)) (spans ++ span_of (length bytes) (length (bytes ++ more)) ∷ [])
-one_more_within bytes more spans all =
-    let long = length-append bytes more in
-    All-push (IsWithin (bytes ++ more)) spans (span_of (length bytes) (length (bytes ++ more))) (all_stay bytes more spans all) (record { ordered = omega (arith, long); within = omega arith })
-
-pub one_more_field : (bytes more : List ℕ) (spans : List Span) (start end : ℕ) → All (IsWithin bytes) spans → length bytes ≡ start → length (bytes ++ more) ≡ end
-    → map (part_of (bytes ++ more)) (spans ++ span_of start end ∷ []) ≡ map (part_of bytes) spans ++ more ∷ []
-one_more_field bytes more spans start end all begins ends =
-    map-append (part_of (bytes ++ more)) spans (span_of start end ∷ [])
-    ∙ ap (λ (xs : Record). xs ++ part_of (bytes ++ more) (span_of start end) ∷ []) (parts_stay bytes more spans all)
-    ∙ ap (λ (k : ℕ). map (part_of bytes) spans ++ part_of (bytes ++ more) (span_of k end) ∷ []) (sym begins)
-    ∙ ap (λ (k : ℕ). map (part_of bytes) spans ++ part_of (bytes ++ more) (span_of (length bytes) k) ∷ []) (sym ends)
-    ∙ ap (λ (x : List ℕ). map (part_of bytes) spans ++ x ∷ []) (new_part bytes more)
-
--- a field of a record of `csv` that is there
-pub field_there : (fields : Record) (place : ℕ) (x : List ℕ) → place < length fields → Some x ≡ field_at fields place → take (place + 1) fields ≡ take place fields ++ x ∷ []
-field_there fields place x lt found =
-    let at : x ≡ get_or fields place [] = field_found fields place (Some x) found in
-    ap (λ (n : ℕ). take n fields) (plus_one place) ∙ take-suc fields place [] lt ∙ ap (λ (y : List ℕ). take place fields ++ y ∷ []) (sym at)
-
-pub field_not_there : (fields : Record) (place : ℕ) → place < length fields → ¬ (None ≡ field_at fields place)
-unfolding field_at
-field_not_there [] place lt e = omega arith
-field_not_there (field ∷ others) zero lt e = cc e
-field_not_there (field ∷ others) (suc place) lt e = field_not_there others place (omega arith) e
-
--- a text without the feed that it begins with
-pub no_feed : (xs : List ℕ) → 1 ≤ length xs → get_or xs 0 0 ≡ 10 → records_of_lines_in (take (length xs - 1) (drop 1 xs)) ≡ records_of_lines_in xs
-unfolding cut
-no_feed [] some feed = absurd (omega (arith, some))
-no_feed (c ∷ rest) some feed =
-    ap records_of_lines_in (rest_is (c ∷ rest) 1) ∙ sym (ap (λ (b : ℕ). records_of_lines_in (b ∷ rest)) feed)
-
--- no byte before the first mark is the mark
-clear_before : (mark : ℕ) (xs : List ℕ) (end : ℕ) → end ≤ length xs → Nowhere (Passes (is_byte mark) xs) 0 end → is_clear mark (take end xs) ≡ true
-clear_before mark xs end le none =
-    let long = length-take-le end xs le in
-    list_all-from_AllPass (λ b. not (b == mark)) (take end xs) (All-from_get_or (λ b. not (b == mark) ≡ true) (take end xs) 0 (λ i lt.
-    let below : i < end = omega (arith, long) in
-    let here : get_or (take end xs) i 0 ≡ get_or xs i 0 = get_or-take end xs i 0 below in
-    elim (cases_Bool (get_or xs i 0 == mark)) [
-      | inl e ↦ absurd (none i (omega arith) below e)
-      | inr e ↦ rw (here, e) refl
-    ]))
+no_end_is_clear : (xs : List ℕ) → has_no_end xs ≡ true → (is_clear 10 xs ≡ true) × (is_clear 13 xs ≡ true)
+no_end_is_clear [] h = (refl, refl)
+no_end_is_clear (b ∷ rest) h =
+    let p = and_parts (not (is_end b)) (has_no_end rest) h in
+    let here = neither b p.0 in
+    let others = no_end_is_clear rest p.1 in
+    (rw (here.0, others.0) refl, rw (here.1, others.1) refl)
 
 kept : (line : List ℕ) (lines : List (List ℕ)) → is_line line ≡ true → records_of_lines (line ∷ lines) ≡ parts 44 line ∷ records_of_lines lines
 kept line lines some = rw some refl
 
--- the first line of a text that begins with no feed has a byte
-feed_first : (c : ℕ) → c ≡ 10 → (c == 10) ≡ true
-feed_first c e = ap (λ (b : ℕ). b == 10) e
-
-some_line : (text : List ℕ) (end : ℕ) → IsLineEnd text end → is_line text ≡ true → begins_with_feed text ≡ false → is_line (take end text) ≡ true
+-- the first line of a text that begins with no end of a line has a byte
+some_line : (text : List ℕ) (end : ℕ) → IsLineEnd text end → is_line text ≡ true → begins_with_end text ≡ false → is_line (take end text) ≡ true
 some_line [] end ends some begins = cc some
-some_line (c ∷ rest) zero ends some begins = cc (sym begins ∙ feed_first c (ends.feed (omega arith)))
+some_line (c ∷ rest) zero ends some begins = cc (sym begins ∙ ends.end_there (omega arith))
 some_line (c ∷ rest) (suc end) ends some begins = refl
 
-feed_follows : (text : List ℕ) (end : ℕ) → IsLineEnd text end → end < length text → is_line (take end text) ≡ true
-    → records_of_lines_in text ≡ parts 44 (take end text) ∷ records_of_lines_in (drop (end + 1) text)
-feed_follows text end ends lt some =
-    let feed : get_or text end 0 ≡ 10 = ends.feed lt in
-    let rest : drop end text ≡ 10 ∷ drop (end + 1) text = drop_more text end 0 lt ∙ ap (λ (b : ℕ). b ∷ drop (end + 1) text) feed in
-    let whole : text ≡ take end text ++ (10 ∷ drop (end + 1) text) = sym (take-append-drop end text) ∙ ap (λ (ys : List ℕ). take end text ++ ys) rest in
-    ap records_of_lines_in whole ∙ ap records_of_lines (parts-mark 10 (take end text) (drop (end + 1) text) ends.no_feed) ∙ kept (take end text) (parts 10 (drop (end + 1) text)) some
+-- the ends of lines that a text begins with don't count
+pub feed_first : (rest : List ℕ) → records_of_text (10 ∷ rest) ≡ records_of_text rest
+unfolding cut without
+feed_first rest = refl
 
-pub nothing_in : records_of_lines_in [] ≡ []
-unfolding cut
-nothing_in = refl
+pub return_first : (rest : List ℕ) → records_of_text (13 ∷ rest) ≡ records_of_text rest
+unfolding without
+return_first rest = refl
 
+pub end_first : (c : ℕ) (rest : List ℕ) → is_end c ≡ true → records_of_text (c ∷ rest) ≡ records_of_text rest
+end_first c rest h = elim (cases_Bool (c == 10)) [
+  | inl e ↦ ap (λ (b : ℕ). records_of_text (b ∷ rest)) (eqb-true c 10 e) ∙ feed_first rest
+  | inr e ↦ ap (λ (b : ℕ). records_of_text (b ∷ rest)) (eqb-true c 13 (sym (ap (λ (x : Bool). x || (c == 13)) e) ∙ h)) ∙ return_first rest
+]
+
+-- what stands behind a place of an input text is one
+pub input_behind : (xs : List ℕ) (k : ℕ) → is_input_text xs ≡ true → is_input_text (drop k xs) ≡ true
+unfolding is_input_text
+input_behind xs zero h = h
+input_behind [] (suc k) h = h
+input_behind (b ∷ rest) (suc k) h = let p = and_parts (is_allowed b rest) (is_input_text rest) h in input_behind rest k p.1
+
+-- a carriage return stands before a line feed
+before_feed : (rest : List ℕ) → is_input_text (13 ∷ rest) ≡ true → begins_with_feed rest ≡ true
+unfolding is_input_text
+before_feed rest h = let p = and_parts (is_allowed 13 rest) (is_input_text rest) h in p.0
+
+-- a line, a carriage return, and a line feed
+return_follows : (line rest : List ℕ) → has_no_end line ≡ true → is_line line ≡ true → begins_with_feed rest ≡ true
+    → records_of_text (line ++ (13 ∷ rest)) ≡ parts 44 line ∷ records_of_text rest
+unfolding without cut
+return_follows line [] none some feed = cc feed
+return_follows line (c ∷ more) none some feed =
+    let clear = no_end_is_clear line none in
+    let at : c ≡ 10 = eqb-true c 10 feed in
+    ap (λ (b : ℕ). records_of_text (line ++ (13 ∷ b ∷ more))) at
+    ∙ ap (λ (t : List ℕ). records_of_lines (parts 10 t)) (without-clear 13 line (13 ∷ 10 ∷ more) clear.1)
+    ∙ ap records_of_lines (parts-mark 10 line (without 13 more) clear.0) ∙ kept line (parts 10 (without 13 more)) some
+    ∙ ap (λ (b : ℕ). parts 44 line ∷ records_of_text (b ∷ more)) (sym at)
+
+-- a line and a line feed
+feed_follows : (line rest : List ℕ) → has_no_end line ≡ true → is_line line ≡ true → records_of_text (line ++ (10 ∷ rest)) ≡ parts 44 line ∷ records_of_text rest
+unfolding without
+feed_follows line rest none some =
+    let clear = no_end_is_clear line none in
+    ap (λ (t : List ℕ). records_of_lines (parts 10 t)) (without-clear 13 line (10 ∷ rest) clear.1)
+    ∙ ap records_of_lines (parts-mark 10 line (without 13 rest) clear.0) ∙ kept line (parts 10 (without 13 rest)) some
+
+end_follows : (line : List ℕ) (c : ℕ) (rest : List ℕ) → is_end c ≡ true → is_input_text (c ∷ rest) ≡ true → has_no_end line ≡ true → is_line line ≡ true
+    → records_of_text (line ++ (c ∷ rest)) ≡ parts 44 line ∷ records_of_text rest
+end_follows line c rest h input none some = elim (cases_Bool (c == 10)) [
+  | inl e ↦ ap (λ (b : ℕ). records_of_text (line ++ (b ∷ rest))) (eqb-true c 10 e) ∙ feed_follows line rest none some
+  | inr e ↦
+      let at : c ≡ 13 = eqb-true c 13 (sym (ap (λ (x : Bool). x || (c == 13)) e) ∙ h) in
+      ap (λ (b : ℕ). records_of_text (line ++ (b ∷ rest))) at ∙ return_follows line rest none some (before_feed rest (subst (λ (b : ℕ). is_input_text (b ∷ rest) ≡ true) at input))
+]
+
+pub nothing_left : records_of_text [] ≡ []
+unfolding cut without
+nothing_left = refl
+
+-- the last line of a text
 text_ends : (text : List ℕ) (end : ℕ) → IsLineEnd text end → end ≡ length text → is_line text ≡ true
-    → records_of_lines_in text ≡ parts 44 (take end text) ∷ records_of_lines_in (drop (end + 1) text)
+    → records_of_text text ≡ parts 44 (take end text) ∷ records_of_text (drop (end + 1) text)
+unfolding without
 text_ends text end ends at some =
     let all : take end text ≡ text = take_all end text (omega (arith, at)) in
     let none : drop (end + 1) text ≡ [] = drop_all (end + 1) text (omega (arith, at)) in
-    let clear : is_clear 10 text ≡ true = subst (λ (ys : List ℕ). is_clear 10 ys ≡ true) all ends.no_feed in
-    ap records_of_lines (parts-clear 10 text clear) ∙ kept text [] some
+    let clear = no_end_is_clear text (subst (λ (ys : List ℕ). has_no_end ys ≡ true) all ends.no_end) in
+    ap (λ (t : List ℕ). records_of_lines (parts 10 t)) (ap (without 13) (sym (append-nil text)) ∙ without-clear 13 text [] clear.1 ∙ append-nil text)
+    ∙ ap records_of_lines (parts-clear 10 text clear.0) ∙ kept text [] some
     ∙ ap (λ (fields : Record). fields ∷ []) (ap (parts 44) (sym all))
-    ∙ ap (λ (records : List Record). parts 44 (take end text) ∷ records) (sym (ap records_of_lines_in none ∙ nothing_in))
+    ∙ ap (λ (records : List Record). parts 44 (take end text) ∷ records) (sym (ap records_of_text none ∙ nothing_left))
+
+text_goes_on : (text : List ℕ) (end : ℕ) → IsLineEnd text end → end < length text → is_input_text text ≡ true → is_line (take end text) ≡ true
+    → records_of_text text ≡ parts 44 (take end text) ∷ records_of_text (drop (end + 1) text)
+text_goes_on text end ends lt input some =
+    let rest : drop end text ≡ get_or text end 0 ∷ drop (end + 1) text = drop_more text end 0 lt in
+    let whole : text ≡ take end text ++ (get_or text end 0 ∷ drop (end + 1) text) = sym (take-append-drop end text) ∙ ap (λ (ys : List ℕ). take end text ++ ys) rest in
+    ap records_of_text whole
+    ∙ end_follows (take end text) (get_or text end 0) (drop (end + 1) text) (ends.end_there lt) (subst (λ (ys : List ℕ). is_input_text ys ≡ true) rest (input_behind text end input)) ends.no_end some
 
 -- the first record of a text is that of its first line
-pub first_record : (text : List ℕ) (end : ℕ) → IsLineEnd text end → is_line text ≡ true → begins_with_feed text ≡ false
-    → records_of_lines_in text ≡ parts 44 (take end text) ∷ records_of_lines_in (drop (end + 1) text)
-first_record text end ends some begins = elim (eq-or-lt_of_le ends.within) [
+pub first_record : (text : List ℕ) (end : ℕ) → IsLineEnd text end → is_input_text text ≡ true → is_line text ≡ true → begins_with_end text ≡ false
+    → records_of_text text ≡ parts 44 (take end text) ∷ records_of_text (drop (end + 1) text)
+first_record text end ends input some begins = elim (eq-or-lt_of_le ends.within) [
   | inl at ↦ text_ends text end ends at some
-  | inr lt ↦ feed_follows text end ends lt (some_line text end ends some begins)
+  | inr lt ↦ text_goes_on text end ends lt input (some_line text end ends some begins)
 ]
 
-pub no_line : (xs : List ℕ) → is_line xs ≡ false → records_of_lines_in xs ≡ []
-unfolding cut
-no_line [] none = refl
-no_line (c ∷ rest) none = cc none
-
--- a text without carriage returns
-pub without_returns : (xs : List ℕ) → Nowhere (Passes (is_byte 13) xs) 0 (length xs) → records_of_text xs ≡ records_of_lines_in xs
-unfolding without
-without_returns xs none =
-    let all : take (length xs) xs ≡ xs = take_all (length xs) xs (omega arith) in
-    let clear : is_clear 13 xs ≡ true = subst (λ (ys : List ℕ). is_clear 13 ys ≡ true) all (clear_before 13 xs (length xs) (omega arith) none) in
-    ap (λ (ys : List ℕ). records_of_lines_in ys) (ap (without 13) (sym (append-nil xs)) ∙ without-clear 13 xs [] clear ∙ append-nil xs)
-
--- what holds in any case holds after an error, beside what holds then
-pub with_error : {A E : Type 0} → {P : Type 0} → (r : Result A E) → (Q : Type 0) → P → OnErr r Q → OnErr r (P × Q)
-with_error (Ok x) Q p q = tt
-with_error (Err e) Q p q = (p, q)
-
--- where nothing is left of the lines, what a reader of `csv` gives is all
-pub read_by_csv : {E : Type 0} → (r : Result Bool E) → (before after old : List Record) (row : Record)
-    → IfOk r (λ found. MatchBool found (before ≡ row ∷ after) ((before ≡ []) × (after ≡ []) × (row ≡ []))) → old ≡ before
-    → IfOk r (λ found. MatchBool found (old ≡ row ∷ (records_of_lines_in [] ++ after)) ((old ≡ []) × (records_of_lines_in [] ++ after ≡ []) × (row ≡ [])))
-read_by_csv (Ok true) before after old row h is = is ∙ h ∙ ap (λ (rs : List Record). row ∷ (rs ++ after)) (sym nothing_in)
-read_by_csv (Ok false) before after old row h is = (is ∙ h.0, ap (λ (rs : List Record). rs ++ after) nothing_in ∙ h.1, h.2)
-read_by_csv (Err e) before after old row h is = tt
+-- a text without the end of a line that it begins with
+pub end_taken : (xs : List ℕ) → 1 ≤ length xs → is_end (get_or xs 0 0) ≡ true → is_input_text xs ≡ true
+    → (is_input_text (take (length xs - 1) (drop 1 xs)) ≡ true) × (records_of_text (take (length xs - 1) (drop 1 xs)) ≡ records_of_text xs)
+end_taken [] some h input = absurd (omega (arith, some))
+end_taken (c ∷ rest) some h input =
+    let left : take (length (c ∷ rest) - 1) (drop 1 (c ∷ rest)) ≡ rest = rest_is (c ∷ rest) 1 in (
+      ap is_input_text left ∙ input_behind (c ∷ rest) 1 input,
+      ap records_of_text left ∙ sym (end_first c rest h),
+    )

@@ -7,6 +7,10 @@ ghost use Rattle.line_fields.specs.Writers.{text_before};
 use std::alloc::{AllocError, Global};
 use std::marker::Model;
 
+// Room is made for so many bytes at least with the first field, so that most records ask for memory
+// there alone, where nothing is lost if it is refused.
+const ROOM: usize = 8_192;
+
 // Room for more bytes is given back with the fields.
 const MOST_KEPT: usize = 65_536;
 
@@ -90,10 +94,12 @@ fn begin(text: &mut Vec<u8>, begun: &mut bool, bytes: usize) -> Result<(), Alloc
     ensures room { OnOk result (vec_len text.new + bytes ≤ vec_capacity text.new) }
     ensures err { OnErr result ((begun.new ≡ begun.old) × (text.new.items ≡ text.old.items)) }
 {
-    text.reserve(bytes + 1)?;
     if *begun {
+        text.reserve(bytes + 1)?;
         text.push_reserved(b',');
+        return Ok(());
     }
+    text.reserve(bytes.max(ROOM))?;
     *begun = true;
     Ok(())
 }

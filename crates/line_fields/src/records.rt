@@ -1,15 +1,12 @@
-//! The records of an input text, one at a time. A text with carriage returns is read by `csv`.
+//! The records of an input text, one at a time.
 
-ghost use Rattle.std.specs.Prelude.{◌≡◌, ◌==◌, ◌+◌, ◌≤◌, ◌∷◌, [], true, false, All, IfOk, IsTrue, MatchBool, OnErr, OnOk, length, map, ℕ, ◌<◌, nat_le, not, slice_index_or, take, drop, ◌++◌};
+ghost use Rattle.std.specs.Prelude.{◌≡◌, ◌==◌, ◌+◌, ◌≤◌, ◌<◌, ◌∷◌, [], ℕ, true, false, All, IfOk, IsTrue, MatchBool, OnErr, drop, length, map, nat_le, not, slice_index_or, take};
 ghost use Rattle.std.specs.List.{prefix_len};
 ghost use Rattle.std.specs.Simd.Lanes.{chunk};
-ghost use Rattle.csv.specs.Records.{fields_of};
-ghost use Rattle.line_fields.specs.Bytes.{begins_with_feed, is_input_text};
+ghost use Rattle.line_fields.specs.Bytes.{is_input_text};
 ghost use Rattle.line_fields.specs.Records.{field, is_line, parts, records_of_text};
-ghost use Rattle.line_fields.specs.Rows.{IsLineEnd, IsReading, IsWithin, part_of, records_of_lines_in, rows_left};
+ghost use Rattle.line_fields.specs.Rows.{IsLineEnd, IsWithin, begins_with_end, is_end, part_of};
 
-use csv::{ByteRecord, Error, Reader, ReaderBuilder};
-use memchr::memchr;
 use std::alloc::{AllocError, Global};
 use std::marker::Model;
 use std::simd::prelude::*;
@@ -78,23 +75,20 @@ impl Row {
 /// Reads the records of a text in their order.
 #[derive(Drop)]
 pub struct RecordReader<'a> {
-    alloc: Global,
-    // What is left of a text without carriage returns.
+    // What is left of the text.
     rest: &'a [u8],
-    // What reads a text that has some, and the record that it read last.
-    reader: Reader<&'a [u8]>,
-    record: ByteRecord,
 }
 
 impl<'a> Model for RecordReader<'a> {
-    ghost use Rattle.std.specs.Prelude.{◌++◌, ℕ, List};
-    ghost use Rattle.line_fields.specs.Rows.{IsReading, records_of_lines_in, rows_left};
+    ghost use Rattle.std.specs.Prelude.{◌≡◌, ℕ, List, true};
+    ghost use Rattle.line_fields.specs.Bytes.{is_input_text};
+    ghost use Rattle.line_fields.specs.Records.{records_of_text};
 
     ghost Value = { List (List (List ℕ)) };
 
-    ghost view = { λ s. records_of_lines_in s.rest.now ++ rows_left s.reader };
+    ghost view = { λ s. records_of_text s.rest.now };
 
-    ghost invariant = { λ s. IsReading s.reader };
+    ghost invariant = { λ s. is_input_text s.rest.now ≡ true };
 }
 
 // How many bytes stand before the first of sixteen that is no greater than the comma.
@@ -125,9 +119,16 @@ fn run(text: &[u8], at: usize) -> usize
     run_of_sixteen(text, at)
 }
 
+// Whether a byte ends a line: a line feed, or the carriage return before one.
+fn is_end(byte: u8) -> bool
+    ensures { result ≡ is_end byte }
+{
+    byte == b'\n' || byte == b'\r'
+}
+
 // The fields of the first line of a text, each where it stands in it, and where that line ends.
 //
-// A byte that is above the comma is neither a comma nor a line feed.
+// A byte that is above the comma is neither a comma nor the end of a line.
 fn split(text: &[u8], spans: &mut Vec<Span>) -> Result<usize, AllocError>
     ensures line { IfOk result (λ end. IsLineEnd text.now end) }
     ensures within { IfOk result (λ end. All (IsWithin (take end text.now)) spans.new.items) }
@@ -138,7 +139,7 @@ fn split(text: &[u8], spans: &mut Vec<Span>) -> Result<usize, AllocError>
     let mut at = 0;
     while at < text.len() {
         at += run(text, at);
-        if at == text.len() || text[at] == b'\n' {
+        if at == text.len() || is_end(text[at]) {
             spans.push(Span { start, end: at })?;
             return Ok(at);
         }
@@ -150,27 +151,6 @@ fn split(text: &[u8], spans: &mut Vec<Span>) -> Result<usize, AllocError>
     }
     spans.push(Span { start, end: at })?;
     Ok(at)
-}
-
-// The fields of a record of `csv`, one behind the other, and where each stands.
-fn gather(fields: &ByteRecord, bytes: &mut Vec<u8>, spans: &mut Vec<Span>) -> Result<(), AllocError>
-    ensures within { OnOk result (All (IsWithin bytes.new.items) spans.new.items) }
-    ensures fields { OnOk result (map (part_of bytes.new.items) spans.new.items ≡ fields_of fields.now) }
-{
-    bytes.clear();
-    spans.clear();
-    for place in 0..fields.len() {
-        let Some(field) = fields.get(place) else {
-            unreachable!()
-        };
-        let start = bytes.len();
-        bytes.extend_from_slice(field)?;
-        spans.push(Span {
-            start,
-            end: bytes.len(),
-        })?;
-    }
-    Ok(())
 }
 
 impl Row {
@@ -198,28 +178,20 @@ impl Row {
         self.spans.clear();
         Err(AllocError)
     }
-
-    // Puts the fields of a record of `csv` in place of those of the row, or none where a growth is
-    // refused.
-    fn read_record(&mut self, fields: &ByteRecord) -> Result<(), AllocError>
-        ensures ok { OnOk result (self.new ≡ fields_of fields.now) }
-        ensures err { OnErr result (self.new ≡ []) }
-    {
-        if gather(fields, &mut self.bytes, &mut self.spans).is_ok() {
-            return Ok(());
-        }
-        self.spans.clear();
-        Err(AllocError)
-    }
 }
 
-// A text without the feeds that it begins with.
-fn without_feeds(text: &[u8]) -> &[u8]
-    ensures same { records_of_lines_in result.now ≡ records_of_lines_in text.now }
-    ensures begins { begins_with_feed result.now ≡ false }
+// A text from its first line on that has a byte.
+fn without_ends(text: &[u8]) -> &[u8]
+    requires { is_input_text text.now ≡ true }
+    ensures input { is_input_text result.now ≡ true }
+    ensures same { records_of_text result.now ≡ records_of_text text.now }
+    ensures begins { begins_with_end result.now ≡ false }
 {
     let mut rest = text;
-    while let [b'\n', others @ ..] = rest {
+    while let [first, others @ ..] = rest {
+        if !is_end(*first) {
+            return rest;
+        }
         rest = others;
     }
     rest
@@ -239,81 +211,15 @@ fn behind(text: &[u8], end: usize) -> &[u8]
 // Puts the fields of the first line of a text in place of those of a row, and answers what stands
 // behind that line.
 fn read_first<'a>(text: &'a [u8], row: &mut Row) -> Result<&'a [u8], AllocError>
+    requires input { is_input_text text.now ≡ true }
     requires some { is_line text.now ≡ true }
-    requires begins { begins_with_feed text.now ≡ false }
-    ensures ok { IfOk result (λ rest. records_of_lines_in text.now ≡ row.new ∷ records_of_lines_in rest.now) }
+    requires begins { begins_with_end text.now ≡ false }
+    ensures input { IfOk result (λ rest. is_input_text rest.now ≡ true) }
+    ensures ok { IfOk result (λ rest. records_of_text text.now ≡ row.new ∷ records_of_text rest.now) }
     ensures err { OnErr result (row.new ≡ []) }
 {
     let end = row.read_line(text)?;
     Ok(behind(text, end))
-}
-
-// A reader of `csv` over a text: no header row, and records of any lengths.
-fn reader_over(alloc: Global, text: &[u8]) -> Reader<&[u8]>
-    requires { IsTrue (is_input_text text.now) }
-    ensures reading { IsReading result }
-    ensures rows { rows_left result ≡ records_of_text text.entry.now }
-{
-    ReaderBuilder::new()
-        .has_headers(false)
-        .flexible(true)
-        .from_reader(alloc, text)
-}
-
-// A reader of `csv` that has nothing to read.
-fn reader_of_nothing<'a>(alloc: Global) -> Reader<&'a [u8]>
-    ensures reading { IsReading result }
-    ensures ended { rows_left result ≡ [] }
-{
-    reader_over(alloc, b"")
-}
-
-// Leaves a reader of `csv` nothing to read.
-fn close(alloc: Global, reader: &mut Reader<&[u8]>)
-    ensures reading { IsReading reader.new }
-    ensures ended { rows_left reader.new ≡ [] }
-{
-    *reader = reader_of_nothing(alloc);
-}
-
-// The next record of a reader of `csv`.
-fn read(reader: &mut Reader<&[u8]>, row: &mut ByteRecord) -> Result<bool, Error>
-    requires { IsReading reader.old }
-    ensures { IfOk result (λ found. MatchBool found (IsReading reader.new × (rows_left reader.old ≡ fields_of row.new ∷ rows_left reader.new)) (rows_left reader.old ≡ [])) }
-{
-    reader.read_byte_record(row)
-}
-
-// An error of `csv` on a plain text, over memory, is answered as want of memory.
-fn let_go(_error: Error) -> AllocError {
-    AllocError
-}
-
-// The next record of a reader of `csv` in an empty row, or the end, after which the reader has
-// nothing left.
-fn read_row(
-    alloc: Global,
-    reader: &mut Reader<&[u8]>,
-    fields: &mut ByteRecord,
-    row: &mut Row,
-) -> Result<bool, AllocError>
-    requires reading { IsReading reader.old }
-    requires empty { row.old ≡ [] }
-    ensures reading { OnOk result (IsReading reader.new) }
-    ensures ok { IfOk result (λ found. MatchBool found (rows_left reader.old ≡ row.new ∷ rows_left reader.new) ((rows_left reader.old ≡ []) × (rows_left reader.new ≡ []) × (row.new ≡ []))) }
-    ensures err { OnErr result (row.new ≡ []) }
-{
-    match read(reader, fields) {
-        Ok(true) => {
-            row.read_record(fields)?;
-            Ok(true)
-        }
-        Ok(false) => {
-            close(alloc, reader);
-            Ok(false)
-        }
-        Err(error) => Err(let_go(error)),
-    }
 }
 
 impl<'a> RecordReader<'a> {
@@ -325,48 +231,30 @@ impl<'a> RecordReader<'a> {
         ensures records { result ≡ records_of_text text.entry.now }
         ensures few { length result ≤ length text.entry.now + 1 }
     {
-        match memchr(b'\r', text) {
-            None => RecordReader {
-                alloc,
-                rest: text,
-                reader: reader_of_nothing(alloc),
-                record: ByteRecord::new(alloc),
-            },
-            Some(_) => RecordReader {
-                alloc,
-                rest: b"",
-                reader: reader_over(alloc, text),
-                record: ByteRecord::new(alloc),
-            },
-        }
+        let _ = alloc;
+        RecordReader { rest: text }
     }
 
     /// Puts the next record in place of the row's fields, and says whether there was one.
     ///
     /// After the last record, and after want of memory, nothing is left and the row has no fields.
-    /// An error of `csv` is answered as want of memory. It takes time in proportion to the bytes
-    /// read.
+    /// It takes time in proportion to the bytes read.
     pub fn next_row(&mut self, row: &mut Row) -> Result<bool, AllocError>
         ensures ok { IfOk result (λ found. MatchBool found (self.old ≡ row.new ∷ self.new) ((self.old ≡ []) × (self.new ≡ []) × (row.new ≡ []))) }
         ensures err { OnErr result ((self.new ≡ []) × (row.new ≡ [])) }
     {
         row.clear();
-        let rest = without_feeds(self.rest);
-        self.rest = b"";
-        if rest.is_empty() {
-            let read = read_row(self.alloc, &mut self.reader, &mut self.record, row);
-            if read.is_err() {
-                close(self.alloc, &mut self.reader);
-            }
-            return read;
+        self.rest = without_ends(self.rest);
+        if self.rest.is_empty() {
+            return Ok(false);
         }
-        match read_first(rest, row) {
-            Ok(behind) => {
-                self.rest = behind;
+        match read_first(self.rest, row) {
+            Ok(rest) => {
+                self.rest = rest;
                 Ok(true)
             }
             Err(refused) => {
-                close(self.alloc, &mut self.reader);
+                self.rest = b"";
                 Err(refused)
             }
         }

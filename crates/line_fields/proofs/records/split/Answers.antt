@@ -1,7 +1,7 @@
-use Rattle.std.proofs.Common.{◌+◌, arith, rules}
+use Rattle.std.proofs.Common.{◌∙◌, sym, ◌+◌, arith, rules}
 use Rattle.line_fields.proofs.SpanLemmas.{cut_at_comma, cut_ends, cut_goes_on, cut_runs, line_ends}
 use Rattle.line_fields.proofs.records.split.Goals as goal
-use Rattle.line_fields.proofs.records.split.Goals.{then-at-text-via-then-at-text, then-at-text-via-else-at-text+then-text-at-eq10, then-text-at-eq44+in_ok-push-2, else-text-at-eq44}
+use Rattle.line_fields.proofs.records.split.Goals.{then-at-text-via-then-at-text, then-at-text-via-else-at-text+then-is_end, then-text-at-eq44+in_ok-push-2, else-text-at-eq44}
 
 pub returns-then-at-text-clause-line : goal.returns-then-at-text-clause-line
 returns-then-at-text-clause-line c =
@@ -11,7 +11,7 @@ returns-then-at-text-clause-line c =
     line_ends text s.spans.items s.start (s.at + c.run-at.result) moved
     (λ lt. elim c.then-at-text.branch [
       | then-at-text-via-then-at-text w ↦ absurd (omega (arith, lt, w.if-at-text.true))
-      | then-at-text-via-else-at-text+then-text-at-eq10 w ↦ w.if-text-at-eq10.true
+      | then-at-text-via-else-at-text+then-is_end w ↦ sym w.is_end.ensures ∙ w.if-is_end.true
     ])
 
 pub returns-then-at-text-clause-fields : goal.returns-then-at-text-clause-fields
