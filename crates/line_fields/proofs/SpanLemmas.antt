@@ -10,7 +10,7 @@ use Rattle.std.proofs.lemmas.List.Elements.{All-nil, All-push, All-head, All-tai
 use Rattle.std.proofs.lemmas.List.Folds.{list_all-append}
 use Rattle.line_fields.specs.Bytes.{begins_with_feed, is_allowed, is_input_text}
 use Rattle.line_fields.specs.Records.{Record, cut, is_line, parts, records_of_lines, records_of_text, without}
-use Rattle.line_fields.specs.Rows.{IsLineEnd, IsWithin, begins_with_end, is_end, part_of}
+use Rattle.line_fields.specs.Rows.{IsLineEnd, IsWithin, begins_with_end, has_no_end, is_end, part_of}
 use Rattle.line_fields.specs.declared.records.Span.{Span}
 use Rattle.line_fields.proofs.ReadAgain.{is_clear, parts-clear, parts-mark, without-clear}
 use Rattle.line_fields.proofs.TextLemmas.{rest_is}
@@ -38,10 +38,6 @@ parts_stay bytes more (span ∷ others) all =
     let one = part_stays bytes more span (All-head (IsWithin bytes) span others all) in
     let rest = parts_stay bytes more others (All-tail (IsWithin bytes) span others all) in
     ap (λ (x : List ℕ). x ∷ map (part_of (bytes ++ more)) others) one ∙ ap (λ (xs : Record). part_of bytes span ∷ xs) rest
-
--- no byte of a list ends a line
-abbrev pub has_no_end : List ℕ → Bool
-has_no_end xs = list_all (λ byte. not (is_end byte)) xs
 
 -- a text is cut into fields as far as a place, where a field is at hand that began before it
 pub record IsCut (text : List ℕ) (spans : List Span) (start end : ℕ) : Type 0 where

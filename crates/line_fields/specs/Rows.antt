@@ -21,8 +21,12 @@ abbrev pub begins_with_end : List ℕ → Bool
 begins_with_end [] = false
 begins_with_end (byte ∷ rest) = is_end byte
 
+-- no byte of a list ends a line
+abbrev pub has_no_end : List ℕ → Bool
+has_no_end bytes = list_all (λ byte. not (is_end byte)) bytes
+
 -- the first line of a text ends at that place
 pub record IsLineEnd (text : List ℕ) (end : ℕ) : Type 0 where
   pub within : end ≤ length text
-  pub no_end : list_all (λ byte. not (is_end byte)) (take end text) ≡ true
+  pub no_end : has_no_end (take end text) ≡ true
   pub end_there : end < length text → is_end (slice_index_or text end 0) ≡ true
