@@ -8,6 +8,8 @@ ghost use Rattle.line_tape.specs.Laid.{body_of, kept_as, restarted_kept, states_
 ghost use Rattle.line_tape.specs.Restart.{restarted_event};
 ghost use Rattle.line_tape.specs.Shown.{shown};
 
+mod copies;
+
 use crate::events::{Event, EventRef, State};
 use crate::limits::MOST_EVENTS;
 use line_names::{MOST_BODY, MsgName, ProcId};

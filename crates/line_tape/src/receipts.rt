@@ -1,5 +1,5 @@
 //! An index of the receipts of one tape.
-ghost use Rattle.std.specs.Prelude.{◌≡◌, ◌≢◌, ◌<◌, ◌≤◌, ◌+◌, ◌-◌, ◌↔◌, ℕ, suc, [], ◌∷◌, ◌++◌, Contains, IsOk, IsTrue, List, OnOk, length, map, take, vec_capacity, vec_len};
+ghost use Rattle.std.specs.Prelude.{◌≡◌, ◌≢◌, ◌<◌, ◌≤◌, ◌+◌, ◌-◌, ◌↔◌, ℕ, suc, [], ◌∷◌, ◌++◌, Contains, IfOk, IsOk, IsTrue, List, OnOk, length, map, take, vec_capacity, vec_len};
 ghost use Rattle.line_names.specs.declared.limits.TheConstants.{MOST_PROCESSES};
 ghost use Rattle.line_tape.specs.declared.events.Event.{Event};
 ghost use Rattle.line_tape.specs.Noted.{AreChained, AreInTree, AreNoted, IsLast, message_of, name_at};
@@ -201,5 +201,17 @@ impl Receipts {
         let receipts = self.receipts.as_slice();
         let first = find(receipts, last, self.root, &wanted);
         first != 0 && first <= end
+    }
+
+    /// The same receipts in memory of their own. Their links are numbers of receipts, so they are
+    /// the same there.
+    pub fn copy(&self, alloc: Global) -> Result<Receipts, AllocError>
+        ensures { IfOk result (λ receipts. receipts.names ≡ self.now.names) }
+    {
+        Ok(Receipts {
+            receipts: Vec::from_slice(alloc, self.receipts.as_slice())?,
+            last: self.last.copy(alloc)?,
+            root: self.root,
+        })
     }
 }

@@ -307,16 +307,19 @@ impl Tape {
         Ok(())
     }
 
-    /// The same events in memory of their own.
+    /// The same events in memory of their own: as much as they take, with none for further ones.
+    /// What is kept beside them is copied as it is, and each state takes memory by itself.
     pub fn copy(&self, alloc: Global) -> Result<Tape, AllocError>
         ensures { IfOk result (λ tape. tape.events ≡ self.now.events) }
     {
-        let mut tape = Tape::new(alloc);
-        tape.reserve(self.len())?;
-        let events = self.log.events();
-        for i in 0..events.len() {
-            tape.append(events.at(i).to_event(alloc)?);
-        }
+        let tape = Tape {
+            log: self.log.copy(alloc)?,
+            checks: Vec::from_slice(alloc, self.checks.as_slice())?,
+            incarnations: Vec::from_slice(alloc, self.incarnations.as_slice())?,
+            addressees: Vec::from_slice(alloc, self.addressees.as_slice())?,
+            receipts: self.receipts.copy(alloc)?,
+            settled: self.settled,
+        };
         Ok(tape)
     }
 }

@@ -1,5 +1,5 @@
 //! The link to the last receipt of each sender that is ahead.
-ghost use Rattle.std.specs.Prelude.{◌≡◌, ◌≢◌, ◌<◌, ◌≤◌, ◌+◌, ℕ, IsOk, OnOk, slice_index_or, vec_capacity, vec_len};
+ghost use Rattle.std.specs.Prelude.{◌≡◌, ◌≢◌, ◌<◌, ◌≤◌, ◌+◌, ℕ, IfOk, IsOk, OnOk, slice_index_or, vec_capacity, vec_len};
 ghost use Rattle.line_tape.specs.Ends.{IsEndPut, block_of, end_of};
 
 use std::alloc::{AllocError, Global};
@@ -116,5 +116,16 @@ impl LastLinks {
     {
         let block = self.blocks[sender as usize / 16];
         self.links[(block as usize - 1) * 16 + sender as usize % 16] = link;
+    }
+
+    /// The same links in memory of their own.
+    pub fn copy(&self, alloc: Global) -> Result<LastLinks, AllocError>
+        ensures { IfOk result (λ copy. (sender : ℕ) → end_of copy sender ≡ end_of self.now sender) }
+    {
+        let links = Vec::from_slice(alloc, self.links.as_slice())?;
+        Ok(LastLinks {
+            blocks: self.blocks,
+            links,
+        })
     }
 }
