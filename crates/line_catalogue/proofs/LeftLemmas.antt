@@ -1,11 +1,12 @@
 -- What is left to look at: it stays right by every event and by a restart, and with what is received behind a line it is enough.
-use Rattle.std.proofs.Common.{◌≡◌, ℕ, zero, suc, ◌+◌, ◌<◌, ◌≤◌, Bool, true, false, not, cond, List, [], ◌∷◌, ◌++◌, length, take, drop, get_or, map, filter, Some, refl, sym, ap, ◌∙◌, subst, arith, inl, inr}
+use Rattle.std.proofs.Common.{◌≡◌, ℕ, zero, suc, ◌+◌, ◌<◌, ◌≤◌, Bool, true, false, not, cond, List, [], ◌∷◌, ◌++◌, length, take, drop, get_or, map, filter, Some, refl, replicate, sym, ap, ◌∙◌, subst, arith, inl, inr}
 use Rattle.std.specs.List.{Contains, slice_get, flat_map, list_any, range_with_len}
 use Rattle.std.proofs.lemmas.Bool.{cases_lt, false≢true, false_from_ne_true}
-use Rattle.std.proofs.lemmas.List.{take-append-drop, length-append, length-set}
+use Rattle.std.proofs.lemmas.List.{take-append-drop, length-append, length-set, length-replicate, get_or-replicate}
 use Rattle.std.proofs.lemmas.List.Elements.{filter_map-append, Contains-append_cases, Contains-append_left, Contains-append_right, Contains-push}
 use Rattle.std.proofs.lemmas.Option.{slice_get_within}
 use Rattle.line_names.specs.declared.choices.Choice.{Choice}
+use Rattle.line_names.specs.declared.choices.Choice.TheVariants.{Check as AtCheck, Now}
 use Rattle.line_names.specs.declared.messages.MsgName.{MsgName}
 use Rattle.line_names.specs.Lines.{choice_at}
 use Rattle.line_names.specs.Names.{is_name}
@@ -13,11 +14,12 @@ use Rattle.line_tape.specs.declared.events.Event.{Event}
 use Rattle.line_tape.specs.declared.events.Event.TheVariants.{Recv}
 use Rattle.line_tape.specs.Event.{incarnation_of, incarnations_sent, sends}
 use Rattle.line_tape.specs.Fit.{IsSentTo}
-use Rattle.line_tape.specs.Front.{place, front}
+use Rattle.line_tape.specs.Front.{place, front, HasChoice}
 use Rattle.line_tape.specs.History.{Process, tape_at, with_event}
-use Rattle.line_tape.specs.Line.{events_before}
+use Rattle.line_tape.specs.Line.{events_before, IsLine}
 use Rattle.line_tape.specs.Restart.{restarted}
 use Rattle.line_tape.specs.Transit.{Letter, letters, is_open, open_letters, in_transit, has_received, names_received, addressee_of, addressees}
+use Rattle.line_tape.proofs.ChainLemmas.{choice-past}
 use Rattle.line_tape.proofs.CopyLemmas.{length_addressees, slice_get_front}
 use Rattle.line_tape.proofs.CutLemmas.{contains_nothing, cons_cases, sends_take}
 use Rattle.line_tape.proofs.LetterLemmas.{addressees_restarted}
@@ -27,17 +29,18 @@ use Rattle.line_tape.proofs.ReceivedLemmas.{length-letters}
 use Rattle.line_tape.proofs.SpentLemmas.{tape_grows, incs_restarted, length_restarted}
 use Rattle.line_tape.proofs.StayLemmas.{names_restarted}
 use Rattle.line_tape.proofs.TransitLemmas.{letter_of, has_received-iff, names_contain}
-use Rattle.line_catalogue.specs.Left.{start_at, numbers_at, AreLeft, AreCandidates, HasOpen}
+use Rattle.line_catalogue.specs.Left.{start_at, numbers_at, AreEnds, AreLeft, AreCandidates, HasOpen}
 use Rattle.line_catalogue.proofs.OpenLemmas.{letter_at}
 
 -- what is left and what is received behind the line is enough to look at
-pub has-open : (history : List Process) (line : List Choice) (starts : List ℕ) (left : List MsgName) (rows : List (List ℕ)) (p : ℕ) → AreLeft history starts left → AreCandidates history line left rows → p < length history
-    → HasOpen history line p (start_at starts p) (numbers_at rows p)
-has-open history line starts left rows p are cand inside = λ q m from low sent unseen.
+pub has-open : (history : List Process) (line : List Choice) (starts ends : List ℕ) (left : List MsgName) (rows : List (List ℕ)) (p : ℕ) → AreLeft history starts left → AreEnds history starts line ends → AreCandidates history line ends left rows → p < length history
+    → HasOpen history line p (start_at ends p) (numbers_at rows p)
+has-open history line starts ends left rows p are ending cand inside = λ q m from low sent unseen.
     let tape : List Event = tape_at history q in
     let n : ℕ = place tape (choice_at line q) in
     let there : m.from < length rows = omega (arith, from, inside, cand.count) in
-    let early : m.number < start_at starts m.from = omega (arith, low, ap (start_at starts) from) in
+    let below : m.number < start_at ends m.from = omega (arith, low, ap (start_at ends) from) in
+    let early : m.number < start_at starts m.from = omega (arith, below, ending.started m.from) in
     subst (λ (j : ℕ). Contains (numbers_at rows j) m.number) from (elim (has_received tape m) as (λ (b : Bool). has_received tape m ≡ b → Contains (numbers_at rows m.from) m.number) [
       | true ↦ λ e.
           let received : Contains tape (Recv m) = (has_received-iff tape m).0 e in
@@ -47,9 +50,9 @@ has-open history line starts left rows p are cand inside = λ q m from low sent 
           ] in
           elim (Contains-append_cases (take n tape) (drop n tape) (Recv m) (subst (λ (es : List Event). Contains es (Recv m)) (sym (take-append-drop n tape)) received)) [
             | inl front ↦ absurd (false≢true (sym unseen ∙ (has_received-iff (take n tape) m).1 front))
-            | inr behind ↦ cand.behind q within m ((names_contain (drop n tape) m).1 behind) there
+            | inr behind ↦ cand.behind q within m ((names_contain (drop n tape) m).1 behind) below there
           ]
-      | false ↦ λ e. cand.before m (are.held q m sent early e) there
+      | false ↦ λ e. cand.before m (are.held q m sent early e) below there
     ] refl)
 
 -- an event keeps it right: a send, a receipt, a check and a mark alike
@@ -184,4 +187,21 @@ AreLeft-anew history starts left count none = record {
   count = count;
   within = λ p. omega (arith, none p);
   held = λ q m sent low unseen. absurd (omega (arith, low, none m.from));
+}
+
+-- one end more keeps all ends within their bounds
+pub ends-more : (bound : ℕ → ℕ) (ends : List ℕ) (end : ℕ) → ((p : ℕ) → start_at ends p ≤ bound p) → end ≤ bound (length ends) → (p : ℕ) → start_at (ends ++ end ∷ []) p ≤ bound p
+ends-more bound [] end within low zero = low
+ends-more bound [] end within low (suc p) = omega arith
+ends-more bound (x ∷ ends) end within low zero = within 0
+ends-more bound (x ∷ ends) end within low (suc p) = ends-more (λ (k : ℕ). bound (suc k)) ends end (λ k. within (suc k)) low p
+
+-- each process's present state is a choice of its own
+pub IsLine-present : (history : List Process) → IsLine history (replicate (length history) Now)
+IsLine-present history = record {
+  length_is = length-replicate (length history) Now;
+  exist = λ p. elim (cases_lt p (length history)) [
+    | inl h ↦ subst (HasChoice (tape_at history p)) (sym (get_or-replicate (length history) p Now (AtCheck 0) h)) tt
+    | inr past ↦ subst (HasChoice (tape_at history p)) (sym (choice-past (replicate (length history) Now) p (omega (arith, past, length-replicate (length history) Now)))) (omega arith)
+  ];
 }

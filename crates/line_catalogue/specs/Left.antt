@@ -30,15 +30,23 @@ events_behind history line p = drop (place (tape_at history p) (choice_at line p
 abbrev pub numbers_at : List (List ℕ) → ℕ → List ℕ
 numbers_at rows p = slice_index_or rows p []
 
--- the numbers of these messages stand in the rows of their senders
-abbrev pub AreIn : List MsgName → List (List ℕ) → Type 0
-AreIn names rows = (message : MsgName) → Contains names message → message.from < length rows → Contains (numbers_at rows message.from) message.number
+-- for each process an end: no later than its start, and not behind the line
+pub record AreEnds (history : List Process) (starts : List ℕ) (line : List Choice) (ends : List ℕ) : Type 0 where
+  pub count : length ends ≡ length history
+  pub started : (p : ℕ) → start_at ends p ≤ start_at starts p
+  pub before : (p : ℕ) → start_at ends p ≤ sends (events_before history line p)
+
+-- the numbers of these messages below the ends stand in the rows of their senders
+abbrev pub AreIn : List MsgName → List ℕ → List (List ℕ) → Type 0
+AreIn names ends rows =
+    (message : MsgName) → Contains names message → message.number < start_at ends message.from → message.from < length rows
+    → Contains (numbers_at rows message.from) message.number
 
 -- for each process a row, with what is left to look at and what is received behind the line
-pub record AreCandidates (history : List Process) (line : List Choice) (left : List MsgName) (rows : List (List ℕ)) : Type 0 where
+pub record AreCandidates (history : List Process) (line : List Choice) (ends : List ℕ) (left : List MsgName) (rows : List (List ℕ)) : Type 0 where
   pub count : length rows ≡ length history
-  pub before : AreIn left rows
-  pub behind : (q : ℕ) → q < length history → AreIn (names_received (events_behind history line q)) rows
+  pub before : AreIn left ends rows
+  pub behind : (q : ℕ) → q < length history → AreIn (names_received (events_behind history line q)) ends rows
 
 -- the row has the numbers of process p's first `end` messages that aren't received before the line
 abbrev pub HasOpen : List Process → List Choice → ℕ → ℕ → List ℕ → Type 0

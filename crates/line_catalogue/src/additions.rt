@@ -1,10 +1,11 @@
 //! Whether an event may come next, and the row that it adds.
-ghost use Rattle.std.specs.Prelude.{◌≡◌, ◌≢◌, ◌<◌, ◌≤◌, ◌↔◌, ◌⊎◌, IsTrue, IsErrOf, OnOk, length};
+ghost use Rattle.std.specs.Prelude.{◌≡◌, ◌≢◌, ◌<◌, ◌≤◌, ◌↔◌, ◌⊎◌, Err, IsTrue, IsErrOf, OnOk, length};
 ghost use Rattle.line_tape.specs.Event.{HasLongState, NamesBelow};
 ghost use Rattle.line_tape.specs.History.{tape_at};
 ghost use Rattle.line_catalogue.specs.Agreement.{Agrees, AgreesNext};
 
 use crate::agreement::name_agrees;
+use crate::catalogues::Catalogue;
 use crate::refusals::AddError;
 use line_names::ProcId;
 use line_tape::{Event, History, MOST_EVENTS, MOST_STATE};
@@ -71,4 +72,31 @@ pub fn test_event(history: &History, p: ProcId, event: &Event) -> Result<(), Add
         return Err(AddError::NamesDisagree);
     }
     Ok(())
+}
+
+impl Catalogue {
+    /// Whether `add` takes an event at the end of the tape of a process, where there is memory for
+    /// it: then, with room for it, `append` does. It costs the same however much was added before.
+    pub fn test(&self, p: ProcId, event: &Event) -> Result<(), AddError>
+        ensures ok { OnOk result ((p < length self.now.processes)
+            × NamesBelow (length self.now.processes) event.now × (HasLongState event.now → ⊥)
+            × (length (tape_at self.now.processes p) ≢ MOST_EVENTS)
+            × AgreesNext self.now.processes p event.now) }
+
+        // The refusals, in their order.
+        ensures process { IsErrOf result AddError.NoSuchProcess
+            ↔ ((length self.now.processes ≤ p) ⊎ (NamesBelow (length self.now.processes) event.now → ⊥)) }
+        ensures long { IsErrOf result AddError.StateTooLong
+            ↔ ((p < length self.now.processes) × NamesBelow (length self.now.processes) event.now × HasLongState event.now) }
+        ensures full { IsErrOf result AddError.TapeFull
+            ↔ ((p < length self.now.processes) × NamesBelow (length self.now.processes) event.now
+            × (HasLongState event.now → ⊥) × (length (tape_at self.now.processes p) ≡ MOST_EVENTS)) }
+        ensures names { IsErrOf result AddError.NamesDisagree
+            ↔ ((p < length self.now.processes) × NamesBelow (length self.now.processes) event.now
+            × (HasLongState event.now → ⊥) × (length (tape_at self.now.processes p) ≢ MOST_EVENTS)
+            × (AgreesNext self.now.processes p event.now → ⊥)) }
+        ensures never { result ≢ Err AddError.OutOfMemory }
+    {
+        test_event(self.history(), p, event)
+    }
 }

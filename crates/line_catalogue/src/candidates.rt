@@ -19,24 +19,25 @@ fn events_behind<'a>(history: &'a History, line: &Line, q: ProcId) -> Events<'a>
     tape.front(Choice::Now).behind(place as usize)
 }
 
-/// For each process the numbers of sends to look at: of what was kept, and of what is received
-/// behind the line.
+/// For each process the numbers of sends to look at among as many first ones as its end tells: of
+/// what was kept, and of what is received behind the line. All others are looked at one by one.
 pub fn candidates(
     history: &History,
+    ends: &[u32],
     left: &[MsgName],
     alloc: Global,
     line: &Line,
 ) -> Result<Vec<Numbers>, AllocError>
     requires { IsLine history.now.processes line.now }
     ensures { IfOk result (λ rows.
-        AreCandidates history.now.processes line.now left.now rows.items) }
+        AreCandidates history.now.processes line.now ends.now left.now rows.items) }
 {
     let n = history.n();
     let mut rows = empty_rows(alloc, n)?;
-    add_names(left, &mut rows)?;
+    add_names(left, ends, &mut rows)?;
     for receiver in 0..n {
         let q = ProcId::try_new(receiver, n).unwrap();
-        add_receipts(&events_behind(history, line, q), &mut rows)?;
+        add_receipts(&events_behind(history, line, q), ends, &mut rows)?;
     }
     Ok(rows)
 }

@@ -214,6 +214,8 @@ impl Catalogue {
     }
 
     /// Makes room for so many further events of a process: its next `k` additions take no memory.
+    /// Now and then it keeps what is in transit where each process stands, for `transit`; it looks at
+    /// no more than has come since, and where memory for that is refused nothing else is different.
     #[tactic(auto, using(crate::proofs::CatalogueLemmas::lesser_at))]
     pub fn reserve(&mut self, p: ProcId, k: u32) -> Result<(), AllocError>
         requires { p < length self.old.processes }
@@ -327,9 +329,9 @@ impl Catalogue {
     /// The messages in transit at a line, by sender, then number: those whose send stands before
     /// the line, and which the process that the send names has not received before its own choice.
     ///
-    /// It looks at what `keep_transit` or `restart_with` was last told, at each send behind that
-    /// line, and at each event behind this one; at each send where neither was called, or `restart`
-    /// was after it. It takes memory for these and for the result, and fails without.
+    /// It looks at what was in transit at a line that is kept, at each send behind that line, and at
+    /// each event behind this one; it takes memory for these and for the result, and fails without.
+    /// `keep_transit`, `restart_with` and now and then `reserve` keep a line, `restart` none.
     pub fn transit(&self, alloc: Global, line: &Line) -> Result<Vec<MsgName>, AllocError>
         requires { IsLine self.now.processes line.now }
         ensures { IfOk result (λ messages. messages.items ≡ in_transit self.now.processes line.now) }

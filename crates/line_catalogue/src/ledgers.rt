@@ -7,14 +7,40 @@ ghost use Rattle.line_tape.specs.Line.{events_before, IsLine};
 ghost use Rattle.line_tape.specs.Restart.{restarted, HaveFurther};
 ghost use Rattle.line_tape.specs.Transit.{in_transit};
 ghost use Rattle.line_tape.specs.Views.{room_at};
-ghost use Rattle.line_catalogue.specs.Left.{start_at, AreLeft};
+ghost use Rattle.line_catalogue.specs.Left.{start_at, AreEnds, AreLeft};
 
 use crate::candidates::candidates;
 use crate::transits::add_open;
-use line_names::{Line, MsgName, ProcId};
+use line_names::{Choice, Line, MsgName, ProcId};
 use line_tape::{Event, History, MOST_EVENTS};
 use std::alloc::{AllocError, Global};
 use std::marker::Model;
+
+// How many events come at least between two times that the ledger settles, so that what a settling
+// takes but for the events is little beside them.
+const EVENTS_BETWEEN: usize = 4096;
+
+/// For each process how many of its first sends need no look unless their numbers are told: those
+/// before its start and before the line.
+fn ends_before(
+    history: &History,
+    starts: &[u32],
+    alloc: Global,
+    line: &Line,
+) -> Result<Vec<u32>, AllocError>
+    requires line { IsLine history.now.processes line.now }
+    requires count { length starts.now ≡ length history.now.processes }
+    ensures { IfOk result (λ ends. AreEnds history.now.processes starts.now line.now ends.items) }
+{
+    let n = history.n();
+    let mut ends = Vec::with_capacity(alloc, n as usize)?;
+    for q in 0..n {
+        let p = ProcId::try_new(q, n).unwrap();
+        let sends = history.tape(p).sends_before(line.at(p));
+        ends.push(starts[q as usize].min(sends))?;
+    }
+    Ok(ends)
+}
 
 /// The messages in transit at a line, by sender, then number.
 fn find_transit(
@@ -29,16 +55,18 @@ fn find_transit(
     ensures { IfOk result (λ messages. messages.items ≡ in_transit history.now.processes line.now) }
 {
     let n = history.n();
-    let mut rows = candidates(history, left, alloc, line)?;
+    let bounds = ends_before(history, starts, alloc, line)?;
+    let ends = bounds.as_slice();
+    let mut rows = candidates(history, ends, left, alloc, line)?;
     let mut messages = Vec::new(alloc);
     for sender in 0..n {
         let p = ProcId::try_new(sender, n).unwrap();
-        let start = starts[sender as usize];
+        let end = ends[sender as usize];
         add_open(
             history,
             line,
             p,
-            start,
+            end,
             &mut rows[sender as usize],
             &mut messages,
         )?;
@@ -46,11 +74,34 @@ fn find_transit(
     Ok(messages)
 }
 
+/// The line of where each process stands.
+fn present_line(history: &History) -> Line
+    ensures { IsLine history.now.processes result }
+{
+    let n = history.n();
+    let mut line = Line::new();
+    for _q in 0..n {
+        line.push(Choice::Now);
+    }
+    line
+}
+
 /// The starts of `n` processes of whose sends each is to be looked at.
 fn no_starts(alloc: Global, n: u32) -> Result<Vec<u32>, AllocError>
     ensures { IfOk result (λ starts. starts.items ≡ replicate n 0) }
 {
     vec![in alloc; 0; n as usize]
+}
+
+/// How many sends a history has; no more than `u32` holds.
+fn count_sends(history: &History) -> u32 {
+    let n = history.n();
+    let mut sends = 0u32;
+    for q in 0..n {
+        let p = ProcId::try_new(q, n).unwrap();
+        sends = sends.saturating_add(history.tape(p).sends());
+    }
+    sends
 }
 
 /// Has each send be looked at.
@@ -81,12 +132,18 @@ fn move_starts(history: &History, line: &Line, starts: &mut Vec<u32>)
 /// A history, how many sends each process had before a line, and what was in transit there.
 ///
 /// What was sent before that line and is not received is among these messages; so no other send
-/// before it has to be looked at again. Neither changes by an event.
+/// before it has to be looked at again. Neither changes by an event. Now and then, as room is made,
+/// the ledger settles: it moves that line to where each process stands, so that what is to be looked
+/// at does not grow with the history.
 #[derive(Drop)]
 pub struct Ledger {
     history: History,
     starts: Vec<u32>,
     left: Vec<MsgName>,
+    alloc: Global,
+    // How many further events come before the ledger settles: as many as what is left, so that the
+    // events pay for the look at it.
+    due: usize,
 }
 
 impl Model for Ledger {
@@ -111,6 +168,8 @@ impl Ledger {
             history,
             starts,
             left: Vec::new(alloc),
+            alloc,
+            due: EVENTS_BETWEEN,
         })
     }
 
@@ -121,7 +180,31 @@ impl Ledger {
         &self.history
     }
 
+    /// Keeps what is in transit where each process stands, so that no send before that is looked at
+    /// again. Where memory for it is refused, it is put off.
+    #[inline(never)]
+    fn settle(&mut self)
+        ensures { self.new ≡ self.old }
+    {
+        let line = present_line(&self.history);
+        match self.transit(self.alloc, &line) {
+            Ok(messages) => self.keep(&line, messages),
+            Err(AllocError) => self.put_off(),
+        }
+    }
+
+    /// Has the ledger settle once as many further events have come as it has sends, since it may
+    /// have looked at all of them.
+    fn put_off(&mut self)
+        ensures { self.new ≡ self.old }
+    {
+        self.due = (count_sends(&self.history) as usize).saturating_add(EVENTS_BETWEEN);
+    }
+
     /// Makes room for so many further events of a process.
+    ///
+    /// Now and then it settles, which takes time in proportion to the events that have come since
+    /// it did last.
     pub fn reserve(&mut self, p: ProcId, k: u32) -> Result<(), AllocError>
         requires { p < length self.old.processes }
         ensures same { self.new.processes ≡ self.old.processes }
@@ -130,6 +213,9 @@ impl Ledger {
         ensures room { room_at self.old p ≤ room_at self.new p }
         ensures others { (q : ℕ) → q ≢ p → room_at self.new q ≡ room_at self.old q }
     {
+        if self.due == 0 {
+            self.settle();
+        }
         self.history.reserve(p, k)
     }
 
@@ -146,13 +232,14 @@ impl Ledger {
     {
         let _count = self.starts.len();
         self.history.append(p, event);
+        self.due = self.due.saturating_sub(1);
     }
 
     /// The messages in transit at a line, by sender, then number.
     ///
     /// It looks at what was kept last, at each send since, and at each event behind the line; it
-    /// takes a number for each of the first and for each receipt behind the line, and room for the
-    /// result.
+    /// takes a number for each process, for each of the first, and for each receipt behind the line
+    /// of a message that was sent before both, and room for the result.
     pub fn transit(&self, alloc: Global, line: &Line) -> Result<Vec<MsgName>, AllocError>
         requires { IsLine self.now.processes line.now }
         ensures { IfOk result (λ messages.
@@ -175,6 +262,7 @@ impl Ledger {
         ensures { self.new ≡ self.old }
     {
         move_starts(&self.history, line, &mut self.starts);
+        self.due = messages.len().saturating_add(EVENTS_BETWEEN);
         self.left = messages;
     }
 
@@ -187,6 +275,7 @@ impl Ledger {
     {
         self.history.restart(line);
         clear_starts(&mut self.starts);
+        self.due = (count_sends(&self.history) as usize).saturating_add(EVENTS_BETWEEN);
     }
 
     /// Goes on from a line, with what is in transit there and what is sent from now on to be looked
@@ -200,6 +289,7 @@ impl Ledger {
     {
         move_starts(&self.history, line, &mut self.starts);
         self.history.restart(line);
+        self.due = left.len().saturating_add(EVENTS_BETWEEN);
         self.left = left;
     }
 

@@ -71,53 +71,65 @@ pub fn empty_rows(alloc: Global, n: u32) -> Result<Vec<Numbers>, AllocError>
     Ok(rows)
 }
 
-/// Adds the number of a message to the row of its sender.
-pub fn add_name(message: &MsgName, rows: &mut Vec<Numbers>) -> Result<(), AllocError>
+/// Adds the number of a message to the row of its sender, where it is below the sender's end.
+pub fn add_name(message: &MsgName, ends: &[u32], rows: &mut Vec<Numbers>) -> Result<(), AllocError>
     ensures count { length rows.new.items ≡ length rows.old.items }
-    ensures added { OnOk result ((names : List MsgName) → AreIn names rows.old.items
-        → AreIn (names ++ message.now ∷ []) rows.new.items) }
+    ensures added { OnOk result ((names : List MsgName) → AreIn names ends.now rows.old.items
+        → AreIn (names ++ message.now ∷ []) ends.now rows.new.items) }
 {
     let p = message.from.get() as usize;
-    if p < rows.len() {
+    if p < rows.len() && p < ends.len() && message.number < ends[p] {
         rows[p].add(message.number)?;
     }
     Ok(())
 }
 
-/// Adds the numbers of messages to the rows of their senders.
-pub fn add_names(messages: &[MsgName], rows: &mut Vec<Numbers>) -> Result<(), AllocError>
+/// Adds the numbers of messages to the rows of their senders, where they are below their ends.
+pub fn add_names(
+    messages: &[MsgName],
+    ends: &[u32],
+    rows: &mut Vec<Numbers>,
+) -> Result<(), AllocError>
     ensures count { length rows.new.items ≡ length rows.old.items }
-    ensures added { OnOk result ((names : List MsgName) → AreIn names rows.old.items
-        → AreIn (names ++ messages.now) rows.new.items) }
+    ensures added { OnOk result ((names : List MsgName) → AreIn names ends.now rows.old.items
+        → AreIn (names ++ messages.now) ends.now rows.new.items) }
 {
     for message in messages {
-        add_name(message, rows)?;
+        add_name(message, ends, rows)?;
     }
     Ok(())
 }
 
-/// Adds the number of the message that an event receives.
-fn add_receipt(event: &EventRef<'_>, rows: &mut Vec<Numbers>) -> Result<(), AllocError>
+/// Adds the number of the message that an event receives, where it is below its sender's end.
+fn add_receipt(
+    event: &EventRef<'_>,
+    ends: &[u32],
+    rows: &mut Vec<Numbers>,
+) -> Result<(), AllocError>
     ensures count { length rows.new.items ≡ length rows.old.items }
-    ensures added { OnOk result ((names : List MsgName) → AreIn names rows.old.items
-        → AreIn (names ++ names_received (shown event.now ∷ [])) rows.new.items) }
+    ensures added { OnOk result ((names : List MsgName) → AreIn names ends.now rows.old.items
+        → AreIn (names ++ names_received (shown event.now ∷ [])) ends.now rows.new.items) }
 {
     match event {
-        EventRef::Recv { message } => add_name(message, rows),
+        EventRef::Recv { message } => add_name(message, ends, rows),
         EventRef::Send { .. } => Ok(()),
         EventRef::Check { .. } => Ok(()),
         EventRef::Mark { .. } => Ok(()),
     }
 }
 
-/// Adds the numbers of the messages that these events receive.
-pub fn add_receipts(events: &Events<'_>, rows: &mut Vec<Numbers>) -> Result<(), AllocError>
+/// Adds the numbers of the messages that these events receive, where they are below their ends.
+pub fn add_receipts(
+    events: &Events<'_>,
+    ends: &[u32],
+    rows: &mut Vec<Numbers>,
+) -> Result<(), AllocError>
     ensures count { length rows.new.items ≡ length rows.old.items }
-    ensures added { OnOk result ((names : List MsgName) → AreIn names rows.old.items
-        → AreIn (names ++ names_received events.now) rows.new.items) }
+    ensures added { OnOk result ((names : List MsgName) → AreIn names ends.now rows.old.items
+        → AreIn (names ++ names_received events.now) ends.now rows.new.items) }
 {
     for i in 0..events.len() {
-        add_receipt(&events.at(i), rows)?;
+        add_receipt(&events.at(i), ends, rows)?;
     }
     Ok(())
 }

@@ -80,25 +80,26 @@ fn add_old(
     Ok(())
 }
 
-/// Adds the messages of a process that are in transit.
+/// Adds the messages of a process that are in transit: of its first `end` ones those whose numbers
+/// the row has, and of the others each.
 pub fn add_open(
     history: &History,
     line: &Line,
     p: ProcId,
-    start: u32,
+    end: u32,
     row: &mut Numbers,
     messages: &mut Vec<MsgName>,
 ) -> Result<(), AllocError>
     requires line { IsLine history.now.processes line.now }
     requires process { p < length history.now.processes }
-    requires held { HasOpen history.now.processes line.now p start row.old }
+    requires end { end ≤ sends (events_before history.now.processes line.now p) }
+    requires held { HasOpen history.now.processes line.now p end row.old }
     ensures { OnOk result (messages.new.items
         ≡ messages.old.items
         ++ map (λ (letter : Letter). letter.message) (open_letters history.now.processes line.now p)) }
 {
     row.sort();
     let sends = history.tape(p).sends_before(line.at(p));
-    let end = start.min(sends);
     add_old(history, line, p, end, row.as_slice(), messages)?;
     for number in end..sends {
         add_if_open(history, line, p, number, messages)?;

@@ -16,7 +16,7 @@ loop-receiver-init c =
     let none : List (List ℕ) = [] in
     record {
       count = c.in_ok-add_names.ensures.count ∙ ap (λ (xs : List (List ℕ)). length xs) c.in_ok-rows.ensures ∙ length-replicate c.n-n.result [] ∙ c.n-n.ensures.value;
-      before = c.in_ok-add_names.ensures.added [] (in-none c.in_ok-rows.rows.items);
+      before = c.in_ok-add_names.ensures.added [] (in-none c.args.ends.now c.in_ok-rows.rows.items);
       behind = λ q l. absurd (omega (arith, l));
     }
 
@@ -24,20 +24,21 @@ pub loop-receiver-preserved : goal.loop-receiver-preserved
 loop-receiver-preserved c =
     let history : List Process = c.args.history.now.processes in
     let line : List Choice = c.args.line.now in
+    let ends : List ℕ = c.args.ends.now in
     let r : ℕ = c.loop-receiver.receiver in
     let at : c.unwrap-q.result ≡ r = (rw c.unwrap-q.ensures at c.try_new.ensures).1 in
     let new : List (List ℕ) = c.add_receipts.new.rows.items in
     let events : List Event = c.events_behind.result in
     let are : events ≡ events_behind history line r = c.events_behind.ensures ∙ ap (λ (k : ℕ). events_behind history line k) at in
-    let more : (names : List MsgName) → AreIn names c.loop-receiver.rows.items → AreIn (names ++ names_received events) new = c.in_ok-add_receipts.ensures.added in
+    let more : (names : List MsgName) → AreIn names ends c.loop-receiver.rows.items → AreIn (names ++ names_received events) ends new = c.in_ok-add_receipts.ensures.added in
     record {
       count = c.in_ok-add_receipts.ensures.count ∙ c.loop-receiver.invariant.count;
-      before = in-left c.args.left.now (names_received events) new (more c.args.left.now c.loop-receiver.invariant.before);
+      before = in-left c.args.left.now (names_received events) ends new (more c.args.left.now c.loop-receiver.invariant.before);
       behind = λ q l. elim (cases_lt q r) [
-        | inl earlier ↦ in-left (names_received (events_behind history line q)) (names_received events) new (more (names_received (events_behind history line q)) (c.loop-receiver.invariant.behind q earlier))
+        | inl earlier ↦ in-left (names_received (events_behind history line q)) (names_received events) ends new (more (names_received (events_behind history line q)) (c.loop-receiver.invariant.behind q earlier))
         | inr here ↦
             let same : r ≡ q = omega (arith, l) in
-            subst (λ (es : List Event). AreIn (names_received es) new) (are ∙ ap (λ (k : ℕ). events_behind history line k) same) (in-right c.args.left.now (names_received events) new (more c.args.left.now c.loop-receiver.invariant.before))
+            subst (λ (es : List Event). AreIn (names_received es) ends new) (are ∙ ap (λ (k : ℕ). events_behind history line k) same) (in-right c.args.left.now (names_received events) ends new (more c.args.left.now c.loop-receiver.invariant.before))
       ];
     }
 

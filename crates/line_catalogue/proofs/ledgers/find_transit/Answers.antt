@@ -7,7 +7,7 @@ use Rattle.line_names.specs.declared.messages.MsgName.{MsgName}
 use Rattle.line_tape.specs.History.{Process}
 use Rattle.line_tape.specs.Transit.{Letter, open_letters}
 use Rattle.line_tape.proofs.TransitLemmas.{range-push}
-use Rattle.line_catalogue.specs.Left.{numbers_at, start_at, HasOpen}
+use Rattle.line_catalogue.specs.Left.{numbers_at, start_at, AreEnds, HasOpen}
 use Rattle.line_catalogue.proofs.LeftLemmas.{has-open}
 use Rattle.line_catalogue.proofs.ledgers.find_transit.Goals as goal
 
@@ -24,12 +24,14 @@ add_open-requires-clause-held c =
     let line : List Choice = c.args.line.now in
     let s : ℕ = c.loop-sender.sender in
     let row : List ℕ = c.index_mut.result.now in
-    let start : ℕ = start_at c.args.starts.now s in
+    let ends : List ℕ = c.as_slice-ends.result.now in
+    let end : ℕ = start_at ends s in
     let at : c.unwrap-p.result ≡ s = (rw c.unwrap-p.ensures at c.try_new.ensures).1 in
     let inside : s < length history = omega (arith, c.n-n.ensures.value) in
     let is : numbers_at c.in_ok-rows.rows.items s ≡ row = sym (c.loop-sender.invariant.kept s (omega arith)) ∙ get_or_default c.loop-sender.rows.items s [] row (omega (arith, inside, c.loop-sender.invariant.count)) ∙ sym c.index_mut.ensures.value in
-    let open' : HasOpen history line s start (numbers_at c.in_ok-rows.rows.items s) = has-open history line c.args.starts.now c.args.left.now c.in_ok-rows.rows.items s c.requires.left c.in_ok-rows.ensures inside in
-    subst (λ (k : ℕ). HasOpen history line k start row) (sym at) (subst (HasOpen history line s start) is open')
+    let are : AreEnds history c.args.starts.now line ends = subst (AreEnds history c.args.starts.now line) (sym c.as_slice-ends.ensures.value) c.in_ok-bounds.ensures in
+    let open' : HasOpen history line s end (numbers_at c.in_ok-rows.rows.items s) = has-open history line c.args.starts.now ends c.args.left.now c.in_ok-rows.rows.items s c.requires.left are c.in_ok-rows.ensures inside in
+    subst (λ (k : ℕ). HasOpen history line k end row) (sym at) (subst (HasOpen history line s end) is open')
 
 pub loop-sender-preserved : goal.loop-sender-preserved
 loop-sender-preserved c =

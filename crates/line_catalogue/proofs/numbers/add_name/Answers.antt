@@ -13,5 +13,6 @@ returns-in_ok-add-clause-added c = λ names held.
     let at : c.get-p.result ≡ m.from = c.get-p.ensures.value in
     let is : row ≡ get_or rows m.from row = c.index_mut.ensures.value ∙ ap (λ k. get_or rows k row) at in
     let inside : m.from < length rows = omega (arith, at, c.if-p-len.true, c.len.ensures, c.args.rows.now.ok.0) in
-    let new : AreIn (names ++ m ∷ []) (set rows m.from (row ++ m.number ∷ [])) = in-add names m rows row is inside held in
-    subst (λ k. AreIn (names ++ m ∷ []) (set rows k c.add.new.self)) (sym at) (subst (λ (r : List ℕ). AreIn (names ++ m ∷ []) (set rows m.from r)) (sym c.in_ok-add.ensures) new)
+    let ends : List ℕ = c.args.ends.now in
+    let new : AreIn (names ++ m ∷ []) ends (set rows m.from (row ++ m.number ∷ [])) = in-add names m ends rows row is inside held in
+    subst (λ k. AreIn (names ++ m ∷ []) ends (set rows k c.add.new.self)) (sym at) (subst (λ (r : List ℕ). AreIn (names ++ m ∷ []) ends (set rows m.from r)) (sym c.in_ok-add.ensures) new)

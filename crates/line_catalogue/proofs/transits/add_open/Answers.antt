@@ -14,7 +14,7 @@ use Rattle.line_catalogue.proofs.transits.add_open.Goals as goal
 
 pub add_old-requires-clause-held : goal.add_old-requires-clause-held
 add_old-requires-clause-held c = λ q m from low sent unseen.
-    subst (λ (row : List ℕ). Contains row m.number) (sym c.as_slice.ensures) (c.sort.ensures.kept m.number (c.requires.held q m from (omega (arith, low, c.min-end.ensures)) sent unseen))
+    subst (λ (row : List ℕ). Contains row m.number) (sym c.as_slice.ensures) (c.sort.ensures.kept m.number (c.requires.held q m from low sent unseen))
 
 pub loop-number-init : goal.loop-number-init
 loop-number-init c = c.in_ok-add_old.ensures

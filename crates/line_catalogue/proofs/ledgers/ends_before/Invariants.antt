@@ -1,0 +1,12 @@
+use Rattle.std.proofs.Common.{◌≡◌, ◌≤◌, ℕ, length}
+use Rattle.line_tape.specs.Event.{sends}
+use Rattle.line_tape.specs.Line.{events_before}
+use Rattle.line_catalogue.specs.Left.{start_at}
+use Rattle.line_catalogue.proofs.ledgers.ends_before.Given as goal
+
+abbrev pub invariant-loop-q : goal.invariant-loop-q
+invariant-loop-q l = record {
+  count : length l.ends.items ≡ l.q;
+  started : (p : ℕ) → start_at l.ends.items p ≤ start_at l.starts p;
+  before : (p : ℕ) → start_at l.ends.items p ≤ sends (events_before l.history.processes l.line p);
+}
