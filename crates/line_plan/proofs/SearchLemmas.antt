@@ -1,5 +1,5 @@
 -- The counts of sends and the processes to be visited, as a process is lowered.
-use Rattle.std.proofs.Common.{◌≡◌, ◌≢◌, ℕ, ◌<◌, ◌≤◌, Bool, List, length, get_or, set, inl, inr, sym, ap, ◌∙◌, subst, arith}
+use Rattle.std.proofs.Common.{◌≡◌, ◌≢◌, ℕ, zero, suc, ◌<◌, ◌≤◌, Bool, List, [], ◌∷◌, length, get_or, set, inl, inr, refl, sym, ap, ◌∙◌, subst, arith}
 use Rattle.std.specs.List.{Contains}
 use Rattle.std.proofs.lemmas.Bool.{cases_eq}
 use Rattle.std.proofs.lemmas.List.{ext_get_or, length-set, get_or-set_same, get_or-set_other}
@@ -16,7 +16,18 @@ use Rattle.line_vectors.specs.Reach.{reach_from, sent_count, sents_of}
 use Rattle.line_catalogue.specs.Agreement.{Agrees}
 use Rattle.line_catalogue.proofs.LaneLemmas.{on_tape, numbers-decide}
 use Rattle.line_vectors.proofs.ReachLemmas.{length-sents, reach-above, sents-at}
-use Rattle.line_plan.specs.Search.{AreCleanBut, AreHearersDirty, AreStillDirty}
+use Rattle.line_plan.specs.Search.{AreCleanBut, AreHearersDirty, AreStillDirty, IsSameBut}
+
+-- an entry is set twice
+set-set : (line : List Choice) (p : ℕ) (a b : Choice) → set (set line p a) p b ≡ set line p b
+set-set [] p a b = refl
+set-set (x ∷ xs) zero a b = refl
+set-set (x ∷ xs) (suc p) a b = ap (λ (rest : List Choice). x ∷ rest) (set-set xs p a b)
+
+-- one change after another
+pub same-on : (old mid new : List Choice) (p : ℕ) → IsSameBut old mid p → IsSameBut mid new p → IsSameBut old new p
+same-on old mid new p first second =
+    second ∙ ap (λ (line : List Choice). set line p (choice_at new p)) first ∙ set-set old p (choice_at mid p) (choice_at new p)
 
 module _ (history : List Process) (line : List Choice) (p : ℕ) (choice : Choice) (count : length line ≡ length history) where
   -- what another process did before the line is what it was

@@ -1,6 +1,7 @@
 -- What the planner keeps on its way down.
-use Rattle.std.specs.Prelude.{◌≡◌, ◌≢◌, ℕ, ◌<◌, ◌≤◌, ◌+◌, Bool, true, false, List, length}
+use Rattle.std.specs.Prelude.{◌≡◌, ◌≢◌, ℕ, ◌<◌, ◌≤◌, ◌+◌, Bool, true, false, List, length, slice_set}
 use Rattle.line_names.specs.declared.choices.Choice.{Choice}
+use Rattle.line_names.specs.Lines.{choice_at}
 use Rattle.line_names.specs.Sets.{is_member}
 use Rattle.line_tape.specs.Height.{height}
 use Rattle.line_tape.specs.History.{Process, tape_at}
@@ -28,6 +29,10 @@ AreHearersDirty history p count dirty = (q : ℕ) → q < length history → is_
 -- those that were to be visited are so still
 abbrev pub AreStillDirty : List Bool → List Bool → Type 0
 AreStillDirty old new = (q : ℕ) → is_member new q ≡ false → is_member old q ≡ false
+
+-- the lines differ at process p alone
+abbrev pub IsSameBut : List Choice → List Choice → ℕ → Type 0
+IsSameBut old new p = new ≡ slice_set old p (choice_at new p)
 
 -- the line stays with its entries, or it is lower and has more of them, which its height pays for
 pub record IsMoved (history : List Process) (old : List Choice) (entries : ℕ) (lowered : Bool) (new : List Choice) (entries' : ℕ) : Type 0 where

@@ -5,7 +5,7 @@ ghost use Rattle.line_tape.specs.Height.{height};
 ghost use Rattle.line_tape.specs.Line.{events_before, IsLine, IsOrphan, AreSentBefore};
 ghost use Rattle.line_tape.specs.Survival.{IsLatest};
 ghost use Rattle.line_tape.specs.Transit.{in_transit};
-ghost use Rattle.line_plan.specs.Search.{IsMoved, AreSentBelow, AreClean, AreCleanBut, AreHearersDirty, AreStillDirty};
+ghost use Rattle.line_plan.specs.Search.{IsMoved, IsSameBut, AreSentBelow, AreClean, AreHearersDirty, AreStillDirty};
 ghost use Rattle.line_vectors.specs.Reach.{sents_of};
 
 use crate::dirty::Dirty;
@@ -57,8 +57,7 @@ fn mark_hearers(catalogue: &Catalogue, p: ProcId, count: u32, dirty: &mut Dirty)
     }
 }
 
-/// Passes the choice of a process over, for an orphan that it has received; whoever received what
-/// it has then no longer sent is to be visited.
+/// Passes the choice of a process over, for an orphan that it has received.
 fn pass_over(
     catalogue: &Catalogue,
     failed: &ProcSet,
@@ -66,19 +65,17 @@ fn pass_over(
     message: MsgName,
     line: &mut Line,
     sent: &mut Sent,
-    dirty: &mut Dirty,
     certificate: &mut Vec<Passed>,
 ) -> Result<(), AllocError>
     requires process { at < length catalogue.now.processes }
     requires led { IsLed catalogue.now.processes catalogue.now.marks failed.now certificate.old.items line.old }
     requires orphan { IsOrphan catalogue.now.processes line.old at message }
     requires sent { sent.old ≡ sents_of catalogue.now.processes line.old }
-    requires clean { AreCleanBut catalogue.now.processes line.old dirty.old at }
     ensures led { OnOk result (IsLed catalogue.now.processes catalogue.now.marks failed.now certificate.new.items line.new) }
     ensures longer { OnOk result (vec_len certificate.new ≡ vec_len certificate.old + 1) }
     ensures lower { OnOk result (height catalogue.now.processes line.new < height catalogue.now.processes line.old) }
+    ensures alone { OnOk result (IsSameBut line.old line.new at) }
     ensures sent { OnOk result (sent.new ≡ sents_of catalogue.now.processes line.new) }
-    ensures clean { OnOk result (AreCleanBut catalogue.now.processes line.new dirty.new at) }
 {
     let choice = line.at(at);
     let next = catalogue.next_lower(at, choice, failed).unwrap();
@@ -90,7 +87,6 @@ fn pass_over(
     line.set(at, next);
     let count = catalogue.history().tape(at).sends_before(next);
     sent.set(at, count);
-    mark_hearers(catalogue, at, count, dirty);
     Ok(())
 }
 
@@ -101,17 +97,15 @@ fn visit(
     at: ProcId,
     line: &mut Line,
     sent: &mut Sent,
-    dirty: &mut Dirty,
     certificate: &mut Vec<Passed>,
 ) -> Result<bool, AllocError>
     requires process { at < length catalogue.now.processes }
     requires led { IsLed catalogue.now.processes catalogue.now.marks failed.now certificate.old.items line.old }
     requires sent { sent.old ≡ sents_of catalogue.now.processes line.old }
-    requires clean { AreCleanBut catalogue.now.processes line.old dirty.old at }
     ensures led { OnOk result (IsLed catalogue.now.processes catalogue.now.marks failed.now certificate.new.items line.new) }
     ensures none { OnOk result (AreSentBefore catalogue.now.processes line.new (events_before catalogue.now.processes line.new at)) }
+    ensures alone { OnOk result (IsSameBut line.old line.new at) }
     ensures sent { OnOk result (sent.new ≡ sents_of catalogue.now.processes line.new) }
-    ensures clean { OnOk result (AreCleanBut catalogue.now.processes line.new dirty.new at) }
     ensures moved { IfOk result (λ lowered.
         IsMoved catalogue.now.processes line.old (vec_len certificate.old) lowered line.new (vec_len certificate.new)) }
 {
@@ -119,16 +113,7 @@ fn visit(
     'orphans: loop {
         match orphan_at(catalogue, line, sent, at) {
             Some(message) => {
-                pass_over(
-                    catalogue,
-                    failed,
-                    at,
-                    message,
-                    line,
-                    sent,
-                    dirty,
-                    certificate,
-                )?;
+                pass_over(catalogue, failed, at, message, line, sent, certificate)?;
                 lowered = true;
             }
             None => return Ok(lowered),
@@ -136,7 +121,11 @@ fn visit(
     }
 }
 
-/// Visits a process if it is to be visited, after which it is not, and says whether it was lowered.
+/// Visits a process if it is to be visited, after which it is not, and says whether it was lowered;
+/// whoever received what it has then no longer sent is to be visited.
+///
+/// Who that is depends on where the process ends up alone: it is asked once, for all the choices
+/// that are passed over here.
 fn visit_dirty(
     catalogue: &Catalogue,
     failed: &ProcSet,
@@ -160,7 +149,11 @@ fn visit_dirty(
     if !dirty.has(at) {
         return Ok(false);
     }
-    let lowered = visit(catalogue, failed, at, line, sent, dirty, certificate)?;
+    let lowered = visit(catalogue, failed, at, line, sent, certificate)?;
+    if lowered {
+        let count = catalogue.history().tape(at).sends_before(line.at(at));
+        mark_hearers(catalogue, at, count, dirty);
+    }
     dirty.set(at, false);
     Ok(lowered)
 }
@@ -222,10 +215,10 @@ fn sents_before(alloc: Global, catalogue: &Catalogue, line: &Line) -> Result<Sen
 /// process lowered since their last visit, a message that is no longer sent: no other one can have
 /// an orphan. So the line, the entries and the sweeps are those of visiting all.
 ///
-/// Each choice passed over costs one look at a vector, and at one lane of each process; a visit
-/// that lowers nothing costs a look at a vector. At the end `Catalogue::transit` tells what is in
-/// transit at the line. Where nobody failed that is all: one look at a vector for each process, and
-/// at what `transit` looks at.
+/// Each visit costs a look at a vector, and one more for each choice that it passes over; where it
+/// passes one over, it also costs a look at one lane of each process. At the end
+/// `Catalogue::transit` tells what is in transit at the line. Where nobody failed that is all: one
+/// look at a vector for each process, and at what `transit` looks at.
 pub fn plan(alloc: Global, catalogue: &Catalogue, failed: &ProcSet) -> Result<Plan, PlanError>
     ensures latest { IfOk result (λ plan. IsLatest catalogue.now.processes catalogue.now.marks failed.now plan.line) }
     ensures chain { IfOk result (λ plan.

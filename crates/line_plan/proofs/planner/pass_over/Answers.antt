@@ -1,24 +1,20 @@
 -- The entry is right, its process has a lower choice afterwards, and those who heard of what it no longer sent are to be visited.
-use Rattle.std.proofs.Common.{◌≡◌, ◌<◌, ◌≤◌, ◌++◌, ◌∷◌, [], ℕ, List, Bool, length, set, sym, ap, ◌∙◌, subst, arith}
+use Rattle.std.proofs.Common.{◌≡◌, ◌<◌, ◌++◌, ◌∷◌, [], ℕ, List, Bool, length, set, sym, ap, ◌∙◌, subst, arith}
 use Rattle.line_names.specs.declared.certificates.Passed.{Passed}
 use Rattle.line_names.specs.declared.choices.Choice.{Choice}
 use Rattle.line_names.specs.Lines.{choice_at}
 use Rattle.line_tape.specs.declared.events.Event.{Event}
 use Rattle.line_tape.specs.Chain.{first_ceilings, next_lower, lowered, IsLed}
 use Rattle.line_tape.specs.Event.{sends}
-use Rattle.line_tape.specs.Front.{place, front}
-use Rattle.line_tape.specs.declared.limits.TheConstants.{MOST_EVENTS}
-use Rattle.line_tape.proofs.CutLemmas.{sends_take}
-use Rattle.line_tape.proofs.RowLemmas.{sends_le}
+use Rattle.line_tape.specs.Front.{front}
 use Rattle.line_tape.specs.History.{Process, tape_at}
 use Rattle.line_tape.specs.Line.{IsLine}
 use Rattle.line_tape.specs.Views.{MarksView}
 use Rattle.line_tape.specs.Height.{height}
 use Rattle.line_tape.proofs.LedLemmas.{LeadsTo-push, height-lowered, IsLine-led}
 use Rattle.line_vectors.specs.Reach.{sents_of}
-use Rattle.line_plan.specs.Search.{AreCleanBut, AreHearersDirty}
 use Rattle.line_vectors.proofs.ReachLemmas.{length-sents}
-use Rattle.line_plan.proofs.SearchLemmas.{sents-set, clean-lowered}
+use Rattle.line_plan.proofs.SearchLemmas.{sents-set}
 use Rattle.line_plan.proofs.planner.pass_over.Goals as goal
 
 pub set-requires-2 : goal.set-requires-2
@@ -61,21 +57,3 @@ returns-clause-sent c =
     let tape : c.tape.result.now.events ≡ tape_at history at = c.tape.ensures.events ∙ ap (λ (h : List Process). tape_at h at) c.history.ensures.processes in
     let count : c.sends_before-count.result ≡ sends (front (tape_at history at) next) = c.sends_before-count.ensures ∙ ap (λ (t : List Event). sends (front t next)) tape in
     c.set-2.ensures ∙ ap (λ (xs : List ℕ). set xs at c.sends_before-count.result) c.requires.sent ∙ ap (set (sents_of history line) at) count ∙ sym (sents-set history line at next is_line.length_is c.requires.process) ∙ ap (sents_of history) (sym c.set.ensures)
-
-pub mark_hearers-requires-clause-few : goal.mark_hearers-requires-clause-few
-mark_hearers-requires-clause-few c =
-    let tape : List Event = c.tape.result.now.events in
-    let few : length tape ≤ MOST_EVENTS = subst (λ (t : List Event). length t ≤ MOST_EVENTS) (sym c.tape.ensures.events) c.tape.ensures.limits.tape.few in
-    omega (arith, c.sends_before-count.ensures, sends_take tape (place tape c.unwrap-next.result), sends_le tape, few)
-
-pub returns-clause-clean : goal.returns-clause-clean
-returns-clause-clean c =
-    let history : List Process = c.args.catalogue.now.processes in
-    let line : List Choice = c.args.line.now in
-    let at : ℕ = c.args.at in
-    let next : Choice = c.unwrap-next.result in
-    let is_line : IsLine history line = IsLine-led history c.args.catalogue.now.marks c.args.failed.now c.args.certificate.now.items line c.requires.led in
-    let tape : c.tape.result.now.events ≡ tape_at history at = c.tape.ensures.events ∙ ap (λ (h : List Process). tape_at h at) c.history.ensures.processes in
-    let count : c.sends_before-count.result ≡ sends (front (tape_at history at) next) = c.sends_before-count.ensures ∙ ap (λ (t : List Event). sends (front t next)) tape in
-    let heard : AreHearersDirty history at (sends (front (tape_at history at) next)) c.mark_hearers.new.dirty = subst (λ k. AreHearersDirty history at k c.mark_hearers.new.dirty) count c.mark_hearers.ensures.heard in
-    subst (λ (l : List Choice). AreCleanBut history l c.mark_hearers.new.dirty at) (sym c.set.ensures) (clean-lowered history line at next is_line.length_is c.args.dirty.now c.mark_hearers.new.dirty c.requires.process c.history.ensures.agrees c.mark_hearers.ensures.still heard c.requires.clean)

@@ -2,14 +2,14 @@ use Rattle.std.proofs.Common.{◌≡◌, vec_len}
 use Rattle.line_vectors.specs.Reach.{sents_of}
 use Rattle.line_tape.specs.Height.{height}
 use Rattle.line_tape.specs.Chain.{IsLed}
-use Rattle.line_plan.specs.Search.{IsMoved, AreCleanBut}
+use Rattle.line_plan.specs.Search.{IsMoved, IsSameBut}
 use Rattle.line_plan.proofs.planner.visit.Given as goal
 
 abbrev pub invariant-orphans : goal.invariant-orphans
 invariant-orphans l = record {
   led : IsLed l.catalogue.processes l.catalogue.marks l.failed l.certificate.items l.line;
   sent : l.sent ≡ sents_of l.catalogue.processes l.line;
-  clean : AreCleanBut l.catalogue.processes l.line l.dirty l.at;
+  alone : IsSameBut l.initial.line l.line l.at;
   moved : IsMoved l.catalogue.processes l.initial.line (vec_len l.initial.certificate) l.lowered l.line (vec_len l.certificate);
 }
 
