@@ -1,9 +1,15 @@
+pub mod CsvLemmas
 pub mod DigitLemmas
+pub mod EndLemmas
+pub mod FieldLemmas
 pub mod HexLemmas
+pub mod LeftLemmas
 pub mod LineLemmas
+pub mod MachineLemmas
 pub mod NumLemmas
 pub mod PlainLemmas
 pub mod ReadAgain
 pub mod RoundLemmas
+pub mod RowLemmas
 pub mod SpanLemmas
 pub mod TextLemmas

@@ -10,8 +10,7 @@ use Rattle.std.proofs.lemmas.List.Elements.{All-nil, All-push, All-head, All-tai
 use Rattle.std.proofs.lemmas.List.Folds.{list_all-append}
 use Rattle.line_fields.specs.Bytes.{begins_with_feed, is_allowed, is_input_text}
 use Rattle.line_fields.specs.Records.{Record, cut, is_line, parts, records_of_lines, records_of_text, without}
-use Rattle.line_fields.specs.Rows.{IsLineEnd, IsWithin, begins_with_end, has_no_end, is_end, part_of}
-use Rattle.line_fields.specs.declared.records.Span.{Span}
+use Rattle.line_fields.specs.Rows.{IsLineEnd, IsWithin, Span, begins_with_end, has_no_end, is_end, part_of}
 use Rattle.line_fields.proofs.ReadAgain.{is_clear, parts-clear, parts-mark, without-clear}
 use Rattle.line_fields.proofs.TextLemmas.{rest_is}
 
@@ -276,20 +275,29 @@ text_goes_on text end ends lt input some =
     ap records_of_text whole
     ∙ end_follows (take end text) (get_or text end 0) (drop (end + 1) text) (ends.end_there lt) (subst (λ (ys : List ℕ). is_input_text ys ≡ true) rest (input_behind text end input)) ends.no_end some
 
--- the first record of a text is that of its first line
-pub first_record : (text : List ℕ) (end : ℕ) → IsLineEnd text end → is_input_text text ≡ true → is_line text ≡ true → begins_with_end text ≡ false
-    → records_of_text text ≡ parts 44 (take end text) ∷ records_of_text (drop (end + 1) text)
-first_record text end ends input some begins = elim (eq-or-lt_of_le ends.within) [
-  | inl at ↦ text_ends text end ends at some
-  | inr lt ↦ text_goes_on text end ends lt input (some_line text end ends some begins)
+-- the end of a line doesn't count
+from_end : (text : List ℕ) (end : ℕ) → IsLineEnd text end → records_of_text (drop (end + 1) text) ≡ records_of_text (drop end text)
+from_end text end ends = elim (eq-or-lt_of_le ends.within) [
+  | inl at ↦ ap records_of_text (drop_all (end + 1) text (omega (arith, at)) ∙ sym (drop_all end text (omega (arith, at))))
+  | inr lt ↦ sym (ap records_of_text (drop_more text end 0 lt) ∙ end_first (get_or text end 0) (drop (end + 1) text) (ends.end_there lt))
 ]
 
--- a text without the end of a line that it begins with
-pub end_taken : (xs : List ℕ) → 1 ≤ length xs → is_end (get_or xs 0 0) ≡ true → is_input_text xs ≡ true
+-- the first record of a text is that of its first line
+pub first_record : (text : List ℕ) (end : ℕ) → IsLineEnd text end → is_input_text text ≡ true → is_line text ≡ true → begins_with_end text ≡ false
+    → records_of_text text ≡ parts 44 (take end text) ∷ records_of_text (drop end text)
+first_record text end ends input some begins =
+    let behind : records_of_text text ≡ parts 44 (take end text) ∷ records_of_text (drop (end + 1) text) = elim (eq-or-lt_of_le ends.within) [
+      | inl at ↦ text_ends text end ends at some
+      | inr lt ↦ text_goes_on text end ends lt input (some_line text end ends some begins)
+    ] in
+    behind ∙ ap (λ (records : List Record). parts 44 (take end text) ∷ records) (from_end text end ends)
+
+-- a text without the line feed that it begins with
+pub feed_taken : (xs : List ℕ) → 1 ≤ length xs → get_or xs 0 0 ≡ 10 → is_input_text xs ≡ true
     → (is_input_text (take (length xs - 1) (drop 1 xs)) ≡ true) × (records_of_text (take (length xs - 1) (drop 1 xs)) ≡ records_of_text xs)
-end_taken [] some h input = absurd (omega (arith, some))
-end_taken (c ∷ rest) some h input =
+feed_taken [] some h input = absurd (omega (arith, some))
+feed_taken (c ∷ rest) some h input =
     let left : take (length (c ∷ rest) - 1) (drop 1 (c ∷ rest)) ≡ rest = rest_is (c ∷ rest) 1 in (
       ap is_input_text left ∙ input_behind (c ∷ rest) 1 input,
-      ap records_of_text left ∙ sym (end_first c rest h),
+      ap records_of_text left ∙ sym (ap (λ (b : ℕ). records_of_text (b ∷ rest)) h ∙ feed_first rest),
     )

@@ -16,7 +16,8 @@ pub use drafts::Draft;
 pub use faults::{Fault, ReadError};
 pub use fields::{hex, hex_into, number};
 pub use laws::{
-    bytes_are_read_again, numbers_are_read_again, records_are_few, records_are_read_again,
+    bytes_are_read_again, csv_reads_the_same_records, csv_writes_the_same_text,
+    numbers_are_read_again, records_are_few, records_are_read_again,
 };
 pub use records::{RecordReader, Row};
 pub use writers::{RecordWriter, put_record};

@@ -1,49 +1,88 @@
-//! The records of an input text, one at a time.
+//! The records of an input text, one at a time. From the first carriage return on `csv` reads it.
 
 ghost use Rattle.std.specs.Prelude.{◌≡◌, ◌==◌, ◌+◌, ◌≤◌, ◌<◌, ◌∷◌, [], ℕ, true, false, All, IfOk, IsTrue, MatchBool, OnErr, drop, length, map, nat_le, not, slice_index_or, take};
 ghost use Rattle.std.specs.List.{prefix_len};
 ghost use Rattle.std.specs.Simd.Lanes.{chunk};
-ghost use Rattle.line_fields.specs.Bytes.{is_input_text};
+ghost use Rattle.csv.specs.Records.{fields_of};
+ghost use Rattle.line_fields.specs.Bytes.{begins_with_feed, is_input_text};
 ghost use Rattle.line_fields.specs.Records.{field, is_line, parts, records_of_text};
-ghost use Rattle.line_fields.specs.Rows.{IsLineEnd, IsWithin, begins_with_end, is_end, part_of};
+ghost use Rattle.line_fields.specs.Rows.{IsLineEnd, IsReading, IsReadingOn, IsWithin, begin_at, begins_with_end, begins_with_return, fields_in, is_end, rows_left, rows_left_in, spans_from};
 
+use csv::{ByteRecord, Error, Reader, ReaderBuilder};
 use std::alloc::{AllocError, Global};
 use std::marker::Model;
 use std::simd::prelude::*;
 
-/// Where a field begins and ends in the bytes of its row.
-#[derive(Clone, Copy)]
-struct Span {
-    start: usize,
-    end: usize,
-}
-
 /// The fields of a record that was read.
 #[derive(Drop)]
 pub struct Row {
+    // A line, and where each of its fields ends in it.
     bytes: Vec<u8>,
-    spans: Vec<Span>,
+    ends: Vec<usize>,
+    // A record that `csv` read, and whether the row has its fields in place of the line's.
+    record: ByteRecord,
+    by_csv: bool,
 }
 
 impl Model for Row {
-    ghost use Rattle.std.specs.Prelude.{All, ℕ, List, map};
-    ghost use Rattle.line_fields.specs.Rows.{IsWithin, part_of};
+    ghost use Rattle.std.specs.Prelude.{All, ℕ, List};
+    ghost use Rattle.csv.specs.Records.{fields_of};
+    ghost use Rattle.line_fields.specs.Rows.{IsWithin, fields_held, spans_from};
 
     ghost Value = { List (List ℕ) };
 
-    ghost view = { λ s. map (part_of s.bytes.items) s.spans.items };
+    ghost view = { λ s. fields_held s.by_csv s.bytes.items s.ends.items (fields_of s.record) };
 
-    ghost invariant = { λ s. All (IsWithin s.bytes.items) s.spans.items };
+    ghost invariant = { λ s. All (IsWithin s.bytes.items) (spans_from 0 s.ends.items) };
+}
+
+// Where the field at a place of a line begins: behind the end of the one before it.
+fn begin_of(ends: &[usize], place: usize) -> usize
+    requires some { place < length ends.now }
+    requires ordered { begin_at ends.now place ≤ slice_index_or ends.now place 0 }
+    ensures value { result ≡ begin_at ends.now place }
+    ensures ordered { result ≤ slice_index_or ends.now place 0 }
+{
+    if place == 0 {
+        return 0;
+    }
+    ends[place - 1] + 1
+}
+
+// The field at a place of a line, whose fields end there, or an empty one past the last.
+#[tactic(auto, using(crate::proofs::EndLemmas::end_within, crate::proofs::EndLemmas::field_there, crate::proofs::EndLemmas::no_field))]
+fn field_in<'a>(bytes: &'a [u8], ends: &[usize], place: usize) -> &'a [u8]
+    requires { All (IsWithin bytes.now) (spans_from 0 ends.now) }
+    ensures { result.now ≡ field (fields_in bytes.now ends.now) place }
+{
+    if place < ends.len() {
+        &bytes[begin_of(ends, place)..ends[place]]
+    } else {
+        b""
+    }
+}
+
+// The field at a place of a record of `csv`, or an empty one past the last.
+fn field_of(record: &ByteRecord, place: usize) -> &[u8]
+    ensures { result.now ≡ field (fields_of record.now) place }
+{
+    match record.get(place) {
+        Some(field) => field,
+        None => b"",
+    }
 }
 
 impl Row {
     /// A row without fields. It takes no memory.
+    #[tactic(auto, unfolding(crate::specs::Rows::spans_from))]
     pub fn new(alloc: Global) -> Row
         ensures { result ≡ [] }
     {
         Row {
             bytes: Vec::new(alloc),
-            spans: Vec::new(alloc),
+            ends: Vec::new(alloc),
+            record: ByteRecord::new(alloc),
+            by_csv: false,
         }
     }
 
@@ -51,23 +90,28 @@ impl Row {
     pub fn len(&self) -> usize
         ensures { result ≡ length self.now }
     {
-        self.spans.len()
+        if self.by_csv {
+            self.record.len()
+        } else {
+            self.ends.len()
+        }
     }
 
     /// Whether it has no fields.
     pub fn is_empty(&self) -> bool
         ensures { result ≡ (length self.now == 0) }
     {
-        self.spans.is_empty()
+        self.len() == 0
     }
 
     /// The field at a place, counted from 0, or an empty one past the last.
     pub fn field(&self, place: usize) -> &[u8]
         ensures { result.now ≡ field self.now place }
     {
-        match self.spans.get(place) {
-            Some(span) => &self.bytes[span.start..span.end],
-            None => b"",
+        if self.by_csv {
+            field_of(&self.record, place)
+        } else {
+            field_in(self.bytes.as_slice(), self.ends.as_slice(), place)
         }
     }
 }
@@ -75,20 +119,22 @@ impl Row {
 /// Reads the records of a text in their order.
 #[derive(Drop)]
 pub struct RecordReader<'a> {
-    // What is left of the text.
+    alloc: Global,
+    // What is left of the text, as far as it is not left to `csv`.
     rest: &'a [u8],
+    // From the first carriage return on, what reads the text.
+    reader: Option<Reader<&'a [u8]>>,
 }
 
 impl<'a> Model for RecordReader<'a> {
-    ghost use Rattle.std.specs.Prelude.{◌≡◌, ℕ, List, true};
-    ghost use Rattle.line_fields.specs.Bytes.{is_input_text};
-    ghost use Rattle.line_fields.specs.Records.{records_of_text};
+    ghost use Rattle.std.specs.Prelude.{ℕ, List};
+    ghost use Rattle.line_fields.specs.Rows.{IsLeft, records_left};
 
     ghost Value = { List (List (List ℕ)) };
 
-    ghost view = { λ s. records_of_text s.rest.now };
+    ghost view = { λ s. records_left s.reader s.rest.now };
 
-    ghost invariant = { λ s. is_input_text s.rest.now ≡ true };
+    ghost invariant = { λ s. IsLeft s.reader s.rest.now };
 }
 
 // How many bytes stand before the first of sixteen that is no greater than the comma.
@@ -126,70 +172,95 @@ fn is_end(byte: u8) -> bool
     byte == b'\n' || byte == b'\r'
 }
 
-// The fields of the first line of a text, each where it stands in it, and where that line ends.
+// Where the fields of the first line of a text end, and where that line does.
 //
 // A byte that is above the comma is neither a comma nor the end of a line.
-fn split(text: &[u8], spans: &mut Vec<Span>) -> Result<usize, AllocError>
+fn split(text: &[u8], ends: &mut Vec<usize>) -> Result<usize, AllocError>
     ensures line { IfOk result (λ end. IsLineEnd text.now end) }
-    ensures within { IfOk result (λ end. All (IsWithin (take end text.now)) spans.new.items) }
-    ensures fields { IfOk result (λ end. map (part_of (take end text.now)) spans.new.items ≡ parts 44 (take end text.now)) }
+    ensures within { IfOk result (λ end. All (IsWithin (take end text.now)) (spans_from 0 ends.new.items)) }
+    ensures fields { IfOk result (λ end. fields_in (take end text.now) ends.new.items ≡ parts 44 (take end text.now)) }
 {
-    spans.clear();
-    let mut start = 0;
+    ends.clear();
     let mut at = 0;
     while at < text.len() {
         at += run(text, at);
         if at == text.len() || is_end(text[at]) {
-            spans.push(Span { start, end: at })?;
+            ends.push(at)?;
             return Ok(at);
         }
         if text[at] == b',' {
-            spans.push(Span { start, end: at })?;
-            start = at + 1;
+            ends.push(at)?;
         }
         at += 1;
     }
-    spans.push(Span { start, end: at })?;
+    ends.push(at)?;
     Ok(at)
 }
 
 impl Row {
     // Takes all fields away.
+    #[tactic(auto, unfolding(crate::specs::Rows::spans_from))]
     fn clear(&mut self)
         ensures { self.new ≡ [] }
     {
-        self.spans.clear();
+        self.ends.clear();
+        self.by_csv = false;
     }
 
     // Puts the fields of the first line of a text in place of those of the row, or none where a
     // growth is refused, and says where that line ends.
+    #[tactic(auto, unfolding(crate::specs::Rows::spans_from))]
     fn read_line(&mut self, text: &[u8]) -> Result<usize, AllocError>
         ensures line { IfOk result (λ end. IsLineEnd text.now end) }
         ensures ok { IfOk result (λ end. self.new ≡ parts 44 (take end text.now)) }
         ensures err { OnErr result (self.new ≡ []) }
     {
-        self.clear();
         self.bytes.clear();
-        if let Ok(end) = split(text, &mut self.spans) {
+        self.by_csv = false;
+        if let Ok(end) = split(text, &mut self.ends) {
             if self.bytes.extend_from_slice(&text[..end]).is_ok() {
                 return Ok(end);
             }
         }
-        self.spans.clear();
+        self.ends.clear();
         Err(AllocError)
+    }
+
+    // Puts the next record of a reader of `csv` in place of the fields of the row, or none after the
+    // last one and where it is refused.
+    fn read_record(&mut self, reader: &mut Reader<&[u8]>) -> Result<bool, Error>
+        requires { IsReading reader.old }
+        ensures ok { IfOk result (λ found. MatchBool found (IsReading reader.new × (rows_left reader.old ≡ self.new ∷ rows_left reader.new)) ((rows_left reader.old ≡ []) × (self.new ≡ []))) }
+        ensures err { OnErr result (self.new ≡ []) }
+    {
+        self.clear();
+        match read(reader, &mut self.record) {
+            Ok(true) => {
+                self.by_csv = true;
+                Ok(true)
+            }
+            Ok(false) => {
+                self.clear();
+                Ok(false)
+            }
+            Err(error) => {
+                self.clear();
+                Err(error)
+            }
+        }
     }
 }
 
-// A text from its first line on that has a byte.
-fn without_ends(text: &[u8]) -> &[u8]
+// A text without the line feeds that it begins with.
+fn without_feeds(text: &[u8]) -> &[u8]
     requires { is_input_text text.now ≡ true }
     ensures input { is_input_text result.now ≡ true }
     ensures same { records_of_text result.now ≡ records_of_text text.now }
-    ensures begins { begins_with_end result.now ≡ false }
+    ensures begins { begins_with_feed result.now ≡ false }
 {
     let mut rest = text;
     while let [first, others @ ..] = rest {
-        if !is_end(*first) {
+        if *first != b'\n' {
             return rest;
         }
         rest = others;
@@ -197,19 +268,15 @@ fn without_ends(text: &[u8]) -> &[u8]
     rest
 }
 
-// What stands behind the line of a text that ends at a place.
-fn behind(text: &[u8], end: usize) -> &[u8]
-    ensures { result.now ≡ drop (end + 1) text.now }
+// Whether a text begins with a carriage return.
+fn begins_with_return(text: &[u8]) -> bool
+    ensures { result ≡ begins_with_return text.now }
 {
-    if end < text.len() {
-        &text[end + 1..]
-    } else {
-        b""
-    }
+    !text.is_empty() && text[0] == b'\r'
 }
 
 // Puts the fields of the first line of a text in place of those of a row, and answers what stands
-// behind that line.
+// from the end of that line on.
 fn read_first<'a>(text: &'a [u8], row: &mut Row) -> Result<&'a [u8], AllocError>
     requires input { is_input_text text.now ≡ true }
     requires some { is_line text.now ≡ true }
@@ -219,7 +286,68 @@ fn read_first<'a>(text: &'a [u8], row: &mut Row) -> Result<&'a [u8], AllocError>
     ensures err { OnErr result (row.new ≡ []) }
 {
     let end = row.read_line(text)?;
-    Ok(behind(text, end))
+    Ok(&text[end..])
+}
+
+// A reader of `csv` over a text: no header row, and records of any lengths.
+fn reader_over(alloc: Global, text: &[u8]) -> Reader<&[u8]>
+    requires { IsTrue (is_input_text text.now) }
+    ensures reading { IsReading result }
+    ensures rows { rows_left result ≡ records_of_text text.entry.now }
+{
+    ReaderBuilder::new()
+        .has_headers(false)
+        .flexible(true)
+        .from_reader(alloc, text)
+}
+
+// The next record of a reader of `csv`.
+fn read(reader: &mut Reader<&[u8]>, row: &mut ByteRecord) -> Result<bool, Error>
+    requires { IsReading reader.old }
+    ensures { IfOk result (λ found. MatchBool found (IsReading reader.new × (rows_left reader.old ≡ fields_of row.new ∷ rows_left reader.new)) (rows_left reader.old ≡ [])) }
+{
+    reader.read_byte_record(row)
+}
+
+// Lets `csv` read the rest of a text. It stands apart, and runs once for a text: what calls it has
+// no room of a reader's size among its own variables.
+#[cold]
+#[inline(never)]
+fn hand_over<'a>(alloc: Global, rest: &'a [u8], reader: &mut Option<Reader<&'a [u8]>>)
+    requires { IsTrue (is_input_text rest.now) }
+    ensures reading { IsReadingOn reader.new }
+    ensures rows { rows_left_in reader.new ≡ records_of_text rest.entry.now }
+{
+    *reader = Some(reader_over(alloc, rest));
+}
+
+// An error of `csv` on a plain text, over memory, is answered as want of memory.
+fn let_go(_error: Error) -> AllocError {
+    AllocError
+}
+
+// The next record of what `csv` reads, or the end, after which nothing is left to it.
+fn read_or_close(reader: &mut Option<Reader<&[u8]>>, row: &mut Row) -> Result<bool, AllocError>
+    requires reading { IsReadingOn reader.old }
+    requires empty { row.old ≡ [] }
+    ensures reading { IsReadingOn reader.new }
+    ensures ok { IfOk result (λ found. MatchBool found (rows_left_in reader.old ≡ row.new ∷ rows_left_in reader.new) ((rows_left_in reader.old ≡ []) × (rows_left_in reader.new ≡ []) × (row.new ≡ []))) }
+    ensures err { OnErr result ((rows_left_in reader.new ≡ []) × (row.new ≡ [])) }
+{
+    let Some(left) = reader else {
+        return Ok(false);
+    };
+    match row.read_record(left) {
+        Ok(true) => Ok(true),
+        Ok(false) => {
+            *reader = None;
+            Ok(false)
+        }
+        Err(error) => {
+            *reader = None;
+            Err(let_go(error))
+        }
+    }
 }
 
 impl<'a> RecordReader<'a> {
@@ -231,32 +359,36 @@ impl<'a> RecordReader<'a> {
         ensures records { result ≡ records_of_text text.entry.now }
         ensures few { length result ≤ length text.entry.now + 1 }
     {
-        let _ = alloc;
-        RecordReader { rest: text }
+        RecordReader {
+            alloc,
+            rest: text,
+            reader: None,
+        }
     }
 
     /// Puts the next record in place of the row's fields, and says whether there was one.
     ///
     /// After the last record, and after want of memory, nothing is left and the row has no fields.
-    /// It takes time in proportion to the bytes read.
+    /// An error of `csv` is answered as want of memory. It takes time in proportion to the bytes
+    /// read.
     pub fn next_row(&mut self, row: &mut Row) -> Result<bool, AllocError>
         ensures ok { IfOk result (λ found. MatchBool found (self.old ≡ row.new ∷ self.new) ((self.old ≡ []) × (self.new ≡ []) × (row.new ≡ []))) }
         ensures err { OnErr result ((self.new ≡ []) × (row.new ≡ [])) }
     {
         row.clear();
-        self.rest = without_ends(self.rest);
-        if self.rest.is_empty() {
+        if self.reader.is_some() {
+            return read_or_close(&mut self.reader, row);
+        }
+        let rest = without_feeds(self.rest);
+        self.rest = b"";
+        if rest.is_empty() {
             return Ok(false);
         }
-        match read_first(self.rest, row) {
-            Ok(rest) => {
-                self.rest = rest;
-                Ok(true)
-            }
-            Err(refused) => {
-                self.rest = b"";
-                Err(refused)
-            }
+        if begins_with_return(rest) {
+            hand_over(self.alloc, rest, &mut self.reader);
+            return read_or_close(&mut self.reader, row);
         }
+        self.rest = read_first(rest, row)?;
+        Ok(true)
     }
 }

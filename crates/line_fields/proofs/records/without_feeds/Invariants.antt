@@ -1,7 +1,7 @@
 use Rattle.std.proofs.Common.{◌≡◌, length, true}
 use Rattle.line_fields.specs.Bytes.{is_input_text}
 use Rattle.line_fields.specs.Records.{records_of_text}
-use Rattle.line_fields.proofs.records.without_ends.Given as goal
+use Rattle.line_fields.proofs.records.without_feeds.Given as goal
 
 abbrev pub invariant-loop-rest : goal.invariant-loop-rest
 invariant-loop-rest l = record { input : is_input_text l.rest ≡ true; same : records_of_text l.rest ≡ records_of_text l.text }
