@@ -8,8 +8,9 @@ use std::alloc::{AllocError, Global};
 use std::marker::Model;
 
 // Room is made for so many bytes at least with the first field, so that most records ask for memory
-// there alone, where nothing is lost if it is refused.
-const ROOM: usize = 8_192;
+// there alone, where no other field is lost if it is refused: the two digits of each of 4,096 bytes,
+// and 256 bytes for further fields.
+const ROOM: usize = 8_448;
 
 // Room for more bytes is given back with the fields.
 const MOST_KEPT: usize = 65_536;
