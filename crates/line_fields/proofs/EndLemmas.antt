@@ -1,10 +1,9 @@
 -- The fields of a line, by where each ends in it.
 use Rattle.std.proofs.Common.{◌≡◌, ◌≤◌, ◌<◌, ◌==◌, ◌∙◌, ◌++◌, ◌∷◌, ◌+◌, ◌-◌, ℕ, List, [], Bool, true, false, All, length, drop, take, map, get_or, refl, ap, sym, subst, arith, zero, suc}
-use Rattle.std.specs.Prelude.{nat_le, slice_index_or}
 use Rattle.std.proofs.lemmas.List.{length-map}
 use Rattle.line_fields.specs.Records.{Record, field, parts}
-use Rattle.line_fields.specs.Rows.{IsLineEnd, IsWithin, Span, begin_at, fields_held, fields_in, is_end, part_of, spans_from}
-use Rattle.line_fields.proofs.SpanLemmas.{IsCut, cut_at_comma, cut_begins, cut_ends, cut_goes_on, cut_runs, ends_within, line_ends, span_of}
+use Rattle.line_fields.specs.Rows.{IsLineEnd, IsWithin, Span, begin_at, fields_held, fields_in, is_end, is_mark, part_of, spans_from}
+use Rattle.line_fields.proofs.SpanLemmas.{IsCut, cut_at_comma, cut_begins, cut_ends, cut_runs, ends_within, line_ends, span_of}
 
 -- where the field behind the last of these ends begins
 unfoldable pub begin_after : ℕ → List ℕ → ℕ
@@ -30,11 +29,8 @@ unfolding spans_from begin_after
 parted_begins text = cut_begins text
 
 pub parted_runs : (text ends : List ℕ) (at k : ℕ) → IsParted text ends at → at + k ≤ length text
-    → ((i : ℕ) → at ≤ i → i < at + k → nat_le (get_or text i 0) 44 ≡ false) → IsParted text ends (at + k)
+    → ((i : ℕ) → at ≤ i → i < at + k → is_mark (get_or text i 0) ≡ false) → IsParted text ends (at + k)
 parted_runs text ends at k = cut_runs text (spans_from 0 ends) (begin_after 0 ends) at k
-
-pub parted_goes_on : (text ends : List ℕ) (at : ℕ) → IsParted text ends at → at < length text → (get_or text at 0 == 44) ≡ false → is_end (get_or text at 0) ≡ false → IsParted text ends (at + 1)
-parted_goes_on text ends at = cut_goes_on text (spans_from 0 ends) (begin_after 0 ends) at
 
 pub parted_at_comma : (text ends : List ℕ) (at : ℕ) → IsParted text ends at → at < length text → get_or text at 0 ≡ 44 → IsParted text (ends ++ at ∷ []) (at + 1)
 parted_at_comma text ends at so lt comma =

@@ -6,10 +6,12 @@ pub mod HexLemmas
 pub mod LeftLemmas
 pub mod LineLemmas
 pub mod MachineLemmas
+pub mod MarkLemmas
 pub mod NumLemmas
 pub mod PlainLemmas
 pub mod ReadAgain
 pub mod RoundLemmas
 pub mod RowLemmas
 pub mod SpanLemmas
+pub mod SplitLemmas
 pub mod TextLemmas

@@ -10,7 +10,7 @@ use Rattle.std.proofs.lemmas.List.Elements.{All-nil, All-push, All-head, All-tai
 use Rattle.std.proofs.lemmas.List.Folds.{list_all-append}
 use Rattle.line_fields.specs.Bytes.{begins_with_feed, is_allowed, is_input_text}
 use Rattle.line_fields.specs.Records.{Record, cut, is_line, parts, records_of_lines, records_of_text, without}
-use Rattle.line_fields.specs.Rows.{IsLineEnd, IsWithin, Span, begins_with_end, has_no_end, is_end, part_of}
+use Rattle.line_fields.specs.Rows.{IsLineEnd, IsWithin, Span, begins_with_end, has_no_end, is_end, is_mark, part_of}
 use Rattle.line_fields.proofs.ReadAgain.{is_clear, parts-clear, parts-mark, without-clear}
 use Rattle.line_fields.proofs.TextLemmas.{rest_is}
 
@@ -102,25 +102,22 @@ cut_goes_on text spans start end so lt other no_end = record {
   cut = so.cut;
 }
 
-above_is_no : (b mark : ℕ) → nat_le b 44 ≡ false → mark ≤ 44 → (b == mark) ≡ false
-above_is_no b mark above low = elim (cases_Bool (b == mark)) [
-  | inl e ↦ cc (sym above ∙ le-leb b 44 (omega (arith, eqb-true b mark e)))
-  | inr e ↦ e
+-- a byte that ends no field is no comma and ends no line
+no_mark : (b : ℕ) → is_mark b ≡ false → ((b == 44) ≡ false) × (is_end b ≡ false)
+no_mark b h = elim (cases_Bool (b == 44)) [
+  | inl e ↦ cc (sym h ∙ ap (λ (x : Bool). x || is_end b) e)
+  | inr e ↦ (e, sym (ap (λ (x : Bool). x || is_end b) e) ∙ h)
 ]
 
-above_is_no_end : (b : ℕ) → nat_le b 44 ≡ false → is_end b ≡ false
-above_is_no_end b above = rw (above_is_no b 10 above (omega arith), above_is_no b 13 above (omega arith)) refl
-
--- as far as bytes above the comma go
+-- as far as bytes go that end no field
 pub cut_runs : (text : List ℕ) (spans : List Span) (start end k : ℕ) → IsCut text spans start end → end + k ≤ length text
-    → ((i : ℕ) → end ≤ i → i < end + k → nat_le (get_or text i 0) 44 ≡ false) → IsCut text spans start (end + k)
-cut_runs text spans start end zero so inside above = subst (λ n. IsCut text spans start n) (no_further end) so
-cut_runs text spans start end (suc k) so inside above =
+    → ((i : ℕ) → end ≤ i → i < end + k → is_mark (get_or text i 0) ≡ false) → IsCut text spans start (end + k)
+cut_runs text spans start end zero so inside none = subst (λ n. IsCut text spans start n) (no_further end) so
+cut_runs text spans start end (suc k) so inside none =
     let shorter : end + k ≤ length text = omega (arith, inside) in
-    let before = cut_runs text spans start end k so shorter (λ i low high. above i low (omega (arith, high))) in
-    let here : nat_le (get_or text (end + k) 0) 44 ≡ false = above (end + k) (omega arith) (omega arith) in
-    subst (λ n. IsCut text spans start n) (one_more end k)
-    (cut_goes_on text spans start (end + k) before (omega (arith, inside)) (above_is_no (get_or text (end + k) 0) 44 here (omega arith)) (above_is_no_end (get_or text (end + k) 0) here))
+    let before = cut_runs text spans start end k so shorter (λ i low high. none i low (omega (arith, high))) in
+    let here = no_mark (get_or text (end + k) 0) (none (end + k) (omega arith) (omega arith)) in
+    subst (λ n. IsCut text spans start n) (one_more end k) (cut_goes_on text spans start (end + k) before (omega (arith, inside)) here.0 here.1)
 
 nothing_is_clear : (xs : List ℕ) (n : ℕ) → is_clear 44 (take (n - n) (drop n xs)) ≡ true
 nothing_is_clear xs n =

@@ -46,6 +46,10 @@ fields_held by_csv bytes ends fields = if by_csv then fields else fields_in byte
 abbrev pub is_end : ℕ → Bool
 is_end byte = (byte == 10) || (byte == 13)
 
+-- a byte ends a field: a comma, or the end of a line
+abbrev pub is_mark : ℕ → Bool
+is_mark byte = (byte == 44) || is_end byte
+
 -- a byte that ends a line comes first
 abbrev pub begins_with_end : List ℕ → Bool
 begins_with_end [] = false

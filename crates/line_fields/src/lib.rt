@@ -9,6 +9,7 @@ mod fields;
 mod laws;
 mod lines;
 mod records;
+mod splits;
 mod writers;
 
 pub use bytes::is_plain;

@@ -1,17 +1,15 @@
 //! The records of an input text, one at a time. From the first carriage return on `csv` reads it.
 
-ghost use Rattle.std.specs.Prelude.{◌≡◌, ◌==◌, ◌+◌, ◌≤◌, ◌<◌, ◌∷◌, [], ℕ, true, false, All, IfOk, IsTrue, MatchBool, OnErr, drop, length, map, nat_le, not, slice_index_or, take};
-ghost use Rattle.std.specs.List.{prefix_len};
-ghost use Rattle.std.specs.Simd.Lanes.{chunk};
+ghost use Rattle.std.specs.Prelude.{◌≡◌, ◌==◌, ◌+◌, ◌≤◌, ◌<◌, ◌∷◌, [], true, false, All, IfOk, IsTrue, MatchBool, OnErr, length, slice_index_or, take};
 ghost use Rattle.csv.specs.Records.{fields_of};
 ghost use Rattle.line_fields.specs.Bytes.{begins_with_feed, is_input_text};
 ghost use Rattle.line_fields.specs.Records.{field, is_line, parts, records_of_text};
-ghost use Rattle.line_fields.specs.Rows.{IsLineEnd, IsReading, IsReadingOn, IsWithin, begin_at, begins_with_end, begins_with_return, fields_in, is_end, rows_left, rows_left_in, spans_from};
+ghost use Rattle.line_fields.specs.Rows.{IsLineEnd, IsReading, IsReadingOn, IsWithin, begin_at, begins_with_end, begins_with_return, fields_in, rows_left, rows_left_in, spans_from};
 
+use crate::splits::split;
 use csv::{ByteRecord, Error, Reader, ReaderBuilder};
 use std::alloc::{AllocError, Global};
 use std::marker::Model;
-use std::simd::prelude::*;
 
 /// The fields of a record that was read.
 #[derive(Drop)]
@@ -135,66 +133,6 @@ impl<'a> Model for RecordReader<'a> {
     ghost view = { λ s. records_left s.reader s.rest.now };
 
     ghost invariant = { λ s. IsLeft s.reader s.rest.now };
-}
-
-// How many bytes stand before the first of sixteen that is no greater than the comma.
-fn run_of_sixteen(text: &[u8], at: usize) -> usize
-    requires { at + 16 ≤ length text.now }
-    ensures { result ≡ prefix_len (λ byte. not (nat_le byte 44)) (chunk at 16 text.now) }
-{
-    let low = u8x16::from_slice(&text[at..])
-        .simd_le(u8x16::splat(b','))
-        .to_bitmask();
-    if low == 0 {
-        16
-    } else {
-        low.trailing_zeros() as usize
-    }
-}
-
-// How many of the next sixteen bytes, or near the end of a text of the next one, stand before the
-// first that is no greater than the comma.
-fn run(text: &[u8], at: usize) -> usize
-    requires { at < length text.now }
-    ensures within { at + result ≤ length text.now }
-    ensures above { (k : ℕ) → at ≤ k → k < at + result → nat_le (slice_index_or text.now k 0) 44 ≡ false }
-{
-    if text.len() - at < 16 {
-        return usize::from(text[at] > b',');
-    }
-    run_of_sixteen(text, at)
-}
-
-// Whether a byte ends a line: a line feed, or the carriage return before one.
-fn is_end(byte: u8) -> bool
-    ensures { result ≡ is_end byte }
-{
-    byte == b'\n' || byte == b'\r'
-}
-
-// Where the fields of the first line of a text end, and where that line does.
-//
-// A byte that is above the comma is neither a comma nor the end of a line.
-fn split(text: &[u8], ends: &mut Vec<usize>) -> Result<usize, AllocError>
-    ensures line { IfOk result (λ end. IsLineEnd text.now end) }
-    ensures within { IfOk result (λ end. All (IsWithin (take end text.now)) (spans_from 0 ends.new.items)) }
-    ensures fields { IfOk result (λ end. fields_in (take end text.now) ends.new.items ≡ parts 44 (take end text.now)) }
-{
-    ends.clear();
-    let mut at = 0;
-    while at < text.len() {
-        at += run(text, at);
-        if at == text.len() || is_end(text[at]) {
-            ends.push(at)?;
-            return Ok(at);
-        }
-        if text[at] == b',' {
-            ends.push(at)?;
-        }
-        at += 1;
-    }
-    ends.push(at)?;
-    Ok(at)
 }
 
 impl Row {

@@ -1,0 +1,89 @@
+use Rattle.std.proofs.Common.{◌≡◌, ◌+◌, ◌<◌, ◌∙◌, arith, sym, true}
+use lib.Count.{count_trailing_zeros}
+use Rattle.line_fields.specs.Rows.{is_mark}
+use Rattle.line_fields.proofs.EndLemmas.{parted_at_comma, parted_begins, parted_ends, parted_line, parted_within}
+use Rattle.line_fields.proofs.SplitLemmas.{other_mark, parted_passes, under_begins, under_ends, under_first, under_mark, under_more}
+use Rattle.line_fields.proofs.splits.split.Goals as goal
+use Rattle.line_fields.proofs.splits.split.Goals.{then-is_mark+in_ok-push-2+else-text-at-ne44, else-is_mark}
+
+pub loop-at-init : goal.loop-at-init
+loop-at-init c = rw c.clear.ensures.items (parted_begins c.args.text.now)
+
+pub loop-marks-init : goal.loop-marks-init
+loop-marks-init c =
+    under_begins c.args.text.now c.loop-at.ends.items c.loop-at.at c.marks_of_sixteen-marks.result c.loop-at.invariant
+    (omega (arith, c.loop-at-test.true, c.loop-at.invariant.inside)) c.marks_of_sixteen-marks.ensures
+
+pub bounds-text-mark : goal.bounds-text-mark
+bounds-text-mark c =
+    let s = c.loop-marks in
+    let first = under_first c.args.text.now s.ends.items c.loop-at.at s.next s.marks s.invariant (omega (arith, c.loop-marks-test.true)) in
+    omega (arith, first.within, s.invariant.high, s.invariant.room)
+
+pub returns-then-text-mark-ne44-clause-line : goal.returns-then-text-mark-ne44-clause-line
+returns-then-text-mark-ne44-clause-line c =
+    let text = c.args.text.now in
+    let s = c.loop-marks in
+    let some : 0 < s.marks = omega (arith, c.loop-marks-test.true) in
+    let first = under_first text s.ends.items c.loop-at.at s.next s.marks s.invariant some in
+    parted_line text s.ends.items (s.next + count_trailing_zeros 64 s.marks) (under_mark text s.ends.items c.loop-at.at s.next s.marks s.invariant some)
+    (λ lt. other_mark _ first.there c.if-text-mark-ne44.true)
+
+pub returns-then-text-mark-ne44-clause-within : goal.returns-then-text-mark-ne44-clause-within
+returns-then-text-mark-ne44-clause-within c =
+    let s = c.loop-marks in
+    let so = under_mark c.args.text.now s.ends.items c.loop-at.at s.next s.marks s.invariant (omega (arith, c.loop-marks-test.true)) in
+    rw c.in_ok-push.ensures.items (parted_within c.args.text.now s.ends.items (s.next + count_trailing_zeros 64 s.marks) so)
+
+pub returns-then-text-mark-ne44-clause-fields : goal.returns-then-text-mark-ne44-clause-fields
+returns-then-text-mark-ne44-clause-fields c =
+    let s = c.loop-marks in
+    let so = under_mark c.args.text.now s.ends.items c.loop-at.at s.next s.marks s.invariant (omega (arith, c.loop-marks-test.true)) in
+    rw c.in_ok-push.ensures.items (parted_ends c.args.text.now s.ends.items (s.next + count_trailing_zeros 64 s.marks) so)
+
+pub overflow_shr-marks : goal.overflow_shr-marks
+overflow_shr-marks c =
+    let s = c.loop-marks in
+    let first = under_first c.args.text.now s.ends.items c.loop-at.at s.next s.marks s.invariant (omega (arith, c.loop-marks-test.true)) in
+    omega (arith, first.within, s.invariant.low)
+
+pub loop-marks-preserved : goal.loop-marks-preserved
+loop-marks-preserved c =
+    let s = c.loop-marks in
+    rw c.in_ok-push.ensures.items
+    (under_more c.args.text.now s.ends.items c.loop-at.at s.next s.marks s.invariant (omega (arith, c.loop-marks-test.true)) c.if-text-mark-ne44.false)
+
+pub loop-at-preserved : goal.loop-at-preserved
+loop-at-preserved c =
+    let s = c.loop-marks in
+    under_ends c.args.text.now s.ends.items c.loop-at.at s.next s.marks s.invariant (omega (arith, c.loop-marks-test.false))
+
+pub returns-then-text-at-ne44-clause-line : goal.returns-then-text-at-ne44-clause-line
+returns-then-text-at-ne44-clause-line c =
+    let s = c.loop-at-2 in
+    parted_line c.args.text.now s.ends.items s.at s.invariant (λ lt. other_mark _ (sym c.is_mark.ensures ∙ c.if-is_mark.true) c.if-text-at-ne44.true)
+
+pub returns-then-text-at-ne44-clause-within : goal.returns-then-text-at-ne44-clause-within
+returns-then-text-at-ne44-clause-within c =
+    rw c.in_ok-push-2.ensures.items (parted_within c.args.text.now c.loop-at-2.ends.items c.loop-at-2.at c.loop-at-2.invariant)
+
+pub returns-then-text-at-ne44-clause-fields : goal.returns-then-text-at-ne44-clause-fields
+returns-then-text-at-ne44-clause-fields c =
+    rw c.in_ok-push-2.ensures.items (parted_ends c.args.text.now c.loop-at-2.ends.items c.loop-at-2.at c.loop-at-2.invariant)
+
+pub loop-at-2-preserved : goal.loop-at-2-preserved
+loop-at-2-preserved c =
+    let text = c.args.text.now in
+    let s = c.loop-at-2 in
+    elim c.if-is_mark.branch [
+      | then-is_mark+in_ok-push-2+else-text-at-ne44 w ↦
+          rw (w.ends-is, w.in_ok-push-2.ensures.items) (parted_at_comma text s.ends.items s.at s.invariant c.loop-at-2-test.true w.if-text-at-ne44.false)
+      | else-is_mark w ↦
+          rw w.ends-is (parted_passes text s.ends.items s.at s.invariant c.loop-at-2-test.true (sym c.is_mark.ensures ∙ w.if-is_mark.false))
+    ]
+
+pub returns-clause-within : goal.returns-clause-within
+returns-clause-within c = rw c.in_ok-push-3.ensures.items (parted_within c.args.text.now c.loop-at-2.ends.items c.loop-at-2.at c.loop-at-2.invariant)
+
+pub returns-clause-fields : goal.returns-clause-fields
+returns-clause-fields c = rw c.in_ok-push-3.ensures.items (parted_ends c.args.text.now c.loop-at-2.ends.items c.loop-at-2.at c.loop-at-2.invariant)

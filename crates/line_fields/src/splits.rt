@@ -1,0 +1,66 @@
+//! Where the first line of a text and its fields end.
+
+ghost use Rattle.std.specs.Prelude.{◌≡◌, ◌+◌, ◌≤◌, All, IfOk, length, map, take};
+ghost use Rattle.std.specs.Simd.Lanes.{chunk, mask_l};
+ghost use Rattle.line_fields.specs.Records.{parts};
+ghost use Rattle.line_fields.specs.Rows.{IsLineEnd, IsWithin, fields_in, is_mark, spans_from};
+
+use std::alloc::AllocError;
+use std::simd::prelude::*;
+
+// Whether a byte ends a field: a comma, or what ends a line, which is a line feed or the carriage
+// return before one.
+fn is_mark(byte: u8) -> bool
+    ensures { result ≡ is_mark byte }
+{
+    byte == b',' || byte == b'\n' || byte == b'\r'
+}
+
+// Which of sixteen bytes end a field, the first as the lowest bit.
+fn marks_of_sixteen(text: &[u8], at: usize) -> u64
+    requires { at + 16 ≤ length text.now }
+    ensures { result ≡ mask_l (map is_mark (chunk at 16 text.now)) }
+{
+    let bytes = u8x16::from_slice(&text[at..]);
+    (bytes.simd_eq(u8x16::splat(b','))
+        | bytes.simd_eq(u8x16::splat(b'\n'))
+        | bytes.simd_eq(u8x16::splat(b'\r'))).to_bitmask()
+}
+
+// Where the fields of the first line of a text end, and where that line does.
+//
+// The bytes are looked at sixteen at a time, and near the end of the text one by one.
+pub(crate) fn split(text: &[u8], ends: &mut Vec<usize>) -> Result<usize, AllocError>
+    ensures line { IfOk result (λ end. IsLineEnd text.now end) }
+    ensures within { IfOk result (λ end. All (IsWithin (take end text.now)) (spans_from 0 ends.new.items)) }
+    ensures fields { IfOk result (λ end. fields_in (take end text.now) ends.new.items ≡ parts 44 (take end text.now)) }
+{
+    ends.clear();
+    let mut at = 0;
+    while text.len() - at >= 16 {
+        let mut marks = marks_of_sixteen(text, at);
+        let mut next = at;
+        while marks != 0 {
+            let before = marks.trailing_zeros();
+            let mark = next + before as usize;
+            ends.push(mark)?;
+            if text[mark] != b',' {
+                return Ok(mark);
+            }
+            marks >>= before + 1;
+            next = mark + 1;
+        }
+        at += 16;
+    }
+    while at < text.len() {
+        if is_mark(text[at]) {
+            ends.push(at)?;
+            if text[at] != b',' {
+                return Ok(at);
+            }
+        }
+        at += 1;
+    }
+    ends.push(at)?;
+    Ok(at)
+}
