@@ -6,6 +6,7 @@ pub mod FateLemmas
 pub mod RecordingLemmas
 pub mod OpeningLemmas
 pub mod OpenFacts
+pub mod ToComeLemmas
 pub mod TurnFacts
 pub mod WorldLemmas
 pub mod AgreeLemmas

@@ -1,6 +1,7 @@
 -- What is kept of the round that is open, and how it follows the tapes.
 use Rattle.std.specs.Option.{unwrap_or}
-use Rattle.std.specs.Prelude.{◌≡◌, ◌≢◌, ◌==◌, ℕ, suc, ◌<◌, Bool, true, false, if◌then◌else◌, List, [], ◌∷◌, ◌++◌, length, slice_index_or, Option, Some, None, All}
+use Rattle.std.specs.List.{count_by, sum_by}
+use Rattle.std.specs.Prelude.{◌≡◌, ◌≢◌, ◌==◌, ℕ, suc, ◌<◌, ◌≤◌, ◌+◌, ◌-◌, ◌*◌, Bool, true, false, if◌then◌else◌, List, [], ◌∷◌, ◌++◌, length, slice_index_or, Option, Some, None, All}
 use Rattle.line_marker.specs.Recording.{Channel, MarkerView, Recorded, channel_at, messages_by, round_of}
 use Rattle.line_names.specs.declared.choices.Choice.{Choice}
 use Rattle.line_names.specs.declared.messages.MsgName.{MsgName}
@@ -43,6 +44,19 @@ pub record IsFresh (floor : ℕ) (marker : MarkerView) : Type 0 where
 -- what the markers recorded of the channel from process p to q in round r
 abbrev pub recorded_channel : List MarkerView → ℕ → ℕ → ℕ → List MsgName
 recorded_channel markers r p q = unwrap_or (messages_by (round_of (marker_at markers q).rounds r) p) []
+
+-- the channels of a recorded round
+abbrev pub channels_in : Option Recorded → List Channel
+channels_in None = []
+channels_in (Some round) = round.channels
+
+-- how many markers of round r have come to a process
+abbrev pub markers_heard : ℕ → MarkerView → ℕ
+markers_heard r marker = count_by (λ (channel : Channel). channel.is_closed) (channels_in (round_of marker.rounds r))
+
+-- so many markers of round r at least are still to come to n processes: there is one on each channel
+abbrev pub AreToCome : ℕ → ℕ → ℕ → List MarkerView → Type 0
+AreToCome to_come n r markers = 0 < to_come → sum_by (markers_heard r) markers + to_come ≤ n * (n - 1)
 
 -- what process q has recorded, where some processes have: nothing if it is none of them
 abbrev pub marker_of : List MarkerView → ℕ → MarkerView

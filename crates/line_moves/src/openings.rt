@@ -25,17 +25,21 @@ use std::marker::Model;
 pub struct OpenRound {
     turning: Turning,
     markers: Vec<Marker>,
+    /// How many markers of the round have not come yet, at least: while there are some, it is not
+    /// completed.
+    to_come: u32,
 }
 
 impl Model for OpenRound {
     ghost use Rattle.std.specs.Prelude.{length};
-    ghost use Rattle.line_moves.specs.Openings.{OpenView, AreMarkers};
+    ghost use Rattle.line_moves.specs.Openings.{OpenView, AreMarkers, AreToCome};
 
     ghost Value = { OpenView };
 
     ghost view = { λ r. record { number = r.turning.number; checks = r.turning.checks; markers = r.markers.items } };
 
-    ghost invariant = { λ r. AreMarkers (length r.turning.checks) r.markers.items };
+    ghost invariant = { λ r. AreMarkers (length r.turning.checks) r.markers.items
+        × AreToCome r.to_come (length r.turning.checks) r.turning.number r.markers.items };
 }
 
 /// What each of `n` processes has recorded before it has done anything; rounds up to `floor` are
@@ -64,7 +68,12 @@ impl OpenRound {
         let n = history.n();
         let turning = Turning::new(alloc, n, last + 1)?;
         let markers = fresh_markers(alloc, n, last)?;
-        Ok(OpenRound { turning, markers })
+        let to_come = n * (n - 1);
+        Ok(OpenRound {
+            turning,
+            markers,
+            to_come,
+        })
     }
 
     /// Its number.
@@ -124,6 +133,7 @@ impl OpenRound {
         let _effect = self.markers[p.get() as usize]
             .on_marker(from, number)
             .unwrap();
+        self.to_come = self.to_come.saturating_sub(1);
     }
 
     /// The marker from process `from` has come to process `p`, which has its check of the round.
@@ -139,7 +149,7 @@ impl OpenRound {
     {
         let number = self.turning.number();
         match self.markers[p.get() as usize].on_marker(from, number) {
-            Ok(_effect) => {}
+            Ok(_effect) => self.to_come = self.to_come.saturating_sub(1),
             Err(MarkerError::OutOfMemory) => unreachable!(),
             // It has come before.
             Err(MarkerError::MarkerRepeated) => {}
@@ -166,11 +176,15 @@ impl OpenRound {
 
     /// Whether each process has its check of the round, and a marker of it from each other process.
     ///
-    /// It looks at each channel of the processes up to the first for which that isn't so.
+    /// It takes constant time while markers are to come, and else looks at each channel of the
+    /// processes up to the first for which that isn't so.
     pub(crate) fn is_completed(&self, history: &History) -> bool
         requires { IsRecording history.now.processes self.now }
         ensures { result ≡ is_completed_fifo history.now.processes self.now.number }
     {
+        if self.to_come > 0 {
+            return false;
+        }
         let n = history.n();
         let number = self.turning.number();
         'each: for q in 0..n {
@@ -264,8 +278,7 @@ pub(crate) fn hear(
 
 /// Lists the round of markers if it is completed, and else gives it back.
 ///
-/// It takes no memory, and looks at each channel of the processes up to the first that has not all
-/// its markers.
+/// It takes no memory, and constant time while markers are to come; then it looks at each channel.
 pub fn still_open(
     alloc: Global,
     running: Option<OpenRound>,

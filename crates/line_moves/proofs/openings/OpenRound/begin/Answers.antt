@@ -19,7 +19,7 @@ returns-clause-recording c = λ state.
     let markers : List MarkerView = c.self.inside.markers.items in
     let number : r ≡ c.args.self.now.number = ap (λ (v : OpenView). v.number) c.self.view_is in
     let is : IsRecording history (record { number = r; checks = turning.checks; markers = markers }) = subst (IsRecording history) (sym c.self.view_is) c.requires.recording in
-    let are : AreMarkers (length turning.checks) markers = c.self.invariant in
+    let are : AreMarkers (length turning.checks) markers = c.self.invariant.0 in
     let old : MarkerView = c.index_mut.result.now in
     let new : MarkerView = c.begin.new.self in
     let own : old ≡ marker_at markers p = own_marker history p turning markers c.requires.p are is old (c.index_mut.ensures.value ∙ ap (λ (i : ℕ). get_or markers i old) c.get.ensures.value) in
