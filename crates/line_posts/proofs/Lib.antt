@@ -13,6 +13,7 @@ pub mod AgreedLemmas
 pub mod SameLemmas
 pub mod SendLemmas
 pub mod ReplayLemmas
+pub mod SortLemmas
 pub mod GatheringLemmas
 pub mod OwnLemmas
 pub mod ExtensionLemmas

@@ -60,16 +60,6 @@ left_more q s tape event received received' letters letters' er el nr nl =
       nl ∙ (ap (λ t. t ++ drop received x) el ∙ (ap (λ n. drop s (parcels_sent q 0 tape) ++ drop n x) er ∙ (sym (drop_grown s (parcels_sent q 0 tape) x) ∙ ap (drop s) (sym all)))),
     )
 
-pub left_at : (q s k i : ℕ) (all : List Event) (event : Event) (received received' : ℕ) (letters letters' : List Letter) → k ≡ sends (take i all) → slice_get all i ≡ Some event
-    → received ≡ s - length (parcels_sent q 0 (take i all)) → parcels_of letters ≡ drop s (parcels_sent q 0 (take i all))
-    → received' ≡ received - length (parcels_sent q k (event ∷ [])) → parcels_of letters' ≡ parcels_of letters ++ drop received (parcels_sent q k (event ∷ []))
-    → (received' ≡ s - length (parcels_sent q 0 (take (i + 1) all))) × (parcels_of letters' ≡ drop s (parcels_sent q 0 (take (i + 1) all)))
-left_at q s k i all event received received' letters letters' ek at er el nr nl =
-    rw (take_next all i event at)
-    (left_more q s (take i all) event received received' letters letters' er el
-    (nr ∙ ap (λ n. received - length (parcels_sent q n (event ∷ []))) ek)
-    (nl ∙ ap (λ n. parcels_of letters ++ drop received (parcels_sent q n (event ∷ []))) ek))
-
 pub sends_push : (tape : List Event) (event : Event) → sends (tape ++ event ∷ []) ≡ sends tape + sends (event ∷ [])
 sends_push tape event = ap length (filter_map-append incarnation_of tape (event ∷ [])) ∙ length-append (incarnations_sent tape) (incarnations_sent (event ∷ []))
 
@@ -83,16 +73,6 @@ short_at tape i event h at = subst IsShort (get_or_from_slice_get tape i event e
 pub drop_none : {X : Type 0} (n : ℕ) → drop {A = X} n [] ≡ []
 drop_none zero = refl
 drop_none (suc n) = refl
-
--- one sender further
-pub replays_more : (history : List Process) (q r : ℕ) (kept kept' : List (List Letter)) (letters : List Letter) → AreReplaysBelow r history q kept → parcels_of letters ≡ parcels_left history r q → kept' ≡ kept ++ letters ∷ [] → AreReplaysBelow (r + 1) history q kept'
-replays_more history q r kept kept' letters h e is = record {
-  count = ap length is ∙ (length_push kept letters ∙ ap (λ t. t + 1) h.count);
-  each = λ p lt. elim (cases_lt p r) [
-    | inl less ↦ (let c = h.count in ap (λ t. parcels_of (row_at t p)) is ∙ (ap parcels_of (get_or_append_left kept (letters ∷ []) [] p (omega (arith, less, c))) ∙ h.each p less))
-    | inr ge ↦ (let c = h.count in let same : r ≡ p = omega (arith, ge, lt) in ap (λ t. parcels_of (row_at t p)) is ∙ (ap parcels_of (get_or_push kept letters [] p (omega (arith, same, c))) ∙ (e ∙ ap (λ v. parcels_left history v q) same)))
-  ];
-}
 
 pub replays_all : (history : List Process) (q n : ℕ) (kept : List (List Letter)) → n ≡ length history → AreReplaysBelow n history q kept → AreReplays history q kept
 replays_all history q n kept long h = record {

@@ -9,5 +9,6 @@ pub mod Collected
 pub mod Generations
 pub mod Openings
 pub mod Fleets
+pub mod Replays
 pub mod Gathered
 pub mod Gathering

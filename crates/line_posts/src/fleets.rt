@@ -10,13 +10,14 @@ ghost use Rattle.line_posts.specs.Collected.{collector_of};
 ghost use Rattle.line_posts.specs.Generations.{AreLined, IsGeneration};
 ghost use Rattle.line_posts.specs.Openings.{AreOpened, ArePlain};
 ghost use Rattle.line_posts.specs.Fleets.{AreAllMade};
+ghost use Rattle.line_posts.specs.Replays.{letters_of, AreAllReplays};
 
 use crate::collectors::{Collector, open_collector};
 use crate::limits::{MOST_CAPACITY, MOST_WORKERS};
-use crate::parcels::Parcel;
+use crate::parcels::{Letter, Parcel};
 use crate::posts::{Post, open_post};
 use crate::refusals::FleetError;
-use crate::replays::replays_to;
+use crate::replays::all_replays;
 use line_catalogue::Catalogue;
 use line_journals::Journal;
 use line_names::ProcId;
@@ -24,6 +25,7 @@ use line_rings::{Rings, make_rings};
 use line_tape::{Event, History};
 use rtrb::{Consumer, Producer};
 use std::alloc::{AllocError, Global};
+use std::collections::VecDeque;
 
 /// Takes the first of them.
 fn take_first<T>(items: &mut Vec<T>) -> T
@@ -39,6 +41,7 @@ fn make_posts(
     history: &History,
     mut rings: Rings<Parcel>,
     mut lines: Vec<Vec<Producer<Event>>>,
+    mut replays: Vec<Vec<VecDeque<Letter>>>,
     floor: u32,
 ) -> Result<Vec<Post>, AllocError>
     requires fit { IsFitFifo history.now.processes }
@@ -47,6 +50,7 @@ fn make_posts(
         (out_rows rings.outs.items) (in_rows rings.ins.items) }
     requires lines { (in_lines : List (List (End Event)))
         × AreLinked (length history.now.processes) 1 (out_rows lines.items) in_lines }
+    requires replays { AreAllReplays history.now.processes (letters_of replays.items) }
     ensures { IfOk result (λ posts. AreAllMade history.now.processes floor
         (out_rows rings.outs.items) (in_rows rings.ins.items) (out_rows lines.items) posts.items) }
 {
@@ -56,7 +60,7 @@ fn make_posts(
         let me = ProcId::try_new(q, n).unwrap();
         let tape = history.tape(me).copy(alloc)?;
         let journal = Journal::new(alloc, n, me, tape, floor)?;
-        let kept = replays_to(alloc, history, me)?;
+        let kept = take_first(&mut replays);
         let outs = take_first(&mut rings.outs);
         let ins = take_first(&mut rings.ins);
         let mut line = take_first(&mut lines);
@@ -91,7 +95,8 @@ pub(crate) fn open_all(
     let rings = make_rings(alloc, count, count, capacity)?;
     let Rings { outs, mut ins } = make_rings(alloc, count, 1, capacity)?;
     let lines = take_first(&mut ins);
-    let posts = make_posts(alloc, history, rings, outs, floor)?;
+    let replays = all_replays(alloc, history)?;
+    let posts = make_posts(alloc, history, rings, outs, replays, floor)?;
     Ok(Opened { posts, lines })
 }
 

@@ -1,16 +1,18 @@
 //! What links hold where a generation begins.
-ghost use Rattle.std.specs.Prelude.{◌≡◌, ◌<◌, ◌≤◌, ◌-◌, ◌++◌, ◌∷◌, [], None, IfOk, OnOk, length};
-ghost use Rattle.std.specs.Prelude.{map, drop};
-ghost use Rattle.std.specs.List.{filter_map};
-ghost use Rattle.std.specs.VecDeque.{deque_items};
-ghost use Rattle.line_tape.specs.Event.{sends, IsShort};
-ghost use Rattle.line_tape.specs.Fit.{item_received, received};
+ghost use Rattle.std.specs.Prelude.{◌≡◌, ◌≢◌, ◌<◌, ◌≤◌, ◌+◌, ◌-◌, ◌++◌, ◌∷◌, [], ℕ, All, List, None};
+ghost use Rattle.std.specs.Prelude.{IfOk, IsTrue, OnOk, false, length, replicate, slice_index_or};
+ghost use Rattle.std.specs.Prelude.{slice_set};
+ghost use Rattle.line_tape.specs.Event.{sends, IsShort, NamesBelow};
 ghost use Rattle.line_tape.specs.History.{tape_at};
 ghost use Rattle.line_tape.specs.Rounds.{checked_round};
 ghost use Rattle.line_tape.specs.Shown.{shown};
-ghost use Rattle.line_posts.specs.Parcels.{parcels_of, parcels_sent};
-ghost use Rattle.line_posts.specs.Openings.{parcels_left, ArePlain};
-ghost use Rattle.line_posts.specs.Fleets.{AreReplays};
+ghost use Rattle.line_tape.specs.declared.events.Event.{Event};
+ghost use Rattle.line_rings.specs.Ends.{row_at};
+ghost use Rattle.line_posts.specs.Gathering.{rows_of};
+ghost use Rattle.line_posts.specs.Openings.{ArePlain};
+ghost use Rattle.line_posts.specs.Replays.{cell_at, counts_of, letters_of, with_cell, AreAllReplays};
+ghost use Rattle.line_posts.specs.Replays.{AreOfSender, AreSorted, AreSquare, AreTaken};
+ghost use Rattle.line_posts.specs.Replays.{AreTakenBelow, IsNoted};
 
 use crate::parcels::Letter;
 use line_names::{Body, MOST_BODY, ProcId};
@@ -18,28 +20,115 @@ use line_tape::{EventRef, History, Tape};
 use std::alloc::{AllocError, Global};
 use std::collections::VecDeque;
 
-/// How many things the event takes from process p: one or none.
-fn taken_by(event: &EventRef<'_>, p: ProcId) -> u32
-    ensures value { result ≡ length (filter_map (item_received p) (shown event.now ∷ [])) }
-    ensures one { result ≤ 1 }
+/// Counts one thing more that is taken from process p.
+fn count_one(taken: &mut Vec<u32>, p: ProcId)
+    requires within { p < length taken.old.items }
+    requires few { slice_index_or taken.old.items p 0 < 4_294_967_295 }
+    ensures { taken.new.items
+        ≡ slice_set taken.old.items p (slice_index_or taken.old.items p 0 + 1) }
+{
+    taken[p.get() as usize] += 1;
+}
+
+/// Counts what an event takes, by the process that it is taken from.
+fn note_taken(event: &EventRef<'_>, taken: &mut Vec<u32>)
+    requires named { NamesBelow (length taken.old.items) (shown event.now) }
+    requires few { (p : ℕ) → slice_index_or taken.old.items p 0 < 4_294_967_295 }
+    ensures { (events : List Event) → AreTaken (length taken.old.items) events taken.old.items
+        → AreTaken (length taken.old.items) (events ++ shown event.now ∷ []) taken.new.items }
 {
     match event {
-        EventRef::Recv { message } => { if message.from.get() == p.get() { 1 } else { 0 } }
-        EventRef::Mark { from, .. } => { if from.get() == p.get() { 1 } else { 0 } }
-        EventRef::Send { .. } => 0,
-        EventRef::Check { .. } => 0,
+        EventRef::Recv { message } => count_one(taken, message.from),
+        EventRef::Mark { from, .. } => count_one(taken, *from),
+        EventRef::Send { .. } => {}
+        EventRef::Check { .. } => {}
     }
 }
 
-/// How many things the events of a tape take from process p.
-fn taken_from(tape: &Tape, p: ProcId) -> u32
-    ensures { result ≡ length (filter_map (item_received p) tape.now.events) }
+/// How many things the events of a tape take from each of `n` processes.
+fn taken_from(alloc: Global, tape: &Tape, n: u32) -> Result<Vec<u32>, AllocError>
+    requires { All (NamesBelow n) tape.now.events }
+    ensures { IfOk result (λ taken. AreTaken n tape.now.events taken.items) }
 {
-    let mut count = 0u32;
+    let mut taken = vec![in alloc; 0; n as usize]?;
     for i in 0..tape.len() {
-        count += taken_by(&tape.event(i), p);
+        note_taken(&tape.event(i), &mut taken);
     }
-    count
+    Ok(taken)
+}
+
+/// How many things each process took from each, by receiver.
+fn all_taken(alloc: Global, history: &History) -> Result<Vec<Vec<u32>>, AllocError>
+    ensures { IfOk result (λ taken. AreTakenBelow (length history.now.processes)
+        history.now.processes (counts_of taken.items)) }
+{
+    let n = history.n();
+    let mut taken = Vec::with_capacity(alloc, n as usize)?;
+    for r in 0..n {
+        let q = ProcId::try_new(r, n).unwrap();
+        let counts = taken_from(alloc, history.tape(q), n)?;
+        taken.push(counts)?;
+    }
+    Ok(taken)
+}
+
+/// No letters yet, from each of `n` processes.
+fn no_letters(alloc: Global, n: u32) -> Result<Vec<VecDeque<Letter>>, AllocError>
+    ensures { IfOk result (λ queues. rows_of queues.items ≡ replicate n []) }
+{
+    let mut queues = Vec::with_capacity(alloc, n as usize)?;
+    for _p in 0..n {
+        queues.push(VecDeque::new(alloc))?;
+    }
+    Ok(queues)
+}
+
+/// No letters yet, to each of `n` processes from each.
+fn no_letters_yet(alloc: Global, n: u32) -> Result<Vec<Vec<VecDeque<Letter>>>, AllocError>
+    ensures { IfOk result (λ letters. letters_of letters.items ≡ replicate n (replicate n [])) }
+{
+    let mut letters = Vec::with_capacity(alloc, n as usize)?;
+    for _q in 0..n {
+        let queues = no_letters(alloc, n)?;
+        letters.push(queues)?;
+    }
+    Ok(letters)
+}
+
+/// Takes one off what process q took from p, if anything is left of it.
+fn take_off(taken: &mut Vec<Vec<u32>>, q: usize, p: usize) -> bool
+    requires to { q < length taken.old.items }
+    requires from { p < length (row_at (counts_of taken.old.items) q) }
+    ensures some { IsTrue result → (0 < cell_at 0 (counts_of taken.old.items) q p)
+        × (counts_of taken.new.items ≡ with_cell (counts_of taken.old.items) q p
+        (cell_at 0 (counts_of taken.old.items) q p - 1)) }
+    ensures none { result ≡ false → (cell_at 0 (counts_of taken.old.items) q p ≡ 0)
+        × (counts_of taken.new.items ≡ counts_of taken.old.items) }
+{
+    let counts = &mut taken[q];
+    if counts[p] == 0 {
+        return false;
+    }
+    counts[p] -= 1;
+    true
+}
+
+/// Adds a letter from process p to those that wait for q.
+fn put_letter(
+    letters: &mut Vec<Vec<VecDeque<Letter>>>,
+    q: usize,
+    p: usize,
+    letter: Letter,
+) -> Result<(), AllocError>
+    requires to { q < length letters.old.items }
+    requires from { p < length (row_at (letters_of letters.old.items) q) }
+    ensures { OnOk result (letters_of letters.new.items ≡ with_cell (letters_of letters.old.items)
+        q p (cell_at [] (letters_of letters.old.items) q p ++ letter ∷ [])) }
+{
+    let queues = &mut letters[q];
+    let queue = &mut queues[p];
+    queue.push_back(letter)?;
+    Ok(())
 }
 
 /// A message as a letter.
@@ -54,32 +143,31 @@ fn letter(inc: u16, number: u32, body: &[u8]) -> Letter
     }
 }
 
-/// Adds the message that an event sends to process q, if that was not received.
+/// Adds the message that an event of process p sends, if it was not received.
 fn note_sent(
     event: &EventRef<'_>,
-    q: ProcId,
+    p: usize,
     number: u32,
-    received: &mut u32,
-    letters: &mut VecDeque<Letter>,
+    taken: &mut Vec<Vec<u32>>,
+    letters: &mut Vec<Vec<VecDeque<Letter>>>,
 ) -> Result<(), AllocError>
     requires short { IsShort (shown event.now) }
     requires plain { checked_round (shown event.now) ≡ None }
-    ensures received { OnOk result (received.new
-        ≡ received.old - length (parcels_sent q number (shown event.now ∷ []))) }
-    ensures letters { OnOk result (parcels_of (deque_items letters.new)
-        ≡ parcels_of (deque_items letters.old)
-        ++ drop received.old (parcels_sent q number (shown event.now ∷ []))) }
+    requires named { NamesBelow (length taken.old.items) (shown event.now) }
+    requires from { p < length taken.old.items }
+    requires taken { AreSquare (length taken.old.items) (counts_of taken.old.items) }
+    requires letters { AreSquare (length taken.old.items) (letters_of letters.old.items) }
+    ensures { OnOk result (IsNoted (length taken.old.items) p number (shown event.now)
+        (counts_of taken.old.items) (counts_of taken.new.items)
+        (letters_of letters.old.items) (letters_of letters.new.items)) }
 {
     match event {
         EventRef::Send { to, inc, body } => {
-            if to.get() != q.get() {
+            let q = to.get() as usize;
+            if take_off(taken, q, p) {
                 return Ok(());
             }
-            if *received > 0 {
-                *received -= 1;
-                return Ok(());
-            }
-            letters.push_back(letter(*inc, number, body))?;
+            put_letter(letters, q, p, letter(*inc, number, body))?;
             Ok(())
         }
         EventRef::Recv { .. } => Ok(()),
@@ -101,48 +189,53 @@ fn sent_by(event: &EventRef<'_>) -> u32
     }
 }
 
-/// What process p sent to q and q has not received, bodies included.
-fn letters_left(
-    alloc: Global,
+/// Adds what process p sent and was not received, bodies included: what a process received of it is
+/// the first that it sent there.
+fn add_sent(
     history: &History,
     p: ProcId,
-    q: ProcId,
-) -> Result<VecDeque<Letter>, AllocError>
+    taken: &mut Vec<Vec<u32>>,
+    letters: &mut Vec<Vec<VecDeque<Letter>>>,
+) -> Result<(), AllocError>
     requires from { p < length history.now.processes }
-    requires to { q < length history.now.processes }
     requires plain { ArePlain history.now.processes }
-    ensures { IfOk result (λ letters.
-        parcels_of (deque_items letters) ≡ parcels_left history.now.processes p q) }
+    requires taken { AreSquare (length history.now.processes) (counts_of taken.old.items) }
+    requires letters { AreSquare (length history.now.processes) (letters_of letters.old.items) }
+    requires none { AreSorted history.now.processes p []
+        (counts_of taken.old.items) (letters_of letters.old.items) }
+    ensures sorted { OnOk result (AreSorted history.now.processes p
+        (tape_at history.now.processes p)
+        (counts_of taken.new.items) (letters_of letters.new.items)) }
+    ensures sender { OnOk result (AreOfSender (length history.now.processes) p
+        (counts_of taken.old.items) (counts_of taken.new.items)
+        (letters_of letters.old.items) (letters_of letters.new.items)) }
 {
     let tape = history.tape(p);
-    let mut received = taken_from(history.tape(q), p);
     let mut number = 0u32;
-    let mut letters = VecDeque::new(alloc);
     for i in 0..tape.len() {
         let event = tape.event(i);
-        note_sent(&event, q, number, &mut received, &mut letters)?;
+        note_sent(&event, p.get() as usize, number, taken, letters)?;
         number += sent_by(&event);
     }
-    Ok(letters)
+    Ok(())
 }
 
-/// What the links to process q hold, by sender.
-pub(crate) fn replays_to(
+/// What the links hold, by receiver and then sender: one pass over each tape counts what it took
+/// from each process, and one adds what it sent beyond that.
+pub(crate) fn all_replays(
     alloc: Global,
     history: &History,
-    q: ProcId,
-) -> Result<Vec<VecDeque<Letter>>, AllocError>
-    requires to { q < length history.now.processes }
-    requires plain { ArePlain history.now.processes }
-    ensures { IfOk result (λ kept.
-        AreReplays history.now.processes q (map deque_items kept.items)) }
+) -> Result<Vec<Vec<VecDeque<Letter>>>, AllocError>
+    requires { ArePlain history.now.processes }
+    ensures { IfOk result (λ letters.
+        AreAllReplays history.now.processes (letters_of letters.items)) }
 {
     let n = history.n();
-    let mut kept = Vec::with_capacity(alloc, n as usize)?;
+    let mut taken = all_taken(alloc, history)?;
+    let mut letters = no_letters_yet(alloc, n)?;
     for r in 0..n {
         let p = ProcId::try_new(r, n).unwrap();
-        let letters = letters_left(alloc, history, p, q)?;
-        kept.push(letters)?;
+        add_sent(history, p, &mut taken, &mut letters)?;
     }
-    Ok(kept)
+    Ok(letters)
 }
