@@ -1,11 +1,12 @@
 //! Where what was gathered goes on: a new generation, from the planned line.
-ghost use Rattle.std.specs.Prelude.{◌≡◌, ◌<◌, ◌≤◌, ◌+◌, ℕ, List, IfOk, IfErr, IsTrue, length, map};
+ghost use Rattle.std.specs.Prelude.{◌≡◌, ◌<◌, ◌≤◌, ◌+◌, ℕ, List, IfOk, IfErr, IfSome, IsTrue, length, map};
 ghost use Rattle.std.specs.Prelude.{slice_index_or, vec_len};
 ghost use Rattle.line_names.specs.Lines.{IsNowhereLater};
 ghost use Rattle.line_names.specs.declared.choices.Choice.{Choice};
 ghost use Rattle.line_names.specs.declared.choices.Choice.TheVariants.{Check as AtCheck};
 ghost use Rattle.line_tape.specs.Chain.{IsChain};
 ghost use Rattle.line_tape.specs.Fit.{IsFitFifo};
+ghost use Rattle.line_tape.specs.Line.{IsConsistent, IsLine};
 ghost use Rattle.line_tape.specs.Restart.{restarted, restarted_marks, HaveFurther};
 ghost use Rattle.line_tape.specs.Rounds.{check_line, checks_of, is_completed_fifo};
 ghost use Rattle.line_tape.specs.Survival.{survives, IsLatest};
@@ -22,7 +23,8 @@ use crate::fleets::{Opened, open_all};
 use crate::gathering::Gathered;
 use crate::posts::Post;
 use crate::refusals::RestartWhy;
-use line_names::Line;
+use line_catalogue::Catalogue;
+use line_names::{Line, MsgName};
 use line_plan::Plan;
 use line_tape::Event;
 use rtrb::Consumer;
@@ -33,6 +35,22 @@ use std::alloc::AllocError;
 pub struct RestartRefused {
     pub why: RestartWhy,
     pub gathered: Gathered,
+}
+
+/// Has all go on from a line, with what is in transit there where that is told.
+fn go_on(catalogue: &mut Catalogue, line: &Line, left: Option<Vec<MsgName>>)
+    requires line { IsLine catalogue.old.processes line.now }
+    requires consistent { IsConsistent catalogue.old.processes line.now }
+    requires further { HaveFurther catalogue.old.processes line.now }
+    requires left { IfSome left (λ left.
+        left.items ≡ in_transit catalogue.old.processes line.now) }
+    ensures processes { catalogue.new.processes ≡ restarted catalogue.old.processes line.now }
+    ensures marks { catalogue.new.marks ≡ restarted_marks catalogue.old.marks line.now }
+{
+    match left {
+        Some(left) => catalogue.restart_with(line, left),
+        None => catalogue.restart(line),
+    }
 }
 
 impl Gathered {
@@ -52,10 +70,16 @@ impl Gathered {
         open_all(self.alloc, &cut, self.capacity, self.floor)
     }
 
-    /// The collector that goes on from a line.
-    fn into_collector(self, line: &Line, lines: Vec<Consumer<Event>>) -> Collector
+    /// The collector that goes on from a line, with what is in transit there where that is told.
+    fn into_collector(
+        self,
+        line: &Line,
+        left: Option<Vec<MsgName>>,
+        lines: Vec<Consumer<Event>>,
+    ) -> Collector
         requires latest { IsLatest self.processes self.marks self.failed line.now }
         requires further { HaveFurther self.processes line.now }
+        requires left { IfSome left (λ left. left.items ≡ in_transit self.processes line.now) }
         requires count { length lines.items ≡ length self.processes }
         requires fresh { AreFresh (in_ends lines.items) }
         ensures { result ≡ collector_of (restarted self.processes line.now)
@@ -65,7 +89,7 @@ impl Gathered {
         let alloc = self.alloc;
         let capacity = self.capacity;
         let mut catalogue = self.catalogue;
-        catalogue.restart(line);
+        go_on(&mut catalogue, line, left);
         open_collector(alloc, catalogue, lines, capacity)
     }
 
@@ -77,8 +101,8 @@ impl Gathered {
     /// refusal hands the value back as it was.
     ///
     /// It costs what `plan` does, a copy of the history, so that a refusal can hand the value back,
-    /// one more of what lies before the line, for the workers, and for each two workers a walk of
-    /// their tapes.
+    /// one more of what lies before the line, for the workers, a copy of the plan's replays, two
+    /// walks of each tape, and a step for each two workers.
     pub fn restart(self) -> Result<(Collector, Vec<Post>, Plan), RestartRefused>
         ensures latest { IfOk result (λ r.
             IsLatest self.processes self.marks self.failed r.2.line) }
@@ -131,7 +155,10 @@ impl Gathered {
                 gathered: self,
             });
         };
-        let collector = self.into_collector(&plan.line, opened.lines);
+        // What was in transit is known, so that no later plan asks of the sends before the line
+        // again. Without memory for a copy of it, the next plans do.
+        let left = Vec::from_slice(self.alloc, plan.replays.as_slice()).ok();
+        let collector = self.into_collector(&plan.line, left, opened.lines);
         Ok((collector, opened.posts, plan))
     }
 }
