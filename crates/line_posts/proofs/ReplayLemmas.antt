@@ -3,7 +3,7 @@ use Rattle.std.proofs.Common.{add-one, cond, zero, suc, ◌≡◌, ◌∙◌, �
 use Rattle.std.specs.Prelude.{slice_get}
 use Rattle.std.specs.List.{filter_map, cons_option}
 use Rattle.std.proofs.lemmas.Bool.{cases_lt, eq-eqb, ne_eqb}
-use Rattle.std.proofs.lemmas.List.{length-append, length_push, get_or_past, get_or_push, get_or_append_left}
+use Rattle.std.proofs.lemmas.List.{length-append, get_or_past}
 use Rattle.std.proofs.lemmas.List.Elements.{filter_map-append}
 use Rattle.std.proofs.lemmas.Option.{get_or_from_slice_get, slice_get_within}
 use Rattle.line_tape.specs.declared.events.Event.{Event}
@@ -13,11 +13,9 @@ use Rattle.line_tape.specs.Fit.{item_received, received}
 use Rattle.line_tape.specs.History.{Process, IsTape}
 use Rattle.line_tape.specs.Rounds.{checked_round, rounds_checked}
 use Rattle.line_tape.proofs.LineLemmas.{tape_at-past}
-use Rattle.line_rings.specs.Ends.{row_at}
 use Rattle.line_posts.specs.declared.parcels.Letter.{Letter}
 use Rattle.line_posts.specs.declared.parcels.Parcel.TheVariants.{Message}
 use Rattle.line_posts.specs.Parcels.{parcels_of, parcels_sent}
-use Rattle.line_posts.specs.Openings.{parcels_left}
 use Rattle.line_posts.specs.Fleets.{AreReplays, AreReplaysBelow}
 use Rattle.line_posts.proofs.ParcelLemmas.{parcels_append}
 

@@ -1,8 +1,11 @@
 -- Reports keep what holds of a worker and of a collector.
-use Rattle.std.proofs.Common.{zero, suc, ◌≡◌, ◌∙◌, ◌+◌, ◌<◌, ◌++◌, ◌∷◌, [], ℕ, List, length, refl, sym, ap, inl, inr, arith, subst}
+use Rattle.std.proofs.Common.{zero, suc, ◌≡◌, ◌≢◌, ◌∙◌, ◌+◌, ◌<◌, ◌++◌, ◌∷◌, [], ℕ, List, length, refl, sym, ap, inl, inr, arith, subst}
 use Rattle.std.proofs.lemmas.Bool.{cases_eq}
 use Rattle.std.proofs.lemmas.List.{append_assoc, append-nil, length_push, length-set, get_or-set_same, get_or-set_other}
 use Rattle.line_tape.specs.declared.events.Event.{Event}
+use Rattle.line_tape.specs.declared.limits.TheConstants.{MOST_EVENTS}
+use Rattle.line_tape.specs.Event.{HasLongState, NamesBelow}
+use Rattle.line_catalogue.specs.Agreement.{AgreesNext}
 use Rattle.line_tape.specs.History.{Process, fresh, tape_at, incarnation_at, with_event}
 use Rattle.line_tape.proofs.NextLemmas.{tape_same, tape_other}
 use Rattle.line_rings.specs.Ends.{End, items_at, with_item, AreFresh}
@@ -38,6 +41,12 @@ collect_keeps c p event processes marks lines h lt ep el =
 
 pub same_first : {X : Type 0} (x y : X) (xs ys : List X) → x ∷ xs ≡ y ∷ ys → x ≡ y
 same_first x y xs ys e = cc e
+
+-- what may be added still may, where neither history nor event changed
+pub addable_still : (h h' : List Process) (p : ℕ) (e e' : Event) → h' ≡ h → e' ≡ e
+    → (p < length h) × NamesBelow (length h) e × (HasLongState e → ⊥) × (length (tape_at h p) ≢ MOST_EVENTS) × AgreesNext h p e
+    → (p < length h') × NamesBelow (length h') e' × (HasLongState e' → ⊥) × (length (tape_at h' p) ≢ MOST_EVENTS) × AgreesNext h' p e'
+addable_still h h' p e e' eh ee t = rw (eh, ee) t
 
 -- one report more
 length_passed : (lines : List (End Event)) (p : ℕ) (event : Event) → p < length lines → passed (with_item lines p event) ≡ passed lines + 1

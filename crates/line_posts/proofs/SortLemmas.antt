@@ -1,9 +1,9 @@
 -- What links hold, told off the tapes in one pass over each.
-use Rattle.std.proofs.Common.{add-one, cond, zero, suc, ◌≡◌, ◌≢◌, ◌∙◌, ◌+◌, ◌-◌, ◌<◌, ◌≤◌, ◌++◌, ◌∷◌, [], ℕ, List, Option, Some, None, length, map, get_or, set, take, drop, replicate, refl, sym, ap, subst, inl, inr, arith}
+use Rattle.std.proofs.Common.{cond, zero, suc, ◌≡◌, ◌≢◌, ◌∙◌, ◌+◌, ◌-◌, ◌<◌, ◌≤◌, ◌++◌, ◌∷◌, [], ℕ, List, Option, Some, None, length, map, get_or, set, take, drop, refl, sym, ap, subst, inl, inr, arith}
 use Rattle.std.specs.Prelude.{slice_get, All}
 use Rattle.std.specs.List.{filter_map, cons_option}
 use Rattle.std.proofs.lemmas.Bool.{cases_eq, cases_lt, eq-eqb, ne_eqb}
-use Rattle.std.proofs.lemmas.List.{append-nil, length-append, length-set, length-map, length_push, length-replicate, map-set, map-append, get_or-set_same, get_or-set_other, get_or_past, get_or_push, get_or_append_left, length-take-le}
+use Rattle.std.proofs.lemmas.List.{append-nil, length-set, map-set, map-append, get_or-set_same, get_or-set_other, get_or_past, length-take-le}
 use Rattle.std.proofs.lemmas.Option.{get_or_from_slice_get, slice_get_within}
 use Rattle.line_tape.specs.declared.events.Event.{Event}
 use Rattle.line_names.specs.declared.messages.MsgName.{MsgName}
@@ -19,9 +19,7 @@ use Rattle.line_posts.specs.declared.parcels.Letter.{Letter}
 use Rattle.line_posts.specs.declared.parcels.Parcel.{Parcel}
 use Rattle.line_posts.specs.declared.parcels.Parcel.TheVariants.{Message}
 use Rattle.line_posts.specs.Parcels.{parcels_of, parcels_sent}
-use Rattle.line_posts.specs.Openings.{parcels_left}
-use Rattle.line_posts.specs.Fleets.{AreReplays, AreReplaysBelow}
-use Rattle.line_posts.specs.Replays.{cell_at, with_cell, AreAllReplays, AreOfSender, AreSorted, AreSquare, AreTaken, AreTakenBelow, IsNoted}
+use Rattle.line_posts.specs.Replays.{cell_at, with_cell, AreAllReplays, AreOfSender, AreSorted, AreSquare, AreTaken, IsNoted}
 use Rattle.line_posts.proofs.ReplayLemmas.{left_more, replays_all, sent_to, sent_past, takes_push}
 
 -- another item in a row

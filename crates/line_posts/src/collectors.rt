@@ -17,7 +17,7 @@ use line_plan::{Plan, PlanError};
 use line_rings::{front_at, look_at, take_at};
 use line_tape::{Event, History};
 use rtrb::Consumer;
-use std::alloc::{AllocError, Global};
+use std::alloc::Global;
 use std::marker::Model;
 use std::snapshot::Snapshot;
 
@@ -81,28 +81,6 @@ fn everyone(n: u32) -> ProcSet
     all
 }
 
-/// The same event in memory of its own.
-fn copied(alloc: Global, event: &Event) -> Result<Event, AllocError>
-    ensures { IfOk result (λ copy. copy ≡ event.now) }
-{
-    match event {
-        Event::Send { to, inc, body } => Ok(Event::Send {
-            to: *to,
-            inc: *inc,
-            body: body.copy(),
-        }),
-        Event::Recv { message } => Ok(Event::Recv { message: *message }),
-        Event::Check { state, round } => Ok(Event::Check {
-            state: state.copy(alloc)?,
-            round: *round,
-        }),
-        Event::Mark { from, round } => Ok(Event::Mark {
-            from: *from,
-            round: *round,
-        }),
-    }
-}
-
 impl Collector {
     /// The history that was collected so far.
     pub fn history(&self) -> &History
@@ -129,7 +107,8 @@ impl Collector {
         line_plan::plan(self.alloc, &self.catalogue, &failed)
     }
 
-    /// Takes the next report of a process, if its line shows one; a refused one stays in front.
+    /// Takes the next report of a process, if its line shows one; a refused one stays in front. It
+    /// is tested there, so that it need not be copied.
     fn take_one(&mut self, p: ProcId) -> Result<bool, AddError>
         requires { p < length self.old.opening }
         ensures ok { IfOk result (λ did.
@@ -143,11 +122,10 @@ impl Collector {
         if !look_at(&mut self.lines, at) {
             return Ok(false);
         }
-        let Ok(event) = copied(self.alloc, front_at(&self.lines, at)) else {
-            return Err(AddError::OutOfMemory);
-        };
-        self.catalogue.add(p, event)?;
-        let _ = take_at(&mut self.lines, at);
+        self.catalogue.test(p, front_at(&self.lines, at))?;
+        self.catalogue.reserve(p, 1)?;
+        let event = take_at(&mut self.lines, at);
+        self.catalogue.append(p, event);
         Ok(true)
     }
 
