@@ -181,14 +181,22 @@ impl Ledger {
     }
 
     /// Keeps what is in transit where each process stands, so that no send before that is looked at
-    /// again. Where memory for it is refused, it is put off.
+    /// again. It is put off where memory for it is refused, or where more than an eighth of all sends
+    /// are in transit: who asks for these is answered as many anyway, and keeping them takes memory.
     #[inline(never)]
     fn settle(&mut self)
         ensures { self.new ≡ self.old }
     {
         let line = present_line(&self.history);
+        let few = count_sends(&self.history) as usize / 8;
         match self.transit(self.alloc, &line) {
-            Ok(messages) => self.keep(&line, messages),
+            Ok(messages) => {
+                if messages.len() <= few {
+                    self.keep(&line, messages);
+                } else {
+                    self.put_off();
+                }
+            }
             Err(AllocError) => self.put_off(),
         }
     }
