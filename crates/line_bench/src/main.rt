@@ -76,6 +76,7 @@ fn claim_text(alloc: Global, world: &World, failed: &ProcSet, plan: &Plan) -> Re
 /// A plan is made of what a machine did, and the claim is written and judged.
 fn claim_of(alloc: Global, digest: &mut Digest, world: &World, failed: &ProcSet) -> Result<()> {
     let plan = world.plan_for(alloc, failed)?;
+    add_plan(digest, &plan);
     let text = claim_text(alloc, world, failed, &plan)?;
     digest.bytes(&text);
     check(alloc, digest, text);

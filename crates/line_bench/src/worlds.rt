@@ -3,7 +3,7 @@
 use crate::dice::Dice;
 use crate::digests::Digest;
 use anyhow::Result;
-use line_names::{Body, MOST_PROCESSES, MsgName, ProcId, ProcIdError, ProcSet};
+use line_names::{Body, Choice, MOST_PROCESSES, MsgName, ProcId, ProcIdError, ProcSet};
 use line_plan::Plan;
 use line_tape::State;
 use line_world::{Mode, Reply, Step, World};
@@ -48,28 +48,76 @@ fn add_name(digest: &mut Digest, message: &MsgName) {
     digest.number((from << 48) ^ (u64::from(message.inc) << 32) ^ u64::from(message.number));
 }
 
+/// Adds where a process goes on from. Checks have numbers of 32 bits.
+fn add_choice(digest: &mut Digest, choice: &Choice) {
+    match choice {
+        Choice::Check(check) => digest.number(u64::from(*check)),
+        Choice::Now => digest.number(u64::MAX),
+    }
+}
+
 /// Adds a plan.
 pub fn add_plan(digest: &mut Digest, plan: &Plan) {
     digest.number(u64::from(plan.sweeps));
+    for choice in plan.line.choices() {
+        add_choice(digest, choice);
+    }
     for passed in &plan.certificate {
         digest.number(u64::from(passed.at.get()));
+        add_choice(digest, &passed.choice);
         add_name(digest, &passed.message);
     }
     for replay in &plan.replays {
         add_name(digest, replay);
     }
     digest.number(u64::from(plan.line.len()));
+    digest.number(plan.certificate.len() as u64);
+    digest.number(plan.replays.len() as u64);
+}
+
+/// Adds the round of a check, if one was taken. Rounds have numbers of 32 bits.
+fn add_forced(digest: &mut Digest, forced: &Option<u32>) {
+    match forced {
+        Some(round) => digest.number(u64::from(*round)),
+        None => digest.number(u64::MAX),
+    }
+}
+
+/// Adds the bytes that a process goes on from, if it goes back.
+fn add_state(digest: &mut Digest, state: &Option<State>) {
+    digest.number(u64::from(state.is_some()));
+    if let Some(state) = state {
+        digest.bytes(state.bytes());
+    }
+}
+
+/// The number of a kind of reply.
+fn kind_of(reply: &Reply) -> u64 {
+    match reply {
+        Reply::Sent { .. } => 0,
+        Reply::Took { .. } => 1,
+        Reply::Marked { .. } => 2,
+        Reply::Stale { .. } => 3,
+        Reply::Repeated { .. } => 4,
+        Reply::Checked { .. } => 5,
+        Reply::Begun { .. } => 6,
+        Reply::Turned { .. } => 7,
+        Reply::Damaged { .. } => 8,
+        Reply::Barred { .. } => 9,
+        Reply::Recovered { .. } => 10,
+    }
 }
 
 /// Adds what a step told.
 fn add_reply(digest: &mut Digest, reply: &Reply) {
+    digest.number(kind_of(reply));
     match reply {
         Reply::Sent { message } | Reply::Stale { message } | Reply::Repeated { message } => {
             add_name(digest, message)
         }
         Reply::Took { message, forced } => {
             add_name(digest, message);
-            digest.number(u64::from(forced.is_some()));
+            add_forced(digest, forced);
         }
         Reply::Marked { round, forced } => {
             digest.number(u64::from(*round));
@@ -92,9 +140,7 @@ fn add_reply(digest: &mut Digest, reply: &Reply) {
         } => {
             add_plan(digest, plan);
             for state in states {
-                if let Some(state) = state {
-                    digest.bytes(state.bytes());
-                }
+                add_state(digest, state);
             }
             for incarnation in incarnations {
                 digest.number(u64::from(*incarnation));
@@ -129,7 +175,10 @@ impl Driver {
     pub fn step(&mut self, digest: &mut Digest, step: &Step) {
         match self.world.step(self.alloc, step) {
             Ok(reply) => add_reply(digest, &reply),
-            Err(error) => digest.number(u64::from(error.code())),
+            Err(error) => {
+                digest.number(u64::MAX);
+                digest.number(u64::from(error.code()));
+            }
         }
     }
 
