@@ -4,14 +4,17 @@
 //! Words: the job, the seed, how many inputs, and about how many records or steps each has.
 #![tactic(auto)]
 
+mod crews;
 mod dice;
 mod digests;
+mod lineages;
 mod scripts;
 mod texts;
 mod worlds;
 
 use crate::dice::Dice;
 use crate::digests::Digest;
+use crate::lineages::generations;
 use crate::scripts::{dominoes, ring, rounds, unordered};
 use crate::texts::Text;
 use crate::worlds::{Driver, add_plan};
@@ -179,6 +182,10 @@ fn is_done(
             plans(alloc, digest, &mut dice, mode_of(input), size)?;
             return Ok(true);
         }
+        "generations" => {
+            generations(alloc, digest, &mut dice, size)?;
+            return Ok(true);
+        }
         _ => return Ok(false),
     }
     run(alloc, digest, text);
@@ -193,7 +200,7 @@ fn do_job<R: Print>(rt: &R, alloc: Global, job: &str, numbers: [u64; 3]) -> Resu
     for input in 0..inputs {
         if !is_done(alloc, &mut digest, job, seed, input, steps)? {
             println!(rt;
-                "Usage: line_bench JOB SEED INPUTS SIZE; a job is ring, unordered, rounds, dominoes, claims or plans"
+                "Usage: line_bench JOB SEED INPUTS SIZE; a job is ring, unordered, rounds, dominoes, claims, plans or generations"
             )?;
             return Ok(());
         }

@@ -18,7 +18,7 @@ pub fn process(p: u32, n: u32) -> Result<ProcId> {
 }
 
 /// A state of eight random bytes.
-fn random_state(alloc: Global, dice: &mut Dice) -> Result<State, AllocError> {
+pub fn random_state(alloc: Global, dice: &mut Dice) -> Result<State, AllocError> {
     Ok(State::of(Vec::from_slice(alloc, &dice.word().to_le_bytes())?))
 }
 
@@ -43,7 +43,7 @@ pub struct Driver {
 }
 
 /// Adds the name of a message.
-fn add_name(digest: &mut Digest, message: &MsgName) {
+pub fn add_name(digest: &mut Digest, message: &MsgName) {
     let from = u64::from(message.from.get());
     digest.number((from << 48) ^ (u64::from(message.inc) << 32) ^ u64::from(message.number));
 }
