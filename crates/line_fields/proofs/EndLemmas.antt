@@ -1,5 +1,5 @@
 -- The fields of a line, by where each ends in it.
-use Rattle.std.proofs.Common.{◌≡◌, ◌≤◌, ◌<◌, ◌==◌, ◌∙◌, ◌++◌, ◌∷◌, ◌+◌, ◌-◌, ℕ, List, [], Bool, true, false, All, length, drop, take, map, get_or, refl, ap, sym, subst, arith, zero, suc}
+use Rattle.std.proofs.Common.{◌≡◌, ◌≤◌, ◌<◌, ◌∙◌, ◌++◌, ◌∷◌, ◌+◌, ◌-◌, ℕ, List, [], Bool, true, false, All, length, take, map, get_or, refl, ap, sym, subst, arith, zero, suc}
 use Rattle.std.proofs.lemmas.List.{length-map}
 use Rattle.line_fields.specs.Records.{Record, field, parts}
 use Rattle.line_fields.specs.Rows.{IsLineEnd, IsWithin, Span, begin_at, fields_held, fields_in, is_end, is_mark, part_of, spans_from}

@@ -1,10 +1,10 @@
 -- The bytes of a chunk that end a field, as the bits of its mask.
-use Rattle.std.proofs.Common.{◌≡◌, ◌≤◌, ◌<◌, ◌==◌, ◌||◌, ◌∙◌, ◌∷◌, ◌+◌, ◌-◌, ◌*◌, ◌/◌, ◌%◌, ◌^◌, ℕ, List, [], Bool, true, false, not, cond, eqb, length, drop, take, map, get_or, replicate, refl, ap, ap₂, sym, inl, inr, arith, zero, suc, w8}
+use Rattle.std.proofs.Common.{◌≡◌, ◌≤◌, ◌<◌, ◌==◌, ◌||◌, ◌∙◌, ◌∷◌, ◌+◌, ◌-◌, ◌*◌, ◌/◌, ◌%◌, ◌^◌, ℕ, List, [], Bool, true, false, not, cond, eqb, length, drop, take, map, get_or, replicate, refl, ap, ap₂, sym, inl, inr, arith, zero, suc}
 use Rattle.std.specs.List.{prefix_len}
 use Rattle.std.proofs.Math.Nat.{div-div-eq-div-mul}
 use Rattle.std.proofs.lemmas.Bool.{cases_Bool}
 use Rattle.std.proofs.lemmas.List.{drop-drop, drop-map, drop-take, length-map}
-use Rattle.std.proofs.lemmas.Simd.{length-chunk, map-map, mask_l-mod, run_in_chunk_fails, run_in_chunk_le, run_in_chunk_stops, trailing_mask_l, zip2-map, zip2_splat}
+use Rattle.std.proofs.lemmas.Simd.{length-chunk, mask_l-mod, run_in_chunk_fails, run_in_chunk_stops, trailing_mask_l, zip2-map, zip2_splat}
 use lib.Bits.{bit_or}
 use lib.Count.{count_trailing_zeros}
 use lib.Lanes.{chunk, mask_l, top, zip2}

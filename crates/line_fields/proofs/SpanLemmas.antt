@@ -1,7 +1,5 @@
 -- The fields of a line, each where it stands in it, and the lines of an input text.
-use Rattle.std.proofs.Common.{◌≡◌, ◌≤◌, ◌<◌, ◌==◌, ◌||◌, ◌∙◌, ◌++◌, ◌∷◌, ◌+◌, ◌-◌, ℕ, List, [], Bool, true, false, not, All, length, drop, take, map, get_or, refl, ap, sym, subst, inl, inr, arith, zero, suc, append_assoc, le-leb}
-use Rattle.std.specs.Prelude.{nat_le}
-use Rattle.std.specs.List.{list_all}
+use Rattle.std.proofs.Common.{◌≡◌, ◌≤◌, ◌<◌, ◌==◌, ◌||◌, ◌∙◌, ◌++◌, ◌∷◌, ◌+◌, ◌-◌, ℕ, List, [], Bool, true, false, not, All, length, drop, take, map, get_or, refl, ap, sym, subst, inl, inr, arith, zero, suc, append_assoc}
 use Rattle.std.proofs.Math.Seq.{take-suc, take-append-add}
 use Rattle.std.proofs.Math.Nat.{eq-or-lt_of_le}
 use Rattle.std.proofs.lemmas.Bool.{and_parts, cases_Bool, eqb-true}

@@ -1,5 +1,5 @@
 -- The fields of a line, as far as the bits of a chunk's mask go.
-use Rattle.std.proofs.Common.{◌≡◌, ◌≢◌, ◌≤◌, ◌<◌, ◌==◌, ◌||◌, ◌∙◌, ◌++◌, ◌∷◌, ◌+◌, ◌-◌, ◌/◌, ◌^◌, ℕ, List, [], Bool, true, false, length, map, get_or, ap, sym, subst, arith, ne_eqb}
+use Rattle.std.proofs.Common.{◌≡◌, ◌≢◌, ◌≤◌, ◌<◌, ◌||◌, ◌∙◌, ◌++◌, ◌∷◌, ◌+◌, ◌-◌, ◌/◌, ◌^◌, ℕ, List, [], Bool, true, false, length, map, get_or, ap, sym, subst, arith, ne_eqb}
 use Rattle.std.proofs.lemmas.Simd.{none_from_empty_mask}
 use lib.Count.{count_trailing_zeros}
 use lib.Lanes.{chunk, mask_l}

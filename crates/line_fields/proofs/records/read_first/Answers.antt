@@ -1,4 +1,3 @@
-use Rattle.std.proofs.Common.{◌∙◌}
 use Rattle.line_fields.proofs.SpanLemmas.{first_record, input_behind}
 use Rattle.line_fields.proofs.TextLemmas.{rest_is}
 use Rattle.line_fields.proofs.records.read_first.Goals as goal

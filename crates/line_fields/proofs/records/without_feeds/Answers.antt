@@ -1,4 +1,4 @@
-use Rattle.std.proofs.Common.{◌∙◌, sym}
+use Rattle.std.proofs.Common.{◌∙◌}
 use Rattle.line_fields.proofs.SpanLemmas.{feed_taken}
 use Rattle.line_fields.proofs.records.without_feeds.Goals as goal
 

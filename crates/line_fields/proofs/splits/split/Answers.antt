@@ -1,6 +1,5 @@
-use Rattle.std.proofs.Common.{◌≡◌, ◌+◌, ◌<◌, ◌∙◌, arith, sym, true}
+use Rattle.std.proofs.Common.{◌+◌, ◌<◌, ◌∙◌, arith, sym}
 use lib.Count.{count_trailing_zeros}
-use Rattle.line_fields.specs.Rows.{is_mark}
 use Rattle.line_fields.proofs.EndLemmas.{parted_at_comma, parted_begins, parted_ends, parted_line, parted_within}
 use Rattle.line_fields.proofs.SplitLemmas.{other_mark, parted_passes, under_begins, under_ends, under_first, under_mark, under_more}
 use Rattle.line_fields.proofs.splits.split.Goals as goal

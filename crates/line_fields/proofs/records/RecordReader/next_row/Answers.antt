@@ -1,7 +1,7 @@
 use Rattle.std.proofs.Common.{◌≡◌, [], false, true, ◌∙◌, ap, refl, rules, sym}
 use Rattle.std.specs.Prelude.{is_some}
 use Rattle.line_fields.specs.Records.{records_of_text}
-use Rattle.line_fields.proofs.LeftLemmas.{is_left, is_left_in_lines, is_reading_on, left_in_lines, left_to_csv, on_any_err, rest_is_none, told, told_refused}
+use Rattle.line_fields.proofs.LeftLemmas.{is_left, is_left_in_lines, left_in_lines, left_to_csv, on_any_err, rest_is_none, told, told_refused}
 use Rattle.line_fields.proofs.TextLemmas.{empty_is_input, records_of_nothing}
 use Rattle.line_fields.proofs.records.RecordReader.next_row.Goals as goal
 
