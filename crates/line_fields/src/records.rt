@@ -166,7 +166,7 @@ impl Row {
 
     // Puts the next record of a reader of `csv` in place of the fields of the row, or none after the
     // last one and where it is refused.
-    fn read_record(&mut self, reader: &mut Reader<&[u8]>) -> Result<bool, Error>
+    fn read_record(&mut self, reader: &mut Reader<&[u8]>) -> Result<bool, AllocError>
         requires { IsReading reader.old }
         ensures ok { IfOk result (λ found. MatchBool found (IsReading reader.new × (rows_left reader.old ≡ self.new ∷ rows_left reader.new)) ((rows_left reader.old ≡ []) × (self.new ≡ []))) }
         ensures err { OnErr result (self.new ≡ []) }
@@ -183,7 +183,7 @@ impl Row {
             }
             Err(error) => {
                 self.clear();
-                Err(error)
+                Err(let_go(error))
             }
         }
     }
@@ -281,9 +281,9 @@ fn read_or_close(reader: &mut Option<Reader<&[u8]>>, row: &mut Row) -> Result<bo
             *reader = None;
             Ok(false)
         }
-        Err(error) => {
+        Err(refused) => {
             *reader = None;
-            Err(let_go(error))
+            Err(refused)
         }
     }
 }
