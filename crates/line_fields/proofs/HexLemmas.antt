@@ -4,11 +4,8 @@ use Rattle.std.proofs.lemmas.List.{append-nil, drop_more}
 use Rattle.line_fields.proofs.TextLemmas.{rest_is}
 use Rattle.line_fields.specs.declared.faults.Fault.{Fault}
 use Rattle.line_fields.specs.declared.faults.Fault.TheVariants.{BadNumber}
+use Rattle.line_fields.specs.Digits.{with_front}
 use Rattle.line_fields.specs.Fields.{◌>>=◌, digit, hex}
-
--- what was read before, and what is still read
-abbrev pub with_front : {A : Type 0} → List A → Result (List A) Fault → Result (List A) Fault
-with_front front read = read >>= λ x. Ok (front ++ x)
 
 -- a byte moves from what is still read to what was
 regroup : {A : Type 0} (front : List A) (x : A) (read : Result (List A) Fault) → with_front front (read >>= λ xs. Ok (x ∷ xs)) ≡ with_front (front ++ (x ∷ [])) read

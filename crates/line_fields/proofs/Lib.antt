@@ -3,6 +3,7 @@ pub mod DigitLemmas
 pub mod EndLemmas
 pub mod FieldLemmas
 pub mod HexLemmas
+pub mod LaneLemmas
 pub mod LeftLemmas
 pub mod LineLemmas
 pub mod MachineLemmas

@@ -1,4 +1,5 @@
 pub mod Bytes
+pub mod Digits
 pub mod Faults
 pub mod Fields
 pub mod Records

@@ -4,6 +4,7 @@ ghost use Rattle.std.specs.Prelude.{◌≡◌, ◌≤◌, ◌∷◌, [], IfOk};
 ghost use Rattle.line_fields.specs.Fields.{Gives, digit, num};
 ghost use Rattle.line_fields.specs.Fields as spec;
 
+use crate::digits::eights_into;
 use crate::{Fault, ReadError};
 use std::alloc::Global;
 
@@ -104,7 +105,7 @@ pub fn hex_into(bytes: &mut Vec<u8>, text: &[u8]) -> Result<(), ReadError>
 {
     bytes.clear();
     bytes.reserve(text.len() / 2)?;
-    let mut rest = text;
+    let mut rest = eights_into(bytes, text);
     while let [high, low, others @ ..] = rest {
         let high = digit(*high)?;
         let low = digit(*low)?;

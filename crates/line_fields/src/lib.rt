@@ -3,6 +3,7 @@
 #![tactic(auto)]
 
 mod bytes;
+mod digits;
 mod drafts;
 mod faults;
 mod fields;

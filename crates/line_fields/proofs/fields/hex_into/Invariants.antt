@@ -1,6 +1,6 @@
 use Rattle.std.proofs.Common.{◌≡◌, ◌≤◌, ◌+◌, ◌/◌, length, vec_len, vec_capacity}
 use Rattle.line_fields.specs.Fields.{hex}
-use Rattle.line_fields.proofs.HexLemmas.{with_front}
+use Rattle.line_fields.specs.Digits.{with_front}
 use Rattle.line_fields.proofs.fields.hex_into.Given as goal
 
 abbrev pub invariant-loop-rest : goal.invariant-loop-rest

@@ -1,0 +1,10 @@
+use Rattle.std.proofs.Common.{arith, w8}
+use lib.Lanes.{chunk}
+use Rattle.std.proofs.lemmas.Simd.{chunk-fits, length-chunk}
+use Rattle.line_fields.proofs.LaneLemmas.{values_are}
+use Rattle.line_fields.proofs.digits.values.Goals as goal
+
+pub returns : goal.returns
+returns c =
+    values_are (chunk 0 16 c.args.text.now) (length-chunk 0 16 c.args.text.now (omega (arith, c.requires)))
+    (chunk-fits w8 0 16 c.args.text.now c.type_inv.text)

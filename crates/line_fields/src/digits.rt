@@ -1,0 +1,78 @@
+//! Hexadecimal digits, sixteen at a time.
+
+ghost use Rattle.std.specs.Prelude.{◌≡◌, ◌≤◌, ◌+◌, ◌/◌, ◌++◌, Ok, length, map, take, vec_capacity, vec_len};
+ghost use Rattle.std.specs.Option.{IfSome};
+ghost use Rattle.std.specs.Simd.Lanes.{chunk};
+ghost use Rattle.line_fields.specs.Digits.{value_or_none, with_front};
+ghost use Rattle.line_fields.specs.Fields.{hex};
+
+use std::simd::prelude::*;
+
+// How many digits are read at once.
+const DIGITS_AT_ONCE: usize = 16;
+
+// What stands in a lane for a byte that is no digit.
+const NO_DIGIT: u8 = 255;
+
+// What each of the first sixteen bytes stands for as a digit of either case.
+#[inline(always)]
+fn values(text: &[u8]) -> u8x16
+    requires { 16 ≤ length text.now }
+    ensures { result ≡ map value_or_none (chunk 0 16 text.now) }
+{
+    let bytes = u8x16::from_slice(text);
+    let number = bytes - u8x16::splat(b'0');
+    let letter = (bytes | u8x16::splat(0x20)) - u8x16::splat(b'a');
+    let other = letter
+        .simd_lt(u8x16::splat(6))
+        .select(letter + u8x16::splat(10), u8x16::splat(NO_DIGIT));
+    number.simd_lt(u8x16::splat(10)).select(number, other)
+}
+
+// The bytes that the first sixteen digits of a text spell, or none where one is no digit.
+#[inline(always)]
+fn first_eight(text: &[u8]) -> Option<[u8; 8]>
+    requires { 16 ≤ length text.now }
+    ensures { IfSome result (λ eight. hex (take 16 text.now) ≡ Ok eight) }
+{
+    let lanes = values(text);
+    if lanes.simd_gt(u8x16::splat(15)).to_bitmask() != 0 {
+        return None;
+    }
+    let high = lanes.swizzle([0, 2, 4, 6, 8, 10, 12, 14]);
+    let low = lanes.swizzle([1, 3, 5, 7, 9, 11, 13, 15]);
+    Some((high * u8x8::splat(16) + low).to_array())
+}
+
+// Puts the bytes that a text spells behind those of a list, eight at a time, up to the first
+// sixteen bytes that are not all digits, and answers what is left of the text. There is room for
+// them.
+#[inline(always)]
+pub(crate) fn eights_into<'a>(bytes: &mut Vec<u8>, text: &'a [u8]) -> &'a [u8]
+    requires { vec_len bytes.old + length text.now / 2 ≤ vec_capacity bytes.old }
+    ensures same { with_front bytes.old.items (hex text.entry.now) ≡ with_front bytes.new.items (hex result.now) }
+    ensures room { vec_len bytes.new + length result.now / 2 ≤ vec_capacity bytes.new }
+{
+    let mut rest = text;
+    while rest.len() >= DIGITS_AT_ONCE {
+        let Some(eight) = first_eight(rest) else {
+            return rest;
+        };
+        push_eight(bytes, &eight);
+        rest = &rest[DIGITS_AT_ONCE..];
+    }
+    rest
+}
+
+// Writes eight bytes, where there is room for them.
+#[inline(always)]
+fn push_eight(out: &mut Vec<u8>, eight: &[u8; 8])
+    requires { vec_len out.old + 8 ≤ vec_capacity out.old }
+    ensures text { out.new.items ≡ out.old.items ++ eight.now }
+    ensures len { vec_len out.new ≡ vec_len out.old + 8 }
+    ensures capacity { vec_capacity out.old ≤ vec_capacity out.new }
+{
+    let Ok(()) = out.extend_from_slice(eight) else {
+        unreachable!()
+    };
+}
