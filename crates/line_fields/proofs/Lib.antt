@@ -15,4 +15,5 @@ pub mod RoundLemmas
 pub mod RowLemmas
 pub mod SpanLemmas
 pub mod SplitLemmas
+pub mod SpellLemmas
 pub mod TextLemmas

@@ -1,15 +1,19 @@
 //! Hexadecimal digits, sixteen at a time.
 
-ghost use Rattle.std.specs.Prelude.{◌≡◌, ◌≤◌, ◌+◌, ◌/◌, ◌++◌, Ok, length, map, take, vec_capacity, vec_len};
+ghost use Rattle.std.specs.Prelude.{◌≡◌, ◌≤◌, ◌+◌, ◌*◌, ◌/◌, ◌++◌, Ok, length, map, take, vec_capacity, vec_len};
 ghost use Rattle.std.specs.Option.{IfSome};
 ghost use Rattle.std.specs.Simd.Lanes.{chunk};
 ghost use Rattle.line_fields.specs.Digits.{value_or_none, with_front};
 ghost use Rattle.line_fields.specs.Fields.{hex};
+ghost use Rattle.line_fields.specs.Texts.{hex_text};
 
 use std::simd::prelude::*;
 
 // How many digits are read at once.
 const DIGITS_AT_ONCE: usize = 16;
+
+// How many bytes are spelled at once.
+const BYTES_AT_ONCE: usize = 8;
 
 // What stands in a lane for a byte that is no digit.
 const NO_DIGIT: u8 = 255;
@@ -75,4 +79,49 @@ fn push_eight(out: &mut Vec<u8>, eight: &[u8; 8])
     let Ok(()) = out.extend_from_slice(eight) else {
         unreachable!()
     };
+}
+
+// The sixteen digits, of lower case, that spell the first eight bytes of a list.
+#[inline(always)]
+fn digits_of_eight(bytes: &[u8]) -> [u8; 16]
+    requires { 8 ≤ length bytes.now }
+    ensures { result ≡ hex_text (take 8 bytes.now) }
+{
+    let bytes = u8x8::from_slice(bytes);
+    let high = bytes / u8x8::splat(16);
+    let low = bytes % u8x8::splat(16);
+    let halves = high.shuffle(low, [0, 8, 1, 9, 2, 10, 3, 11, 4, 12, 5, 13, 6, 14, 7, 15]);
+    let is_number = halves.simd_lt(u8x16::splat(10));
+    let number = halves + u8x16::splat(b'0');
+    let letter = halves + u8x16::splat(b'a' - 10);
+    is_number.select(number, letter).to_array()
+}
+
+// Writes sixteen digits, where there is room for them.
+#[inline(always)]
+fn push_sixteen(out: &mut Vec<u8>, digits: &[u8; 16])
+    requires { vec_len out.old + 16 ≤ vec_capacity out.old }
+    ensures text { out.new.items ≡ out.old.items ++ digits.now }
+    ensures len { vec_len out.new ≡ vec_len out.old + 16 }
+    ensures capacity { vec_capacity out.old ≤ vec_capacity out.new }
+{
+    let Ok(()) = out.extend_from_slice(digits) else {
+        unreachable!()
+    };
+}
+
+// Writes bytes in hexadecimal, eight at a time, as far as there are eight of them, and answers the
+// bytes that are left. There is room for the digits of all.
+#[inline(always)]
+pub(crate) fn push_eights<'a>(out: &mut Vec<u8>, bytes: &'a [u8]) -> &'a [u8]
+    requires { vec_len out.old + 2 * length bytes.now ≤ vec_capacity out.old }
+    ensures same { out.new.items ++ hex_text result.now ≡ out.old.items ++ hex_text bytes.entry.now }
+    ensures room { vec_len out.new + 2 * length result.now ≤ vec_capacity out.new }
+{
+    let mut rest = bytes;
+    while rest.len() >= BYTES_AT_ONCE {
+        push_sixteen(out, &digits_of_eight(rest));
+        rest = &rest[BYTES_AT_ONCE..];
+    }
+    rest
 }

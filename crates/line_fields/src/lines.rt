@@ -4,6 +4,7 @@ ghost use Rattle.std.specs.Prelude.{◌≡◌, ◌≤◌, ◌<◌, ◌++◌, ◌
 ghost use Rattle.line_fields.specs.Texts.{has_name, hex_digit, hex_text, is_plain_field, record_text};
 ghost use Rattle.line_fields.specs.Writers.{text_before};
 
+use crate::digits::push_eights;
 use std::alloc::{AllocError, Global};
 use std::marker::Model;
 
@@ -187,7 +188,8 @@ impl Line {
     {
         match begin(&mut self.text, &mut self.begun, 2 * bytes.len()) {
             Ok(()) => {
-                push_hex(&mut self.text, bytes);
+                let left = push_eights(&mut self.text, bytes);
+                push_hex(&mut self.text, left);
                 Ok(())
             }
             Err(refused) => Err(give_up(self, refused)),

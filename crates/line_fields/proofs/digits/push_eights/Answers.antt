@@ -1,0 +1,15 @@
+use Rattle.std.proofs.Common.{◌≡◌, ◌∙◌, ◌-◌, ap, arith, length, take, drop}
+use Rattle.std.proofs.lemmas.List.{length-drop}
+use Rattle.line_fields.proofs.TextLemmas.{rest_is}
+use Rattle.line_fields.proofs.SpellLemmas.{spelled_more}
+use Rattle.line_fields.proofs.digits.push_eights.Goals as goal
+
+pub loop-rest-preserved : goal.loop-rest-preserved
+loop-rest-preserved c =
+    let xs = c.loop-rest.rest.now in
+    let more = spelled_more c.loop-rest.out.items xs 8 in
+    let shorter : length (take (length xs - 8) (drop 8 xs)) ≡ length xs - 8 = ap length (rest_is xs 8) ∙ length-drop 8 xs in
+    record {
+      same = rw (c.push_sixteen.ensures.text, c.digits_of_eight.ensures) (more ∙ c.loop-rest.invariant.same);
+      room = omega (arith, shorter, c.loop-rest-test.true, c.push_sixteen.ensures.len, c.push_sixteen.ensures.capacity, c.loop-rest.invariant.room);
+    }
