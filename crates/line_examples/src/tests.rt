@@ -10,6 +10,7 @@ mod catalogues;
 mod claims;
 mod markers;
 mod pieces;
+mod records;
 mod runs;
 mod texts;
 
