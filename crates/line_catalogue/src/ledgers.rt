@@ -104,6 +104,21 @@ fn count_sends(history: &History) -> u32 {
     sends
 }
 
+/// After how many further events a ledger settles: after as many as it would look at now, which so
+/// have paid for it, and some more.
+fn events_to_wait(history: &History, starts: &[u32], left: &[MsgName]) -> usize
+    requires { length starts.now ≡ length history.now.processes }
+{
+    let n = history.n();
+    let mut events = left.len().saturating_add(EVENTS_BETWEEN);
+    for q in 0..n {
+        let p = ProcId::try_new(q, n).unwrap();
+        let since = history.tape(p).sends().saturating_sub(starts[q as usize]);
+        events = events.saturating_add(since as usize);
+    }
+    events
+}
+
 /// Has each send be looked at.
 fn clear_starts(starts: &mut Vec<u32>)
     ensures count { length starts.new.items ≡ length starts.old.items }
@@ -141,8 +156,7 @@ pub struct Ledger {
     starts: Vec<u32>,
     left: Vec<MsgName>,
     alloc: Global,
-    // How many further events come before the ledger settles: as many as what is left, so that the
-    // events pay for the look at it.
+    // How many further events come before the ledger settles.
     due: usize,
 }
 
@@ -201,12 +215,11 @@ impl Ledger {
         }
     }
 
-    /// Has the ledger settle once as many further events have come as it has sends, since it may
-    /// have looked at all of them.
+    /// Has the ledger settle later.
     fn put_off(&mut self)
         ensures { self.new ≡ self.old }
     {
-        self.due = (count_sends(&self.history) as usize).saturating_add(EVENTS_BETWEEN);
+        self.due = events_to_wait(&self.history, self.starts.as_slice(), self.left.as_slice());
     }
 
     /// Makes room for so many further events of a process.
@@ -270,8 +283,8 @@ impl Ledger {
         ensures { self.new ≡ self.old }
     {
         move_starts(&self.history, line, &mut self.starts);
-        self.due = messages.len().saturating_add(EVENTS_BETWEEN);
         self.left = messages;
+        self.due = events_to_wait(&self.history, self.starts.as_slice(), self.left.as_slice());
     }
 
     /// Goes on from a line, with each send still to be looked at.
@@ -283,7 +296,7 @@ impl Ledger {
     {
         self.history.restart(line);
         clear_starts(&mut self.starts);
-        self.due = (count_sends(&self.history) as usize).saturating_add(EVENTS_BETWEEN);
+        self.due = events_to_wait(&self.history, self.starts.as_slice(), self.left.as_slice());
     }
 
     /// Goes on from a line, with what is in transit there and what is sent from now on to be looked
@@ -297,8 +310,8 @@ impl Ledger {
     {
         move_starts(&self.history, line, &mut self.starts);
         self.history.restart(line);
-        self.due = left.len().saturating_add(EVENTS_BETWEEN);
         self.left = left;
+        self.due = events_to_wait(&self.history, self.starts.as_slice(), self.left.as_slice());
     }
 
     /// Has each process go on from its choice of the line. It takes no memory and cannot fail.

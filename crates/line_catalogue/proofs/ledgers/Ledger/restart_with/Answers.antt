@@ -7,6 +7,7 @@ use Rattle.line_tape.specs.Restart.{restarted}
 use Rattle.line_tape.specs.Transit.{in_transit}
 use Rattle.line_tape.specs.Views.{HistoryView}
 use Rattle.line_catalogue.specs.Left.{AreLeft}
+use Rattle.line_tape.proofs.SpentLemmas.{length_restarted}
 use Rattle.line_catalogue.proofs.LeftLemmas.{AreLeft-restarted}
 use Rattle.line_catalogue.proofs.ledgers.Ledger.restart_with.Goals as goal
 
@@ -21,3 +22,12 @@ invariant_of-self c =
     let told : c.args.left.items ≡ in_transit old line = c.requires.left ∙ ap (λ (h : List Process). in_transit h line) (sym seen) in
     let are : AreLeft (restarted old line) starts (in_transit old line) = AreLeft-restarted old line starts enough c.move_starts.ensures.count c.move_starts.ensures.starts in
     subst (λ (h : List Process). AreLeft h starts c.args.left.items) (sym new) (subst (λ (left : List MsgName). AreLeft (restarted old line) starts left) (sym told) are)
+
+pub events_to_wait-self-inside-requires : goal.events_to_wait-self-inside-requires
+events_to_wait-self-inside-requires c =
+    let old : List Process = c.self.inside.history.processes in
+    let line : List Choice = c.args.line.now in
+    let seen : old ≡ c.args.self.now.processes = ap (λ (v : HistoryView). v.processes) c.self.view_is in
+    let enough : length line ≡ length old = c.requires.line.length_is ∙ sym (ap (λ (h : List Process). length h) seen) in
+    let same : length c.restart.new.self.processes ≡ length old = ap (λ (h : List Process). length h) c.restart.ensures.processes ∙ length_restarted old line enough in
+    ap (λ (xs : List ℕ). length xs) c.as_slice.ensures.value ∙ c.move_starts.ensures.count ∙ sym same
