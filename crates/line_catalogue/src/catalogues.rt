@@ -19,7 +19,6 @@ ghost use Rattle.line_catalogue.specs.Views.{room_at};
 ghost use Rattle.line_vectors.specs.Reach.{reach_before, sents_of};
 ghost use Rattle.line_vectors.specs.Vectors.{Fits};
 
-use crate::additions::test_event;
 use crate::agreement::{agrees, are_on_checks};
 use crate::kept_rows::Rows;
 use crate::ledgers::Ledger;
@@ -214,8 +213,8 @@ impl Catalogue {
     }
 
     /// Makes room for so many further events of a process: its next `k` additions take no memory.
-    /// Now and then it keeps what is in transit where each process stands, for `transit`; it looks at
-    /// no more than has come since, and where memory for that is refused nothing else is different.
+    /// Now and then it keeps what is in transit where each process stands, for `transit`, at a cost
+    /// that the events since have paid for; where memory for it is refused, nothing else differs.
     #[tactic(auto, using(crate::proofs::CatalogueLemmas::lesser_at))]
     pub fn reserve(&mut self, p: ProcId, k: u32) -> Result<(), AllocError>
         requires { p < length self.old.processes }
@@ -253,7 +252,8 @@ impl Catalogue {
     }
 
     /// Adds an event at the end of the tape of a process. A check costs a vector where something was
-    /// received since the last one; any other event costs the same however much was added before.
+    /// received since the last one; any other event costs the same however much was added before,
+    /// but for what `reserve` does now and then.
     pub fn add(&mut self, p: ProcId, event: Event) -> Result<(), AddError>
         ensures ok { OnOk result (self.new.processes ≡ with_event self.old.processes p event) }
         ensures err { OnErr result (self.new.processes ≡ self.old.processes) }
@@ -278,7 +278,7 @@ impl Catalogue {
         ensures spent { room_at self.old p ≤ room_at self.new p + 1 }
         ensures others { (q : ℕ) → q ≢ p → room_at self.new q ≡ room_at self.old q }
     {
-        test_event(self.history(), p, &event)?;
+        self.test(p, &event)?;
         self.reserve(p, 1)?;
         self.append(p, event);
         Ok(())

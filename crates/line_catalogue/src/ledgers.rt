@@ -197,6 +197,8 @@ impl Ledger {
     /// Keeps what is in transit where each process stands, so that no send before that is looked at
     /// again. It is put off where memory for it is refused, or where more than an eighth of all sends
     /// are in transit: who asks for these is answered as many anyway, and keeping them takes memory.
+    ///
+    /// It stands apart, since a line is a large value and events come far more often.
     #[inline(never)]
     fn settle(&mut self)
         ensures { self.new ≡ self.old }
@@ -224,8 +226,8 @@ impl Ledger {
 
     /// Makes room for so many further events of a process.
     ///
-    /// Now and then it settles, which takes time in proportion to the events that have come since
-    /// it did last.
+    /// Now and then it settles. That looks at no more than twice as much as events have come since
+    /// the wait for it began, or at what a history that was handed in has.
     pub fn reserve(&mut self, p: ProcId, k: u32) -> Result<(), AllocError>
         requires { p < length self.old.processes }
         ensures same { self.new.processes ≡ self.old.processes }
@@ -296,6 +298,7 @@ impl Ledger {
     {
         self.history.restart(line);
         clear_starts(&mut self.starts);
+        self.left = Vec::new(self.alloc);
         self.due = events_to_wait(&self.history, self.starts.as_slice(), self.left.as_slice());
     }
 
