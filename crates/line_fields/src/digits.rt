@@ -15,8 +15,8 @@ const DIGITS_AT_ONCE: usize = 16;
 // How many bytes are spelled at once.
 const BYTES_AT_ONCE: usize = 8;
 
-// What stands in a lane for a byte that is no digit.
-const NO_DIGIT: u8 = 255;
+// What stands for a byte that is no digit, in a lane or in a table.
+pub(crate) const NO_DIGIT: u8 = 255;
 
 // What each of the first sixteen bytes stands for as a digit of either case.
 #[inline(always)]

@@ -4,12 +4,9 @@ ghost use Rattle.std.specs.Prelude.{◌≡◌, ◌≤◌, ◌∷◌, [], IfOk};
 ghost use Rattle.line_fields.specs.Fields.{Gives, digit, num};
 ghost use Rattle.line_fields.specs.Fields as spec;
 
-use crate::digits::eights_into;
+use crate::digits::{NO_DIGIT, eights_into};
 use crate::{Fault, ReadError};
 use std::alloc::Global;
-
-// What stands in `VALUES` for a byte that is no digit.
-const NO_DIGIT: u8 = 255;
 
 // What each byte stands for as a hexadecimal digit of either case.
 static VALUES: [u8; 256] = [

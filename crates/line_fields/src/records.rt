@@ -323,6 +323,8 @@ impl<'a> RecordReader<'a> {
             return Ok(false);
         }
         if begins_with_return(rest) {
+            // What the longest line took is given back.
+            *row = Row::new(self.alloc);
             hand_over(self.alloc, rest, &mut self.reader);
             return read_or_close(&mut self.reader, row);
         }
