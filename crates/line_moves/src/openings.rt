@@ -26,7 +26,7 @@ pub struct OpenRound {
     turning: Turning,
     markers: Vec<Marker>,
     /// How many markers of the round have not come yet, at least: while there are some, it is not
-    /// completed.
+    /// completed. The invariant bounds it from above alone, so that it is lowered as far as it goes.
     to_come: u32,
 }
 

@@ -124,7 +124,7 @@ fn visit(
 /// Visits a process if it is to be visited, after which it is not, and says whether it was lowered;
 /// whoever received what it has then no longer sent is to be visited.
 ///
-/// Who that is depends on where the process ends up alone: it is asked once, for all the choices
+/// Who that is depends only on where the process ends up: it is asked once, for all the choices
 /// that are passed over here.
 fn visit_dirty(
     catalogue: &Catalogue,
