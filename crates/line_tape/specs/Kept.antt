@@ -38,9 +38,10 @@ pub record AreSettled (events : List Event) (settled : ℕ) : Type 0 where
   pub within : settled ≤ length events
   pub each : All IsSettled (take settled events)
 
--- the events of a tape, and an index that answers for them
-pub record IsIndexed (events : List Event) (rows : List CheckRow) (incarnations addressed : List ℕ) (receipts : ReceiptsView) (settled : ℕ) : Type 0 where
+-- the events of a tape, an index that answers for them, and a count of further events that there is room for
+pub record IsIndexed (events : List Event) (rows : List CheckRow) (incarnations addressed : List ℕ) (receipts : ReceiptsView) (settled spare room : ℕ) : Type 0 where
   pub tape : IsTape events
   pub checked : AreRows events rows incarnations addressed
   pub received : receipts.names ≡ names_received events
   pub unchanged : AreSettled events settled
+  pub counted : spare ≤ room

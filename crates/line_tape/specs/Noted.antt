@@ -6,10 +6,11 @@ use Rattle.line_names.specs.declared.messages.MsgName.{MsgName}
 use Rattle.line_tape.specs.declared.receipts.chains.Receipt.{Receipt}
 use Rattle.line_tape.specs.Ends.{EndsView, end_of}
 
--- the messages received, in order, and how many further ones are taken with no more memory
+-- the messages received, in order, and for how many further ones, and for how many further senders, there is room
 pub record ReceiptsView : Type 0 where
   pub names : List MsgName
   pub room : ℕ
+  pub senders : ℕ
 
 -- the message that a receipt is of
 abbrev pub message_of : Receipt → MsgName

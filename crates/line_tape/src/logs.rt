@@ -231,6 +231,16 @@ impl Log {
         self.states.reserve(k)
     }
 
+    /// For how many further events there is room, whatever they are.
+    pub(crate) fn room(&self) -> usize
+        ensures { result ≡ self.now.room }
+    {
+        let events = self.events.capacity() - self.events.len();
+        let bodies = self.bodies.capacity() - self.bodies.len();
+        let states = self.states.capacity() - self.states.len();
+        events.min((bodies / MOST_BODY).min(states))
+    }
+
     /// Adds an event at the end, in room that was made for it. It takes no memory.
     pub(crate) fn append(&mut self, event: Event)
         requires room { 0 < self.old.room }

@@ -32,14 +32,15 @@ pub struct Receipts {
 }
 
 impl Model for Receipts {
-    ghost use Rattle.std.specs.Prelude.{◌-◌, map, min, vec_capacity, vec_len};
+    ghost use Rattle.std.specs.Prelude.{◌-◌, map, vec_capacity, vec_len};
     ghost use Rattle.line_tape.specs.Noted.{AreNoted, ReceiptsView, message_of};
 
     ghost Value = { ReceiptsView };
 
     ghost view = { λ r. record {
       names = map message_of r.receipts.items;
-      room = min (vec_capacity r.receipts - vec_len r.receipts) r.last.room;
+      room = vec_capacity r.receipts - vec_len r.receipts;
+      senders = r.last.room;
     } };
 
     ghost invariant = { λ r. AreNoted r.receipts.items r.last r.root };
@@ -147,14 +148,32 @@ impl Receipts {
         self.receipts.len() as u32
     }
 
+    /// For how many further receipts there is room, where their senders have it.
+    pub fn room(&self) -> usize
+        ensures { result ≡ self.now.room }
+    {
+        self.receipts.capacity() - self.receipts.len()
+    }
+
     /// Makes room for so many further receipts.
     pub fn reserve(&mut self, k: usize) -> Result<(), AllocError>
         ensures same { self.new.names ≡ self.old.names }
         ensures ok { OnOk result (k ≤ self.new.room) }
         ensures succeeds { k ≤ self.old.room → IsOk result }
         ensures room { self.old.room ≤ self.new.room }
+        ensures senders { self.new.senders ≡ self.old.senders }
     {
-        self.receipts.reserve(k)?;
+        self.receipts.reserve(k)
+    }
+
+    /// Makes room for so many further senders.
+    pub fn reserve_senders(&mut self, k: usize) -> Result<(), AllocError>
+        ensures same { self.new.names ≡ self.old.names }
+        ensures ok { OnOk result (k ≤ self.new.senders) }
+        ensures succeeds { k ≤ self.old.senders → IsOk result }
+        ensures room { self.new.room ≡ self.old.room }
+        ensures senders { self.old.senders ≤ self.new.senders }
+    {
         self.last.reserve(k)
     }
 
@@ -162,8 +181,10 @@ impl Receipts {
     pub fn note(&mut self, event: &Event)
         requires few { length self.old.names < MOST_EVENTS }
         requires room { 0 < self.old.room }
+        requires senders { 0 < self.old.senders }
         ensures names { self.new.names ≡ self.old.names ++ names_received (event.now ∷ []) }
         ensures room { self.old.room ≤ self.new.room + 1 }
+        ensures senders { self.old.senders ≤ self.new.senders + 1 }
     {
         match event {
             Event::Recv { message } => {
@@ -185,6 +206,7 @@ impl Receipts {
     pub fn cut(&mut self, end: u32)
         ensures names { self.new.names ≡ take end self.old.names }
         ensures room { self.old.room ≤ self.new.room }
+        ensures senders { self.old.senders ≤ self.new.senders }
     {
         while self.receipts.len() > end as usize {
             unlink_last(&mut self.receipts, &mut self.last, &mut self.root);

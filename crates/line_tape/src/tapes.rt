@@ -17,7 +17,7 @@ use crate::limits::{MOST_EVENTS, MOST_STATE};
 use crate::logs::{Events, Log};
 use crate::receipts::Receipts;
 use line_names::{Choice, MOST_BODY, MsgName, ProcId};
-use rows::note_event;
+use rows::{least_room, note_event};
 use std::alloc::{AllocError, Global};
 use std::error::Error;
 use std::fmt;
@@ -36,6 +36,10 @@ pub struct CheckRow {
 /// Beside them it keeps where its checks stand, the incarnations and the addressees of its sends
 /// and which receipt of each message was its first, so that no question scans the events; and how
 /// many of its first events a restart would leave as they are, so that none looks at these again.
+///
+/// `spare` counts further events that have room in each list, so that the lists are seldom asked.
+/// The links by sender are not in the count and are asked each time: they have room for one further
+/// block of senders as a rule, and it is seldom taken.
 #[derive(Drop)]
 pub struct Tape {
     log: Log,
@@ -44,6 +48,7 @@ pub struct Tape {
     addressees: Vec<ProcId>,
     receipts: Receipts,
     settled: u32,
+    spare: u32,
 }
 
 impl Model for Tape {
@@ -56,12 +61,13 @@ impl Model for Tape {
 
     ghost view = { λ t. record {
       events = t.log.events;
-      room = min (min t.log.room t.receipts.room)
-          (min (vec_capacity t.checks - vec_len t.checks)
-          (min (vec_capacity t.incarnations - vec_len t.incarnations) (vec_capacity t.addressees - vec_len t.addressees)));
+      room = min t.spare t.receipts.senders;
     } };
 
-    ghost invariant = { λ t. IsIndexed t.log.events t.checks.items t.incarnations.items t.addressees.items t.receipts t.settled };
+    ghost invariant = { λ t. IsIndexed t.log.events t.checks.items t.incarnations.items t.addressees.items t.receipts t.settled t.spare
+        (min (min t.log.room t.receipts.room)
+        (min (vec_capacity t.checks - vec_len t.checks)
+        (min (vec_capacity t.incarnations - vec_len t.incarnations) (vec_capacity t.addressees - vec_len t.addressees)))) };
 }
 
 /// Whether the event stores or carries more than a tape takes. A body never does.
@@ -89,6 +95,7 @@ impl Tape {
             addressees: Vec::new(alloc),
             receipts: Receipts::new(alloc),
             settled: 0,
+            spare: 0,
         }
     }
 
@@ -243,8 +250,9 @@ impl Tape {
         }
     }
 
-    /// Makes room for so many further events: the next `k` pushes take no memory.
-    pub fn reserve(&mut self, k: u32) -> Result<(), AllocError>
+    /// Makes room for so many further events, and counts anew for how many there is room.
+    #[inline(never)]
+    fn make_room(&mut self, k: u32) -> Result<(), AllocError>
         ensures same { self.new.events ≡ self.old.events }
         ensures ok { OnOk result (k ≤ self.new.room) }
         ensures succeeds { k ≤ self.old.room → IsOk result }
@@ -254,7 +262,32 @@ impl Tape {
         self.checks.reserve(k as usize)?;
         self.incarnations.reserve(k as usize)?;
         self.addressees.reserve(k as usize)?;
-        self.receipts.reserve(k as usize)
+        self.receipts.reserve(k as usize)?;
+        self.receipts.reserve_senders(k as usize)?;
+        self.spare = least_room(
+            &self.log,
+            &self.receipts,
+            &self.checks,
+            &self.incarnations,
+            &self.addressees,
+        );
+        Ok(())
+    }
+
+    /// Makes room for so many further events: the next `k` pushes take no memory.
+    ///
+    /// It asks the lists only where it is not known that they have room. The count is then the room
+    /// of the fullest one, so the asking is spread over as many events.
+    pub fn reserve(&mut self, k: u32) -> Result<(), AllocError>
+        ensures same { self.new.events ≡ self.old.events }
+        ensures ok { OnOk result (k ≤ self.new.room) }
+        ensures succeeds { k ≤ self.old.room → IsOk result }
+        ensures room { self.old.room ≤ self.new.room }
+    {
+        if k <= self.spare {
+            return self.receipts.reserve_senders(k as usize);
+        }
+        self.make_room(k)
     }
 
     /// Adds an event at the end, in room that was made for it: what `push` does where it is not
@@ -277,6 +310,7 @@ impl Tape {
         );
         self.receipts.note(&event);
         self.log.append(event);
+        self.spare -= 1;
     }
 
     /// Adds an event at the end.
@@ -319,6 +353,7 @@ impl Tape {
             addressees: Vec::from_slice(alloc, self.addressees.as_slice())?,
             receipts: self.receipts.copy(alloc)?,
             settled: self.settled,
+            spare: 0,
         };
         Ok(tape)
     }

@@ -1,6 +1,6 @@
 //! What a tape keeps beside its events: a row for each check, and an incarnation and an addressee
 //! for each send.
-ghost use Rattle.std.specs.Prelude.{◌≡◌, ◌<◌, ◌≤◌, ◌+◌, [], ◌∷◌, ◌++◌, length, vec_len, vec_capacity, Some, ℕ, true};
+ghost use Rattle.std.specs.Prelude.{◌≡◌, ◌<◌, ◌≤◌, ◌+◌, ◌-◌, ◌^◌, [], ◌∷◌, ◌++◌, length, min, vec_len, vec_capacity, Some, ℕ, true};
 ghost use Rattle.line_tape.specs.Event.{is_check, incarnation_of};
 ghost use Rattle.line_tape.specs.Kept.{AreRows};
 ghost use Rattle.line_tape.specs.Transit.{names_received};
@@ -9,6 +9,7 @@ use super::CheckRow;
 use crate::events::Event;
 use crate::limits::MOST_EVENTS;
 use crate::logs::Log;
+use crate::receipts::Receipts;
 use line_names::ProcId;
 
 #[tactic(auto, using(crate::proofs::RowLemmas::sends_le))]
@@ -49,4 +50,25 @@ pub(super) fn note_event(
         Event::Recv { .. } => {}
         Event::Mark { .. } => {}
     }
+}
+
+/// For how many further events each list of a tape has room, whatever they are; as many as a `u32`
+/// counts at most.
+pub(super) fn least_room(
+    log: &Log,
+    receipts: &Receipts,
+    checks: &Vec<CheckRow>,
+    incarnations: &Vec<u16>,
+    addressees: &Vec<ProcId>,
+) -> u32
+    ensures { result ≡ min (2 ^ 32 - 1) (min (min log.now.room receipts.now.room)
+        (min (vec_capacity checks.now - vec_len checks.now)
+        (min (vec_capacity incarnations.now - vec_len incarnations.now) (vec_capacity addressees.now - vec_len addressees.now)))) }
+{
+    let seen = log.room().min(receipts.room());
+    let rows = checks.capacity() - checks.len();
+    let sent = incarnations.capacity() - incarnations.len();
+    let named = addressees.capacity() - addressees.len();
+    let least = seen.min(rows.min(sent.min(named)));
+    least.min(u32::MAX as usize) as u32
 }

@@ -8,7 +8,7 @@ use Rattle.line_tape.specs.History.{IsTape}
 use Rattle.line_tape.specs.Kept.{AreRows, AreSettled}
 use Rattle.line_tape.specs.Transit.{names_received, received_name}
 use Rattle.line_tape.specs.Views.{TapeView}
-use Rattle.line_tape.proofs.IndexLemmas.{AreSettled-push, IsTape-push}
+use Rattle.line_tape.proofs.IndexLemmas.{AreSettled-push, IsTape-push, counted-push, room_left}
 use Rattle.line_tape.proofs.RowLemmas.{receipts_le}
 use Rattle.line_tape.proofs.tapes.Tape.append.Goals as goal
 
@@ -29,6 +29,7 @@ invariant_of-self c =
       checked = subst (λ (xs : List Event). AreRows xs c.note_event.new.checks.items c.note_event.new.incarnations.items c.note_event.new.addressees.items) (sym pushed) c.note_event.ensures.rows;
       received = c.note.ensures.names ∙ ap (λ (names : List MsgName). names ++ names_received (event ∷ [])) c.self.invariant.received ∙ sym (filter_map-append received_name items (event ∷ [])) ∙ ap names_received (sym pushed);
       unchanged = subst (λ (xs : List Event). AreSettled xs c.self.inside.settled) (sym pushed) (AreSettled-push items event c.self.inside.settled c.self.invariant.unchanged);
+      counted = counted-push _ _ _ _ _ _ _ _ _ _ _ c.self.invariant.counted c.append.ensures.room c.note.ensures.room (room_left _ _ _ _ c.note_event.ensures.checks_room) (room_left _ _ _ _ c.note_event.ensures.sends_room) (room_left _ _ _ _ c.note_event.ensures.addressees_room);
     }
 
 pub returns-clause-limits : goal.returns-clause-limits

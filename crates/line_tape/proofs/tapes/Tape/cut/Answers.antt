@@ -35,4 +35,5 @@ invariant_of-self c =
       checked = subst (λ (xs : List Event). AreRows xs c.truncate-2.new.self.items c.truncate-3.new.self.items c.truncate-4.new.self.items) (sym cut) checked;
       received = noted ∙ ap names_received (sym cut);
       unchanged = subst (λ (xs : List Event). AreSettled xs c.min-self-inside.result) (sym cut) (subst (AreSettled kept) (sym c.min-self-inside.ensures) (AreSettled-take items c.self.inside.settled n few c.self.invariant.unchanged));
+      counted = omega (arith, c.self.invariant.counted, c.cut.ensures.room, c.truncate.ensures.room);
     }
