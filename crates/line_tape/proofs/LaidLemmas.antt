@@ -9,9 +9,8 @@ use Rattle.line_tape.specs.declared.events.Event.{Event}
 use Rattle.line_tape.specs.declared.events.Event.TheVariants.{Send, Recv, Check, Mark}
 use Rattle.line_tape.specs.declared.logs.KeptEvent.{KeptEvent}
 use Rattle.line_tape.specs.declared.logs.KeptEvent.TheVariants.{Send as KeptSend, Recv as KeptRecv, Check as KeptCheck, BareCheck as KeptBareCheck, Mark as KeptMark}
-use Rattle.line_tape.specs.Event.{IsShort}
 use Rattle.line_tape.specs.Kept.{IsSettled}
-use Rattle.line_tape.specs.Laid.{Fits, IsLaid, body_of, event_of, kept_as, restarted_kept, states_of}
+use Rattle.line_tape.specs.Laid.{Fits, IsLaid, event_of, kept_as, restarted_kept, states_of}
 use Rattle.line_tape.specs.Restart.{restarted_event}
 
 -- what stands among so many bytes and states stands among more
@@ -252,13 +251,10 @@ module _ (events : List KeptEvent) (bodies : List ℕ) (states : List (List ℕ)
       subst (λ (e : Event). IsLog (events ++ event ∷ []) bodies (states ++ state ∷ []) (told ++ e ∷ [])) (ap (λ (s : List ℕ). Check s round) (get_or_push states state [] (length states) refl))
       (subst (λ (xs : List ℕ). IsLog (events ++ event ∷ []) xs (states ++ state ∷ []) (told ++ event_of xs (states ++ state ∷ []) event ∷ [])) (append-nil bodies) next)
 
-  -- an event more, whatever it is
-  pub event-added : (event : Event) → IsShort event → IsLog (events ++ kept_as (length bodies) (length states) event ∷ []) (bodies ++ body_of event) (states ++ states_of event) (told ++ event ∷ [])
-  event-added (Send to inc body) short = subst (λ (xs : List (List ℕ)). IsLog (events ++ KeptSend to (length bodies) inc (length body) ∷ []) (bodies ++ body) xs (told ++ Send to inc body ∷ [])) (sym (append-nil states)) (send-added to inc body short)
-  event-added (Recv message) short = subst (λ (xs : List ℕ). IsLog (events ++ KeptRecv message ∷ []) xs (states ++ []) (told ++ Recv message ∷ [])) (sym (append-nil bodies)) (subst (λ (xs : List (List ℕ)). IsLog (events ++ KeptRecv message ∷ []) bodies xs (told ++ Recv message ∷ [])) (sym (append-nil states)) (recv-added message))
-  event-added (Check [] round) short = subst (λ (xs : List ℕ). IsLog (events ++ KeptBareCheck round ∷ []) xs (states ++ []) (told ++ Check [] round ∷ [])) (sym (append-nil bodies)) (subst (λ (xs : List (List ℕ)). IsLog (events ++ KeptBareCheck round ∷ []) bodies xs (told ++ Check [] round ∷ [])) (sym (append-nil states)) (bare-added round))
-  event-added (Check (byte ∷ state) round) short = subst (λ (xs : List ℕ). IsLog (events ++ KeptCheck (length states) round ∷ []) xs (states ++ (byte ∷ state) ∷ []) (told ++ Check (byte ∷ state) round ∷ [])) (sym (append-nil bodies)) (check-added (byte ∷ state) round)
-  event-added (Mark from round) short = subst (λ (xs : List ℕ). IsLog (events ++ KeptMark from round ∷ []) xs (states ++ []) (told ++ Mark from round ∷ [])) (sym (append-nil bodies)) (subst (λ (xs : List (List ℕ)). IsLog (events ++ KeptMark from round ∷ []) bodies xs (told ++ Mark from round ∷ [])) (sym (append-nil states)) (mark-added from round))
+  -- a check more, with bytes or without
+  pub state-added : (state : List ℕ) (round : Option ℕ) → IsLog (events ++ kept_as (length bodies) (length states) (Check state round) ∷ []) bodies (states ++ states_of (Check state round)) (told ++ Check state round ∷ [])
+  state-added [] round = subst (λ (xs : List (List ℕ)). IsLog (events ++ KeptBareCheck round ∷ []) bodies xs (told ++ Check [] round ∷ [])) (sym (append-nil states)) (bare-added round)
+  state-added (byte ∷ state) round = check-added (byte ∷ state) round
 
   module _ (first : List KeptEvent) where
     -- all but a send

@@ -1,16 +1,15 @@
 //! The events of a tape, as it keeps and shows them.
 ghost use Rattle.std.specs.Prelude.{◌≡◌, ◌<◌, ◌≤◌, ◌+◌, ◌-◌, ◌^◌, ◌↔◌, ℕ, Option, if◌then◌else◌, [], ◌∷◌, ◌++◌, All, IsOk, IsTrue, None, OnOk, Some, drop, length, slice_get, take, vec_capacity, vec_len};
 ghost use Rattle.std.specs.List.{filter_map};
-ghost use Rattle.line_tape.specs.declared.events.Event.TheVariants.{Check};
-ghost use Rattle.line_tape.specs.Event.{IsShort};
+ghost use Rattle.line_tape.specs.declared.events.Event.TheVariants.{Check, Mark, Recv, Send};
 ghost use Rattle.line_tape.specs.Kept.{IsSettled};
-ghost use Rattle.line_tape.specs.Laid.{body_of, kept_as, restarted_kept, states_of};
+ghost use Rattle.line_tape.specs.Laid.{kept_as, restarted_kept, states_of};
 ghost use Rattle.line_tape.specs.Restart.{restarted_event};
 ghost use Rattle.line_tape.specs.Shown.{shown};
 
 mod copies;
 
-use crate::events::{Event, EventRef, State};
+use crate::events::{EventRef, State};
 use crate::limits::MOST_EVENTS;
 use line_names::{MOST_BODY, MsgName, ProcId};
 use std::alloc::{AllocError, Global};
@@ -99,38 +98,6 @@ fn keep_check(before: u32, state: &State, round: Option<u32>) -> KeptEvent
     }
 }
 
-/// An event as it is kept behind so many states. Its body, if it has one, goes behind the others,
-/// in room that was made for it.
-fn keep(bodies: &mut Vec<u8>, before: u32, event: &Event) -> KeptEvent
-    requires few { vec_len bodies.old + MOST_BODY < 2 ^ 32 }
-    requires short { IsShort event.now }
-    requires room { vec_len bodies.old + MOST_BODY ≤ vec_capacity bodies.old }
-    ensures kept { result ≡ kept_as (length bodies.old.items) before event.now }
-    ensures bodies { bodies.new.items ≡ bodies.old.items ++ body_of event.now }
-    ensures len { vec_len bodies.new ≤ vec_len bodies.old + MOST_BODY }
-    ensures capacity { vec_capacity bodies.old ≤ vec_capacity bodies.new }
-{
-    match event {
-        Event::Send { to, inc, body } => {
-            let bytes = body.bytes();
-            let start = bodies.len() as u32;
-            bodies.extend_from_slice(bytes).unwrap();
-            KeptEvent::Send {
-                to: *to,
-                start,
-                inc: *inc,
-                len: bytes.len() as u8,
-            }
-        }
-        Event::Recv { message } => KeptEvent::Recv { message: *message },
-        Event::Check { state, round } => keep_check(before, state, *round),
-        Event::Mark { from, round } => KeptEvent::Mark {
-            from: *from,
-            round: *round,
-        },
-    }
-}
-
 /// Keeps the state of a check behind the others, in room that was made for it; one without bytes
 /// takes no place.
 fn keep_state(states: &mut Vec<State>, state: State)
@@ -141,21 +108,6 @@ fn keep_state(states: &mut Vec<State>, state: State)
 {
     if !state.bytes().is_empty() {
         states.push_reserved(state);
-    }
-}
-
-/// Keeps the state of an event, if it is a check, in room that was made for it.
-fn keep_state_of(states: &mut Vec<State>, event: Event)
-    requires room { vec_len states.old < vec_capacity states.old }
-    ensures states { states.new.items ≡ states.old.items ++ states_of event }
-    ensures len { vec_len states.new ≤ vec_len states.old + 1 }
-    ensures capacity { vec_capacity states.old ≤ vec_capacity states.new }
-{
-    match event {
-        Event::Check { state, .. } => keep_state(states, state),
-        Event::Send { .. } => {}
-        Event::Recv { .. } => {}
-        Event::Mark { .. } => {}
     }
 }
 
@@ -241,18 +193,53 @@ impl Log {
         events.min((bodies / MOST_BODY).min(states))
     }
 
-    /// Adds an event at the end, in room that was made for it. It takes no memory.
-    pub(crate) fn append(&mut self, event: Event)
+    /// Adds a send at the end, in room that was made for it: its body goes behind the others.
+    pub(crate) fn append_send(&mut self, to: ProcId, inc: u16, body: &[u8])
         requires room { 0 < self.old.room }
         requires few { length self.old.events < MOST_EVENTS }
-        requires short { IsShort event }
-        ensures events { self.new.events ≡ self.old.events ++ event ∷ [] }
+        requires short { length body.now ≤ MOST_BODY }
+        ensures events { self.new.events ≡ self.old.events ++ Send to inc body.now ∷ [] }
+        ensures room { self.old.room ≤ self.new.room + 1 }
+    {
+        let kept = KeptEvent::Send {
+            to,
+            start: self.bodies.len() as u32,
+            inc,
+            len: body.len() as u8,
+        };
+        self.bodies.extend_from_slice(body).unwrap();
+        self.events.push_reserved(kept);
+    }
+
+    /// Adds the receipt of a message at the end, in room that was made for it.
+    pub(crate) fn append_receipt(&mut self, message: &MsgName)
+        requires room { 0 < self.old.room }
+        ensures events { self.new.events ≡ self.old.events ++ Recv message.now ∷ [] }
+        ensures room { self.old.room ≤ self.new.room + 1 }
+    {
+        self.events
+            .push_reserved(KeptEvent::Recv { message: *message });
+    }
+
+    /// Adds a check at the end, in room that was made for it: its state goes behind the others.
+    pub(crate) fn append_check(&mut self, state: State, round: Option<u32>)
+        requires room { 0 < self.old.room }
+        requires few { length self.old.events < MOST_EVENTS }
+        ensures events { self.new.events ≡ self.old.events ++ Check state round ∷ [] }
         ensures room { self.old.room ≤ self.new.room + 1 }
     {
         let before = self.states.len() as u32;
-        let kept = keep(&mut self.bodies, before, &event);
-        self.events.push_reserved(kept);
-        keep_state_of(&mut self.states, event);
+        self.events.push_reserved(keep_check(before, &state, round));
+        keep_state(&mut self.states, state);
+    }
+
+    /// Adds the receipt of a marker at the end, in room that was made for it.
+    pub(crate) fn append_mark(&mut self, from: ProcId, round: u32)
+        requires room { 0 < self.old.room }
+        ensures events { self.new.events ≡ self.old.events ++ Mark from round ∷ [] }
+        ensures room { self.old.room ≤ self.new.room + 1 }
+    {
+        self.events.push_reserved(KeptEvent::Mark { from, round });
     }
 
     /// Lets go of the last event.

@@ -1,15 +1,12 @@
 //! An index of the receipts of one tape.
 ghost use Rattle.std.specs.Prelude.{◌≡◌, ◌≢◌, ◌<◌, ◌≤◌, ◌+◌, ◌-◌, ◌↔◌, ℕ, suc, [], ◌∷◌, ◌++◌, Contains, IfOk, IsOk, IsTrue, List, OnOk, length, map, take, vec_capacity, vec_len};
 ghost use Rattle.line_names.specs.declared.limits.TheConstants.{MOST_PROCESSES};
-ghost use Rattle.line_tape.specs.declared.events.Event.{Event};
 ghost use Rattle.line_tape.specs.Noted.{AreChained, AreInTree, AreNoted, IsLast, message_of, name_at};
-ghost use Rattle.line_tape.specs.Transit.{names_received};
 
 mod chains;
 mod ends;
 mod trees;
 
-use crate::events::Event;
 use crate::limits::MOST_EVENTS;
 use chains::{Receipt, find_ahead, is_ahead, linked_back};
 use ends::LastLinks;
@@ -91,14 +88,14 @@ fn add(receipts: &mut Vec<Receipt>, last: &mut LastLinks, root: &mut u32, receip
     let end = last.at(receipt.from);
     if is_ahead(before, end, &receipt) {
         let linked = linked_back(before, end, receipt);
-        receipts.push(linked).unwrap();
+        receipts.push_reserved(linked);
         last.add_block(receipt.from);
         last.set(receipt.from, link);
         return;
     }
     let seat = seat_of(before, *root, &receipt);
     let known = link_at(before, *root, seat);
-    receipts.push(receipt).unwrap();
+    receipts.push_reserved(receipt);
     if known != 0 {
         return;
     }
@@ -177,28 +174,21 @@ impl Receipts {
         self.last.reserve(k)
     }
 
-    /// Takes in an event that comes next, in room that was made for it.
-    pub fn note(&mut self, event: &Event)
+    /// Takes in a receipt of a message that comes next, in room that was made for it.
+    pub fn note(&mut self, message: &MsgName)
         requires few { length self.old.names < MOST_EVENTS }
         requires room { 0 < self.old.room }
         requires senders { 0 < self.old.senders }
-        ensures names { self.new.names ≡ self.old.names ++ names_received (event.now ∷ []) }
+        ensures names { self.new.names ≡ self.old.names ++ message.now ∷ [] }
         ensures room { self.old.room ≤ self.new.room + 1 }
         ensures senders { self.old.senders ≤ self.new.senders + 1 }
     {
-        match event {
-            Event::Recv { message } => {
-                add(
-                    &mut self.receipts,
-                    &mut self.last,
-                    &mut self.root,
-                    Receipt::of(message),
-                );
-            }
-            Event::Send { .. } => {}
-            Event::Check { .. } => {}
-            Event::Mark { .. } => {}
-        }
+        add(
+            &mut self.receipts,
+            &mut self.last,
+            &mut self.root,
+            Receipt::of(message),
+        );
     }
 
     /// Goes back to the first `end` receipts. It looks once at each of the others, and takes no

@@ -9,15 +9,16 @@ ghost use Rattle.line_tape.specs.History.{IsTape};
 ghost use Rattle.line_tape.specs.Shown.{shown};
 ghost use Rattle.line_tape.specs.Transit.{addressees, names_received};
 
+mod appends;
 mod cuts;
-mod rows;
+mod rooms;
 
 use crate::events::{Event, EventRef};
 use crate::limits::{MOST_EVENTS, MOST_STATE};
 use crate::logs::{Events, Log};
 use crate::receipts::Receipts;
 use line_names::{Choice, MOST_BODY, MsgName, ProcId};
-use rows::{least_room, note_event};
+use rooms::least_room;
 use std::alloc::{AllocError, Global};
 use std::error::Error;
 use std::fmt;
@@ -300,17 +301,12 @@ impl Tape {
         ensures room { self.old.room ≤ self.new.room + 1 }
         ensures limits { IsTape self.new.events }
     {
-        note_event(
-            &event,
-            &self.log,
-            self.receipts.count(),
-            &mut self.checks,
-            &mut self.incarnations,
-            &mut self.addressees,
-        );
-        self.receipts.note(&event);
-        self.log.append(event);
-        self.spare -= 1;
+        match event {
+            Event::Send { to, inc, body } => self.append_send(to, inc, body.bytes()),
+            Event::Recv { message } => self.append_receipt(&message),
+            Event::Check { state, round } => self.append_check(state, round),
+            Event::Mark { from, round } => self.append_mark(from, round),
+        }
     }
 
     /// Adds an event at the end.
