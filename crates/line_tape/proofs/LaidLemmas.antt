@@ -1,7 +1,7 @@
 -- What is kept of events, as they come and go.
-use Rattle.std.proofs.Common.{◌≡◌, ℕ, suc, ◌+◌, ◌*◌, ◌-◌, ◌<◌, ◌≤◌, List, [], ◌∷◌, ◌++◌, length, take, drop, map, get_or, Option, Some, None, refl, sym, ap, ◌∙◌, subst, arith}
+use Rattle.std.proofs.Common.{◌≡◌, ℕ, suc, ◌+◌, ◌*◌, ◌≤◌, List, [], ◌∷◌, ◌++◌, length, take, drop, map, Option, Some, None, refl, sym, ap, ◌∙◌, subst, arith}
 use Rattle.std.specs.List.{All, filter_map}
-use Rattle.std.proofs.lemmas.List.{append-nil, drop-append-le, drop-map, drop_at, get_or_append_left, get_or_push, length-append, length-drop, length-take-le, length_push, map-append, take-append-drop, take-append-le, take-map, take_more, take_all}
+use Rattle.std.proofs.lemmas.List.{append-nil, drop-append-le, drop-map, drop_at, get_or_append_left, get_or_push, length-append, length-drop, length-take-le, length_push, map-append, take-append-drop, take-append-le, take-map, take_all}
 use Rattle.std.proofs.lemmas.List.Elements.{All-nil, All-cons, All-head, All-tail}
 use Rattle.line_names.specs.declared.limits.TheConstants.{MOST_BODY}
 use Rattle.line_names.specs.declared.messages.MsgName.{MsgName}
@@ -10,7 +10,7 @@ use Rattle.line_tape.specs.declared.events.Event.TheVariants.{Send, Recv, Check,
 use Rattle.line_tape.specs.declared.logs.KeptEvent.{KeptEvent}
 use Rattle.line_tape.specs.declared.logs.KeptEvent.TheVariants.{Send as KeptSend, Recv as KeptRecv, Check as KeptCheck, BareCheck as KeptBareCheck, Mark as KeptMark}
 use Rattle.line_tape.specs.Kept.{IsSettled}
-use Rattle.line_tape.specs.Laid.{Fits, IsLaid, event_of, kept_as, restarted_kept, states_of}
+use Rattle.line_tape.specs.Laid.{Fits, IsLaid, event_of, first_byte, first_state, kept_as, restarted_kept, states_of}
 use Rattle.line_tape.specs.Restart.{restarted_event}
 
 -- what stands among so many bytes and states stands among more
@@ -202,6 +202,24 @@ events_of_first bodies states events n = sym (take-map (event_of bodies states) 
 pub events_behind : (bodies : List ℕ) (states : List (List ℕ)) (events : List KeptEvent) (n : ℕ) → map (event_of bodies states) (drop n events) ≡ drop n (map (event_of bodies states) events)
 events_behind bodies states events n = sym (drop-map (event_of bodies states) n events)
 
+-- the bytes of events that are laid begin where their first body stands, or end where they begin
+laid-byte : (events : List KeptEvent) (b s B S : ℕ) → IsLaid events b s B S → first_byte events B ≡ b
+laid-byte [] b s B S laid = sym laid.0
+laid-byte (KeptSend to start inc len ∷ rest) b s B S laid = laid.0
+laid-byte (KeptRecv message ∷ rest) b s B S laid = laid-byte rest b s B S laid
+laid-byte (KeptCheck before round ∷ rest) b s B S laid = laid-byte rest b (suc s) B S laid.1
+laid-byte (KeptBareCheck round ∷ rest) b s B S laid = laid-byte rest b s B S laid
+laid-byte (KeptMark from round ∷ rest) b s B S laid = laid-byte rest b s B S laid
+
+-- and so do their states
+laid-state : (events : List KeptEvent) (b s B S : ℕ) → IsLaid events b s B S → first_state events S ≡ s
+laid-state [] b s B S laid = sym laid.1
+laid-state (KeptSend to start inc len ∷ rest) b s B S laid = laid-state rest (b + len) s B S laid.2
+laid-state (KeptRecv message ∷ rest) b s B S laid = laid-state rest b s B S laid
+laid-state (KeptCheck before round ∷ rest) b s B S laid = laid.0
+laid-state (KeptBareCheck round ∷ rest) b s B S laid = laid-state rest b s B S laid
+laid-state (KeptMark from round ∷ rest) b s B S laid = laid-state rest b s B S laid
+
 -- what the log is, where it has these events
 pub record IsLog (events : List KeptEvent) (bodies : List ℕ) (states : List (List ℕ)) (told : List Event) : Type 0 where
   pub laid : IsLaid events 0 0 (length bodies) (length states)
@@ -256,50 +274,19 @@ module _ (events : List KeptEvent) (bodies : List ℕ) (states : List (List ℕ)
   state-added [] round = subst (λ (xs : List (List ℕ)). IsLog (events ++ KeptBareCheck round ∷ []) bodies xs (told ++ Check [] round ∷ [])) (sym (append-nil states)) (bare-added round)
   state-added (byte ∷ state) round = check-added (byte ∷ state) round
 
-  module _ (first : List KeptEvent) where
-    -- all but a send
-    pub send-gone : (to start inc len : ℕ) → events ≡ first ++ KeptSend to start inc len ∷ [] → IsLog first (take start bodies) states (map (event_of bodies states) first)
-    send-gone to start inc len is =
-        let parts : Parted first (KeptSend to start inc len ∷ []) 0 0 (length bodies) (length states) = laid-parts first (KeptSend to start inc len ∷ []) 0 0 (length bodies) (length states) (subst (λ es. IsLaid es 0 0 (length bodies) (length states)) is laid) in
-        let within : start ≤ length bodies = omega (arith, parts.others.0, parts.others.2.0) in
-        let byte : parts.byte ≡ length (take start bodies) = sym parts.others.0 ∙ sym (length-take-le start bodies within) in
-        let before : IsLaid first 0 0 (length (take start bodies)) (length states) = subst (λ k. IsLaid first 0 0 k (length states)) byte (subst (λ k. IsLaid first 0 0 parts.byte k) parts.others.2.1 parts.first) in
-        record {
-          laid = before;
-          shows = sym (ap (λ (xs : List (List ℕ)). map (event_of (take start bodies) xs) first) (take_all (length states) states (omega arith)))
-              ∙ events-first bodies states start (length states) first within (omega arith) (subst (λ k. All (Fits k (length states)) first) (length-take-le start bodies within) (laid_fit first (length (take start bodies)) (length states) before));
-        }
-
-    -- all but a check
-    pub check-gone : (before : ℕ) (round : Option ℕ) → events ≡ first ++ KeptCheck before round ∷ [] → IsLog first bodies (take before states) (map (event_of bodies states) first)
-    check-gone before round is =
-        let parts : Parted first (KeptCheck before round ∷ []) 0 0 (length bodies) (length states) = laid-parts first (KeptCheck before round ∷ []) 0 0 (length bodies) (length states) (subst (λ es. IsLaid es 0 0 (length bodies) (length states)) is laid) in
-        let within : before ≤ length states = omega (arith, parts.others.0, parts.others.1.1) in
-        let state : parts.state ≡ length (take before states) = sym parts.others.0 ∙ sym (length-take-le before states within) in
-        let left : IsLaid first 0 0 (length bodies) (length (take before states)) = subst (λ k. IsLaid first 0 0 k (length (take before states))) parts.others.1.0 (subst (λ k. IsLaid first 0 0 parts.byte k) state parts.first) in
-        record {
-          laid = left;
-          shows = sym (ap (λ (xs : List ℕ). map (event_of xs (take before states)) first) (take_all (length bodies) bodies (omega arith)))
-              ∙ events-first bodies states (length bodies) before first (omega arith) within (subst (λ k. All (Fits (length bodies) k) first) (length-take-le before states within) (laid_fit first (length bodies) (length (take before states)) left));
-        }
-
-    -- all but an event without bytes and state
-    pub recv-gone : (message : MsgName) → events ≡ first ++ KeptRecv message ∷ [] → IsLog first bodies states (map (event_of bodies states) first)
-    recv-gone message is =
-        let parts : Parted first (KeptRecv message ∷ []) 0 0 (length bodies) (length states) = laid-parts first (KeptRecv message ∷ []) 0 0 (length bodies) (length states) (subst (λ es. IsLaid es 0 0 (length bodies) (length states)) is laid) in
-        record { laid = subst (λ k. IsLaid first 0 0 k (length states)) parts.others.0 (subst (λ k. IsLaid first 0 0 parts.byte k) parts.others.1 parts.first); shows = refl }
-
-    pub bare-gone : (round : Option ℕ) → events ≡ first ++ KeptBareCheck round ∷ [] → IsLog first bodies states (map (event_of bodies states) first)
-    bare-gone round is =
-        let parts : Parted first (KeptBareCheck round ∷ []) 0 0 (length bodies) (length states) = laid-parts first (KeptBareCheck round ∷ []) 0 0 (length bodies) (length states) (subst (λ es. IsLaid es 0 0 (length bodies) (length states)) is laid) in
-        record { laid = subst (λ k. IsLaid first 0 0 k (length states)) parts.others.0 (subst (λ k. IsLaid first 0 0 parts.byte k) parts.others.1 parts.first); shows = refl }
-
-    pub mark-gone : (from round : ℕ) → events ≡ first ++ KeptMark from round ∷ [] → IsLog first bodies states (map (event_of bodies states) first)
-    mark-gone from round is =
-        let parts : Parted first (KeptMark from round ∷ []) 0 0 (length bodies) (length states) = laid-parts first (KeptMark from round ∷ []) 0 0 (length bodies) (length states) (subst (λ es. IsLaid es 0 0 (length bodies) (length states)) is laid) in
-        record { laid = subst (λ k. IsLaid first 0 0 k (length states)) parts.others.0 (subst (λ k. IsLaid first 0 0 parts.byte k) parts.others.1 parts.first); shows = refl }
-
--- all events but the last, and that one
-pub last_behind : (events : List KeptEvent) (n : ℕ) (event : KeptEvent) → n ≡ length events → 0 < n → event ≡ get_or events (n - 1) event → events ≡ take (n - 1) events ++ event ∷ []
-last_behind events n event count some is =
-    sym (take_all (n - 1 + 1) events (omega arith)) ∙ take_more events (n - 1) event (omega arith) ∙ ap (λ (e : KeptEvent). take (n - 1) events ++ e ∷ []) (sym is)
+  -- the first events, where those behind them go with their bytes and states
+  pub more-gone : (first more : List KeptEvent) → events ≡ first ++ more → IsLog first (take (first_byte more (length bodies)) bodies) (take (first_state more (length states)) states) (map (event_of bodies states) first)
+  more-gone first more is =
+      let parts : Parted first more 0 0 (length bodies) (length states) = laid-parts first more 0 0 (length bodies) (length states) (subst (λ es. IsLaid es 0 0 (length bodies) (length states)) is laid) in
+      let far : Reaches more parts.byte parts.state (length bodies) (length states) = laid-reaches more parts.byte parts.state (length bodies) (length states) parts.others in
+      let byte : first_byte more (length bodies) ≡ parts.byte = laid-byte more parts.byte parts.state (length bodies) (length states) parts.others in
+      let state : first_state more (length states) ≡ parts.state = laid-state more parts.byte parts.state (length bodies) (length states) parts.others in
+      let b : ℕ = first_byte more (length bodies) in
+      let s : ℕ = first_state more (length states) in
+      let low : b ≤ length bodies = omega (arith, byte, far.bytes) in
+      let few : s ≤ length states = omega (arith, state, far.states) in
+      let before : IsLaid first 0 0 b s = subst (λ k. IsLaid first 0 0 b k) (sym state) (subst (λ k. IsLaid first 0 0 k parts.state) (sym byte) parts.first) in
+      record {
+        laid = subst (λ k. IsLaid first 0 0 (length (take b bodies)) k) (sym (length-take-le s states few)) (subst (λ k. IsLaid first 0 0 k s) (sym (length-take-le b bodies low)) before);
+        shows = events-first bodies states b s first low few (laid_fit first b s before);
+      }

@@ -56,6 +56,24 @@ IsLaid (KeptCheck before round ∷ rest) byte state bytes states =
 IsLaid (KeptBareCheck round ∷ rest) byte state bytes states = IsLaid rest byte state bytes states
 IsLaid (KeptMark from round ∷ rest) byte state bytes states = IsLaid rest byte state bytes states
 
+-- where the bytes of the first body stand, or that number where there is no body
+abbrev pub first_byte : List KeptEvent → ℕ → ℕ
+first_byte [] all = all
+first_byte (KeptSend to start inc len ∷ rest) all = start
+first_byte (KeptRecv message ∷ rest) all = first_byte rest all
+first_byte (KeptCheck before round ∷ rest) all = first_byte rest all
+first_byte (KeptBareCheck round ∷ rest) all = first_byte rest all
+first_byte (KeptMark from round ∷ rest) all = first_byte rest all
+
+-- where the first state stands, or that number where there is none
+abbrev pub first_state : List KeptEvent → ℕ → ℕ
+first_state [] all = all
+first_state (KeptSend to start inc len ∷ rest) all = first_state rest all
+first_state (KeptRecv message ∷ rest) all = first_state rest all
+first_state (KeptCheck before round ∷ rest) all = before
+first_state (KeptBareCheck round ∷ rest) all = first_state rest all
+first_state (KeptMark from round ∷ rest) all = first_state rest all
+
 -- what a restart leaves of an event that is kept so
 abbrev pub restarted_kept : KeptEvent → Option KeptEvent
 restarted_kept (KeptSend to start inc len) = Some (KeptSend to start inc len)

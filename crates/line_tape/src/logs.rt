@@ -3,7 +3,7 @@ ghost use Rattle.std.specs.Prelude.{◌≡◌, ◌<◌, ◌≤◌, ◌+◌, ◌-
 ghost use Rattle.std.specs.List.{filter_map};
 ghost use Rattle.line_tape.specs.declared.events.Event.TheVariants.{Check, Mark, Recv, Send};
 ghost use Rattle.line_tape.specs.Kept.{IsSettled};
-ghost use Rattle.line_tape.specs.Laid.{kept_as, restarted_kept, states_of};
+ghost use Rattle.line_tape.specs.Laid.{first_byte, first_state, kept_as, restarted_kept, states_of};
 ghost use Rattle.line_tape.specs.Restart.{restarted_event};
 ghost use Rattle.line_tape.specs.Shown.{shown};
 
@@ -109,6 +109,39 @@ fn keep_state(states: &mut Vec<State>, state: State)
     if !state.bytes().is_empty() {
         states.push_reserved(state);
     }
+}
+
+/// How many bytes of bodies stand before those of these events, of `all` that there are up to their
+/// end.
+fn bytes_before(events: &[KeptEvent], all: usize) -> usize
+    ensures { result ≡ first_byte events.now all }
+{
+    for i in 0..events.len() {
+        match &events[i] {
+            KeptEvent::Send { start, .. } => return *start as usize,
+            KeptEvent::Recv { .. } => {}
+            KeptEvent::Check { .. } => {}
+            KeptEvent::BareCheck { .. } => {}
+            KeptEvent::Mark { .. } => {}
+        }
+    }
+    all
+}
+
+/// How many states stand before those of these events, of `all` that there are up to their end.
+fn states_before(events: &[KeptEvent], all: usize) -> usize
+    ensures { result ≡ first_state events.now all }
+{
+    for i in 0..events.len() {
+        match &events[i] {
+            KeptEvent::Send { .. } => {}
+            KeptEvent::Recv { .. } => {}
+            KeptEvent::Check { before, .. } => return *before as usize,
+            KeptEvent::BareCheck { .. } => {}
+            KeptEvent::Mark { .. } => {}
+        }
+    }
+    all
 }
 
 /// The events of a tape in their order, each in sixteen bytes, and beside them the bytes of bodies,
@@ -242,31 +275,21 @@ impl Log {
         self.events.push_reserved(KeptEvent::Mark { from, round });
     }
 
-    /// Lets go of the last event.
-    fn pop(&mut self)
-        requires { 0 < length self.old.events }
-        ensures events { self.new.events ≡ take (length self.old.events - 1) self.old.events }
-        ensures room { self.old.room ≤ self.new.room }
-    {
-        let last = self.events.len() - 1;
-        match &self.events[last] {
-            KeptEvent::Send { start, .. } => self.bodies.truncate(*start as usize),
-            KeptEvent::Recv { .. } => {}
-            KeptEvent::Check { before, .. } => self.states.truncate(*before as usize),
-            KeptEvent::BareCheck { .. } => {}
-            KeptEvent::Mark { .. } => {}
-        }
-        self.events.truncate(last);
-    }
-
-    /// Lets go of all but the first `end` events. It looks once at each that goes.
+    /// Lets go of all but the first `end` events. Of those that go it looks only for the first send
+    /// and the first check, which tell where the bytes and the states that go begin.
     pub(crate) fn truncate(&mut self, end: usize)
         ensures events { self.new.events ≡ take end self.old.events }
         ensures room { self.old.room ≤ self.new.room }
     {
-        while self.len() > end {
-            self.pop();
+        if end >= self.events.len() {
+            return;
         }
+        let gone = &self.events[end..];
+        let bytes = bytes_before(gone, self.bodies.len());
+        let states = states_before(gone, self.states.len());
+        self.bodies.truncate(bytes);
+        self.states.truncate(states);
+        self.events.truncate(end);
     }
 
     /// Takes marks out and the rounds off checks, where a restart leaves the first `settled` events

@@ -55,9 +55,9 @@ impl History {
     /// tapes, all marks and round numbers go, and a process that goes back does so under its next
     /// incarnation. It takes no memory and cannot fail.
     ///
-    /// What is in transit at the line (`transit`) is to be asked before. It looks once at each
-    /// event that comes after the line, and twice at each before it that came since the last
-    /// restart: over a whole run each event is looked at three times at most.
+    /// What is in transit at the line (`transit`) is to be asked before. It looks at most
+    /// twice at each event that comes after the line, and twice at each before it that came since
+    /// the last restart: over a whole run each event is looked at four times at most.
     pub fn restart(&mut self, line: &Line)
         requires line { IsLine self.old.processes line.now }
         requires further { HaveFurther self.old.processes line.now }

@@ -78,9 +78,9 @@ impl Tape {
     /// Has the process go on from a choice: what came after it goes, marks go, and checks lose
     /// their round. It takes no memory.
     ///
-    /// It looks once at each event that goes with the cut, and twice at each that came since the
-    /// last restart and stays: so over a whole run each event is looked at three times at most,
-    /// however many restarts there are.
+    /// It looks at most twice at each event that goes with the cut, and twice at each that came
+    /// since the last restart and stays: so over a whole run each event is looked at four times at
+    /// most, however many restarts there are.
     pub fn restart(&mut self, choice: Choice)
         requires { HasChoice self.old.events choice }
         ensures events { self.new.events ≡ filter_map restarted_event (front self.old.events choice) }
