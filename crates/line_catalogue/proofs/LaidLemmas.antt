@@ -1,9 +1,8 @@
 -- What rows show of the lanes, as rows and vectors come and go.
-use Rattle.std.proofs.Common.{◌≡◌, ℕ, ◌+◌, ◌*◌, ◌-◌, ◌/◌, ◌<◌, ◌≤◌, Bool, false, true, cond, List, [], ◌∷◌, ◌++◌, length, take, drop, map, get_or, set, inl, inr, sym, ap, ◌∙◌, subst, arith}
+use Rattle.std.proofs.Common.{◌≡◌, ℕ, ◌+◌, ◌*◌, ◌-◌, ◌<◌, ◌≤◌, Bool, false, true, cond, List, [], ◌∷◌, ◌++◌, length, take, drop, map, get_or, set, inl, inr, sym, ap, ◌∙◌, subst, arith}
 use Rattle.std.proofs.lemmas.Bool.{cases_eq, cases_lt}
 use Rattle.std.proofs.lemmas.List.{drop-append-le, drop-take, drop_all, ext_get_or, get_or-map, get_or-set_other, get_or-set_same, get_or-take, get_or_append_left, get_or_default, get_or_past, get_or_push, length-append, length-drop, length-map, length-take-le, length_push, map-append, map-set, take-append-drop, take-append-le, take-map, take_all}
-use Rattle.std.proofs.lemmas.Nat.{le-div, mul-le}
-use Rattle.std.proofs.Math.Nat.{add-div_right, add-mul, div-mul-le_self}
+use Rattle.std.proofs.Math.Nat.{add-mul}
 use Rattle.line_names.specs.declared.choices.Choice.TheVariants.{Check as AtCheck}
 use Rattle.line_tape.specs.declared.events.Event.{Event}
 use Rattle.line_tape.specs.Front.{place}
@@ -235,20 +234,3 @@ module _ (rows : List KeptRow) (c : ℕ) (row : KeptRow) (within : c < length ro
     | inl here ↦ subst (λ j. (get_or (set rows c (record row { damaged = true })) j d).start ≡ (get_or rows j d).start) (sym here) (ap (λ (r : KeptRow). r.start) (get_or-set_same rows c (record row { damaged = true }) d within) ∙ ap (λ (r : KeptRow). r.start) (is ∙ get_or_default rows c row d within))
     | inr apart ↦ ap (λ (r : KeptRow). r.start) (get_or-set_other rows c k (record row { damaged = true }) d apart)
   ]
-
--- ---- room for vectors
-
--- so many vectors are so many lanes
-pub room-lanes : (k x n : ℕ) → k ≤ x / n → k * n ≤ x
-room-lanes k x n h = omega (arith, mul-le k n (x / n) n h (omega arith), div-mul-le_self x n)
-
-pub room-vectors : (k x n : ℕ) → 0 < n → k * n ≤ x → k ≤ x / n
-room-vectors k x n some h = le-div k x n some h
-
--- no less room
-pub room-more : (x y n : ℕ) → 0 < n → x ≤ y → x / n ≤ y / n
-room-more x y n some h = le-div (x / n) y n some (omega (arith, h, div-mul-le_self x n))
-
--- one vector less
-pub room-spent : (x y n : ℕ) → 0 < n → x ≤ y + n → x / n ≤ y / n + 1
-room-spent x y n some h = omega (arith, room-more x (y + n) n some h, add-div_right y some)

@@ -24,3 +24,8 @@ pub record AreLaid (lanes : List ℕ) (rows : List KeptRow) (heard : Bool) (pres
   pub early : (c : ℕ) (d : KeptRow) → c < length rows → (slice_index_or rows c d).start ≤ c * length present
   pub few : length lanes ≤ length rows * length present
   pub last : heard ≡ false → EndWith lanes present
+
+-- there are so many further places for rows, and lanes for as many vectors of n lanes
+pub record HaveRoom (room places lanes n : ℕ) : Type 0 where
+  pub rows_fit : room ≤ places
+  pub vectors_fit : room * n ≤ lanes

@@ -244,10 +244,7 @@ impl Catalogue {
         ensures spent { room_at self.old p ≤ room_at self.new p + 1 }
         ensures others { (q : ℕ) → q ≢ p → room_at self.new q ≡ room_at self.old q }
     {
-        let tape = self.ledger.history().tape(p);
-        let place = tape.len() + 1;
-        let sends = tape.sends();
-        self.rows.append(p, &event.as_ref(), place, sends);
+        self.rows.append(p, &event, self.ledger.history().tape(p));
         self.ledger.append(p, event);
     }
 

@@ -1,15 +1,16 @@
 //! What is known of the checks of one process, and of where it stands.
 ghost use Rattle.std.specs.Prelude.{◌≡◌, ◌<◌, ◌≤◌, ◌+◌, ◌-◌, ℕ, Bool, false, List, [], ◌∷◌, ◌++◌, if◌then◌else◌, length, map, replicate, vec_len, vec_capacity, IfOk, IsOk, OnOk};
 ghost use Rattle.line_names.specs.declared.choices.Choice.TheVariants.{Check as AtCheck};
-ghost use Rattle.line_tape.specs.Event.{checks, NamesBelow};
+ghost use Rattle.line_tape.specs.Event.{checks, sends, NamesBelow};
 ghost use Rattle.line_tape.specs.Shown.{shown};
 ghost use Rattle.line_vectors.specs.Reach.{nearest};
-ghost use Rattle.line_catalogue.specs.Laid.{AreLaid, EndWith, row_of};
+ghost use Rattle.line_vectors.specs.Vectors.{noted};
+ghost use Rattle.line_catalogue.specs.Laid.{AreLaid, EndWith, HaveRoom, row_of};
 ghost use Rattle.line_catalogue.specs.Rows.{AreInStep, WithPlaces, heard_more, new_row, row_added, rows_kept, vector_at, with_damage, with_row};
 
 use crate::kept_rows::{KeptRow, Rows};
 use line_names::{Choice, MOST_PROCESSES, MsgName};
-use line_tape::{EventRef, MOST_EVENTS, Tape};
+use line_tape::{Event, EventRef, MOST_EVENTS, Tape};
 use line_vectors::{LAST_NUMBER, Reach, ReachRef};
 use std::alloc::{AllocError, Global};
 use std::marker::Model;
@@ -23,23 +24,27 @@ pub struct ProcessRows {
     present: Reach,
     /// Whether something was received since the last vector among the lanes.
     heard: bool,
+    /// For how many further checks there is room, or fewer. Before an event this number alone is
+    /// asked, and the lists only where it is too small.
+    room: u32,
 }
 
 impl Model for ProcessRows {
-    ghost use Rattle.std.specs.Prelude.{◌-◌, ◌/◌, map, min, length, vec_len, vec_capacity};
+    ghost use Rattle.std.specs.Prelude.{◌-◌, map, length, vec_len, vec_capacity};
     ghost use Rattle.line_catalogue.specs.Kept.{RowsView};
-    ghost use Rattle.line_catalogue.specs.Laid.{AreLaid, row_of};
+    ghost use Rattle.line_catalogue.specs.Laid.{AreLaid, HaveRoom, row_of};
 
     ghost Value = { RowsView };
 
     ghost view = { λ p. record {
       rows = map (row_of (length p.present) p.lanes.items) p.rows.items;
       present = p.present;
-      room = min (vec_capacity p.rows - vec_len p.rows)
-          ((vec_capacity p.lanes - vec_len p.lanes) / length p.present);
+      room = p.room;
     } };
 
-    ghost invariant = { λ p. AreLaid p.lanes.items p.rows.items p.heard p.present };
+    ghost invariant = { λ p. AreLaid p.lanes.items p.rows.items p.heard p.present
+        × HaveRoom p.room (vec_capacity p.rows - vec_len p.rows)
+        (vec_capacity p.lanes - vec_len p.lanes) (length p.present) };
 }
 
 /// The name under which a vector notes a message.
@@ -100,46 +105,6 @@ fn add_row(
         start,
         damaged: false,
     });
-}
-
-/// Follows an event of the tape: a receipt is noted, and a check has a row of its own.
-fn follow(
-    rows: &mut Vec<KeptRow>,
-    lanes: &mut Vec<u32>,
-    present: &mut Reach,
-    heard: &mut bool,
-    event: &EventRef<'_>,
-    place: u32,
-    sends: u32,
-)
-    requires laid { AreLaid lanes.old.items rows.old.items heard.old present.old }
-    requires few { vec_len rows.old ≤ MOST_EVENTS }
-    requires room { vec_len rows.old < vec_capacity rows.old }
-    requires vector { vec_len lanes.old + length present.old ≤ vec_capacity lanes.old }
-    requires named { NamesBelow (length present.old) (shown event.now) }
-    ensures rows { map (row_of (length present.old) lanes.new.items) rows.new.items
-        ≡ with_row (map (row_of (length present.old) lanes.old.items) rows.old.items)
-        (row_added place sends present.old (shown event.now)) }
-    ensures present { present.new ≡ heard_more present.old (shown event.now) }
-    ensures lanes { length present.new ≡ length present.old }
-    ensures laid { AreLaid lanes.new.items rows.new.items heard.new present.new }
-    ensures room { vec_capacity rows.old - vec_len rows.old
-        ≤ vec_capacity rows.new - vec_len rows.new + 1 }
-    ensures vector { vec_capacity lanes.old - vec_len lanes.old
-        ≤ vec_capacity lanes.new - vec_len lanes.new + length present.old }
-{
-    match event {
-        EventRef::Send { .. } => {}
-        EventRef::Recv { message } => {
-            present.note(&nearest(message));
-            *heard = true;
-        }
-        EventRef::Check { .. } => {
-            add_row(rows, lanes, present, *heard, place, sends);
-            *heard = false;
-        }
-        EventRef::Mark { .. } => {}
-    }
 }
 
 /// Lets go of the rows and vectors behind a choice, whose vector becomes that of where the process
@@ -213,6 +178,20 @@ fn set_damaged(rows: &mut Vec<KeptRow>, check: u32)
     rows[check as usize].damaged = true;
 }
 
+/// For how many further rows with a vector each of `n` lanes there is room.
+fn count_room(rows: &Vec<KeptRow>, lanes: &Vec<u32>, n: usize) -> u32
+    requires { 0 < n }
+    ensures room { HaveRoom result (vec_capacity rows.now - vec_len rows.now)
+        (vec_capacity lanes.now - vec_len lanes.now) n }
+    ensures most { (k : ℕ) → k < 4294967296
+        → HaveRoom k (vec_capacity rows.now - vec_len rows.now)
+        (vec_capacity lanes.now - vec_len lanes.now) n → k ≤ result }
+{
+    let vectors = (lanes.capacity() - lanes.len()) / n;
+    let places = rows.capacity() - rows.len();
+    places.min(vectors).min(u32::MAX as usize) as u32
+}
+
 /// The only row of a process that has done nothing.
 fn first_rows(alloc: Global) -> Result<Vec<KeptRow>, AllocError>
     ensures { IfOk result (λ rows.
@@ -244,6 +223,7 @@ impl ProcessRows {
             lanes,
             present,
             heard: false,
+            room: 0,
         })
     }
 
@@ -266,17 +246,64 @@ impl ProcessRows {
         }
     }
 
-    /// Makes room for so many further events.
+    /// Makes room for so many further events. It costs one comparison while the counted room lasts.
     pub fn reserve(&mut self, k: u32) -> Result<(), AllocError>
         ensures same { (self.new.rows ≡ self.old.rows) × (self.new.present ≡ self.old.present) }
         ensures ok { OnOk result (k ≤ self.new.room) }
         ensures succeeds { k ≤ self.old.room → IsOk result }
         ensures room { self.old.room ≤ self.new.room }
     {
-        let k = k as usize;
+        if k <= self.room {
+            return Ok(());
+        }
+        self.grow(k)
+    }
+
+    /// Makes room among the lists, and counts what they have.
+    #[inline(never)]
+    fn grow(&mut self, k: u32) -> Result<(), AllocError>
+        ensures same { (self.new.rows ≡ self.old.rows) × (self.new.present ≡ self.old.present) }
+        ensures ok { OnOk result (k ≤ self.new.room) }
+        ensures room { self.old.room ≤ self.new.room }
+    {
         let n = self.present.n();
-        self.lanes.reserve(k * n)?;
-        self.rows.reserve(k)
+        self.lanes.reserve(k as usize * n)?;
+        self.rows.reserve(k as usize)?;
+        self.room = count_room(&self.rows, &self.lanes, n);
+        Ok(())
+    }
+
+    /// Notes a receipt.
+    fn hear(&mut self, message: &MsgName)
+        requires { message.now.from < length self.old.present }
+        ensures rows { self.new.rows ≡ self.old.rows }
+        ensures present { self.new.present ≡ noted self.old.present (nearest message.now) }
+        ensures room { self.new.room ≡ self.old.room }
+    {
+        self.present.note(&nearest(message));
+        self.heard = true;
+    }
+
+    /// Adds the row of a check, in room that was made for it.
+    #[inline(never)]
+    fn add_check(&mut self, place: u32, sends: u32)
+        requires few { length self.old.rows ≤ MOST_EVENTS }
+        requires room { 0 < self.old.room }
+        ensures rows { self.new.rows
+            ≡ self.old.rows ++ new_row place sends self.old.present ∷ [] }
+        ensures present { self.new.present ≡ self.old.present }
+        ensures room { self.old.room ≤ self.new.room + 1 }
+    {
+        add_row(
+            &mut self.rows,
+            &mut self.lanes,
+            &self.present,
+            self.heard,
+            place,
+            sends,
+        );
+        self.heard = false;
+        self.room -= 1;
     }
 
     /// Follows an event of the tape, in room that was made for it; the place and the sends are
@@ -291,15 +318,34 @@ impl ProcessRows {
         ensures lanes { length self.new.present ≡ length self.old.present }
         ensures room { self.old.room ≤ self.new.room + 1 }
     {
-        follow(
-            &mut self.rows,
-            &mut self.lanes,
-            &mut self.present,
-            &mut self.heard,
-            event,
-            place,
-            sends,
-        );
+        match event {
+            EventRef::Send { .. } => {}
+            EventRef::Recv { message } => self.hear(message),
+            EventRef::Check { .. } => self.add_check(place, sends),
+            EventRef::Mark { .. } => {}
+        }
+    }
+
+    /// Follows an event that comes next to the tape, in room that was made for it. It asks the tape
+    /// only where the event is a check.
+    pub fn append_next(&mut self, event: &Event, tape: &Tape)
+        requires few { length self.old.rows ≤ MOST_EVENTS }
+        requires short { length tape.now.events < MOST_EVENTS }
+        requires room { 0 < self.old.room }
+        requires named { NamesBelow (length self.old.present) event.now }
+        ensures rows { self.new.rows
+            ≡ with_row self.old.rows (row_added (length tape.now.events + 1)
+            (sends tape.now.events) self.old.present event.now) }
+        ensures present { self.new.present ≡ heard_more self.old.present event.now }
+        ensures lanes { length self.new.present ≡ length self.old.present }
+        ensures room { self.old.room ≤ self.new.room + 1 }
+    {
+        match event {
+            Event::Send { .. } => {}
+            Event::Recv { message } => self.hear(message),
+            Event::Check { .. } => self.add_check(tape.len() + 1, tape.sends()),
+            Event::Mark { .. } => {}
+        }
     }
 
     /// Notes that a check is damaged.

@@ -16,7 +16,7 @@ ghost use Rattle.line_catalogue.specs.Rows.{AreInStep, AreRows, WithPlaces, hear
 use crate::kept_rows::Rows;
 use crate::rows::ProcessRows;
 use line_names::{Choice, Line, MOST_PROCESSES, ProcId};
-use line_tape::{EventRef, History, MOST_EVENTS, Marks, Tape};
+use line_tape::{Event, EventRef, History, MOST_EVENTS, Marks, Tape};
 use line_vectors::ReachRef;
 use std::alloc::{AllocError, Global};
 use std::marker::Model;
@@ -163,23 +163,25 @@ impl RowTable {
         self.table[p.get() as usize].reserve(k)
     }
 
-    /// Follows an event that comes to the tape of a process, in room that was made for it.
-    pub fn append(&mut self, p: ProcId, event: &EventRef<'_>, place: u32, sends: u32)
+    /// Follows an event that comes next to the tape of a process, in room that was made for it.
+    pub fn append(&mut self, p: ProcId, event: &Event, tape: &Tape)
         requires process { p < length self.old.rows }
         requires few { length (rows_at self.old.rows p) ≤ MOST_EVENTS }
-        requires named { NamesBelow (length (present_at self.old.presents p)) (shown event.now) }
+        requires short { length tape.now.events < MOST_EVENTS }
+        requires named { NamesBelow (length (present_at self.old.presents p)) event.now }
         requires room { 0 < slice_index_or self.old.rooms p 0 }
         ensures rows { self.new.rows
             ≡ slice_set self.old.rows p
             (with_row (rows_at self.old.rows p)
-            (row_added place sends (present_at self.old.presents p) (shown event.now))) }
+            (row_added (length tape.now.events + 1) (sends tape.now.events)
+            (present_at self.old.presents p) event.now)) }
         ensures presents { self.new.presents
             ≡ slice_set self.old.presents p
-            (heard_more (present_at self.old.presents p) (shown event.now)) }
+            (heard_more (present_at self.old.presents p) event.now) }
         ensures room { slice_index_or self.old.rooms p 0 ≤ slice_index_or self.new.rooms p 0 + 1 }
         ensures others { (q : ℕ) → q ≢ p → slice_index_or self.new.rooms q 0 ≡ slice_index_or self.old.rooms q 0 }
     {
-        self.table[p.get() as usize].append(event, place, sends);
+        self.table[p.get() as usize].append_next(event, tape);
     }
 
     /// Notes that a check of a process is damaged.

@@ -24,9 +24,9 @@ append-requires-2-clause-named c = subst (λ (v : CatalogueView). NamesBelow (le
 pub append-requires-2-clause-few : goal.append-requires-2-clause-few
 append-requires-2-clause-few c =
     let history : List Process = c.self.inside.ledger.processes in
-    let tape_is : c.tape-tape.result.now.events ≡ tape_at history c.args.p = c.tape-tape.ensures.events ∙ ap (λ (v : HistoryView). tape_at v.processes c.args.p) c.history.ensures in
+    let tape_is : c.tape.result.now.events ≡ tape_at history c.args.p = c.tape.ensures.events ∙ ap (λ (v : HistoryView). tape_at v.processes c.args.p) c.history.ensures in
     let few : length (tape_at history c.args.p) ≢ MOST_EVENTS = subst (λ (v : CatalogueView). length (tape_at v.processes c.args.p) ≢ MOST_EVENTS) (sym c.self.view_is) c.requires.few in
-    let most : length (tape_at history c.args.p) ≤ MOST_EVENTS = subst (λ (es : List Event). length es ≤ MOST_EVENTS) tape_is c.len-place.ensures.limits.few in
+    let most : length (tape_at history c.args.p) ≤ MOST_EVENTS = subst (λ (v : HistoryView). length (tape_at v.processes c.args.p) ≤ MOST_EVENTS) c.history.ensures c.tape.ensures.limits.tape.few in
     elim (cases_lt (length (tape_at history c.args.p)) MOST_EVENTS) [
       | inl less ↦ less
       | inr past ↦ absurd (few (omega (arith, most, past)))
@@ -36,13 +36,25 @@ pub append-requires-2-clause-room : goal.append-requires-2-clause-room
 append-requires-2-clause-room c =
     omega (arith, c.requires.room, ap (λ (v : CatalogueView). room_at v c.args.p) c.self.view_is, lesser_at c.self.inside.ledger.rooms c.self.inside.rows.rooms c.args.p)
 
+pub append-requires-clause-short : goal.append-requires-clause-short
+append-requires-clause-short c =
+    let history : List Process = c.self.inside.ledger.processes in
+    let tape_is : c.tape.result.now.events ≡ tape_at history c.args.p = c.tape.ensures.events ∙ ap (λ (v : HistoryView). tape_at v.processes c.args.p) c.history.ensures in
+    let few : length (tape_at history c.args.p) ≢ MOST_EVENTS = subst (λ (v : CatalogueView). length (tape_at v.processes c.args.p) ≢ MOST_EVENTS) (sym c.self.view_is) c.requires.few in
+    let most : length (tape_at history c.args.p) ≤ MOST_EVENTS = subst (λ (v : HistoryView). length (tape_at v.processes c.args.p) ≤ MOST_EVENTS) c.history.ensures c.tape.ensures.limits.tape.few in
+    let same : length c.tape.result.now.events ≡ length (tape_at history c.args.p) = ap (λ (es : List Event). length es) tape_is in
+    elim (cases_lt (length (tape_at history c.args.p)) MOST_EVENTS) [
+      | inl less ↦ omega (arith, less, same)
+      | inr past ↦ absurd (few (omega (arith, most, past)))
+    ]
+
 pub append-requires-clause-few : goal.append-requires-clause-few
 append-requires-clause-few c =
     let history : List Process = c.self.inside.ledger.processes in
     let p : ℕ = c.args.p in
-    let tape_is : c.tape-tape.result.now.events ≡ tape_at history p = c.tape-tape.ensures.events ∙ ap (λ (v : HistoryView). tape_at v.processes p) c.history.ensures in
+    let tape_is : c.tape.result.now.events ≡ tape_at history p = c.tape.ensures.events ∙ ap (λ (v : HistoryView). tape_at v.processes p) c.history.ensures in
     let few : length (tape_at history p) ≢ MOST_EVENTS = subst (λ (v : CatalogueView). length (tape_at v.processes p) ≢ MOST_EVENTS) (sym c.self.view_is) c.requires.few in
-    let most : length (tape_at history p) ≤ MOST_EVENTS = subst (λ (es : List Event). length es ≤ MOST_EVENTS) tape_is c.len-place.ensures.limits.few in
+    let most : length (tape_at history p) ≤ MOST_EVENTS = subst (λ (v : HistoryView). length (tape_at v.processes c.args.p) ≤ MOST_EVENTS) c.history.ensures c.tape.ensures.limits.tape.few in
     let within : p < length history = omega (arith, c.requires.process, ap (λ (v : CatalogueView). length v.processes) c.self.view_is) in
     let count = (c.self.invariant.shown p within).count in
     elim (cases_lt (length (tape_at history p)) MOST_EVENTS) [
@@ -57,8 +69,7 @@ append-requires-clause-named c =
     let within : c.args.p < length history = omega (arith, c.requires.process, ap (λ (xs : List Process). length xs) seen) in
     let long : length (present_at c.self.inside.rows.presents c.args.p) ≡ length c.args.self.now.processes = length-present history c.self.inside.marks c.self.inside.rows.rows c.self.inside.rows.presents c.args.p within c.self.invariant ∙ ap (λ (xs : List Process). length xs) seen in
     let lanes : ℕ = length (present_at c.self.inside.rows.presents c.args.p) in
-    let named : NamesBelow lanes c.args.event = subst (λ k. NamesBelow k c.args.event) (sym long) c.requires.named in
-    subst (NamesBelow lanes) (sym c.as_ref.ensures) named
+    subst (λ k. NamesBelow k c.args.event) (sym long) c.requires.named
 
 pub invariant_of-self : goal.invariant_of-self
 invariant_of-self c =
@@ -68,27 +79,20 @@ invariant_of-self c =
     let presents : List (List ℕ) = c.self.inside.rows.presents in
     let p : ℕ = c.args.p in
     let event : Event = c.args.event in
-    let place : ℕ = c.len-place.result + 1 in
     let seen : history ≡ c.args.self.now.processes = ap (λ (v : CatalogueView). v.processes) c.self.view_is in
     let within : p < length history = omega (arith, c.requires.process, ap (λ (xs : List Process). length xs) seen) in
     let named : NamesBelow (length history) event = subst (λ (xs : List Process). NamesBelow (length xs) event) (sym seen) c.requires.named in
     let next : AgreesNext history p event = subst (λ (xs : List Process). AgreesNext xs p event) (sym seen) c.requires.agrees in
-    let tape_is : c.tape-tape.result.now.events ≡ tape_at history p = c.tape-tape.ensures.events ∙ ap (λ (v : HistoryView). tape_at v.processes p) c.history.ensures in
-    let place_is : place ≡ length (tape_at history p) + 1 = ap (λ k. k + 1) (c.len-place.ensures.value ∙ ap (λ (es : List Event). length es) tape_is) in
-    let sent_is : c.sends-sends.result ≡ sends (tape_at history p) = c.sends-sends.ensures.value ∙ ap sends tape_is in
+    let tape_is : c.tape.result.now.events ≡ tape_at history p = c.tape.ensures.events ∙ ap (λ (v : HistoryView). tape_at v.processes p) c.history.ensures in
+    let place : ℕ = length c.tape.result.now.events + 1 in
+    let sent : ℕ = sends c.tape.result.now.events in
+    let place_is : place ≡ length (tape_at history p) + 1 = ap (λ (es : List Event). length es + 1) tape_is in
+    let sent_is : sent ≡ sends (tape_at history p) = ap sends tape_is in
     let present : List ℕ = present_at presents p in
-    let rows_with : Event → List (List Row) =
-    λ e. set rows p (with_row (rows_at rows p) (row_added place c.sends-sends.result present e))
-    in
-    let presents_with : Event → List (List ℕ) = λ e. set presents p (heard_more present e) in
-    let rows_are : c.append.new.self.rows ≡ rows_with event =
-    c.append.ensures.rows ∙ ap rows_with c.as_ref.ensures
-    in
-    let presents_are : c.append.new.self.presents ≡ presents_with event =
-    c.append.ensures.presents ∙ ap presents_with c.as_ref.ensures
-    in
+    let rows_are : c.append.new.self.rows ≡ set rows p (with_row (rows_at rows p) (row_added place sent present event)) = c.append.ensures.rows in
+    let presents_are : c.append.new.self.presents ≡ set presents p (heard_more present event) = c.append.ensures.presents in
     let grown : c.append-2.new.self.processes ≡ with_event history p event = c.append-2.ensures.processes in
     subst (λ (xs : List Process). IsCatalogue xs marks c.append.new.self.rows c.append.new.self.presents) (sym grown)
     (subst (λ (ys : List (List ℕ)). IsCatalogue (with_event history p event) marks c.append.new.self.rows ys) (sym presents_are)
     (subst (λ (xs : List (List Row)). IsCatalogue (with_event history p event) marks xs (set presents p (heard_more (present_at presents p) event))) (sym rows_are)
-    (IsCatalogue-event history marks rows presents p within event place c.sends-sends.result place_is sent_is named next c.self.invariant)))
+    (IsCatalogue-event history marks rows presents p within event place sent place_is sent_is named next c.self.invariant)))

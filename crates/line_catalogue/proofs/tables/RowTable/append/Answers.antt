@@ -1,8 +1,8 @@
 -- The rows and the vector of one process follow the event.
-use Rattle.std.proofs.Common.{◌≡◌, ◌<◌, length, map, get_or, set, [], List, ℕ, sym, ap, ◌∙◌, arith}
+use Rattle.std.proofs.Common.{◌≡◌, ◌+◌, ◌<◌, length, map, get_or, set, [], List, ℕ, sym, ap, ◌∙◌, arith}
 use Rattle.std.proofs.lemmas.List.{length-map}
 use Rattle.line_tape.specs.declared.events.Event.{Event}
-use Rattle.line_tape.specs.Shown.{shown}
+use Rattle.line_tape.specs.Event.{sends}
 use Rattle.line_catalogue.specs.declared.kept_rows.Row.{Row}
 use Rattle.line_catalogue.specs.Kept.{RowsView, TableView, rows_at, present_at}
 use Rattle.line_catalogue.specs.Plain.{plain, present_of, room_of}
@@ -21,14 +21,14 @@ returns-clause-rows c =
     let rooms : map room_of items ≡ c.args.self.now.rooms = ap (λ (t : TableView). t.rooms) c.self.view_is in
     let within : k < length items = omega (arith, c.requires.process, ap (λ (xs : List (List Row)). length xs) rows, length-map items plain) in
     let old : RowsView = c.index_mut.result.now in
-    let new : RowsView = c.append.new.self in
+    let new : RowsView = c.append_next.new.self in
     let is : old ≡ get_or items k old = c.index_mut.ensures.value in
-    let event : Event = shown c.args.event.now in
-    let with : List (List Row) → List (List ℕ) → ℕ → List Row = λ xs ys j. with_row (rows_at xs j) (row_added c.args.place c.args.sends (present_at ys j) event) in
+    let event : Event = c.args.event.now in
+    let with : List (List Row) → List (List ℕ) → ℕ → List Row = λ xs ys j. with_row (rows_at xs j) (row_added (length c.args.tape.now.events + 1) (sends c.args.tape.now.events) (present_at ys j) event) in
     let there : plain new ≡ with (map plain items) (map present_of items) k =
-    c.append.ensures.rows
-    ∙ ap (λ (xs : List Row). with_row xs (row_added c.args.place c.args.sends old.present event)) (sym (seen-old plain [] items k old new within is))
-    ∙ ap (λ (ys : List ℕ). with_row (rows_at (map plain items) k) (row_added c.args.place c.args.sends ys event)) (sym (seen-old present_of [] items k old new within is))
+    c.append_next.ensures.rows
+    ∙ ap (λ (xs : List Row). with_row xs (row_added (length c.args.tape.now.events + 1) (sends c.args.tape.now.events) old.present event)) (sym (seen-old plain [] items k old new within is))
+    ∙ ap (λ (ys : List ℕ). with_row (rows_at (map plain items) k) (row_added (length c.args.tape.now.events + 1) (sends c.args.tape.now.events) ys event)) (sym (seen-old present_of [] items k old new within is))
     in
     seen-written plain [] items k old new within is ∙ ap (set (map plain items) k) there ∙ ap (λ j. set (map plain items) j (with (map plain items) (map present_of items) j)) at
     ∙ ap (λ (xs : List (List Row)). set xs p (with xs (map present_of items) p)) rows ∙ ap (λ (ys : List (List ℕ)). set c.args.self.now.rows p (with c.args.self.now.rows ys p)) presents
@@ -44,10 +44,10 @@ returns-clause-presents c =
     let rooms : map room_of items ≡ c.args.self.now.rooms = ap (λ (t : TableView). t.rooms) c.self.view_is in
     let within : k < length items = omega (arith, c.requires.process, ap (λ (xs : List (List Row)). length xs) rows, length-map items plain) in
     let old : RowsView = c.index_mut.result.now in
-    let new : RowsView = c.append.new.self in
+    let new : RowsView = c.append_next.new.self in
     let is : old ≡ get_or items k old = c.index_mut.ensures.value in
-    let event : Event = shown c.args.event.now in
-    let there : present_of new ≡ heard_more (present_at (map present_of items) k) event = c.append.ensures.present ∙ ap (λ (ys : List ℕ). heard_more ys event) (sym (seen-old present_of [] items k old new within is)) in
+    let event : Event = c.args.event.now in
+    let there : present_of new ≡ heard_more (present_at (map present_of items) k) event = c.append_next.ensures.present ∙ ap (λ (ys : List ℕ). heard_more ys event) (sym (seen-old present_of [] items k old new within is)) in
     seen-written present_of [] items k old new within is ∙ ap (set (map present_of items) k) there ∙ ap (λ j. set (map present_of items) j (heard_more (present_at (map present_of items) j) event)) at
     ∙ ap (λ (ys : List (List ℕ)). set ys p (heard_more (present_at ys p) event)) presents
 
@@ -62,11 +62,11 @@ returns-clause-room c =
     let rooms : map room_of items ≡ c.args.self.now.rooms = ap (λ (t : TableView). t.rooms) c.self.view_is in
     let within : k < length items = omega (arith, c.requires.process, ap (λ (xs : List (List Row)). length xs) rows, length-map items plain) in
     let old : RowsView = c.index_mut.result.now in
-    let new : RowsView = c.append.new.self in
+    let new : RowsView = c.append_next.new.self in
     let is : old ≡ get_or items k old = c.index_mut.ensures.value in
     let here : get_or c.args.self.now.rooms p 0 ≡ old.room = ap (λ (xs : List ℕ). get_or xs p 0) (sym rooms) ∙ ap (λ j. get_or (map room_of items) j 0) (sym at) ∙ seen-old room_of 0 items k old new within is in
     let there : get_or (map room_of (set items k new)) p 0 ≡ new.room = ap (λ j. get_or (map room_of (set items k new)) j 0) (sym at) ∙ seen-new room_of 0 items k old new within is in
-    omega (arith, c.append.ensures.room, here, there)
+    omega (arith, c.append_next.ensures.room, here, there)
 
 pub returns-clause-others : goal.returns-clause-others
 returns-clause-others c =
@@ -79,6 +79,6 @@ returns-clause-others c =
     let rooms : map room_of items ≡ c.args.self.now.rooms = ap (λ (t : TableView). t.rooms) c.self.view_is in
     let within : k < length items = omega (arith, c.requires.process, ap (λ (xs : List (List Row)). length xs) rows, length-map items plain) in
     let old : RowsView = c.index_mut.result.now in
-    let new : RowsView = c.append.new.self in
+    let new : RowsView = c.append_next.new.self in
     let is : old ≡ get_or items k old = c.index_mut.ensures.value in
     λ q apart. seen-other room_of 0 items k old new within is q (λ e. apart (e ∙ at)) ∙ ap (λ (xs : List ℕ). get_or xs q 0) rooms
