@@ -1,8 +1,8 @@
 -- What is left to look at: it stays right by every event and by a restart, and with what is received behind a line it is enough.
 use Rattle.std.proofs.Common.{◌≡◌, ℕ, zero, suc, ◌+◌, ◌<◌, ◌≤◌, Bool, true, false, not, cond, List, [], ◌∷◌, ◌++◌, length, take, drop, get_or, map, filter, Some, refl, replicate, sym, ap, ◌∙◌, subst, arith, inl, inr}
 use Rattle.std.specs.List.{Contains, slice_get, flat_map, list_any, range_with_len}
-use Rattle.std.proofs.lemmas.Bool.{cases_lt, false≢true, false_from_ne_true}
-use Rattle.std.proofs.lemmas.List.{take-append-drop, length-append, length-set, length-replicate, get_or-replicate}
+use Rattle.std.proofs.lemmas.Bool.{cases_lt, false≢true}
+use Rattle.std.proofs.lemmas.List.{take-append-drop, take-append-le, take-take, take_all, length-append, length-set, length-replicate, get_or-replicate}
 use Rattle.std.proofs.lemmas.List.Elements.{filter_map-append, Contains-append_cases, Contains-append_left, Contains-append_right, Contains-push}
 use Rattle.std.proofs.lemmas.Option.{slice_get_within}
 use Rattle.line_names.specs.declared.choices.Choice.{Choice}
@@ -22,6 +22,7 @@ use Rattle.line_tape.specs.Transit.{Letter, letters, is_open, open_letters, in_t
 use Rattle.line_tape.proofs.ChainLemmas.{choice-past}
 use Rattle.line_tape.proofs.CopyLemmas.{length_addressees, slice_get_front}
 use Rattle.line_tape.proofs.CutLemmas.{contains_nothing, cons_cases, sends_take}
+use Rattle.line_tape.proofs.FrontLemmas.{Contains-take_more, place_le}
 use Rattle.line_tape.proofs.LetterLemmas.{addressees_restarted}
 use Rattle.line_tape.proofs.LineLemmas.{tape_at-past, front-empty}
 use Rattle.line_tape.proofs.LinkLemmas.{tape_restarted}
@@ -29,38 +30,48 @@ use Rattle.line_tape.proofs.ReceivedLemmas.{length-letters}
 use Rattle.line_tape.proofs.SpentLemmas.{tape_grows, incs_restarted, length_restarted}
 use Rattle.line_tape.proofs.StayLemmas.{names_restarted}
 use Rattle.line_tape.proofs.TransitLemmas.{letter_of, has_received-iff, names_contain}
-use Rattle.line_catalogue.specs.Left.{start_at, numbers_at, AreEnds, AreLeft, AreCandidates, HasOpen}
+use Rattle.line_catalogue.specs.Left.{place_at, start_at, numbers_at, AreEnds, AreLeft, AreCandidates, HasOpen}
 use Rattle.line_catalogue.proofs.OpenLemmas.{letter_at}
 
--- what is left and what is received behind the line is enough to look at
-pub has-open : (history : List Process) (line : List Choice) (starts ends : List ℕ) (left : List MsgName) (rows : List (List ℕ)) (p : ℕ) → AreLeft history starts left → AreEnds history starts line ends → AreCandidates history line ends left rows → p < length history
+-- what is left and what is received behind the line, but before its place, is enough to look at
+pub has-open : (history : List Process) (line : List Choice) (starts ends places : List ℕ) (left : List MsgName) (rows : List (List ℕ)) (p : ℕ) → AreLeft history starts places left → AreEnds history starts line ends → AreCandidates history line ends places left rows → p < length history
     → HasOpen history line p (start_at ends p) (numbers_at rows p)
-has-open history line starts ends left rows p are ending cand inside = λ q m from low sent unseen.
+has-open history line starts ends places left rows p are ending cand inside = λ q m from low sent unseen.
     let tape : List Event = tape_at history q in
     let n : ℕ = place tape (choice_at line q) in
+    let s : ℕ = place_at places q in
     let there : m.from < length rows = omega (arith, from, inside, cand.count) in
     let below : m.number < start_at ends m.from = omega (arith, low, ap (start_at ends) from) in
     let early : m.number < start_at starts m.from = omega (arith, below, ending.started m.from) in
-    subst (λ (j : ℕ). Contains (numbers_at rows j) m.number) from (elim (has_received tape m) as (λ (b : Bool). has_received tape m ≡ b → Contains (numbers_at rows m.from) m.number) [
+    subst (λ (j : ℕ). Contains (numbers_at rows j) m.number) from (elim (has_received (take s tape) m) as (λ (b : Bool). has_received (take s tape) m ≡ b → Contains (numbers_at rows m.from) m.number) [
       | true ↦ λ e.
-          let received : Contains tape (Recv m) = (has_received-iff tape m).0 e in
+          let received : Contains (take s tape) (Recv m) = (has_received-iff (take s tape) m).0 e in
+          let whole : Contains tape (Recv m) = subst (λ (es : List Event). Contains es (Recv m)) (take-append-drop s tape) (Contains-append_left (take s tape) (drop s tape) (Recv m) received) in
+          let unheard : Contains (take n tape) (Recv m) → ⊥ = λ front. false≢true (sym unseen ∙ (has_received-iff (take n tape) m).1 front) in
           let within : q < length history = elim (cases_lt q (length history)) [
             | inl h ↦ h
-            | inr past ↦ absurd (contains_nothing (Recv m) (subst (λ (es : List Event). Contains es (Recv m)) (tape_at-past history q (omega arith)) received))
+            | inr past ↦ absurd (contains_nothing (Recv m) (subst (λ (es : List Event). Contains es (Recv m)) (tape_at-past history q (omega arith)) whole))
           ] in
-          elim (Contains-append_cases (take n tape) (drop n tape) (Recv m) (subst (λ (es : List Event). Contains es (Recv m)) (sym (take-append-drop n tape)) received)) [
-            | inl front ↦ absurd (false≢true (sym unseen ∙ (has_received-iff (take n tape) m).1 front))
-            | inr behind ↦ cand.behind q within m ((names_contain (drop n tape) m).1 behind) below there
+          elim (Contains-append_cases (take n (take s tape)) (drop n (take s tape)) (Recv m) (subst (λ (es : List Event). Contains es (Recv m)) (sym (take-append-drop n (take s tape))) received)) [
+            | inl front ↦ absurd (elim (cases_lt s n) [
+              | inl less ↦ unheard (Contains-take_more tape s n (Recv m) (omega (arith, less)) received)
+              | inr more ↦ unheard (subst (λ (es : List Event). Contains es (Recv m)) (take-take n s tape (omega (arith, more))) front)
+            ])
+            | inr behind ↦ cand.behind q within m ((names_contain (drop n (take s tape)) m).1 behind) below there
           ]
       | false ↦ λ e. cand.before m (are.held q m sent early e) below there
     ] refl)
 
 -- an event keeps it right: a send, a receipt, a check and a mark alike
-pub AreLeft-event : (history : List Process) (starts : List ℕ) (left : List MsgName) (at : ℕ) (e : Event) → at < length history → AreLeft history starts left → AreLeft (with_event history at e) starts left
-AreLeft-event history starts left at e h are =
+pub AreLeft-event : (history : List Process) (starts places : List ℕ) (left : List MsgName) (at : ℕ) (e : Event) → at < length history → AreLeft history starts places left → AreLeft (with_event history at e) starts places left
+AreLeft-event history starts places left at e h are =
     let new : List Process = with_event history at e in
     record {
       count = are.count ∙ sym (length-set history at _);
+      places_count = are.places_count ∙ sym (length-set history at _);
+      placed = λ p.
+          let grows = tape_grows history at e p h in
+          omega (arith, are.placed p, ap (λ (es : List Event). length es) grows.1, length-append (tape_at history p) grows.0);
       within = λ p.
           let grows = tape_grows history at e p h in
           let tape : List Event = tape_at history p in
@@ -78,7 +89,8 @@ AreLeft-event history starts left at e h are =
           } in
           let more = tape_grows history at e q h in
           let mine : List Event = tape_at history q in
-          are.held q m old low (false_from_ne_true (has_received mine m) (λ t. false≢true (sym unseen ∙ ap (λ (es : List Event). has_received es m) more.1 ∙ (has_received-iff (mine ++ more.0) m).1 (Contains-append_left mine more.0 (Recv m) ((has_received-iff mine m).0 t)))));
+          let same : take (place_at places q) (tape_at new q) ≡ take (place_at places q) mine = ap (take (place_at places q)) more.1 ∙ take-append-le (place_at places q) mine more.0 (are.placed q) in
+          are.held q m old low (ap (λ (es : List Event). has_received es m) (sym same) ∙ unseen);
     }
 
 contains_cons : {X : Type 0} (x y : X) (xs : List X) → Contains xs y → Contains (x ∷ xs) y
@@ -146,10 +158,12 @@ sender-within history line starts p k are low = elim (cases_lt p (length history
 ]
 
 -- what is in transit at any line is enough to be left, with the sends behind it
-pub AreLeft-line : (history : List Process) (line : List Choice) (starts : List ℕ) → length starts ≡ length history → ((p : ℕ) → start_at starts p ≡ sends (events_before history line p)) → AreLeft history starts (in_transit history line)
-AreLeft-line history line starts count are =
+pub AreLeft-line : (history : List Process) (line : List Choice) (starts places : List ℕ) → length starts ≡ length history → length places ≡ length history → ((p : ℕ) → start_at starts p ≡ sends (events_before history line p)) → ((p : ℕ) → place_at places p ≡ place (tape_at history p) (choice_at line p)) → AreLeft history starts places (in_transit history line)
+AreLeft-line history line starts places count places_count are at =
     record {
       count = count;
+      places_count = places_count;
+      placed = λ p. omega (arith, at p, place_le (tape_at history p) (choice_at line p));
       within = λ p. omega (arith, are p, sends_take (tape_at history p) (place (tape_at history p) (choice_at line p)));
       held = λ q m sent low unseen.
           let tape : List Event = tape_at history m.from in
@@ -161,31 +175,35 @@ AreLeft-line history line starts count are =
           let tos : addressees tape ≡ addressees (take n tape) ++ addressees (drop n tape) = ap addressees (sym (take-append-drop n tape)) ∙ filter_map-append addressee_of (take n tape) (drop n tape) in
           let i : slice_get (incarnations_sent (take n tape)) m.number ≡ Some m.inc = slice_get_front (incarnations_sent (take n tape)) (incarnations_sent (drop n tape)) m.number m.inc short (ap (λ (xs : List ℕ). slice_get xs m.number) (sym incs) ∙ sent.held) in
           let a : slice_get (addressees (take n tape)) m.number ≡ Some q = slice_get_front (addressees (take n tape)) (addressees (drop n tape)) m.number q (omega (arith, short, length_addressees (take n tape))) (ap (λ (xs : List ℕ). slice_get xs m.number) (sym tos) ∙ sent.to_is) in
-          let unread : has_received (take k mine) m ≡ false =
-          false_from_ne_true (has_received (take k mine) m) (λ t. false≢true (sym unseen ∙ (has_received-iff mine m).1 (subst (λ (es : List Event). Contains es (Recv m)) (take-append-drop k mine) (Contains-append_left (take k mine) (drop k mine) (Recv m) ((has_received-iff (take k mine) m).0 t)))))
-          in
+          let unread : has_received (take k mine) m ≡ false = ap (λ (j : ℕ). has_received (take j mine) m) (sym (at q)) ∙ unseen in
           in-transit history line q m (sender-within history line starts m.from m.number (are m.from) low) i a unread;
     }
 
 -- after a restart what was in transit at the line is left to look at, from where the tapes go on
-pub AreLeft-restarted : (history : List Process) (line : List Choice) (starts : List ℕ) → length line ≡ length history → length starts ≡ length history → ((p : ℕ) → start_at starts p ≡ sends (events_before history line p))
-    → AreLeft (restarted history line) starts (in_transit history line)
-AreLeft-restarted history line starts e count are =
+pub AreLeft-restarted : (history : List Process) (line : List Choice) (starts places : List ℕ) → length line ≡ length history → length starts ≡ length history → length places ≡ length (restarted history line) → ((p : ℕ) → start_at starts p ≡ sends (events_before history line p)) → ((p : ℕ) → place_at places p ≡ length (tape_at (restarted history line) p))
+    → AreLeft (restarted history line) starts places (in_transit history line)
+AreLeft-restarted history line starts places e count places_count are at =
     record {
       count = count ∙ sym (length_restarted history line e);
+      places_count = places_count;
+      placed = λ p. omega (arith, at p);
       within = λ p. omega (arith, are p, ap (λ (xs : List ℕ). length xs) (incs_restarted history line p e));
       held = λ q m sent low unseen.
           let i : slice_get (incarnations_sent (events_before history line m.from)) m.number ≡ Some m.inc = ap (λ (xs : List ℕ). slice_get xs m.number) (sym (incs_restarted history line m.from e)) ∙ sent.held in
           let tos : addressees (tape_at (restarted history line) m.from) ≡ addressees (events_before history line m.from) = ap addressees (tape_restarted history line m.from e) ∙ addressees_restarted (events_before history line m.from) in
           let names : names_received (tape_at (restarted history line) q) ≡ names_received (events_before history line q) = ap names_received (tape_restarted history line q e) ∙ names_restarted (events_before history line q) in
-          in-transit history line q m (sender-within history line starts m.from m.number (are m.from) low) i (ap (λ (xs : List ℕ). slice_get xs m.number) (sym tos) ∙ sent.to_is) (ap (list_any (is_name m)) (sym names) ∙ unseen);
+          let whole : take (place_at places q) (tape_at (restarted history line) q) ≡ tape_at (restarted history line) q = take_all (place_at places q) (tape_at (restarted history line) q) (omega (arith, at q)) in
+          let unread : has_received (tape_at (restarted history line) q) m ≡ false = ap (λ (es : List Event). has_received es m) (sym whole) ∙ unseen in
+          in-transit history line q m (sender-within history line starts m.from m.number (are m.from) low) i (ap (λ (xs : List ℕ). slice_get xs m.number) (sym tos) ∙ sent.to_is) (ap (list_any (is_name m)) (sym names) ∙ unread);
     }
 
 -- where each send is to be looked at, nothing has to be left
-pub AreLeft-anew : (history : List Process) (starts : List ℕ) (left : List MsgName) → length starts ≡ length history → ((p : ℕ) → start_at starts p ≡ 0) → AreLeft history starts left
-AreLeft-anew history starts left count none = record {
+pub AreLeft-anew : (history : List Process) (starts places : List ℕ) (left : List MsgName) → length starts ≡ length history → length places ≡ length history → ((p : ℕ) → start_at starts p ≡ 0) → ((p : ℕ) → place_at places p ≡ 0) → AreLeft history starts places left
+AreLeft-anew history starts places left count places_count none first = record {
   count = count;
+  places_count = places_count;
   within = λ p. omega (arith, none p);
+  placed = λ p. omega (arith, first p);
   held = λ q m sent low unseen. absurd (omega (arith, low, none m.from));
 }
 

@@ -15,16 +15,22 @@ use Rattle.line_tape.specs.Transit.{Letter, letters, is_open, has_received, name
 abbrev pub start_at : List ℕ → ℕ → ℕ
 start_at starts p = slice_index_or starts p 0
 
--- of what was sent before the starts, all that isn't received is left to look at
-pub record AreLeft (history : List Process) (starts : List ℕ) (left : List MsgName) : Type 0 where
-  pub count : length starts ≡ length history
-  pub within : (p : ℕ) → start_at starts p ≤ sends (tape_at history p)
-  pub held : (q : ℕ) (message : MsgName) → IsSentTo history q message → message.number < start_at starts message.from
-      → has_received (tape_at history q) message ≡ false → Contains left message
+-- of process p, behind how many first events no receipt is to be looked at
+abbrev pub place_at : List ℕ → ℕ → ℕ
+place_at places p = slice_index_or places p 0
 
--- what process p did behind its choice
-abbrev pub events_behind : List Process → List Choice → ℕ → List Event
-events_behind history line p = drop (place (tape_at history p) (choice_at line p)) (tape_at history p)
+-- of what was sent before the starts, all that isn't received before the places is left to look at
+pub record AreLeft (history : List Process) (starts places : List ℕ) (left : List MsgName) : Type 0 where
+  pub count : length starts ≡ length history
+  pub places_count : length places ≡ length history
+  pub within : (p : ℕ) → start_at starts p ≤ sends (tape_at history p)
+  pub placed : (p : ℕ) → place_at places p ≤ length (tape_at history p)
+  pub held : (q : ℕ) (message : MsgName) → IsSentTo history q message → message.number < start_at starts message.from
+      → has_received (take (place_at places q) (tape_at history q)) message ≡ false → Contains left message
+
+-- what process p did behind its choice, among its first `kept` events
+abbrev pub events_between : List Process → List Choice → ℕ → ℕ → List Event
+events_between history line p kept = drop (place (tape_at history p) (choice_at line p)) (take kept (tape_at history p))
 
 -- the row of process p
 abbrev pub numbers_at : List (List ℕ) → ℕ → List ℕ
@@ -42,11 +48,11 @@ AreIn names ends rows =
     (message : MsgName) → Contains names message → message.number < start_at ends message.from → message.from < length rows
     → Contains (numbers_at rows message.from) message.number
 
--- for each process a row, with what is left to look at and what is received behind the line
-pub record AreCandidates (history : List Process) (line : List Choice) (ends : List ℕ) (left : List MsgName) (rows : List (List ℕ)) : Type 0 where
+-- for each process a row, with what is left to look at and what is received behind the line, but before its place
+pub record AreCandidates (history : List Process) (line : List Choice) (ends places : List ℕ) (left : List MsgName) (rows : List (List ℕ)) : Type 0 where
   pub count : length rows ≡ length history
   pub before : AreIn left ends rows
-  pub behind : (q : ℕ) → q < length history → AreIn (names_received (events_behind history line q)) ends rows
+  pub behind : (q : ℕ) → q < length history → AreIn (names_received (events_between history line q (place_at places q))) ends rows
 
 -- the row has the numbers of process p's first `end` messages that aren't received before the line
 abbrev pub HasOpen : List Process → List Choice → ℕ → ℕ → List ℕ → Type 0

@@ -326,8 +326,8 @@ impl Catalogue {
     /// The messages in transit at a line, by sender, then number: those whose send stands before
     /// the line, and which the process that the send names has not received before its own choice.
     ///
-    /// It looks at what was in transit at a line that is kept, at each send behind that line, and at
-    /// each event behind this one; it takes memory for these and for the result, and fails without.
+    /// It looks at what was in transit at a line that is kept, at each send behind that one, and at
+    /// each event between the two; it takes memory for these and for the result, and fails without.
     /// `keep_transit`, `restart_with` and now and then `reserve` keep a line, `restart` none.
     pub fn transit(&self, alloc: Global, line: &Line) -> Result<Vec<MsgName>, AllocError>
         requires { IsLine self.now.processes line.now }

@@ -1,13 +1,15 @@
 //! A history, and beside it what is left to look at, so that little tells what is in transit.
 ghost use Rattle.std.specs.Prelude.{◌≡◌, ◌≢◌, ◌<◌, ◌≤◌, ◌+◌, ℕ, length, replicate};
 ghost use Rattle.std.specs.Prelude.{IfOk, IfSome, IsOk, OnOk};
+ghost use Rattle.line_names.specs.Lines.{choice_at};
 ghost use Rattle.line_tape.specs.Event.{sends, HasLongState, NamesBelow};
+ghost use Rattle.line_tape.specs.Front.{place};
 ghost use Rattle.line_tape.specs.History.{tape_at, with_event};
 ghost use Rattle.line_tape.specs.Line.{events_before, IsLine};
 ghost use Rattle.line_tape.specs.Restart.{restarted, HaveFurther};
 ghost use Rattle.line_tape.specs.Transit.{in_transit};
 ghost use Rattle.line_tape.specs.Views.{room_at};
-ghost use Rattle.line_catalogue.specs.Left.{start_at, AreEnds, AreLeft};
+ghost use Rattle.line_catalogue.specs.Left.{place_at, start_at, AreEnds, AreLeft};
 
 use crate::candidates::candidates;
 use crate::transits::add_open;
@@ -46,18 +48,19 @@ fn ends_before(
 fn find_transit(
     history: &History,
     starts: &[u32],
+    places: &[u32],
     left: &[MsgName],
     alloc: Global,
     line: &Line,
 ) -> Result<Vec<MsgName>, AllocError>
     requires line { IsLine history.now.processes line.now }
-    requires left { AreLeft history.now.processes starts.now left.now }
+    requires left { AreLeft history.now.processes starts.now places.now left.now }
     ensures { IfOk result (λ messages. messages.items ≡ in_transit history.now.processes line.now) }
 {
     let n = history.n();
     let bounds = ends_before(history, starts, alloc, line)?;
     let ends = bounds.as_slice();
-    let mut rows = candidates(history, ends, left, alloc, line)?;
+    let mut rows = candidates(history, ends, places, left, alloc, line)?;
     let mut messages = Vec::new(alloc);
     for sender in 0..n {
         let p = ProcId::try_new(sender, n).unwrap();
@@ -144,16 +147,49 @@ fn move_starts(history: &History, line: &Line, starts: &mut Vec<u32>)
     }
 }
 
-/// A history, how many sends each process had before a line, and what was in transit there.
+/// Has each place be the number of events before the process's choice of the line.
+fn move_places(history: &History, line: &Line, places: &mut Vec<u32>)
+    requires line { IsLine history.now.processes line.now }
+    requires count { length places.old.items ≡ length history.now.processes }
+    ensures count { length places.new.items ≡ length history.now.processes }
+    ensures places { (p : ℕ) → place_at places.new.items p
+        ≡ place (tape_at history.now.processes p) (choice_at line.now p) }
+{
+    let n = history.n();
+    for q in 0..n {
+        let p = ProcId::try_new(q, n).unwrap();
+        let before = history.tape(p).place(line.at(p)).unwrap();
+        places[q as usize] = before;
+    }
+}
+
+/// Has each place be the number of all events of the process.
+fn set_places(history: &History, places: &mut Vec<u32>)
+    requires { length places.old.items ≡ length history.now.processes }
+    ensures count { length places.new.items ≡ length history.now.processes }
+    ensures places { (p : ℕ) → place_at places.new.items p
+        ≡ length (tape_at history.now.processes p) }
+{
+    let n = history.n();
+    for q in 0..n {
+        let p = ProcId::try_new(q, n).unwrap();
+        let all = history.tape(p).len();
+        places[q as usize] = all;
+    }
+}
+
+/// A history, how many sends and events each process had before a line, and what was in transit
+/// there.
 ///
-/// What was sent before that line and is not received is among these messages; so no other send
-/// before it has to be looked at again. Neither changes by an event. Now and then, as room is made,
-/// the ledger settles: it moves that line to where each process stands, so that what is to be looked
-/// at does not grow with the history.
+/// What was sent before that line and is not received before it is among these messages; so no
+/// other send before it has to be looked at again, and no receipt behind it. None of these changes
+/// by an event. Now and then, as room is made, the ledger settles: it moves that line to where each
+/// process stands, so that what is to be looked at does not grow with the history.
 #[derive(Drop)]
 pub struct Ledger {
     history: History,
     starts: Vec<u32>,
+    places: Vec<u32>,
     left: Vec<MsgName>,
     alloc: Global,
     // How many further events come before the ledger settles.
@@ -169,7 +205,7 @@ impl Model for Ledger {
 
     ghost view = { λ l. l.history };
 
-    ghost invariant = { λ l. AreLeft l.history.processes l.starts.items l.left.items };
+    ghost invariant = { λ l. AreLeft l.history.processes l.starts.items l.places.items l.left.items };
 }
 
 impl Ledger {
@@ -178,9 +214,11 @@ impl Ledger {
         ensures { IfOk result (λ ledger. ledger ≡ history) }
     {
         let starts = no_starts(alloc, history.n())?;
+        let places = no_starts(alloc, history.n())?;
         Ok(Ledger {
             history,
             starts,
+            places,
             left: Vec::new(alloc),
             alloc,
             due: EVENTS_BETWEEN,
@@ -260,8 +298,8 @@ impl Ledger {
 
     /// The messages in transit at a line, by sender, then number.
     ///
-    /// It looks at what was kept last, at each send since, and at each event behind the line; it
-    /// takes a number for each process, for each of the first, and for each receipt behind the line
+    /// It looks at what was kept last, at each send since, and at each event between the two lines;
+    /// it takes a number for each process, for each of the first, and for each receipt between them
     /// of a message that was sent before both, and room for the result.
     pub fn transit(&self, alloc: Global, line: &Line) -> Result<Vec<MsgName>, AllocError>
         requires { IsLine self.now.processes line.now }
@@ -271,6 +309,7 @@ impl Ledger {
         find_transit(
             &self.history,
             self.starts.as_slice(),
+            self.places.as_slice(),
             self.left.as_slice(),
             alloc,
             line,
@@ -285,6 +324,7 @@ impl Ledger {
         ensures { self.new ≡ self.old }
     {
         move_starts(&self.history, line, &mut self.starts);
+        move_places(&self.history, line, &mut self.places);
         self.left = messages;
         self.due = events_to_wait(&self.history, self.starts.as_slice(), self.left.as_slice());
     }
@@ -298,6 +338,7 @@ impl Ledger {
     {
         self.history.restart(line);
         clear_starts(&mut self.starts);
+        clear_starts(&mut self.places);
         self.left = Vec::new(self.alloc);
         self.due = events_to_wait(&self.history, self.starts.as_slice(), self.left.as_slice());
     }
@@ -313,6 +354,7 @@ impl Ledger {
     {
         move_starts(&self.history, line, &mut self.starts);
         self.history.restart(line);
+        set_places(&self.history, &mut self.places);
         self.left = left;
         self.due = events_to_wait(&self.history, self.starts.as_slice(), self.left.as_slice());
     }

@@ -7,7 +7,7 @@ use Rattle.line_names.specs.declared.messages.MsgName.{MsgName}
 use Rattle.line_tape.specs.declared.events.Event.{Event}
 use Rattle.line_tape.specs.History.{Process}
 use Rattle.line_tape.specs.Transit.{names_received}
-use Rattle.line_catalogue.specs.Left.{AreIn, events_behind}
+use Rattle.line_catalogue.specs.Left.{AreIn, events_between, place_at}
 use Rattle.line_catalogue.proofs.NumberLemmas.{in-none, in-left, in-right}
 use Rattle.line_catalogue.proofs.candidates.candidates.Goals as goal
 
@@ -28,17 +28,18 @@ loop-receiver-preserved c =
     let r : ℕ = c.loop-receiver.receiver in
     let at : c.unwrap-q.result ≡ r = (rw c.unwrap-q.ensures at c.try_new.ensures).1 in
     let new : List (List ℕ) = c.add_receipts.new.rows.items in
-    let events : List Event = c.events_behind.result in
-    let are : events ≡ events_behind history line r = c.events_behind.ensures ∙ ap (λ (k : ℕ). events_behind history line k) at in
+    let between : ℕ → List Event = λ k. events_between history line k (place_at c.args.places.now k) in
+    let events : List Event = c.events_between-events.result in
+    let are : events ≡ between r = c.events_between-events.ensures ∙ ap (λ (k : ℕ). events_between history line k (place_at c.args.places.now r)) at in
     let more : (names : List MsgName) → AreIn names ends c.loop-receiver.rows.items → AreIn (names ++ names_received events) ends new = c.in_ok-add_receipts.ensures.added in
     record {
       count = c.in_ok-add_receipts.ensures.count ∙ c.loop-receiver.invariant.count;
       before = in-left c.args.left.now (names_received events) ends new (more c.args.left.now c.loop-receiver.invariant.before);
       behind = λ q l. elim (cases_lt q r) [
-        | inl earlier ↦ in-left (names_received (events_behind history line q)) (names_received events) ends new (more (names_received (events_behind history line q)) (c.loop-receiver.invariant.behind q earlier))
+        | inl earlier ↦ in-left (names_received (between q)) (names_received events) ends new (more (names_received (between q)) (c.loop-receiver.invariant.behind q earlier))
         | inr here ↦
             let same : r ≡ q = omega (arith, l) in
-            subst (λ (es : List Event). AreIn (names_received es) ends new) (are ∙ ap (λ (k : ℕ). events_behind history line k) same) (in-right c.args.left.now (names_received events) ends new (more c.args.left.now c.loop-receiver.invariant.before))
+            subst (λ (es : List Event). AreIn (names_received es) ends new) (are ∙ ap between same) (in-right c.args.left.now (names_received events) ends new (more c.args.left.now c.loop-receiver.invariant.before))
       ];
     }
 

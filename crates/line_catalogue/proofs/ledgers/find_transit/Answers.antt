@@ -30,7 +30,7 @@ add_open-requires-clause-held c =
     let inside : s < length history = omega (arith, c.n-n.ensures.value) in
     let is : numbers_at c.in_ok-rows.rows.items s ≡ row = sym (c.loop-sender.invariant.kept s (omega arith)) ∙ get_or_default c.loop-sender.rows.items s [] row (omega (arith, inside, c.loop-sender.invariant.count)) ∙ sym c.index_mut.ensures.value in
     let are : AreEnds history c.args.starts.now line ends = subst (AreEnds history c.args.starts.now line) (sym c.as_slice-ends.ensures.value) c.in_ok-bounds.ensures in
-    let open' : HasOpen history line s end (numbers_at c.in_ok-rows.rows.items s) = has-open history line c.args.starts.now ends c.args.left.now c.in_ok-rows.rows.items s c.requires.left are c.in_ok-rows.ensures inside in
+    let open' : HasOpen history line s end (numbers_at c.in_ok-rows.rows.items s) = has-open history line c.args.starts.now ends c.args.places.now c.args.left.now c.in_ok-rows.rows.items s c.requires.left are c.in_ok-rows.ensures inside in
     subst (λ (k : ℕ). HasOpen history line k end row) (sym at) (subst (HasOpen history line s end) is open')
 
 pub loop-sender-preserved : goal.loop-sender-preserved

@@ -14,6 +14,7 @@ invariant_of-self c =
     let history : List Process = c.self.inside.history.processes in
     let line : List Choice = c.args.line.now in
     let starts : List ℕ = c.move_starts.new.starts.items in
+    let places : List ℕ = c.move_places.new.places.items in
     let seen : history ≡ c.args.self.now.processes = ap (λ (v : HistoryView). v.processes) c.self.view_is in
     let told : c.args.messages.items ≡ in_transit history line = c.requires.transit ∙ ap (λ (h : List Process). in_transit h line) (sym seen) in
-    subst (λ (left : List MsgName). AreLeft history starts left) (sym told) (AreLeft-line history line starts c.move_starts.ensures.count c.move_starts.ensures.starts)
+    subst (λ (left : List MsgName). AreLeft history starts places left) (sym told) (AreLeft-line history line starts places c.move_starts.ensures.count c.move_places.ensures.count c.move_starts.ensures.starts c.move_places.ensures.places)

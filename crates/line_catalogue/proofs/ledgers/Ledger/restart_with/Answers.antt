@@ -2,7 +2,7 @@
 use Rattle.std.proofs.Common.{◌≡◌, ℕ, List, length, sym, ap, ◌∙◌, subst}
 use Rattle.line_names.specs.declared.choices.Choice.{Choice}
 use Rattle.line_names.specs.declared.messages.MsgName.{MsgName}
-use Rattle.line_tape.specs.History.{Process}
+use Rattle.line_tape.specs.History.{Process, tape_at}
 use Rattle.line_tape.specs.Restart.{restarted}
 use Rattle.line_tape.specs.Transit.{in_transit}
 use Rattle.line_tape.specs.Views.{HistoryView}
@@ -16,12 +16,13 @@ invariant_of-self c =
     let old : List Process = c.self.inside.history.processes in
     let line : List Choice = c.args.line.now in
     let starts : List ℕ = c.move_starts.new.starts.items in
+    let places : List ℕ = c.set_places.new.places.items in
     let seen : old ≡ c.args.self.now.processes = ap (λ (v : HistoryView). v.processes) c.self.view_is in
     let enough : length line ≡ length old = c.requires.line.length_is ∙ sym (ap (λ (h : List Process). length h) seen) in
     let new : c.restart.new.self.processes ≡ restarted old line = c.restart.ensures.processes in
     let told : c.args.left.items ≡ in_transit old line = c.requires.left ∙ ap (λ (h : List Process). in_transit h line) (sym seen) in
-    let are : AreLeft (restarted old line) starts (in_transit old line) = AreLeft-restarted old line starts enough c.move_starts.ensures.count c.move_starts.ensures.starts in
-    subst (λ (h : List Process). AreLeft h starts c.args.left.items) (sym new) (subst (λ (left : List MsgName). AreLeft (restarted old line) starts left) (sym told) are)
+    let are : AreLeft (restarted old line) starts places (in_transit old line) = AreLeft-restarted old line starts places enough c.move_starts.ensures.count (c.set_places.ensures.count ∙ ap (λ (h : List Process). length h) new) c.move_starts.ensures.starts (λ p. c.set_places.ensures.places p ∙ ap (λ (h : List Process). length (tape_at h p)) new) in
+    subst (λ (h : List Process). AreLeft h starts places c.args.left.items) (sym new) (subst (λ (left : List MsgName). AreLeft (restarted old line) starts places left) (sym told) are)
 
 pub events_to_wait-self-inside-requires : goal.events_to_wait-self-inside-requires
 events_to_wait-self-inside-requires c =
@@ -31,3 +32,12 @@ events_to_wait-self-inside-requires c =
     let enough : length line ≡ length old = c.requires.line.length_is ∙ sym (ap (λ (h : List Process). length h) seen) in
     let same : length c.restart.new.self.processes ≡ length old = ap (λ (h : List Process). length h) c.restart.ensures.processes ∙ length_restarted old line enough in
     ap (λ (xs : List ℕ). length xs) c.as_slice.ensures.value ∙ c.move_starts.ensures.count ∙ sym same
+
+pub set_places-requires : goal.set_places-requires
+set_places-requires c =
+    let old : List Process = c.self.inside.history.processes in
+    let line : List Choice = c.args.line.now in
+    let seen : old ≡ c.args.self.now.processes = ap (λ (v : HistoryView). v.processes) c.self.view_is in
+    let enough : length line ≡ length old = c.requires.line.length_is ∙ sym (ap (λ (h : List Process). length h) seen) in
+    let same : length c.restart.new.self.processes ≡ length old = ap (λ (h : List Process). length h) c.restart.ensures.processes ∙ length_restarted old line enough in
+    c.self.invariant.places_count ∙ sym same
