@@ -1,6 +1,6 @@
-//! The four kernels.
-ghost use Rattle.std.specs.Prelude.{◌≡◌, ◌↔◌, IsTrue, MatchOption, length};
-ghost use Rattle.line_lanes.specs.Lanes.{greater_of, HasNoneOver, IsFirstOver, over_count};
+//! The kernels.
+ghost use Rattle.std.specs.Prelude.{◌≡◌, ◌≤◌, ◌↔◌, IsTrue, MatchOption, length};
+ghost use Rattle.line_lanes.specs.Lanes.{greater_of, HasNoneOver, HasNoneOverBefore, IsFirstOver, over_count};
 
 use crate::blocks::{LANES, max_block, over_bits};
 
@@ -34,7 +34,18 @@ pub fn first_over(a: &[u32], b: &[u32]) -> Option<usize>
     requires { length a.now ≡ length b.now }
     ensures { MatchOption result (HasNoneOver a.now b.now) (IsFirstOver a.now b.now) }
 {
-    let mut at = 0;
+    first_over_from(a, b, 0)
+}
+
+/// What `first_over` answers, where it is known that in none of so many first lanes the first list
+/// is over the second: it looks at no block before the one where these end.
+pub fn first_over_from(a: &[u32], b: &[u32], from: usize) -> Option<usize>
+    requires lanes { length a.now ≡ length b.now }
+    requires from { from ≤ length a.now }
+    requires none { HasNoneOverBefore a.now b.now from }
+    ensures { MatchOption result (HasNoneOver a.now b.now) (IsFirstOver a.now b.now) }
+{
+    let mut at = from - from % LANES;
     while a.len() - at >= LANES {
         let bits = over_bits(a, b, at);
         if bits != 0 {

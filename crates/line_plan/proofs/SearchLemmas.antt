@@ -1,22 +1,24 @@
 -- The counts of sends and the processes to be visited, as a process is lowered.
-use Rattle.std.proofs.Common.{◌≡◌, ◌≢◌, ℕ, zero, suc, ◌<◌, ◌≤◌, Bool, List, [], ◌∷◌, length, get_or, set, inl, inr, refl, sym, ap, ◌∙◌, subst, arith}
+use Rattle.std.proofs.Common.{◌≡◌, ◌≢◌, ℕ, zero, suc, ◌<◌, ◌≤◌, Bool, List, [], ◌∷◌, ◌++◌, length, take, drop, min, get_or, set, inl, inr, refl, sym, ap, ◌∙◌, subst, arith}
 use Rattle.std.specs.List.{Contains}
 use Rattle.std.proofs.lemmas.Bool.{cases_eq}
-use Rattle.std.proofs.lemmas.List.{ext_get_or, length-set, get_or-set_same, get_or-set_other}
+use Rattle.std.proofs.lemmas.List.{ext_get_or, length-set, get_or-set_same, get_or-set_other, take-append-drop, take-take}
 use Rattle.line_names.specs.declared.choices.Choice.{Choice}
 use Rattle.line_names.specs.declared.choices.Choice.TheVariants.{Check as AtCheck}
 use Rattle.line_names.specs.Lines.{choice_at}
+use Rattle.line_names.specs.Order.{IsNoLater}
 use Rattle.line_tape.specs.declared.events.Event.{Event}
 use Rattle.line_tape.specs.declared.events.Event.TheVariants.{Recv}
 use Rattle.line_tape.specs.Event.{sends, Holds}
-use Rattle.line_tape.specs.Front.{front}
+use Rattle.line_tape.specs.Front.{front, place}
 use Rattle.line_tape.specs.History.{Process, tape_at}
 use Rattle.line_tape.specs.Line.{events_before, AreSentBefore}
-use Rattle.line_vectors.specs.Reach.{reach_from, sent_count, sents_of}
+use Rattle.line_tape.proofs.FrontLemmas.{place-mono}
+use Rattle.line_vectors.specs.Reach.{reach_from, reach_of, sent_count, sents_of}
 use Rattle.line_catalogue.specs.Agreement.{Agrees}
 use Rattle.line_catalogue.proofs.LaneLemmas.{on_tape, numbers-decide}
-use Rattle.line_vectors.proofs.ReachLemmas.{length-sents, reach-above, sents-at}
-use Rattle.line_plan.specs.Search.{AreCleanBut, AreHearersDirty, AreStillDirty, IsSameBut}
+use Rattle.line_vectors.proofs.ReachLemmas.{length-sents, reach-above, reach-append, reach-at, sents-at}
+use Rattle.line_plan.specs.Search.{AreCleanBut, AreFirstSent, AreHearersDirty, AreStillDirty, IsSameBut}
 
 -- an entry is set twice
 set-set : (line : List Choice) (p : ℕ) (a b : Choice) → set (set line p a) p b ≡ set line p b
@@ -68,3 +70,29 @@ module _ (history : List Process) (line : List Choice) (p : ℕ) (choice : Choic
   -- so those that are not to be visited once its hearers are go on to have none
   pub clean-lowered : (old new : List Bool) → p < length history → Agrees history → AreStillDirty old new → AreHearersDirty history p (sends (front (tape_at history p) choice)) new → AreCleanBut history line old p → AreCleanBut history (set line p choice) new p
   clean-lowered old new inside agrees still heard clean q within apart none = clean-on q inside agrees apart (heard q within none) (clean q within apart (still q none))
+
+-- a process has heard no more before an earlier choice
+reach-earlier : (tape : List Event) (lower choice : Choice) (p : ℕ) → IsNoLater lower choice → reach_from (front tape lower) p ≤ reach_from (front tape choice) p
+reach-earlier tape lower choice p earlier =
+    let i : ℕ = place tape lower in
+    let j : ℕ = place tape choice in
+    let few : take i (take j tape) ≡ take i tape = take-take i j tape (place-mono tape lower choice earlier) in
+    let parts : take i tape ++ drop i (take j tape) ≡ take j tape = ap (λ (es : List Event). es ++ drop i (take j tape)) (sym few) ∙ take-append-drop i (take j tape) in
+    omega (arith, reach-append (take i tape) (drop i (take j tape)) p, ap (λ (es : List Event). reach_from es p) parts)
+
+-- of the lanes before its own, those that were within their counts are so at an earlier choice of its
+pub first-sent-on : (history : List Process) (old new : List Choice) (at clear : ℕ) → length old ≡ length history → at < length history → IsSameBut old new at → IsNoLater (choice_at new at) (choice_at old at) → AreFirstSent history old at clear → AreFirstSent history new at (min clear at)
+first-sent-on history old new at clear count within same earlier clean p below =
+    let n : ℕ = length history in
+    let tape : List Event = tape_at history at in
+    let lower : Choice = choice_at new at in
+    let choice : Choice = choice_at old at in
+    let inside : p < n = omega (arith, below, within) in
+    let apart : p ≢ at = λ e. omega (arith, below, e) in
+    let before : get_or (reach_of n (front tape lower)) p 0 ≤ get_or (reach_of n (front tape choice)) p 0 =
+    omega (arith, reach-at n (front tape lower) p 0 inside, reach-at n (front tape choice) p 0 inside, reach-earlier tape lower choice p earlier)
+    in
+    let far : ℕ = sends (front tape lower) in
+    let counts : sents_of history new ≡ set (sents_of history old) at far = ap (sents_of history) same ∙ sents-set history old at lower count within in
+    let still : get_or (sents_of history new) p 0 ≡ get_or (sents_of history old) p 0 = ap (λ (xs : List ℕ). get_or xs p 0) counts ∙ get_or-set_other (sents_of history old) at p far 0 apart in
+    omega (arith, before, still, clean p (omega (arith, below)))

@@ -6,7 +6,8 @@ use Rattle.line_names.specs.Sets.{is_member}
 use Rattle.line_tape.specs.Height.{height}
 use Rattle.line_tape.specs.History.{Process, tape_at}
 use Rattle.line_tape.specs.Line.{events_before, AreSentBefore}
-use Rattle.line_vectors.specs.Reach.{reach_from}
+use Rattle.line_vectors.specs.Reach.{reach_before, reach_from, sents_of}
+use Rattle.line_vectors.specs.Vectors.{FitsBefore}
 
 -- none of the first n processes has received an orphan
 abbrev pub AreSentBelow : List Process → List Choice → ℕ → Type 0
@@ -40,3 +41,7 @@ pub record IsMoved (history : List Process) (old : List Choice) (entries : ℕ) 
   pub same_entries : lowered ≡ false → entries' ≡ entries
   pub more_entries : lowered ≡ true → entries < entries'
   pub paid : entries' + height history new ≤ entries + height history old
+
+-- of the first k lanes of process q's vector at its choice none is beyond its process's count of sends
+abbrev pub AreFirstSent : List Process → List Choice → ℕ → ℕ → Type 0
+AreFirstSent history line q k = FitsBefore (reach_before history q (choice_at line q)) (sents_of history line) k

@@ -1,5 +1,7 @@
 //! Sweeps over the processes, each of which is lowered until it has no orphan.
 ghost use Rattle.std.specs.Prelude.{◌≡◌, ◌<◌, ◌≤◌, ◌+◌, false, length, vec_len, OnOk, IfOk};
+ghost use Rattle.line_names.specs.Lines.{choice_at};
+ghost use Rattle.line_names.specs.Order.{IsNoLater};
 ghost use Rattle.line_tape.specs.Chain.{latest_choice, first_ceilings, IsChain, IsLed};
 ghost use Rattle.line_tape.specs.Height.{height};
 ghost use Rattle.line_tape.specs.Line.{events_before, IsLine, IsOrphan, AreSentBefore};
@@ -75,6 +77,7 @@ fn pass_over(
     ensures longer { OnOk result (vec_len certificate.new ≡ vec_len certificate.old + 1) }
     ensures lower { OnOk result (height catalogue.now.processes line.new < height catalogue.now.processes line.old) }
     ensures alone { OnOk result (IsSameBut line.old line.new at) }
+    ensures earlier { OnOk result (IsNoLater (choice_at line.new at) (choice_at line.old at)) }
     ensures sent { OnOk result (sent.new ≡ sents_of catalogue.now.processes line.new) }
 {
     let choice = line.at(at);
@@ -91,6 +94,10 @@ fn pass_over(
 }
 
 /// Lowers a process until it has received no orphan, and says whether it was lowered.
+///
+/// Where no lane before one was beyond its count, that stays so while this process alone is
+/// lowered, but for the lane of its own messages: a lower choice received no more, and the others
+/// sent as many. So it looks on from there.
 fn visit(
     catalogue: &Catalogue,
     failed: &ProcSet,
@@ -110,11 +117,13 @@ fn visit(
         IsMoved catalogue.now.processes line.old (vec_len certificate.old) lowered line.new (vec_len certificate.new)) }
 {
     let mut lowered = false;
+    let mut clear = 0;
     'orphans: loop {
-        match orphan_at(catalogue, line, sent, at) {
+        match orphan_at(catalogue, line, sent, at, &mut clear) {
             Some(message) => {
                 pass_over(catalogue, failed, at, message, line, sent, certificate)?;
                 lowered = true;
+                clear = clear.min(at.get() as usize);
             }
             None => return Ok(lowered),
         }

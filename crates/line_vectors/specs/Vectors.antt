@@ -10,6 +10,10 @@ noted lanes message = slice_set lanes message.from (max (slice_index lanes messa
 abbrev pub Fits : List ℕ → List ℕ → Type 0
 Fits lanes counts = (p : ℕ) → p < length lanes → slice_index lanes p ≤ slice_index counts p
 
+-- of the first k lanes none is over its process's count
+abbrev pub FitsBefore : List ℕ → List ℕ → ℕ → Type 0
+FitsBefore lanes counts k = (p : ℕ) → p < k → slice_index lanes p ≤ slice_index counts p
+
 -- the first process whose lane is over its count
 pub record IsFirstBeyond (lanes counts : List ℕ) (p : ℕ) : Type 0 where
   pub within : p < length lanes

@@ -1,11 +1,11 @@
 //! How much a process has heard of the others.
 ghost use Rattle.std.specs.Prelude.{◌≡◌, ◌<◌, ◌≤◌, ◌↔◌, IsTrue, IfOk, MatchOption, length, replicate, slice_index};
 ghost use Rattle.line_lanes.specs.Lanes.{greater_of, over_count};
-ghost use Rattle.line_vectors.specs.Vectors.{noted, Fits, IsFirstBeyond};
+ghost use Rattle.line_vectors.specs.Vectors.{noted, Fits, FitsBefore, IsFirstBeyond};
 
 use crate::limits::LAST_NUMBER;
 use crate::sents::Sent;
-use line_lanes::{all_le, count_over, first_over, max_into};
+use line_lanes::{all_le, count_over, first_over_from, max_into};
 use line_names::{MOST_PROCESSES, MsgName, ProcId};
 use std::alloc::{AllocError, Global};
 use std::marker::Model;
@@ -193,7 +193,18 @@ impl<'a> ReachRef<'a> {
         requires { length self.now ≡ length sent.now }
         ensures { MatchOption result (Fits self.now sent.now) (IsFirstBeyond self.now sent.now) }
     {
-        match first_over(self.lanes, sent.counts()) {
+        self.first_beyond_from(sent, 0)
+    }
+
+    /// What `first_beyond` answers, where it is known that of so many first processes no lane is
+    /// over the count: it looks at no block of lanes before the one where these end.
+    pub fn first_beyond_from(&self, sent: &Sent, from: usize) -> Option<ProcId>
+        requires lanes { length self.now ≡ length sent.now }
+        requires from { from ≤ length self.now }
+        requires none { FitsBefore self.now sent.now from }
+        ensures { MatchOption result (Fits self.now sent.now) (IsFirstBeyond self.now sent.now) }
+    {
+        match first_over_from(self.lanes, sent.counts(), from) {
             Some(p) => Some(ProcId::try_new(p as u32, self.lanes.len() as u32).unwrap()),
             None => None,
         }

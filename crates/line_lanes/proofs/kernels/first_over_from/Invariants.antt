@@ -1,6 +1,6 @@
 use Rattle.std.proofs.Common.{◌≤◌, ◌-◌, length}
 use Rattle.line_lanes.specs.Lanes.{HasNoneOverBefore}
-use Rattle.line_lanes.proofs.kernels.first_over.Given as goal
+use Rattle.line_lanes.proofs.kernels.first_over_from.Given as goal
 
 abbrev pub invariant-loop-at : goal.invariant-loop-at
 invariant-loop-at l = (l.at ≤ length l.a) × HasNoneOverBefore l.a l.b l.at

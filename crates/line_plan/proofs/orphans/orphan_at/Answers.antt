@@ -20,8 +20,8 @@ name_of-requires c =
     let is : length lanes ≡ length history = ap (λ (xs : List ℕ). length xs) c.reach-reach.ensures.value ∙ length-reach (length history) (front (tape_at history c.args.at) c.at-choice.result) in
     omega (arith, c.in-Some.ensures.within, is, ap (λ (h : List Process). length h) c.history-history.ensures.processes)
 
-pub returns-then-lane-lt-LAST_NUMBER : goal.returns-then-lane-lt-LAST_NUMBER
-returns-then-lane-lt-LAST_NUMBER c =
+pub returns-then-lane-lt-LAST_NUMBER-clause-found : goal.returns-then-lane-lt-LAST_NUMBER-clause-found
+returns-then-lane-lt-LAST_NUMBER-clause-found c =
     let history : List Process = c.args.catalogue.now.processes in
     let line : List Choice = c.args.line.now in
     let n : ℕ = length history in
@@ -41,8 +41,8 @@ returns-then-lane-lt-LAST_NUMBER c =
     let name : c.name_of.result ≡ named history p number = c.name_of.ensures ∙ ap (λ (h : List Process). named h p number) c.history-history.ensures.processes in
     subst (IsOrphanAmong history line events) (sym name) orphan
 
-pub returns-in-None : goal.returns-in-None
-returns-in-None c =
+pub returns-in-None-clause-found : goal.returns-in-None-clause-found
+returns-in-None-clause-found c =
     let history : List Process = c.args.catalogue.now.processes in
     let line : List Choice = c.args.line.now in
     let n : ℕ = length history in
@@ -53,3 +53,21 @@ returns-in-None c =
     let limits : IsHistory history = subst IsHistory c.history-history.ensures.processes c.n-n.ensures.limits in
     let fits : Fits (reach_of n events) (sents_of history line) = subst (Fits (reach_of n events)) c.requires.sent (subst (λ (xs : List ℕ). Fits xs c.args.sent.now) is c.in-None.ensures) in
     (fits-decide history line q choice limits c.history-history.ensures.agrees).0 fits
+
+pub first_beyond_from-requires-clause-from : goal.first_beyond_from-requires-clause-from
+first_beyond_from-requires-clause-from c =
+    let history : List Process = c.args.catalogue.now.processes in
+    let is : length c.reach-reach.result ≡ length history = ap (λ (xs : List ℕ). length xs) c.reach-reach.ensures.value ∙ length-reach (length history) (front (tape_at history c.args.at) c.at-choice.result) in
+    omega (arith, is, c.requires.few)
+
+pub returns-then-lane-lt-LAST_NUMBER-clause-few : goal.returns-then-lane-lt-LAST_NUMBER-clause-few
+returns-then-lane-lt-LAST_NUMBER-clause-few c =
+    let history : List Process = c.args.catalogue.now.processes in
+    let is : length c.reach-reach.result ≡ length history = ap (λ (xs : List ℕ). length xs) c.reach-reach.ensures.value ∙ length-reach (length history) (front (tape_at history c.args.at) c.at-choice.result) in
+    omega (arith, is, c.in-Some.ensures.within)
+
+pub returns-else-lane-lt-LAST_NUMBER-clause-few : goal.returns-else-lane-lt-LAST_NUMBER-clause-few
+returns-else-lane-lt-LAST_NUMBER-clause-few c =
+    let history : List Process = c.args.catalogue.now.processes in
+    let is : length c.reach-reach.result ≡ length history = ap (λ (xs : List ℕ). length xs) c.reach-reach.ensures.value ∙ length-reach (length history) (front (tape_at history c.args.at) c.at-choice.result) in
+    omega (arith, is, c.in-Some.ensures.within)

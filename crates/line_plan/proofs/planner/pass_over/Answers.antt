@@ -1,8 +1,11 @@
 -- The entry is right, its process has a lower choice afterwards, and those who heard of what it no longer sent are to be visited.
 use Rattle.std.proofs.Common.{◌≡◌, ◌<◌, ◌++◌, ◌∷◌, [], ℕ, List, Bool, length, set, sym, ap, ◌∙◌, subst, arith}
+use Rattle.std.proofs.lemmas.List.{get_or-set_same}
 use Rattle.line_names.specs.declared.certificates.Passed.{Passed}
 use Rattle.line_names.specs.declared.choices.Choice.{Choice}
+use Rattle.line_names.specs.declared.choices.Choice.TheVariants.{Check as AtCheck}
 use Rattle.line_names.specs.Lines.{choice_at}
+use Rattle.line_names.specs.Order.{IsNoLater}
 use Rattle.line_tape.specs.declared.events.Event.{Event}
 use Rattle.line_tape.specs.Chain.{first_ceilings, next_lower, lowered, IsLed}
 use Rattle.line_tape.specs.Event.{sends}
@@ -11,6 +14,7 @@ use Rattle.line_tape.specs.History.{Process, tape_at}
 use Rattle.line_tape.specs.Line.{IsLine}
 use Rattle.line_tape.specs.Views.{MarksView}
 use Rattle.line_tape.specs.Height.{height}
+use Rattle.line_tape.proofs.ChoiceLemmas.{next_lower-le}
 use Rattle.line_tape.proofs.LedLemmas.{LeadsTo-push, height-lowered, IsLine-led}
 use Rattle.line_vectors.specs.Reach.{sents_of}
 use Rattle.line_vectors.proofs.ReachLemmas.{length-sents}
@@ -57,3 +61,17 @@ returns-clause-sent c =
     let tape : c.tape.result.now.events ≡ tape_at history at = c.tape.ensures.events ∙ ap (λ (h : List Process). tape_at h at) c.history.ensures.processes in
     let count : c.sends_before-count.result ≡ sends (front (tape_at history at) next) = c.sends_before-count.ensures ∙ ap (λ (t : List Event). sends (front t next)) tape in
     c.set-2.ensures ∙ ap (λ (xs : List ℕ). set xs at c.sends_before-count.result) c.requires.sent ∙ ap (set (sents_of history line) at) count ∙ sym (sents-set history line at next is_line.length_is c.requires.process) ∙ ap (sents_of history) (sym c.set.ensures)
+
+pub returns-clause-earlier : goal.returns-clause-earlier
+returns-clause-earlier c =
+    let history : List Process = c.args.catalogue.now.processes in
+    let marks : MarksView = c.args.catalogue.now.marks in
+    let failed : List Bool = c.args.failed.now in
+    let line : List Choice = c.args.line.now in
+    let at : ℕ = c.args.at in
+    let lower : c.unwrap-next.result ≡ next_lower history marks failed at (choice_at line at) = (rw c.unwrap-next.ensures at c.next_lower.ensures.value).1 ∙ ap (next_lower history marks failed at) c.at-choice.ensures in
+    let is_line : IsLine history line = IsLine-led history marks failed c.args.certificate.now.items line c.requires.led in
+    let there : choice_at c.set.new.self at ≡ next_lower history marks failed at (choice_at line at) =
+    ap (λ (xs : List Choice). choice_at xs at) c.set.ensures ∙ get_or-set_same line at c.unwrap-next.result (AtCheck 0) (omega (arith, c.requires.process, is_line.length_is)) ∙ lower
+    in
+    subst (λ (choice : Choice). IsNoLater choice (choice_at line at)) (sym there) (next_lower-le history marks failed at (choice_at line at))

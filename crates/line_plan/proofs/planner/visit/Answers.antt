@@ -1,6 +1,7 @@
-use Rattle.std.proofs.Common.{rules}
+use Rattle.std.proofs.Common.{rules, min, sym, ap, ◌∙◌, subst, arith}
 use Rattle.line_tape.proofs.LedLemmas.{IsLine-led}
-use Rattle.line_plan.proofs.SearchLemmas.{same-on}
+use Rattle.line_plan.specs.Search.{AreFirstSent}
+use Rattle.line_plan.proofs.SearchLemmas.{first-sent-on, same-on}
 use Rattle.line_plan.proofs.planner.visit.Goals as goal
 
 pub orphan_at-requires-clause-line : goal.orphan_at-requires-clause-line
@@ -13,4 +14,9 @@ orphans-preserved c = record {
   sent = c.in_ok-pass_over-in-Some.ensures.sent;
   alone = same-on c.args.line.now c.orphans.line c.pass_over.new.line c.args.at c.orphans.invariant.alone c.in_ok-pass_over-in-Some.ensures.alone;
   moved = search rules;
+  few = omega (arith, c.orphan_at.ensures.few, c.min-clear.ensures);
+  clear = subst (AreFirstSent c.args.catalogue.now.processes c.pass_over.new.line c.args.at) (sym (c.min-clear.ensures ∙ ap (λ k. min c.orphan_at.new.clear k) c.get.ensures.value))
+      (first-sent-on c.args.catalogue.now.processes c.orphans.line c.pass_over.new.line c.args.at c.orphan_at.new.clear
+      (IsLine-led c.args.catalogue.now.processes c.args.catalogue.now.marks c.args.failed.now c.orphans.certificate.items c.orphans.line c.orphans.invariant.led).length_is
+      c.requires.process c.in_ok-pass_over-in-Some.ensures.alone c.in_ok-pass_over-in-Some.ensures.earlier c.orphan_at.ensures.clear);
 }

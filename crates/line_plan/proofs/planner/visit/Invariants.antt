@@ -1,8 +1,8 @@
-use Rattle.std.proofs.Common.{◌≡◌, vec_len}
+use Rattle.std.proofs.Common.{◌≡◌, ◌≤◌, length, vec_len}
 use Rattle.line_vectors.specs.Reach.{sents_of}
 use Rattle.line_tape.specs.Height.{height}
 use Rattle.line_tape.specs.Chain.{IsLed}
-use Rattle.line_plan.specs.Search.{IsMoved, IsSameBut}
+use Rattle.line_plan.specs.Search.{AreFirstSent, IsMoved, IsSameBut}
 use Rattle.line_plan.proofs.planner.visit.Given as goal
 
 abbrev pub invariant-orphans : goal.invariant-orphans
@@ -11,6 +11,8 @@ invariant-orphans l = record {
   sent : l.sent ≡ sents_of l.catalogue.processes l.line;
   alone : IsSameBut l.initial.line l.line l.at;
   moved : IsMoved l.catalogue.processes l.initial.line (vec_len l.initial.certificate) l.lowered l.line (vec_len l.certificate);
+  few : l.clear ≤ length l.catalogue.processes;
+  clear : AreFirstSent l.catalogue.processes l.line l.at l.clear;
 }
 
 abbrev pub decreases-orphans : goal.decreases-orphans
