@@ -1,15 +1,14 @@
 -- The table of digits says of each byte what its definition does.
-use Rattle.std.specs.Int.Digits.{digits_of}
 use Rattle.std.specs.Prelude.{decimal}
-use Rattle.std.proofs.lemmas.Fmt.{decimal-digits_of}
-use Rattle.std.proofs.lemmas.Int.Digits.{digits_of_step}
-use Rattle.std.proofs.Common.{◌≡◌, ◌<◌, ◌≤◌, ◌+◌, ◌/◌, ◌%◌, ◌∙◌, ◌++◌, ◌∷◌, [], ℕ, List, ap, map, zero, suc, ◌-◌, ◌==◌, ◌&&◌, not, Bool, true, false, Result, Ok, Err, refl, get_or, inl, inr, arith, eq-zero-or-pos, ne_eqb}
+use Rattle.std.proofs.lemmas.Fmt.{decimal_digit, decimal_step}
+use Rattle.std.proofs.Common.{◌≡◌, ◌<◌, ◌≤◌, ◌+◌, ◌/◌, ◌%◌, ◌∙◌, ◌++◌, ◌∷◌, [], ℕ, List, ap, append_assoc, ◌^◌, zero, suc, ◌-◌, ◌==◌, ◌&&◌, not, Bool, true, false, Result, Ok, Err, refl, get_or, inl, inr, arith, eq-zero-or-pos, ne_eqb}
 use Rattle.std.specs.Prelude.{nat_le, if◌then◌else◌}
 use Rattle.std.proofs.lemmas.Bool.{and_parts, eqb-true}
 use Rattle.line_fields.specs.declared.faults.Fault.{Fault}
 use Rattle.line_fields.specs.declared.faults.Fault.TheVariants.{BadNumber}
 use Rattle.line_fields.specs.declared.fields.TheConstants.{VALUES}
 use Rattle.line_fields.specs.Fields.{digit}
+use Rattle.line_fields.specs.Writers.{two_digits}
 
 -- what an entry of the table says
 abbrev pub entry : ℕ → Result ℕ Fault
@@ -68,16 +67,35 @@ digit_at byte lt =
     says (nat_le 48 byte && nat_le byte 57) (nat_le 65 byte && nat_le byte 70)
     (nat_le 97 byte && nat_le byte 102) (byte - 48) (byte - 55) (byte - 87) (get_or VALUES byte 0) told
 
-no_hundreds : (n : ℕ) → n < 100 → (n / 10) / 10 ≡ 0
-no_hundreds n high = omega (arith, high)
-
-one_digit : (n : ℕ) → n < 100 → (n / 10) % 10 ≡ n / 10
-one_digit n high = omega (arith, high)
-
 -- the digits of a number of two digits
-pub decimal_pair : (n : ℕ) → 10 ≤ n → n < 100 → decimal n ≡ (48 + n / 10) ∷ (48 + n % 10) ∷ []
+pub decimal_pair : (n : ℕ) → 10 ≤ n → n < 100 → decimal n ≡ two_digits n
 decimal_pair n low high =
-    let none : digits_of 10 ((n / 10) / 10) ≡ [] = ap (digits_of 10) (no_hundreds n high) in
-    let tens : digits_of 10 (n / 10) ≡ (n / 10) ∷ [] =
-    digits_of_step 10 (n / 10) (omega arith) (omega (arith, low)) ∙ ap (λ (ds : List ℕ). ds ++ ((n / 10) % 10) ∷ []) none ∙ ap (λ (d : ℕ). d ∷ []) (one_digit n high) in
-    decimal-digits_of n (omega (arith, low)) (omega (arith, high)) ∙ ap (map (λ d. 48 + d)) (digits_of_step 10 n (omega arith) (omega (arith, low)) ∙ ap (λ (ds : List ℕ). ds ++ (n % 10) ∷ []) tens)
+    decimal_step n low (omega (arith, high)) ∙ ap (λ (ds : List ℕ). ds ++ (48 + n % 10) ∷ []) (decimal_digit (n / 10) (omega (arith, high)))
+
+no_hundreds : (n : ℕ) → (n / 10) / 10 ≡ n / 100
+no_hundreds n = omega arith
+
+tens_of_hundred : (n : ℕ) → (n / 10) % 10 ≡ (n % 100) / 10
+tens_of_hundred n = omega arith
+
+units_of_hundred : (n : ℕ) → n % 10 ≡ (n % 100) % 10
+units_of_hundred n = omega arith
+
+-- the last two digits of a number of three or more
+pub decimal_hundreds : (n : ℕ) → 100 ≤ n → n < 2 ^ 64 → decimal n ≡ decimal (n / 100) ++ two_digits (n % 100)
+decimal_hundreds n low high =
+    decimal_step n (omega (arith, low)) high
+    ∙ ap (λ (ds : List ℕ). ds ++ (48 + n % 10) ∷ []) (decimal_step (n / 10) (omega (arith, low)) (omega (arith, high)))
+    ∙ append_assoc (decimal ((n / 10) / 10)) ((48 + (n / 10) % 10) ∷ []) ((48 + n % 10) ∷ [])
+    ∙ rw (no_hundreds n, tens_of_hundred n, units_of_hundred n) refl
+
+myriads : (n : ℕ) → (n / 100) / 100 ≡ n / 10000
+myriads n = omega arith
+
+-- the last four digits of a number of five or more
+pub decimal_myriads : (n : ℕ) → 10000 ≤ n → n < 2 ^ 64 → decimal n ≡ decimal (n / 10000) ++ (two_digits (n / 100 % 100) ++ two_digits (n % 100))
+decimal_myriads n low high =
+    decimal_hundreds n (omega (arith, low)) high
+    ∙ ap (λ (ds : List ℕ). ds ++ two_digits (n % 100)) (decimal_hundreds (n / 100) (omega (arith, low)) (omega (arith, high)))
+    ∙ append_assoc (decimal ((n / 100) / 100)) (two_digits (n / 100 % 100)) (two_digits (n % 100))
+    ∙ ap (λ (m : ℕ). decimal m ++ (two_digits (n / 100 % 100) ++ two_digits (n % 100))) (myriads n)

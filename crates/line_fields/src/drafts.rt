@@ -48,6 +48,7 @@ impl Draft {
     }
 
     /// Adds a field of plain text, such as the name of a record.
+    #[inline(always)]
     pub fn word(&mut self, word: &[u8]) -> Result<(), AllocError>
         requires { IsTrue (is_plain_field word.now) }
         ensures ok { OnOk result (self.new ≡ self.old ++ word.now ∷ []) }
@@ -61,10 +62,7 @@ impl Draft {
         ensures ok { OnOk result (self.new ≡ self.old ++ decimal value ∷ []) }
         ensures err { OnErr result (self.new ≡ []) }
     {
-        if value < 100 {
-            return self.line.add_small(value as u8);
-        }
-        self.line.add(self.decimal.format(value).as_bytes())
+        self.line.add_number(value, &mut self.decimal)
     }
 
     /// Adds bytes, as two hexadecimal digits of lower case each.

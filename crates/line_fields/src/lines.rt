@@ -1,10 +1,11 @@
 //! A record that is written field by field, as the text of its line.
 
-ghost use Rattle.std.specs.Prelude.{◌≡◌, ◌≤◌, ◌<◌, ◌++◌, ◌∷◌, ◌+◌, ◌*◌, ◌^◌, [], true, IsTrue, OnErr, OnOk, length, vec_capacity, vec_len, decimal};
+ghost use Rattle.std.specs.Prelude.{◌≡◌, ◌≤◌, ◌<◌, ◌++◌, ◌∷◌, ◌+◌, ◌*◌, ◌^◌, [], true, if◌then◌else◌, IsTrue, OnErr, OnOk, length, vec_capacity, vec_len, decimal};
 ghost use Rattle.line_fields.specs.Texts.{has_name, hex_digit, hex_text, is_plain_field, record_text};
-ghost use Rattle.line_fields.specs.Writers.{text_before};
+ghost use Rattle.line_fields.specs.Writers.{text_before, two_digits};
 
 use crate::digits::push_eights;
+use itoa::Buffer;
 use std::alloc::{AllocError, Global};
 use std::marker::Model;
 
@@ -15,6 +16,13 @@ const ROOM: usize = 8_448;
 
 // Room for more bytes is given back with the fields.
 const MOST_KEPT: usize = 65_536;
+
+// Numbers of up to so many digits are written two digits at a time, and longer ones by `itoa`.
+const SHORT_NUMBER: usize = 8;
+
+// Words of up to so many bytes are written byte by byte, which takes less than a call that moves
+// bytes.
+const SHORT_WORD: usize = 8;
 
 /// The fields of a record: the text of its line so far.
 #[derive(Drop)]
@@ -61,17 +69,67 @@ fn push_hex(out: &mut Vec<u8>, bytes: &[u8])
     }
 }
 
-// Writes a number below 100, where there is room for two digits.
-fn push_small(out: &mut Vec<u8>, value: u8)
+// Writes the two digits of a number below 100, where there is room for them.
+#[inline(always)]
+fn push_pair(out: &mut Vec<u8>, value: u32)
     requires small { value < 100 }
     requires room { vec_len out.old + 2 ≤ vec_capacity out.old }
-    ensures { out.new.items ≡ out.old.items ++ decimal value }
+    ensures text { out.new.items ≡ out.old.items ++ two_digits value }
+    ensures len { vec_len out.new ≡ vec_len out.old + 2 }
+    ensures capacity { vec_capacity out.new ≡ vec_capacity out.old }
+{
+    out.push_reserved(b'0' + (value / 10) as u8);
+    out.push_reserved(b'0' + (value % 10) as u8);
+}
+
+// Writes a number below 100, where there is room for two digits.
+#[inline(always)]
+fn push_small(out: &mut Vec<u8>, value: u32)
+    requires small { value < 100 }
+    requires room { vec_len out.old + 2 ≤ vec_capacity out.old }
+    ensures text { out.new.items ≡ out.old.items ++ decimal value }
+    ensures len { vec_len out.new ≤ vec_len out.old + 2 }
+    ensures capacity { vec_capacity out.new ≡ vec_capacity out.old }
 {
     if value < 10 {
-        out.push_reserved(b'0' + value);
+        out.push_reserved(b'0' + value as u8);
     } else {
-        out.push_reserved(b'0' + value / 10);
-        out.push_reserved(b'0' + value % 10);
+        push_pair(out, value);
+    }
+}
+
+// Writes a number below 10,000, where there is room for four digits.
+#[inline(always)]
+fn push_four(out: &mut Vec<u8>, value: u32)
+    requires small { value < 10000 }
+    requires room { vec_len out.old + 4 ≤ vec_capacity out.old }
+    ensures text { out.new.items ≡ out.old.items ++ decimal value }
+    ensures len { vec_len out.new ≤ vec_len out.old + 4 }
+    ensures capacity { vec_capacity out.new ≡ vec_capacity out.old }
+{
+    if value < 100 {
+        push_small(out, value);
+    } else {
+        push_small(out, value / 100);
+        push_pair(out, value % 100);
+    }
+}
+
+// Writes a number below 100,000,000, where there is room for eight digits.
+#[inline(always)]
+fn push_number(out: &mut Vec<u8>, value: u32)
+    requires small { value < 100000000 }
+    requires room { vec_len out.old + 8 ≤ vec_capacity out.old }
+    ensures { out.new.items ≡ out.old.items ++ decimal value }
+{
+    if value < 100 {
+        push_small(out, value);
+    } else if value < 10_000 {
+        push_four(out, value);
+    } else {
+        push_four(out, value / 10_000);
+        push_pair(out, value / 100 % 100);
+        push_pair(out, value % 100);
     }
 }
 
@@ -87,6 +145,44 @@ fn push_text(out: &mut Vec<u8>, bytes: &[u8])
     };
 }
 
+// Writes a word, where there is room for it.
+#[inline(always)]
+fn push_word(out: &mut Vec<u8>, word: &[u8])
+    requires { vec_len out.old + length word.now ≤ vec_capacity out.old }
+    ensures { out.new.items ≡ out.old.items ++ word.now }
+{
+    if word.len() > SHORT_WORD {
+        push_text(out, word);
+        return;
+    }
+    for byte in word {
+        out.push_reserved(*byte);
+    }
+}
+
+// Whether a list has room for so many bytes and one more.
+#[inline(always)]
+fn has_room(text: &Vec<u8>, bytes: usize) -> bool
+    ensures { IsTrue result → vec_len text.now + bytes < vec_capacity text.now }
+{
+    bytes < text.capacity() - text.len()
+}
+
+// Begins a field, behind a comma where there is one before it. There is room for the comma.
+#[inline(always)]
+fn begin_within(text: &mut Vec<u8>, begun: &mut bool)
+    requires { vec_len text.old < vec_capacity text.old }
+    ensures begun { begun.new ≡ true }
+    ensures text { text.new.items ≡ text_before begun.old text.old.items }
+    ensures len { vec_len text.new ≡ (if begun.old then vec_len text.old + 1 else vec_len text.old) }
+    ensures capacity { vec_capacity text.new ≡ vec_capacity text.old }
+{
+    if *begun {
+        text.push_reserved(b',');
+    }
+    *begun = true;
+}
+
 // Makes room for a field of so many bytes, and begins it, behind a comma where there is one before
 // it. Where a growth is refused nothing changes.
 fn begin(text: &mut Vec<u8>, begun: &mut bool, bytes: usize) -> Result<(), AllocError>
@@ -98,11 +194,10 @@ fn begin(text: &mut Vec<u8>, begun: &mut bool, bytes: usize) -> Result<(), Alloc
 {
     if *begun {
         text.reserve(bytes + 1)?;
-        text.push_reserved(b',');
-        return Ok(());
+    } else {
+        text.reserve(bytes.max(ROOM))?;
     }
-    text.reserve(bytes.max(ROOM))?;
-    *begun = true;
+    begin_within(text, begun);
     Ok(())
 }
 
@@ -112,7 +207,9 @@ fn put_line(out: &mut Vec<u8>, line: &[u8]) -> Result<(), AllocError>
     ensures ok { OnOk result (out.new.items ≡ out.old.items ++ (line.now ++ 10 ∷ [])) }
     ensures err { OnErr result (out.new.items ≡ out.old.items) }
 {
-    out.reserve(line.len() + 1)?;
+    if !has_room(out, line.len()) {
+        out.reserve(line.len() + 1)?;
+    }
     push_text(out, line);
     out.push_reserved(b'\n');
     Ok(())
@@ -120,6 +217,7 @@ fn put_line(out: &mut Vec<u8>, line: &[u8]) -> Result<(), AllocError>
 
 // Takes all fields away where a growth was refused.
 #[cold]
+#[inline(never)]
 fn give_up(line: &mut Line, refused: AllocError) -> AllocError
     ensures { line.new ≡ [] }
 {
@@ -151,7 +249,25 @@ impl Line {
     }
 
     /// Adds a field that needs no quotes, or leaves none where a growth is refused.
+    #[inline(always)]
     pub fn add(&mut self, field: &[u8]) -> Result<(), AllocError>
+        requires { IsTrue (is_plain_field field.now) }
+        ensures ok { OnOk result (self.new ≡ self.old ++ field.now ∷ []) }
+        ensures err { OnErr result (self.new ≡ []) }
+    {
+        if !has_room(&self.text, field.len()) {
+            return self.grow_and_add(field);
+        }
+        begin_within(&mut self.text, &mut self.begun);
+        push_word(&mut self.text, field);
+        Ok(())
+    }
+
+    // The same, where there may be no room. It stands apart, so that what is put into callers is
+    // short.
+    #[cold]
+    #[inline(never)]
+    fn grow_and_add(&mut self, field: &[u8]) -> Result<(), AllocError>
         requires { IsTrue (is_plain_field field.now) }
         ensures ok { OnOk result (self.new ≡ self.old ++ field.now ∷ []) }
         ensures err { OnErr result (self.new ≡ []) }
@@ -165,19 +281,28 @@ impl Line {
         }
     }
 
-    /// Adds a number below 100, or leaves no field where a growth is refused.
-    pub fn add_small(&mut self, value: u8) -> Result<(), AllocError>
-        requires { value < 100 }
+    /// Adds a number, or leaves no field where a growth is refused.
+    #[inline(always)]
+    pub fn add_number(&mut self, value: u64, buffer: &mut Buffer) -> Result<(), AllocError>
         ensures ok { OnOk result (self.new ≡ self.old ++ decimal value ∷ []) }
         ensures err { OnErr result (self.new ≡ []) }
     {
-        match begin(&mut self.text, &mut self.begun, 2) {
-            Ok(()) => {
-                push_small(&mut self.text, value);
-                Ok(())
-            }
-            Err(refused) => Err(give_up(self, refused)),
+        if value < 100_000_000 && has_room(&self.text, SHORT_NUMBER) {
+            begin_within(&mut self.text, &mut self.begun);
+            push_number(&mut self.text, value as u32);
+            return Ok(());
         }
+        self.add_by_itoa(value, buffer)
+    }
+
+    // The same for any number, also where there is no room.
+    #[cold]
+    #[inline(never)]
+    fn add_by_itoa(&mut self, value: u64, buffer: &mut Buffer) -> Result<(), AllocError>
+        ensures ok { OnOk result (self.new ≡ self.old ++ decimal value ∷ []) }
+        ensures err { OnErr result (self.new ≡ []) }
+    {
+        self.add(buffer.format(value).as_bytes())
     }
 
     /// Adds a field of two hexadecimal digits for each byte, or leaves none where a growth is

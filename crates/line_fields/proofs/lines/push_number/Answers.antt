@@ -1,0 +1,12 @@
+use Rattle.std.proofs.Common.{ap, sym, ◌∙◌, ◌++◌, ◌/◌, ◌%◌, append_assoc, arith}
+use Rattle.std.specs.Prelude.{decimal}
+use Rattle.line_fields.specs.Writers.{two_digits}
+use Rattle.line_fields.proofs.DigitLemmas.{decimal_myriads}
+use Rattle.line_fields.proofs.lines.push_number.Goals as goal
+
+pub returns-else-value-lt10000 : goal.returns-else-value-lt10000
+returns-else-value-lt10000 c =
+    rw (c.push_pair-else-value-lt10000.ensures.text, c.push_pair.ensures.text, c.push_four-else-value-lt10000.ensures.text)
+    (append_assoc (c.args.out.now.items ++ decimal (c.args.value / 10000)) (two_digits (c.args.value / 100 % 100)) (two_digits (c.args.value % 100))
+    ∙ append_assoc c.args.out.now.items (decimal (c.args.value / 10000)) (two_digits (c.args.value / 100 % 100) ++ two_digits (c.args.value % 100))
+    ∙ ap (λ ds. c.args.out.now.items ++ ds) (sym (decimal_myriads c.args.value (omega (arith, c.if-value-lt10000.false)) (omega (arith, c.requires.small)))))
