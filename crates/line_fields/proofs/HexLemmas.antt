@@ -1,16 +1,25 @@
 -- Reading bytes pair by pair.
-use Rattle.std.proofs.Common.{◌≡◌, ℕ, ◌+◌, ◌*◌, List, [], ◌∷◌, ◌++◌, Result, Ok, Err, refl, sym, ap, ◌∙◌, append_assoc, ◌≤◌, ◌<◌, ◌-◌, ◌==◌, true, false, length, take, drop, get_or, arith, eqb-true}
+use Rattle.std.proofs.Common.{◌≡◌, ℕ, ◌+◌, ◌*◌, List, [], ◌∷◌, ◌++◌, Result, Ok, Err, refl, sym, ap, subst, ◌∙◌, append_assoc, ◌≤◌, ◌<◌, ◌-◌, ◌==◌, true, false, length, take, drop, get_or, arith, eqb-true}
 use Rattle.std.proofs.lemmas.List.{append-nil, drop_more}
 use Rattle.line_fields.proofs.TextLemmas.{rest_is}
 use Rattle.line_fields.specs.declared.faults.Fault.{Fault}
 use Rattle.line_fields.specs.declared.faults.Fault.TheVariants.{BadNumber}
 use Rattle.line_fields.specs.Digits.{with_front}
-use Rattle.line_fields.specs.Fields.{◌>>=◌, digit, hex}
+use Rattle.line_fields.specs.declared.faults.ReadError.{ReadError}
+use Rattle.line_fields.specs.Fields.{◌>>=◌, Gives, digit, hex}
 
 -- a byte moves from what is still read to what was
 regroup : {A : Type 0} (front : List A) (x : A) (read : Result (List A) Fault) → with_front front (read >>= λ xs. Ok (x ∷ xs)) ≡ with_front (front ++ (x ∷ [])) read
 regroup front x (Ok xs) = ap Ok (sym (append_assoc front (x ∷ []) xs))
 regroup front x (Err f) = refl
+
+-- where nothing stands before what is read, that alone is given
+no_front : {A : Type 0} (read : Result (List A) Fault) → with_front [] read ≡ read
+no_front (Ok xs) = refl
+no_front (Err f) = refl
+
+pub given_alone : {A : Type 0} (seen : A → List ℕ) (result : Result A ReadError) (front : List ℕ) (read : Result (List ℕ) Fault) → Gives seen result (with_front front read) → front ≡ [] → Gives seen result read
+given_alone seen result front read given none = subst (Gives seen result) (ap (λ xs. with_front xs read) none ∙ no_front read) given
 
 -- two digits more, a wrong first one, a wrong second one, a last one alone, and the end
 hex_more : (front : List ℕ) (first second high low : ℕ) (rest : List ℕ) → digit first ≡ Ok high → digit second ≡ Ok low

@@ -56,6 +56,8 @@ pub(crate) fn eights_into<'a>(bytes: &mut Vec<u8>, text: &'a [u8]) -> &'a [u8]
     requires { vec_len bytes.old + length text.now / 2 ≤ vec_capacity bytes.old }
     ensures same { with_front bytes.old.items (hex text.entry.now) ≡ with_front bytes.new.items (hex result.now) }
     ensures room { vec_len bytes.new + length result.now / 2 ≤ vec_capacity bytes.new }
+    ensures longer { vec_len bytes.old ≤ vec_len bytes.new }
+    ensures kept { take (vec_len bytes.old) bytes.new.items ≡ bytes.old.items }
 {
     let mut rest = text;
     while rest.len() >= DIGITS_AT_ONCE {

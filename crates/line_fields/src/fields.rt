@@ -1,6 +1,7 @@
 //! The numbers and the bytes that fields spell.
 
-ghost use Rattle.std.specs.Prelude.{◌≡◌, ◌≤◌, ◌∷◌, [], IfOk};
+ghost use Rattle.std.specs.Prelude.{◌≡◌, ◌≤◌, ◌∷◌, [], IfOk, take, vec_len};
+ghost use Rattle.line_fields.specs.Digits.{with_front};
 ghost use Rattle.line_fields.specs.Fields.{Gives, digit, num};
 ghost use Rattle.line_fields.specs.Fields as spec;
 
@@ -92,15 +93,15 @@ fn digit(byte: u8) -> Result<u8, Fault>
 }
 
 /// Puts the bytes that the hexadecimal digits of a field spell, two digits of either case for each
-/// byte, in place of what a list has.
+/// byte, behind those that a list has.
 ///
 /// Refused as `BadNumber`: a field with an odd number of bytes, or with one that is no digit. An
 /// empty field spells no bytes. The list grows at most once, where it has no room for as many bytes
-/// as the field spells. After a refusal it has some of them.
-pub fn hex_into(bytes: &mut Vec<u8>, text: &[u8]) -> Result<(), ReadError>
-    ensures { Gives (λ _. bytes.new.items) result (spec.hex text.now) }
+/// more as the field spells. After a refusal it may have some of them behind what it had.
+pub fn hex_behind(bytes: &mut Vec<u8>, text: &[u8]) -> Result<(), ReadError>
+    ensures exact { Gives (λ _. bytes.new.items) result (with_front bytes.old.items (spec.hex text.now)) }
+    ensures kept { take (vec_len bytes.old) bytes.new.items ≡ bytes.old.items }
 {
-    bytes.clear();
     bytes.reserve(text.len() / 2)?;
     let mut rest = eights_into(bytes, text);
     while let [high, low, others @ ..] = rest {
@@ -113,6 +114,21 @@ pub fn hex_into(bytes: &mut Vec<u8>, text: &[u8]) -> Result<(), ReadError>
         return Err(ReadError::Fault(Fault::BadNumber));
     }
     Ok(())
+}
+
+/// Puts the bytes that the hexadecimal digits of a field spell, two digits of either case for each
+/// byte, in place of what a list has.
+///
+/// Refused as `BadNumber`: a field with an odd number of bytes, or with one that is no digit. An
+/// empty field spells no bytes. The list grows at most once, where it has no room for as many bytes
+/// as the field spells. After a refusal it has some of them.
+#[inline(always)]
+#[tactic(auto, using(crate::proofs::HexLemmas::given_alone))]
+pub fn hex_into(bytes: &mut Vec<u8>, text: &[u8]) -> Result<(), ReadError>
+    ensures { Gives (λ _. bytes.new.items) result (spec.hex text.now) }
+{
+    bytes.clear();
+    hex_behind(bytes, text)
 }
 
 /// The bytes that the hexadecimal digits of a field spell, two digits of either case for each byte.

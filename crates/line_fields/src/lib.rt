@@ -16,7 +16,7 @@ mod writers;
 pub use bytes::is_plain;
 pub use drafts::Draft;
 pub use faults::{Fault, ReadError};
-pub use fields::{hex, hex_into, number};
+pub use fields::{hex, hex_behind, hex_into, number};
 pub use laws::{
     bytes_are_read_again, csv_reads_the_same_records, csv_writes_the_same_text,
     numbers_are_read_again, records_are_few, records_are_read_again,
