@@ -25,7 +25,7 @@ pub use links::Links;
 pub use listings::Listing;
 pub use modes::Mode;
 pub use moves::{add_check, add_receipt, put_message, take_message};
-pub use openings::{OpenRound, is_forced, still_open};
+pub use openings::{OpenRound, is_forced, list_completed, still_open};
 pub use restarts::restart_links;
 pub use restores::{restarted_incarnations, restored_states};
 pub use round_moves::{begin_round, take_marker, turn_round};

@@ -1,13 +1,13 @@
 //! The round that is open, and what closes it: of markers (Chandy and Lamport, ACM TOCS 3(1), 1985)
 //! or of colours (Lai and Yang, Information Processing Letters 25(3), 1987).
-ghost use Rattle.std.specs.Prelude.{◌≡◌, ◌≢◌, ◌<◌, ◌≤◌, ◌+◌, ◌++◌, ℕ, List, length, true, false, IfOk, OnOk, OnErr, Some};
+ghost use Rattle.std.specs.Prelude.{◌≡◌, ◌≢◌, ◌<◌, ◌≤◌, ◌+◌, ◌++◌, ℕ, List, length, true, false, IfOk, OnOk, OnErr, Some, None, MatchOption};
 ghost use Rattle.line_tape.specs.declared.events.Event.TheVariants.{Recv as RecvEvent, Check as CheckEvent, Mark as MarkEvent};
 ghost use Rattle.line_tape.specs.History.{Process, tape_at, with_event};
 ghost use Rattle.line_tape.specs.Rounds.{has_check_of, is_completed_fifo};
 ghost use Rattle.line_turns.specs.Turning.{IsTurning};
 ghost use Rattle.line_moves.specs.declared.modes.Mode.TheVariants.{Fifo, Unordered};
 ghost use Rattle.line_moves.specs.Listed.{listed};
-ghost use Rattle.line_moves.specs.Openings.{left_open, marker_at, newly_closed, open_number, opened_by, opened_turning, AreMarkers, IsCounted, IsFresh, IsOpening, IsRecording};
+ghost use Rattle.line_moves.specs.Openings.{left_open, marker_at, newly_closed, open_number, opened_by, opened_turning, AreMarkers, IsCounted, IsFresh, IsOpening, IsRecording, OpenView};
 ghost use Rattle.line_moves.specs.Fates.{is_forced};
 
 use crate::listings::Listing;
@@ -290,16 +290,55 @@ pub fn still_open(
     ensures listed { rounds.new.items ≡ rounds.old.items ++ newly_closed Fifo history.now.processes running }
     ensures left { result ≡ left_open Fifo history.now.processes running }
 {
+    let mut running = running;
+    list_completed(alloc, &mut running, history, rounds);
+    running
+}
+
+/// Lists the round of markers if it is completed, and no round is open then: what `still_open`
+/// does, where the round stands.
+///
+/// It takes no memory, and constant time while markers are to come; then it looks at each channel.
+pub fn list_completed(
+    alloc: Global,
+    running: &mut Option<OpenRound>,
+    history: &History,
+    rounds: &mut Listing,
+)
+    requires opening { IsOpening Fifo history.now.processes running.old }
+    requires room { 0 < rounds.old.room }
+    ensures listed { rounds.new.items ≡ rounds.old.items ++ newly_closed Fifo history.now.processes running.old }
+    ensures left { running.new ≡ left_open Fifo history.now.processes running.old }
+{
     match running {
         Some(round) => {
-            if round.is_completed(history) {
-                rounds.push(round.completed(alloc, history));
-                None
-            } else {
-                Some(round)
+            if !round.is_completed(history) {
+                return;
             }
         }
-        None => None,
+        None => return,
+    }
+    list_round(alloc, running, history, rounds);
+}
+
+/// Lists the round of markers, which is completed.
+#[inline(never)]
+fn list_round(
+    alloc: Global,
+    running: &mut Option<OpenRound>,
+    history: &History,
+    rounds: &mut Listing,
+)
+    requires completed { MatchOption running.old ⊥ (λ (round : OpenView).
+        is_completed_fifo history.now.processes round.number ≡ true) }
+    requires opening { IsOpening Fifo history.now.processes running.old }
+    requires room { 0 < rounds.old.room }
+    ensures listed { rounds.new.items ≡ rounds.old.items ++ newly_closed Fifo history.now.processes running.old }
+    ensures left { running.new ≡ None }
+{
+    match running.take() {
+        Some(round) => rounds.push(round.completed(alloc, history)),
+        None => unreachable!(),
     }
 }
 

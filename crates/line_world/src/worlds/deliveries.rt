@@ -14,7 +14,7 @@ use super::World;
 use crate::received::{fate_of, set_flag};
 use crate::replies::{Reply, StepError};
 use line_moves::{
-    Fate, Mode, add_receipt, is_forced, still_open, take_marker, take_message, turn_round,
+    Fate, Mode, add_receipt, is_forced, list_completed, take_marker, take_message, turn_round,
 };
 use line_names::{MsgName, ProcId};
 use line_tape::{Item, State};
@@ -199,8 +199,8 @@ impl World {
             state,
             forced,
         )?;
-        let running = self.running.take();
-        self.running = still_open(alloc, running, self.catalogue.history(), &mut self.rounds);
+        let history = self.catalogue.history();
+        list_completed(alloc, &mut self.running, history, &mut self.rounds);
         Ok(Reply::Marked { round, forced })
     }
 

@@ -71,16 +71,16 @@ invariant_of-self-2 c =
     let running : Option OpenView = c.take_marker.new.running in
     let taken : c.take_marker.new.catalogue.processes ≡ after =
     c.in_ok-take_marker.ensures.taken ∙ ap (λ b. with_events history to (marker_events b from state round)) (sym forced_is) in
-    let told : c.history-2.result.now.processes ≡ after = c.history-2.ensures.processes ∙ taken in
-    let listed : c.still_open.new.rounds.items ≡ rounds ++ newly_closed Fifo after running =
-    c.still_open.ensures.listed ∙ ap (λ (ls : List Listed). ls ++ newly_closed Fifo c.history-2.result.now.processes c.take-running.result) c.reserve.ensures.items
-    ∙ ap (λ (h : List Process). rounds ++ newly_closed Fifo h c.take-running.result) told ∙ ap (λ (o : Option OpenView). rounds ++ newly_closed Fifo after o) c.take-running.ensures.value in
+    let told : c.history-history.result.now.processes ≡ after = c.history-history.ensures.processes ∙ taken in
+    let listed : c.list_completed.new.rounds.items ≡ rounds ++ newly_closed Fifo after running =
+    c.list_completed.ensures.listed ∙ ap (λ (ls : List Listed). ls ++ newly_closed Fifo c.history-history.result.now.processes running) c.reserve.ensures.items
+    ∙ ap (λ (h : List Process). rounds ++ newly_closed Fifo h running) told in
     let world_after : IsWorld Fifo after c.take_marker.new.links = subst (λ (h : List Process). IsWorld Fifo h c.take_marker.new.links) taken c.in_ok-take_marker.ensures.world in
     let opening : IsOpening Fifo after running = subst (λ (h : List Process). IsOpening Fifo h running) taken c.in_ok-take_marker.ensures.opening in
-    let left : c.still_open.result ≡ left_open Fifo after running =
-    c.still_open.ensures.left ∙ ap (λ (h : List Process). left_open Fifo h c.take-running.result) told ∙ ap (λ (o : Option OpenView). left_open Fifo after o) c.take-running.ensures.value in
-    ordered_kept w is.mode_is c.take_marker.new.catalogue.processes after taken c.take_marker.new.links last c.still_open.result c.still_open.new.rounds.items c.in_ok-take_marker.ensures.world
-    (subst (λ (o : Option OpenView). AreRounds Fifo after last o c.still_open.new.rounds.items) (sym left)
+    let left : c.list_completed.new.running ≡ left_open Fifo after running =
+    c.list_completed.ensures.left ∙ ap (λ (h : List Process). left_open Fifo h running) told in
+    ordered_kept w is.mode_is c.take_marker.new.catalogue.processes after taken c.take_marker.new.links last c.list_completed.new.running c.list_completed.new.rounds.items c.in_ok-take_marker.ensures.world
+    (subst (λ (o : Option OpenView). AreRounds Fifo after last o c.list_completed.new.rounds.items) (sym left)
     (subst (λ (ls : List Listed). AreRounds Fifo after last (left_open Fifo after running) ls) (sym listed)
     (marker_settled history last w.running rounds is.are from to round state p.to_in sent forced running world_after.linked.fit c.in_ok-take_marker.ensures.number opening)))
 
@@ -104,11 +104,11 @@ returns-clause-done c =
     let running : Option OpenView = c.take_marker.new.running in
     let taken : c.take_marker.new.catalogue.processes ≡ after =
     c.in_ok-take_marker.ensures.taken ∙ ap (λ b. with_events history to (marker_events b from state round)) (sym forced_is) in
-    let told : c.history-2.result.now.processes ≡ after = c.history-2.ensures.processes ∙ taken in
-    let listed : c.still_open.new.rounds.items ≡ rounds ++ newly_closed Fifo after running =
-    c.still_open.ensures.listed ∙ ap (λ (ls : List Listed). ls ++ newly_closed Fifo c.history-2.result.now.processes c.take-running.result) c.reserve.ensures.items
-    ∙ ap (λ (h : List Process). rounds ++ newly_closed Fifo h c.take-running.result) told ∙ ap (λ (o : Option OpenView). rounds ++ newly_closed Fifo after o) c.take-running.ensures.value in
-    let new : Machine = seen w.mode c.take_marker.new.catalogue.processes c.take_marker.new.catalogue.marks last c.still_open.new.rounds.items c.take_marker.new.links in
+    let told : c.history-history.result.now.processes ≡ after = c.history-history.ensures.processes ∙ taken in
+    let listed : c.list_completed.new.rounds.items ≡ rounds ++ newly_closed Fifo after running =
+    c.list_completed.ensures.listed ∙ ap (λ (ls : List Listed). ls ++ newly_closed Fifo c.history-history.result.now.processes running) c.reserve.ensures.items
+    ∙ ap (λ (h : List Process). rounds ++ newly_closed Fifo h running) told in
+    let new : Machine = seen w.mode c.take_marker.new.catalogue.processes c.take_marker.new.catalogue.marks last c.list_completed.new.rounds.items c.take_marker.new.links in
     let now : is_forced machine.history to round ≡ forced = ap (λ (v : Machine). is_forced v.history to round) (sym c.self.view_is) ∙ sym forced_is in
     let events : events_taken machine.mode machine.history from to state (Marker round) ≡ marker_events forced from state round =
     ap (λ (v : Mode). events_taken v machine.history from to state (Marker round)) c.requires.mode ∙ ap (λ b. marker_events b from state round) now in
