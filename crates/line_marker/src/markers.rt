@@ -1,5 +1,5 @@
 //! What one process has recorded.
-ghost use Rattle.std.specs.Prelude.{◌≡◌, ◌≢◌, ℕ, ◌<◌, ◌≤◌, ◌↔◌, [], length, map, slice_index_or, Some, None, MatchOption, IfOk, OnOk, OnErr, IsErrOf, IsOk, IsTrue};
+ghost use Rattle.std.specs.Prelude.{◌≡◌, ◌≢◌, ℕ, ◌<◌, ◌≤◌, ◌↔◌, [], length, map, slice_index_or, Some, None, MatchOption, IfOk, OnOk, OnErr, IsErrOf, IsOk, IsTrue, false};
 ghost use Rattle.line_marker.specs.Recording.{channel_at, effect_of, latest, messages_by, noted, round_of, rounds_after, with_marker, with_round, IsOver, IsRepeated, IsSameProcess, Recorded};
 ghost use Rattle.line_marker.specs.Spans.{is_over, AreOver, RoundView};
 ghost use Rattle.line_marker.specs.declared.spans.Span.{Span};
@@ -258,6 +258,30 @@ impl Marker {
                 self.close(place, from);
                 Ok(Effect::Forced)
             }
+        }
+    }
+
+    /// The marker of a recorded round has come from another process: what `on_marker` does then. It
+    /// tells whether the marker is the first one from there; else, and where the round is not
+    /// recorded, nothing changes.
+    ///
+    /// It takes no memory, and so wants no room.
+    pub fn close_channel(&mut self, from: ProcId, round: u32) -> bool
+        requires { from < self.old.n }
+        ensures first { IsTrue result ↔ MatchOption (round_of self.old.rounds round) ⊥ (λ (recorded : Recorded). (channel_at recorded from).is_closed ≡ false) }
+        ensures closed { IsTrue result → self.new.rounds ≡ with_marker self.old.rounds from round }
+        ensures unchanged { result ≡ false → self.new.rounds ≡ self.old.rounds }
+        ensures same { IsSameProcess self.old self.new }
+    {
+        match self.place(round) {
+            Some(at) => {
+                if self.has_marker(at, from) {
+                    return false;
+                }
+                self.close(at, from);
+                true
+            }
+            None => false,
         }
     }
 

@@ -12,7 +12,7 @@ ghost use Rattle.line_moves.specs.Fates.{is_forced};
 
 use crate::listings::Listing;
 use crate::rounds::Round;
-use line_marker::{Marker, MarkerError};
+use line_marker::Marker;
 use line_names::{MOST_PROCESSES, MsgName, ProcId};
 use line_tape::{History, LAST_ROUND};
 use line_turns::{SharedChannels, Turning};
@@ -143,16 +143,13 @@ impl OpenRound {
         requires other { from ≢ p }
         requires recording { IsRecording history.now.processes self.old }
         requires begun { has_check_of self.old.number (tape_at history.now.processes p) ≡ true }
-        requires room { 0 < (marker_at self.old.markers p).round_room }
         ensures number { self.new.number ≡ self.old.number }
         ensures recording { IsRecording (with_event history.now.processes p (MarkEvent from self.old.number)) self.new }
     {
         let number = self.turning.number();
-        match self.markers[p.get() as usize].on_marker(from, number) {
-            Ok(_effect) => self.to_come = self.to_come.saturating_sub(1),
-            Err(MarkerError::OutOfMemory) => unreachable!(),
-            // It has come before.
-            Err(MarkerError::MarkerRepeated) => {}
+        if self.markers[p.get() as usize].close_channel(from, number) {
+            let others = self.to_come.saturating_sub(1);
+            self.to_come = others;
         }
     }
 
@@ -247,33 +244,30 @@ pub(crate) fn note(
     }
 }
 
-/// The marker of a round has come to a process that has its check of that round.
+/// The marker of a round has come to a process that has its check of that round. It takes no memory.
 pub(crate) fn hear(
     running: &mut Option<OpenRound>,
     history: &History,
     from: ProcId,
     to: ProcId,
     round: u32,
-) -> Result<(), AllocError>
+)
     requires from { from < length history.now.processes }
     requires to { to < length history.now.processes }
     requires other { from ≢ to }
     requires begun { has_check_of round (tape_at history.now.processes to) ≡ true }
     requires opening { IsOpening Fifo history.now.processes running.old }
     ensures number { open_number running.new ≡ open_number running.old }
-    ensures ok { OnOk result (IsOpening Fifo (with_event history.now.processes to (MarkEvent from round)) running.new) }
-    ensures err { OnErr result (IsOpening Fifo history.now.processes running.new) }
+    ensures opening { IsOpening Fifo (with_event history.now.processes to (MarkEvent from round)) running.new }
 {
     match running {
         Some(running) => {
             if running.number() == round {
-                running.reserve(to)?;
                 running.hear(history, from, to);
             }
         }
         None => {}
     }
-    Ok(())
 }
 
 /// Lists the round of markers if it is completed, and else gives it back.

@@ -139,7 +139,7 @@ fn hear_round(
     ensures marks { catalogue.new.marks ≡ catalogue.old.marks }
 {
     catalogue.reserve(to, 1)?;
-    hear(running, catalogue.history(), from, to, round)?;
+    hear(running, catalogue.history(), from, to, round);
     links.drop_first(from, to);
     add_event(catalogue, to, Event::Mark { from, round });
     Ok(())

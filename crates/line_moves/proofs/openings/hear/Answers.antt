@@ -8,17 +8,17 @@ use Rattle.line_moves.specs.Openings.{OpenView, IsOpening, IsRecording, IsRunnin
 use Rattle.line_moves.proofs.OpeningLemmas.{IsOpening-none, IsRecording-kept, IsRunning-kept, mark_apart}
 use Rattle.line_moves.proofs.openings.hear.Goals as goal
 
-pub returns-in_ok-reserve-in-Some-clause-ok : goal.returns-in_ok-reserve-in-Some-clause-ok
-returns-in_ok-reserve-in-Some-clause-ok c =
+pub returns-then-number-round-clause-opening : goal.returns-then-number-round-clause-opening
+returns-then-number-round-clause-opening c =
     let history : List Process = c.args.history.now.processes in
     let opening : IsRunning Fifo history c.in-Some.running = subst (IsOpening Fifo history) c.in-Some.is c.requires.opening in
-    let same : c.reserve.new.self.number ≡ c.args.round = c.in_ok-reserve-in-Some.ensures.number ∙ sym c.number.ensures ∙ c.if-number-round.true in
+    let same : c.in-Some.running.number ≡ c.args.round = sym c.number.ensures ∙ c.if-number-round.true in
     let recording : IsRecording (with_event history c.args.to (Mark c.args.from c.args.round)) c.hear.new.self =
     subst (λ (v : ℕ). IsRecording (with_event history c.args.to (Mark c.args.from v)) c.hear.new.self) same c.hear.ensures.recording in
-    IsRunning-kept history c.args.to (Mark c.args.from c.args.round) c.requires.to (λ r. refl) Fifo c.in-Some.running c.hear.new.self (c.hear.ensures.number ∙ c.in_ok-reserve-in-Some.ensures.number) opening recording
+    IsRunning-kept history c.args.to (Mark c.args.from c.args.round) c.requires.to (λ r. refl) Fifo c.in-Some.running c.hear.new.self c.hear.ensures.number opening recording
 
-pub returns-else-number-round-clause-ok : goal.returns-else-number-round-clause-ok
-returns-else-number-round-clause-ok c =
+pub returns-else-number-round-clause-opening : goal.returns-else-number-round-clause-opening
+returns-else-number-round-clause-opening c =
     let history : List Process = c.args.history.now.processes in
     let e : Event = Mark c.args.from c.args.round in
     let round : OpenView = c.in-Some.running in
@@ -27,8 +27,8 @@ returns-else-number-round-clause-ok c =
     IsRunning-kept history c.args.to e c.requires.to (λ r. refl) Fifo round round refl opening
     (IsRecording-kept history c.args.to e c.requires.to (λ r p. refl) round refl (λ p. mark_apart p c.args.from round.number c.args.round apart) opening.recording)
 
-pub returns-in-None-clause-ok : goal.returns-in-None-clause-ok
-returns-in-None-clause-ok c =
+pub returns-in-None-clause-opening : goal.returns-in-None-clause-opening
+returns-in-None-clause-opening c =
     let history : List Process = c.args.history.now.processes in
     let e : Event = Mark c.args.from c.args.round in
     subst (IsOpening Fifo (with_event history c.args.to e)) (sym c.in-None.is)
