@@ -1,5 +1,5 @@
 -- Which event one record of a history spells, among n processes.
-use Rattle.std.specs.Prelude.{ℕ, nat_le, ◌||◌, Bool, length, Result, Ok, if◌then◌else◌, codes}
+use Rattle.std.specs.Prelude.{ℕ, List, nat_le, ◌||◌, Bool, length, Result, Ok, if◌then◌else◌, codes}
 use Rattle.line_names.specs.declared.limits.TheConstants.{MOST_BODY}
 use Rattle.line_fields.specs.declared.faults.Fault.{Fault}
 use Rattle.line_fields.specs.declared.faults.Fault.TheVariants as faults
@@ -9,6 +9,8 @@ use Rattle.line_fields.specs.Shapes.{two, three}
 use Rattle.line_tape.specs.declared.events.Event.{Event}
 use Rattle.line_tape.specs.declared.events.Event.TheVariants.{Send, Recv, Check, Mark}
 use Rattle.line_tape.specs.declared.limits.TheConstants.{MOST_STATE}
+use Rattle.line_claims.specs.declared.events.Kind.{Kind}
+use Rattle.line_claims.specs.declared.events.Kind.TheVariants as kinds
 use Rattle.line_claims.specs.Numbers.{plain, incarnation, round, round_or_none, process}
 use Rattle.line_claims.specs.Parts.{named}
 
@@ -42,3 +44,10 @@ event_of n r =
     else if named (codes "recv") r then recv_of n r
     else if named (codes "check") r then check_of r
     else mark_of n r
+
+-- the name of the records of a kind
+abbrev pub kind_text : Kind → List ℕ
+kind_text kinds.Send = codes "send"
+kind_text kinds.Recv = codes "recv"
+kind_text kinds.Check = codes "check"
+kind_text kinds.Mark = codes "mark"

@@ -2,12 +2,12 @@
 
 ghost use Rattle.std.specs.Prelude.{◌≡◌, ◌≢◌, ◌+◌, ◌∷◌, [], true, false, IfOk, IsTrue, MatchOption, OnOk, drop};
 ghost use Rattle.line_fields.specs.Bytes.{is_input_text};
-ghost use Rattle.line_fields.specs.Records.{Record, records_of_text};
+ghost use Rattle.line_fields.specs.Records.{Record, field, records_of_text};
 ghost use Rattle.line_claims.specs.Claims.{is_bar};
 ghost use Rattle.line_claims.specs.Events as spec;
 ghost use Rattle.line_claims.specs.Parts.{begins, named};
 
-use crate::events::is_event;
+use crate::events::{Kind, kind_of};
 use line_fields::{RecordReader, Row};
 use std::alloc::{AllocError, Global};
 use std::marker::Model;
@@ -81,14 +81,18 @@ impl<'a> Cursor<'a> {
         }
     }
 
-    /// The record that stands here, where it spells an event.
-    pub fn event(&self) -> Option<&Row>
+    /// The record that stands here and the kind of its event, where it spells one.
+    pub fn event(&self) -> Option<(Kind, &Row)>
         ensures { MatchOption result (begins spec.is_event self.now.left ≡ false)
-            (λ row. (begins spec.is_event self.now.left ≡ true) × (self.now.left ≡ row.now ∷ drop 1 self.now.left)) }
+            (λ found. (begins spec.is_event self.now.left ≡ true) × (self.now.left ≡ found.1.now ∷ drop 1 self.now.left)
+            × (field found.1.now 0 ≡ spec.kind_text found.0)) }
     {
         match self.row() {
             None => None,
-            Some(row) => { if is_event(row) { Some(row) } else { None } }
+            Some(row) => match kind_of(row) {
+                None => None,
+                Some(kind) => Some((kind, row)),
+            },
         }
     }
 

@@ -1,8 +1,9 @@
 //! The events that the records of a history spell.
 
-ghost use Rattle.std.specs.Prelude.{◌≡◌, ◌≤◌, ℕ, IfOk};
+ghost use Rattle.std.specs.Prelude.{◌≡◌, ◌≤◌, ℕ, false, true, IfOk, MatchOption};
 ghost use Rattle.line_names.specs.declared.limits.TheConstants.{MOST_PROCESSES};
 ghost use Rattle.line_fields.specs.Fields.{Gives};
+ghost use Rattle.line_fields.specs.Records.{field};
 ghost use Rattle.line_tape.specs.Event.{HasLongState, NamesBelow};
 ghost use Rattle.line_claims.specs.Events as spec;
 
@@ -78,39 +79,57 @@ pub(crate) fn mark_of(n: u32, row: &Row) -> Result<Event, Fault>
     Ok(Event::Mark { from, round })
 }
 
-/// Whether a record spells an event, by its first field.
-pub(crate) fn is_event(row: &Row) -> bool
-    ensures { result ≡ spec.is_event row.now }
-{
-    matches!(row.field(0), b"send" | b"recv" | b"check" | b"mark")
+/// The kinds of events that records spell.
+#[derive(Clone, Copy)]
+pub(crate) enum Kind {
+    Send,
+    Recv,
+    Check,
+    Mark,
 }
 
-/// The event of such a record. What a list has gives way to the bytes of a message.
+/// The kind of event that a record spells, by its first field.
+pub(crate) fn kind_of(row: &Row) -> Option<Kind>
+    ensures { MatchOption result (spec.is_event row.now ≡ false)
+        (λ kind. (spec.is_event row.now ≡ true) × (field row.now 0 ≡ spec.kind_text kind)) }
+{
+    match row.field(0) {
+        b"send" => Some(Kind::Send),
+        b"recv" => Some(Kind::Recv),
+        b"check" => Some(Kind::Check),
+        b"mark" => Some(Kind::Mark),
+        _ => None,
+    }
+}
+
+/// The event of a record of that kind. What a list has gives way to the bytes of a message.
 pub(crate) fn event_of(
     alloc: Global,
     n: u32,
+    kind: Kind,
     row: &Row,
     bytes: &mut Vec<u8>,
 ) -> Result<Event, ReadError>
-    requires { n ≤ MOST_PROCESSES }
+    requires few { n ≤ MOST_PROCESSES }
+    requires kind { field row.now 0 ≡ spec.kind_text kind }
     ensures exact { Gives (λ event. event) result (spec.event_of n row.now) }
     ensures named { IfOk result (NamesBelow n) }
     ensures short { IfOk result (λ event. HasLongState event → ⊥) }
 {
-    match row.field(0) {
-        b"send" => {
+    match kind {
+        Kind::Send => {
             let event = send_of(n, row, bytes)?;
             Ok(event)
         }
-        b"recv" => {
+        Kind::Recv => {
             let event = recv_of(n, row)?;
             Ok(event)
         }
-        b"check" => {
+        Kind::Check => {
             let event = check_of(alloc, row)?;
             Ok(event)
         }
-        _ => {
+        Kind::Mark => {
             let event = mark_of(n, row)?;
             Ok(event)
         }

@@ -2,14 +2,15 @@
 
 ghost use Rattle.std.specs.Prelude.{◌≡◌, ◌≤◌, ◌<◌, Ok, Err, codes, length, replicate, IfErr, IfOk, OnOk};
 ghost use Rattle.line_names.specs.declared.limits.TheConstants.{MOST_PROCESSES};
+ghost use Rattle.line_fields.specs.Records.{field};
 ghost use Rattle.line_tape.specs.History.{fresh};
-ghost use Rattle.line_claims.specs.Events.{is_event};
+ghost use Rattle.line_claims.specs.Events.{is_event, kind_text};
 ghost use Rattle.line_claims.specs.Histories as spec;
 ghost use Rattle.line_claims.specs.Parts.{Leaves, many, one};
 ghost use Rattle.line_claims.specs.Reads.{Steps};
 
 use crate::cursors::Cursor;
-use crate::events::event_of;
+use crate::events::{Kind, event_of};
 use crate::faults::{TextError, error_at, fault_at};
 use crate::numbers::{incarnation, plain, want};
 use crate::versions::{LAST_VERSION, most_in};
@@ -55,14 +56,16 @@ fn event_at(
     alloc: Global,
     history: &mut History,
     at: ProcId,
+    kind: Kind,
     row: &Row,
     bytes: &mut Vec<u8>,
 ) -> Result<(), ReadError>
-    requires { at < length history.old.processes }
+    requires there { at < length history.old.processes }
+    requires kind { field row.now 0 ≡ kind_text kind }
     ensures exact { Steps result (spec.event_at at history.old.processes row.now) history.new.processes }
     ensures same { length history.new.processes ≡ length history.old.processes }
 {
-    let event = event_of(alloc, history.n(), row, bytes)?;
+    let event = event_of(alloc, history.n(), kind, row, bytes)?;
     let events = history.tape(at).len();
     want((events as usize) < MOST_EVENTS, Fault::TapeFull)?;
     match history.push(at, event) {
@@ -103,8 +106,8 @@ fn read_events(
         (many is_event (spec.event_at at) history.old.processes cursor.old.number cursor.old.left) cursor.new }
     ensures same { length history.new.processes ≡ length history.old.processes }
 {
-    'records: while let Some(row) = cursor.event() {
-        if let Err(error) = event_at(alloc, history, at, row, bytes) {
+    'records: while let Some((kind, row)) = cursor.event() {
+        if let Err(error) = event_at(alloc, history, at, kind, row, bytes) {
             return Err(error_at(cursor.number(), error));
         }
         cursor.advance()?;
