@@ -19,6 +19,8 @@ ghost use Rattle.line_catalogue.specs.Views.{room_at};
 ghost use Rattle.line_vectors.specs.Reach.{reach_before, sents_of};
 ghost use Rattle.line_vectors.specs.Vectors.{Fits};
 
+mod appends;
+
 use crate::agreement::{agrees, are_on_checks};
 use crate::kept_rows::Rows;
 use crate::ledgers::Ledger;
@@ -227,25 +229,6 @@ impl Catalogue {
     {
         self.ledger.reserve(p, k)?;
         self.rows.reserve(p, k)
-    }
-
-    /// Adds an event that may come next, in room that was made for it: what `add` does where it is
-    /// not refused, for a caller that has made those tests. It takes no memory.
-    #[tactic(auto, using(crate::proofs::CatalogueLemmas::lesser_at))]
-    pub fn append(&mut self, p: ProcId, event: Event)
-        requires process { p < length self.old.processes }
-        requires named { NamesBelow (length self.old.processes) event }
-        requires short { HasLongState event → ⊥ }
-        requires few { length (tape_at self.old.processes p) ≢ MOST_EVENTS }
-        requires agrees { AgreesNext self.old.processes p event }
-        requires room { 0 < room_at self.old p }
-        ensures processes { self.new.processes ≡ with_event self.old.processes p event }
-        ensures marks { self.new.marks ≡ self.old.marks }
-        ensures spent { room_at self.old p ≤ room_at self.new p + 1 }
-        ensures others { (q : ℕ) → q ≢ p → room_at self.new q ≡ room_at self.old q }
-    {
-        self.rows.append(p, &event, self.ledger.history().tape(p));
-        self.ledger.append(p, event);
     }
 
     /// Adds an event at the end of the tape of a process. A check costs a vector where something was

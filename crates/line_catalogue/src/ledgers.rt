@@ -11,6 +11,8 @@ ghost use Rattle.line_tape.specs.Transit.{in_transit};
 ghost use Rattle.line_tape.specs.Views.{room_at};
 ghost use Rattle.line_catalogue.specs.Left.{place_at, start_at, AreEnds, AreLeft};
 
+mod appends;
+
 use crate::candidates::candidates;
 use crate::transits::add_open;
 use line_names::{Choice, Line, MsgName, ProcId};

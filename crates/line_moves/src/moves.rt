@@ -69,16 +69,8 @@ pub fn put_message(
     let inc = catalogue.history().incarnation(from);
     let number = catalogue.history().tape(from).sends();
     links.push(from, to, Item::Message(MsgName { from, inc, number }))?;
-    let body = body.copy();
-    add_event(catalogue, from, Event::Send { to, inc, body });
+    catalogue.append_send(from, to, inc, body.bytes());
     Ok(MsgName { from, inc, number })
-}
-
-/// The event that receives a message.
-fn receipt(message: &MsgName) -> Event
-    ensures { result ≡ RecvEvent message.now }
-{
-    Event::Recv { message: *message }
 }
 
 /// Takes the first item off a link that keeps its order. A copy stays.
@@ -165,7 +157,7 @@ pub fn add_receipt(catalogue: &mut Catalogue, to: ProcId, message: &MsgName)
     ensures marks { catalogue.new.marks ≡ catalogue.old.marks }
 {
     let _history = catalogue.history();
-    add_event(catalogue, to, receipt(message));
+    catalogue.append_receipt(to, message);
 }
 
 /// Adds a check without a round, and tells its index. No link changes.

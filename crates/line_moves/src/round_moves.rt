@@ -108,8 +108,7 @@ fn force_round(
     running.force(catalogue.history(), from, to);
     let round = Some(number);
     add_event(catalogue, to, Event::Check { state, round });
-    let round = number;
-    add_event(catalogue, to, Event::Mark { from, round });
+    catalogue.append_mark(to, from, number);
     Ok(())
 }
 
@@ -141,7 +140,7 @@ fn hear_round(
     catalogue.reserve(to, 1)?;
     hear(running, catalogue.history(), from, to, round);
     links.drop_first(from, to);
-    add_event(catalogue, to, Event::Mark { from, round });
+    catalogue.append_mark(to, from, round);
     Ok(())
 }
 

@@ -6,6 +6,7 @@ ghost use Rattle.line_tape.specs.Plain.{plain};
 ghost use Rattle.line_tape.specs.Transit.{addressee};
 ghost use Rattle.line_tape.specs.Views.{room_at};
 
+mod appends;
 mod restarts;
 
 use crate::events::Event;

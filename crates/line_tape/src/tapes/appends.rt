@@ -11,8 +11,8 @@ use crate::limits::MOST_EVENTS;
 use line_names::{MsgName, ProcId};
 
 impl Tape {
-    /// Adds a send, with the incarnation and the addressee of it.
-    pub(super) fn append_send(&mut self, to: ProcId, inc: u16, body: &[u8])
+    /// Adds a send, with the incarnation and the addressee of it: what `append` does with one.
+    pub fn append_send(&mut self, to: ProcId, inc: u16, body: &[u8])
         requires room { 0 < self.old.room }
         requires few { length self.old.events < MOST_EVENTS }
         requires short { length body.now ≤ MOST_BODY }
@@ -26,8 +26,8 @@ impl Tape {
         self.spare -= 1;
     }
 
-    /// Adds the receipt of a message.
-    pub(super) fn append_receipt(&mut self, message: &MsgName)
+    /// Adds the receipt of a message: what `append` does with one.
+    pub fn append_receipt(&mut self, message: &MsgName)
         requires room { 0 < self.old.room }
         requires few { length self.old.events < MOST_EVENTS }
         ensures events { self.new.events ≡ self.old.events ++ Recv message.now ∷ [] }
@@ -59,8 +59,8 @@ impl Tape {
         self.spare -= 1;
     }
 
-    /// Adds the receipt of a marker.
-    pub(super) fn append_mark(&mut self, from: ProcId, round: u32)
+    /// Adds the receipt of a marker: what `append` does with one.
+    pub fn append_mark(&mut self, from: ProcId, round: u32)
         requires room { 0 < self.old.room }
         requires few { length self.old.events < MOST_EVENTS }
         ensures events { self.new.events ≡ self.old.events ++ Mark from round ∷ [] }

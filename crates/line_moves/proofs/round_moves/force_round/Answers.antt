@@ -20,8 +20,8 @@ pub add_event-requires-clause-agrees : goal.add_event-requires-clause-agrees
 add_event-requires-clause-agrees c =
     AgreesNext-check c.reserve.new.self.processes c.history.ensures.agrees c.args.to (omega (arith, c.requires.to, ap (λ (h : List Process). length h) c.in_ok-reserve.ensures.processes)) c.in_ok-state.state (Some c.number-number.result)
 
-pub add_event-requires-2-clause-agrees : goal.add_event-requires-2-clause-agrees
-add_event-requires-2-clause-agrees c =
+pub append_mark-requires-clause-agrees : goal.append_mark-requires-clause-agrees
+append_mark-requires-clause-agrees c =
     let old : List Process = c.reserve.new.self.processes in
     let e : Event = Check c.in_ok-state.state (Some c.number-number.result) in
     let within : c.args.to < length old = omega (arith, c.requires.to, ap (λ (h : List Process). length h) c.in_ok-reserve.ensures.processes) in
@@ -40,8 +40,8 @@ returns-clause-world c =
     let e : Event = Check c.in_ok-state.state (Some r) in
     let f : Event = Mark from r in
     let number : r ≡ c.args.running.now.number = c.number-number.ensures in
-    let after : c.add_event-2.new.catalogue.processes ≡ with_event (with_event history to e) to f =
-    c.add_event-2.ensures.processes ∙ ap (λ (h : List Process). with_event h to f) (c.add_event.ensures.processes ∙ ap (λ (h : List Process). with_event h to e) c.in_ok-reserve.ensures.processes) in
+    let after : c.append_mark.new.self.processes ≡ with_event (with_event history to e) to f =
+    c.append_mark.ensures.processes ∙ ap (λ (h : List Process). with_event h to f) (c.add_event.ensures.processes ∙ ap (λ (h : List Process). with_event h to e) c.in_ok-reserve.ensures.processes) in
     let queues : c.drop_first.new.self ≡ with_list (with_on_each links to (Marker r)) from to (drop 1 (between (with_on_each links to (Marker r)) from to)) =
     c.drop_first.ensures ∙ ap (λ (q : List (List (List Item))). with_list q from to (drop 1 (between q from to))) c.in_ok-push_each.ensures.ok in
     subst (λ (h : List Process). IsWorld Fifo h c.drop_first.new.self) (sym after)
