@@ -280,20 +280,21 @@ under_both n a b h k = omega arith
 one_less : (n a b : ℕ) → n ≤ a → a ≤ b + 1 → n - 1 ≤ b
 one_less n a b h k = omega arith
 
+pub lower : (n a b : ℕ) → n ≤ a → a ≤ b → n ≤ b
+lower n a b h k = omega arith
+
 -- a list that has at most one element more has room for one less at most
 pub room_left : (capacity len more longer : ℕ) → (capacity ≤ more) × (longer ≤ len + 1) → capacity - len ≤ more - longer + 1
 room_left capacity len more longer (h, k) = omega arith
 
 -- a count of further events that have room, once one is added
-pub counted-push : (spare log receipts checks incarnations addressees log' receipts' checks' incarnations' addressees' : ℕ)
-    → spare ≤ min (min log receipts) (min checks (min incarnations addressees))
-    → log ≤ log' + 1 → receipts ≤ receipts' + 1 → checks ≤ checks' + 1 → incarnations ≤ incarnations' + 1 → addressees ≤ addressees' + 1
-    → spare - 1 ≤ min (min log' receipts') (min checks' (min incarnations' addressees'))
-counted-push spare log receipts checks incarnations addressees log' receipts' checks' incarnations' addressees' most a b c d e =
-    let seen = under_first spare (min log receipts) (min checks (min incarnations addressees)) most in
-    let kept = under_second spare (min log receipts) (min checks (min incarnations addressees)) most in
-    let sent = under_second spare checks (min incarnations addressees) kept in
-    under_both (spare - 1) (min log' receipts') (min checks' (min incarnations' addressees'))
+pub counted-push : (spare log receipts incarnations addressees log' receipts' incarnations' addressees' : ℕ)
+    → spare ≤ min (min log receipts) (min incarnations addressees)
+    → log ≤ log' + 1 → receipts ≤ receipts' + 1 → incarnations ≤ incarnations' + 1 → addressees ≤ addressees' + 1
+    → spare - 1 ≤ min (min log' receipts') (min incarnations' addressees')
+counted-push spare log receipts incarnations addressees log' receipts' incarnations' addressees' most a b c d =
+    let seen = under_first spare (min log receipts) (min incarnations addressees) most in
+    let sent = under_second spare (min log receipts) (min incarnations addressees) most in
+    under_both (spare - 1) (min log' receipts') (min incarnations' addressees')
     (under_both (spare - 1) log' receipts' (one_less spare log log' (under_first spare log receipts seen) a) (one_less spare receipts receipts' (under_second spare log receipts seen) b))
-    (under_both (spare - 1) checks' (min incarnations' addressees') (one_less spare checks checks' (under_first spare checks (min incarnations addressees) kept) c)
-    (under_both (spare - 1) incarnations' addressees' (one_less spare incarnations incarnations' (under_first spare incarnations addressees sent) d) (one_less spare addressees addressees' (under_second spare incarnations addressees sent) e)))
+    (under_both (spare - 1) incarnations' addressees' (one_less spare incarnations incarnations' (under_first spare incarnations addressees sent) c) (one_less spare addressees addressees' (under_second spare incarnations addressees sent) d))

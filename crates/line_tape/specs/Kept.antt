@@ -1,5 +1,5 @@
 -- What a tape keeps beside its events, so that no question scans them.
-use Rattle.std.specs.Prelude.{◌≡◌, ℕ, suc, ◌<◌, ◌≤◌, List, length, take, slice_index_or, Some, All}
+use Rattle.std.specs.Prelude.{◌≡◌, ℕ, suc, ◌<◌, ◌≤◌, List, length, take, slice_index_or, Some, All, min}
 use Rattle.line_tape.specs.declared.events.Event.{Event}
 use Rattle.line_tape.specs.declared.tapes.CheckRow.{CheckRow}
 use Rattle.line_tape.specs.Event.{checks, incarnations_sent, sends}
@@ -38,10 +38,11 @@ pub record AreSettled (events : List Event) (settled : ℕ) : Type 0 where
   pub within : settled ≤ length events
   pub each : All IsSettled (take settled events)
 
--- the events of a tape, an index that answers for them, and a count of further events that there is room for
-pub record IsIndexed (events : List Event) (rows : List CheckRow) (incarnations addressed : List ℕ) (receipts : ReceiptsView) (settled spare room : ℕ) : Type 0 where
+-- the events of a tape, an index that answers for them, and a count of further events that have room beside what checks alone take; where it is not 0, a check has room for that too
+pub record IsIndexed (events : List Event) (rows : List CheckRow) (incarnations addressed : List ℕ) (receipts : ReceiptsView) (settled spare room checks_room : ℕ) : Type 0 where
   pub tape : IsTape events
   pub checked : AreRows events rows incarnations addressed
   pub received : receipts.names ≡ names_received events
   pub unchanged : AreSettled events settled
   pub counted : spare ≤ room
+  pub one_check : min 1 spare ≤ checks_room

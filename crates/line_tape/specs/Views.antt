@@ -8,6 +8,12 @@ pub record TapeView : Type 0 where
   pub events : List Event
   pub room : ℕ
 
+-- the events of a log, for how many further ones there is room beside their states, and for how many further states
+pub record LogView : Type 0 where
+  pub events : List Event
+  pub room : ℕ
+  pub states : ℕ
+
 -- the processes of a history, and the room of each tape
 pub record HistoryView : Type 0 where
   pub processes : List Process

@@ -157,15 +157,14 @@ impl Model for Log {
     ghost use Rattle.std.specs.Prelude.{◌-◌, ◌/◌, length, map, min, vec_capacity, vec_len};
     ghost use Rattle.line_names.specs.declared.limits.TheConstants.{MOST_BODY};
     ghost use Rattle.line_tape.specs.Laid.{event_of, IsLaid};
-    ghost use Rattle.line_tape.specs.Views.{TapeView};
+    ghost use Rattle.line_tape.specs.Views.{LogView};
 
-    ghost Value = { TapeView };
+    ghost Value = { LogView };
 
     ghost view = { λ l. record {
       events = map (event_of l.bodies.items l.states.items) l.events.items;
-      room = min (vec_capacity l.events - vec_len l.events)
-          (min ((vec_capacity l.bodies - vec_len l.bodies) / MOST_BODY)
-          (vec_capacity l.states - vec_len l.states));
+      room = min (vec_capacity l.events - vec_len l.events) ((vec_capacity l.bodies - vec_len l.bodies) / MOST_BODY);
+      states = vec_capacity l.states - vec_len l.states;
     } };
 
     ghost invariant = { λ l.
@@ -206,9 +205,10 @@ impl Log {
     /// Makes room for so many further events.
     pub(crate) fn reserve(&mut self, k: u32) -> Result<(), AllocError>
         ensures same { self.new.events ≡ self.old.events }
-        ensures ok { OnOk result (k ≤ self.new.room) }
-        ensures succeeds { k ≤ self.old.room → IsOk result }
+        ensures ok { OnOk result ((k ≤ self.new.room) × (k ≤ self.new.states)) }
+        ensures succeeds { k ≤ self.old.room → k ≤ self.old.states → IsOk result }
         ensures room { self.old.room ≤ self.new.room }
+        ensures states { self.old.states ≤ self.new.states }
     {
         let k = k as usize;
         self.events.reserve(k)?;
@@ -216,14 +216,20 @@ impl Log {
         self.states.reserve(k)
     }
 
-    /// For how many further events there is room, whatever they are.
+    /// For how many further events there is room, whatever they are, where their states have it.
     pub(crate) fn room(&self) -> usize
         ensures { result ≡ self.now.room }
     {
         let events = self.events.capacity() - self.events.len();
         let bodies = self.bodies.capacity() - self.bodies.len();
-        let states = self.states.capacity() - self.states.len();
-        events.min((bodies / MOST_BODY).min(states))
+        events.min(bodies / MOST_BODY)
+    }
+
+    /// For how many further states there is room.
+    pub(crate) fn room_for_states(&self) -> usize
+        ensures { result ≡ self.now.states }
+    {
+        self.states.capacity() - self.states.len()
     }
 
     /// Adds a send at the end, in room that was made for it: its body goes behind the others.
@@ -233,6 +239,7 @@ impl Log {
         requires short { length body.now ≤ MOST_BODY }
         ensures events { self.new.events ≡ self.old.events ++ Send to inc body.now ∷ [] }
         ensures room { self.old.room ≤ self.new.room + 1 }
+        ensures states { self.new.states ≡ self.old.states }
     {
         let kept = KeptEvent::Send {
             to,
@@ -249,6 +256,7 @@ impl Log {
         requires room { 0 < self.old.room }
         ensures events { self.new.events ≡ self.old.events ++ Recv message.now ∷ [] }
         ensures room { self.old.room ≤ self.new.room + 1 }
+        ensures states { self.new.states ≡ self.old.states }
     {
         self.events
             .push_reserved(KeptEvent::Recv { message: *message });
@@ -257,9 +265,11 @@ impl Log {
     /// Adds a check at the end, in room that was made for it: its state goes behind the others.
     pub(crate) fn append_check(&mut self, state: State, round: Option<u32>)
         requires room { 0 < self.old.room }
+        requires states { 0 < self.old.states }
         requires few { length self.old.events < MOST_EVENTS }
         ensures events { self.new.events ≡ self.old.events ++ Check state round ∷ [] }
         ensures room { self.old.room ≤ self.new.room + 1 }
+        ensures states { self.old.states ≤ self.new.states + 1 }
     {
         let before = self.states.len() as u32;
         self.events.push_reserved(keep_check(before, &state, round));
@@ -271,6 +281,7 @@ impl Log {
         requires room { 0 < self.old.room }
         ensures events { self.new.events ≡ self.old.events ++ Mark from round ∷ [] }
         ensures room { self.old.room ≤ self.new.room + 1 }
+        ensures states { self.new.states ≡ self.old.states }
     {
         self.events.push_reserved(KeptEvent::Mark { from, round });
     }
@@ -280,6 +291,7 @@ impl Log {
     pub(crate) fn truncate(&mut self, end: usize)
         ensures events { self.new.events ≡ take end self.old.events }
         ensures room { self.old.room ≤ self.new.room }
+        ensures states { self.old.states ≤ self.new.states }
     {
         if end >= self.events.len() {
             return;
@@ -299,6 +311,7 @@ impl Log {
         requires settled { All IsSettled (take settled self.old.events) }
         ensures events { self.new.events ≡ filter_map restarted_event self.old.events }
         ensures room { self.old.room ≤ self.new.room }
+        ensures states { self.new.states ≡ self.old.states }
     {
         restart_events(&mut self.events, settled);
     }

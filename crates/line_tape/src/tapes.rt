@@ -18,7 +18,7 @@ use crate::limits::{MOST_EVENTS, MOST_STATE};
 use crate::logs::{Events, Log};
 use crate::receipts::Receipts;
 use line_names::{Choice, MOST_BODY, MsgName, ProcId};
-use rooms::least_room;
+use rooms::{least_room, room_for_checks};
 use std::alloc::{AllocError, Global};
 use std::error::Error;
 use std::fmt;
@@ -38,9 +38,10 @@ pub struct CheckRow {
 /// and which receipt of each message was its first, so that no question scans the events; and how
 /// many of its first events a restart would leave as they are, so that none looks at these again.
 ///
-/// `spare` counts further events that have room in each list, so that the lists are seldom asked.
-/// The links by sender are not in the count and are asked each time: they have room for one further
-/// block of senders as a rule, and it is seldom taken.
+/// `spare` counts further events that have room in the lists to which many events add, so that these
+/// are seldom asked. Lists that have room for one further element as a rule and seldom take it are
+/// not in the count, which would be one again and again. The links by sender are asked each time;
+/// the rows and the states of checks have room for one where the count is not 0.
 #[derive(Drop)]
 pub struct Tape {
     log: Log,
@@ -62,13 +63,13 @@ impl Model for Tape {
 
     ghost view = { λ t. record {
       events = t.log.events;
-      room = min t.spare t.receipts.senders;
+      room = min (min t.spare t.receipts.senders) (min (vec_capacity t.checks - vec_len t.checks) t.log.states);
     } };
 
     ghost invariant = { λ t. IsIndexed t.log.events t.checks.items t.incarnations.items t.addressees.items t.receipts t.settled t.spare
         (min (min t.log.room t.receipts.room)
-        (min (vec_capacity t.checks - vec_len t.checks)
-        (min (vec_capacity t.incarnations - vec_len t.incarnations) (vec_capacity t.addressees - vec_len t.addressees)))) };
+        (min (vec_capacity t.incarnations - vec_len t.incarnations) (vec_capacity t.addressees - vec_len t.addressees)))
+        (min (vec_capacity t.checks - vec_len t.checks) t.log.states) };
 }
 
 /// Whether the event stores or carries more than a tape takes. A body never does.
@@ -254,6 +255,7 @@ impl Tape {
     /// Makes room for so many further events, and counts anew for how many there is room.
     #[inline(never)]
     fn make_room(&mut self, k: u32) -> Result<(), AllocError>
+        requires { 0 < k }
         ensures same { self.new.events ≡ self.old.events }
         ensures ok { OnOk result (k ≤ self.new.room) }
         ensures succeeds { k ≤ self.old.room → IsOk result }
@@ -268,7 +270,6 @@ impl Tape {
         self.spare = least_room(
             &self.log,
             &self.receipts,
-            &self.checks,
             &self.incarnations,
             &self.addressees,
         );
@@ -277,15 +278,15 @@ impl Tape {
 
     /// Makes room for so many further events: the next `k` pushes take no memory.
     ///
-    /// It asks the lists only where it is not known that they have room. The count is then the room
-    /// of the fullest one, so the asking is spread over as many events.
+    /// It asks the lists that are counted only where it is not known that they have room. The count
+    /// is then the room of the fullest one, so the asking is spread over as many events.
     pub fn reserve(&mut self, k: u32) -> Result<(), AllocError>
         ensures same { self.new.events ≡ self.old.events }
         ensures ok { OnOk result (k ≤ self.new.room) }
         ensures succeeds { k ≤ self.old.room → IsOk result }
         ensures room { self.old.room ≤ self.new.room }
     {
-        if k <= self.spare {
+        if k <= self.spare && (k <= 1 || k as usize <= room_for_checks(&self.log, &self.checks)) {
             return self.receipts.reserve_senders(k as usize);
         }
         self.make_room(k)

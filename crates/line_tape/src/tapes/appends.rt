@@ -5,6 +5,7 @@ ghost use Rattle.line_tape.specs.declared.events.Event.TheVariants.{Check, Mark,
 ghost use Rattle.line_tape.specs.declared.limits.TheConstants.{MOST_STATE};
 ghost use Rattle.line_tape.specs.History.{IsTape};
 
+use super::rooms::count_behind_check;
 use super::{CheckRow, Tape};
 use crate::events::State;
 use crate::limits::MOST_EVENTS;
@@ -56,7 +57,7 @@ impl Tape {
         };
         self.checks.push_reserved(row);
         self.log.append_check(state, round);
-        self.spare -= 1;
+        self.spare = count_behind_check(self.spare, &self.log, &self.checks);
     }
 
     /// Adds the receipt of a marker: what `append` does with one.

@@ -1,28 +1,47 @@
 //! For how much a tape has room.
-ghost use Rattle.std.specs.Prelude.{◌≡◌, ◌-◌, ◌^◌, min, vec_len, vec_capacity};
+ghost use Rattle.std.specs.Prelude.{◌≡◌, ◌≤◌, ◌<◌, ◌-◌, ◌^◌, min, vec_len, vec_capacity};
 
 use super::CheckRow;
 use crate::logs::Log;
 use crate::receipts::Receipts;
 use line_names::ProcId;
 
-/// For how many further events each list of a tape has room, whatever they are; as many as a `u32`
-/// counts at most.
+/// For how many further events the lists that a tape counts have room, whatever they are; as many
+/// as a `u32` counts at most.
 pub(super) fn least_room(
     log: &Log,
     receipts: &Receipts,
-    checks: &Vec<CheckRow>,
     incarnations: &Vec<u16>,
     addressees: &Vec<ProcId>,
 ) -> u32
     ensures { result ≡ min (2 ^ 32 - 1) (min (min log.now.room receipts.now.room)
-        (min (vec_capacity checks.now - vec_len checks.now)
-        (min (vec_capacity incarnations.now - vec_len incarnations.now) (vec_capacity addressees.now - vec_len addressees.now)))) }
+        (min (vec_capacity incarnations.now - vec_len incarnations.now) (vec_capacity addressees.now - vec_len addressees.now))) }
 {
     let seen = log.room().min(receipts.room());
-    let rows = checks.capacity() - checks.len();
     let sent = incarnations.capacity() - incarnations.len();
     let named = addressees.capacity() - addressees.len();
-    let least = seen.min(rows.min(sent.min(named)));
+    let least = seen.min(sent.min(named));
     least.min(u32::MAX as usize) as u32
+}
+
+/// For how many further checks there is room, whatever they store.
+pub(super) fn room_for_checks(log: &Log, checks: &Vec<CheckRow>) -> usize
+    ensures { result ≡ min (vec_capacity checks.now - vec_len checks.now) log.now.states }
+{
+    let rows = checks.capacity() - checks.len();
+    rows.min(log.room_for_states())
+}
+
+/// The count of further events that have room, behind a check: none where no further check has it.
+pub(super) fn count_behind_check(spare: u32, log: &Log, checks: &Vec<CheckRow>) -> u32
+    requires { 0 < spare }
+    ensures less { result ≤ spare - 1 }
+    ensures least { min (spare - 1) (min (vec_capacity checks.now - vec_len checks.now) log.now.states) ≤ result }
+    ensures one_check { min 1 result ≤ min (vec_capacity checks.now - vec_len checks.now) log.now.states }
+{
+    if checks.len() < checks.capacity() && log.room_for_states() > 0 {
+        spare - 1
+    } else {
+        0
+    }
 }

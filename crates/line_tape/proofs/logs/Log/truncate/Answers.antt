@@ -4,7 +4,7 @@ use Rattle.std.proofs.lemmas.List.{take-append-drop, take_rest}
 use Rattle.line_tape.specs.declared.events.Event.{Event}
 use Rattle.line_tape.specs.declared.logs.KeptEvent.{KeptEvent}
 use Rattle.line_tape.specs.Laid.{event_of, first_byte, first_state}
-use Rattle.line_tape.specs.Views.{TapeView}
+use Rattle.line_tape.specs.Views.{LogView}
 use Rattle.line_tape.proofs.LaidLemmas.{IsLog, events_of_first, more-gone}
 use Rattle.line_tape.proofs.logs.Log.truncate.Goals as goal
 
@@ -27,5 +27,5 @@ invariant_of-self c = (left c).laid
 
 pub returns-clause-events : goal.returns-clause-events
 returns-clause-events c =
-    let seen : map (event_of c.self.inside.bodies.items c.self.inside.states.items) c.self.inside.events.items ≡ c.args.self.now.events = ap (λ (t : TapeView). t.events) c.self.view_is in
+    let seen : map (event_of c.self.inside.bodies.items c.self.inside.states.items) c.self.inside.events.items ≡ c.args.self.now.events = ap (λ (l : LogView). l.events) c.self.view_is in
     (left c).shows ∙ events_of_first c.self.inside.bodies.items c.self.inside.states.items c.self.inside.events.items c.args.end ∙ ap (λ (es : List Event). take c.args.end es) seen

@@ -8,7 +8,7 @@ use Rattle.line_tape.specs.History.{IsTape}
 use Rattle.line_tape.specs.Kept.{AreRows, AreSettled}
 use Rattle.line_tape.specs.Transit.{names_received, received_name}
 use Rattle.line_tape.specs.Views.{TapeView}
-use Rattle.line_tape.proofs.IndexLemmas.{AreSettled-push, IsTape-push, counted-push, room_left}
+use Rattle.line_tape.proofs.IndexLemmas.{AreSettled-push, IsTape-push, counted-push, lower}
 use Rattle.line_tape.proofs.RowLemmas.{AreRows-check, told-none}
 use Rattle.line_tape.proofs.tapes.Tape.append_check.Goals as goal
 
@@ -27,5 +27,6 @@ invariant_of-self c =
       checked = subst (λ (xs : List Event). AreRows xs c.push_reserved.new.self.items c.self.inside.incarnations.items c.self.inside.addressees.items) (sym pushed) (checked);
       received = c.self.invariant.received ∙ sym (told-none received_name items event refl) ∙ ap names_received (sym pushed);
       unchanged = subst (λ (xs : List Event). AreSettled xs c.self.inside.settled) (sym pushed) (AreSettled-push items event c.self.inside.settled c.self.invariant.unchanged);
-      counted = counted-push _ _ _ _ _ _ _ _ _ _ _ c.self.invariant.counted c.append_check.ensures.room (omega arith) (room_left _ _ _ _ (omega arith, omega (arith, c.push_reserved.ensures.len))) (omega arith) (omega arith);
+      counted = lower _ _ _ c.count_behind_check-self-inside.ensures.less (counted-push _ _ _ _ _ _ _ _ _ c.self.invariant.counted c.append_check.ensures.room (omega arith) (omega arith) (omega arith));
+      one_check = c.count_behind_check-self-inside.ensures.one_check;
     }

@@ -29,5 +29,6 @@ invariant_of-self c =
       checked = subst (λ (xs : List Event). AreRows xs c.self.inside.checks.items c.self.inside.incarnations.items c.self.inside.addressees.items) (sym pushed) (AreRows-other items event c.self.inside.checks.items c.self.inside.incarnations.items c.self.inside.addressees.items refl refl refl c.self.invariant.checked);
       received = c.note.ensures.names ∙ ap (λ (names : List MsgName). names ++ c.args.message.now ∷ []) c.self.invariant.received ∙ sym (told-some received_name items event c.args.message.now refl) ∙ ap names_received (sym pushed);
       unchanged = subst (λ (xs : List Event). AreSettled xs c.self.inside.settled) (sym pushed) (AreSettled-push items event c.self.inside.settled c.self.invariant.unchanged);
-      counted = counted-push _ _ _ _ _ _ _ _ _ _ _ c.self.invariant.counted c.append_receipt.ensures.room c.note.ensures.room (omega arith) (omega arith) (omega arith);
+      counted = counted-push _ _ _ _ _ _ _ _ _ c.self.invariant.counted c.append_receipt.ensures.room c.note.ensures.room (omega arith) (omega arith);
+      one_check = omega (arith, c.self.invariant.one_check, c.append_receipt.ensures.states);
     }

@@ -40,7 +40,8 @@ invariant_of-self c =
       checked = subst (λ (xs : List Event). AreRows xs c.place_checks.new.rows.items c.self.inside.incarnations.items c.self.inside.addressees.items) (sym left) (AreRows-restarted items c.self.inside.checks.items c.self.inside.incarnations.items c.self.inside.addressees.items c.self.invariant.checked c.place_checks.new.rows.items placed);
       received = c.self.invariant.received ∙ sym (names_restarted items) ∙ ap names_received (sym left);
       unchanged = subst (λ (n : ℕ). AreSettled c.settle.new.self.events n) (sym many) (subst (λ (xs : List Event). AreSettled xs (length xs)) (sym left) (settled_left items));
-      counted = omega (arith, c.self.invariant.counted, c.settle.ensures.room, c.place_checks.ensures.len, c.place_checks.ensures.capacity);
+      counted = omega (arith, c.self.invariant.counted, c.settle.ensures.room);
+      one_check = omega (arith, c.self.invariant.one_check, c.settle.ensures.states, c.place_checks.ensures.len, c.place_checks.ensures.capacity);
     }
 
 pub returns-clause-limits : goal.returns-clause-limits
