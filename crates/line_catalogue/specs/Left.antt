@@ -1,4 +1,4 @@
--- What is kept so that what is in transit is found from little: what was in transit at some line, and the sends before it.
+-- What is kept so that what is in transit is found from little: what was in transit at some line, and the sends and events before it.
 use Rattle.std.specs.Prelude.{◌≡◌, ℕ, ◌<◌, ◌≤◌, false, List, [], length, map, filter, take, drop, Contains, slice_index_or}
 use Rattle.line_names.specs.declared.choices.Choice.{Choice}
 use Rattle.line_names.specs.declared.messages.MsgName.{MsgName}

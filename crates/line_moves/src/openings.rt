@@ -244,7 +244,8 @@ pub(crate) fn note(
     }
 }
 
-/// The marker of a round has come to a process that has its check of that round. It takes no memory.
+/// The marker of a round has come to a process that has its check of that round. It takes no
+/// memory.
 pub(crate) fn hear(
     running: &mut Option<OpenRound>,
     history: &History,

@@ -38,10 +38,12 @@ pub struct CheckRow {
 /// and which receipt of each message was its first, so that no question scans the events; and how
 /// many of its first events a restart would leave as they are, so that none looks at these again.
 ///
-/// `spare` counts further events that have room in the lists to which many events add, so that these
-/// are seldom asked. Lists that have room for one further element as a rule and seldom take it are
-/// not in the count, which would be one again and again. The links by sender are asked each time;
-/// the rows and the states of checks have room for one where the count is not 0.
+/// `spare` counts further events that have room in the lists to which many events add, so that
+/// these are seldom asked: but where a process sends no bytes, the list of bodies has room for one
+/// as a rule, and they are asked at each event. Lists that have room for one further element as a
+/// rule and seldom take it are not in the count, which would be one again and again. The links by
+/// sender are asked each time; the rows and the states of checks have room for one where the count
+/// is not 0.
 #[derive(Drop)]
 pub struct Tape {
     log: Log,
