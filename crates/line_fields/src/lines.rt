@@ -1,6 +1,6 @@
 //! A record that is written field by field, as the text of its line.
 
-ghost use Rattle.std.specs.Prelude.{◌≡◌, ◌≤◌, ◌<◌, ◌++◌, ◌∷◌, ◌+◌, ◌*◌, ◌^◌, [], true, if◌then◌else◌, IsTrue, OnErr, OnOk, length, vec_capacity, vec_len, decimal};
+ghost use Rattle.std.specs.Prelude.{◌≡◌, ◌≤◌, ◌<◌, ◌↔◌, ◌++◌, ◌∷◌, ◌+◌, ◌*◌, ◌^◌, [], true, if◌then◌else◌, IsTrue, OnErr, OnOk, length, vec_capacity, vec_len, decimal};
 ghost use Rattle.line_fields.specs.Texts.{has_name, hex_digit, hex_text, is_plain_field, record_text};
 ghost use Rattle.line_fields.specs.Writers.{text_before, two_digits};
 
@@ -163,7 +163,7 @@ fn push_word(out: &mut Vec<u8>, word: &[u8])
 // Whether a list has room for so many bytes and one more.
 #[inline(always)]
 fn has_room(text: &Vec<u8>, bytes: usize) -> bool
-    ensures { IsTrue result → vec_len text.now + bytes < vec_capacity text.now }
+    ensures { IsTrue result ↔ vec_len text.now + bytes < vec_capacity text.now }
 {
     bytes < text.capacity() - text.len()
 }
