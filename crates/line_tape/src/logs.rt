@@ -3,15 +3,19 @@ ghost use Rattle.std.specs.Prelude.{◌≡◌, ◌<◌, ◌≤◌, ◌+◌, ◌-
 ghost use Rattle.std.specs.List.{filter_map};
 ghost use Rattle.line_tape.specs.declared.events.Event.TheVariants.{Check, Mark, Recv, Send};
 ghost use Rattle.line_tape.specs.Kept.{IsSettled};
-ghost use Rattle.line_tape.specs.Laid.{first_byte, first_state, kept_as, restarted_kept, states_of};
+ghost use Rattle.line_tape.specs.Laid.{kept_as, states_of};
 ghost use Rattle.line_tape.specs.Restart.{restarted_event};
 ghost use Rattle.line_tape.specs.Shown.{shown};
 
 mod copies;
+mod restarts;
+mod starts;
 
 use crate::events::{EventRef, State};
 use crate::limits::MOST_EVENTS;
 use line_names::{MOST_BODY, MsgName, ProcId};
+use restarts::restart_events;
+use starts::{bytes_before, states_before};
 use std::alloc::{AllocError, Global};
 use std::marker::Model;
 
@@ -48,45 +52,6 @@ pub(crate) enum KeptEvent {
 // What an event takes on a tape, beside its bytes.
 const _: () = prove!(size_of::<KeptEvent>() == 16);
 
-/// Takes the round off a check, and tells whether the event stays: marks don't.
-fn restart_event(event: &mut KeptEvent) -> bool
-    ensures { restarted_kept event.old ≡ (if result then Some event.new else None) }
-{
-    match event {
-        KeptEvent::Send { .. } => true,
-        KeptEvent::Recv { .. } => true,
-        KeptEvent::Check { round, .. } => {
-            *round = None;
-            true
-        }
-        KeptEvent::BareCheck { .. } => {
-            *event = KeptEvent::BareCheck { round: None };
-            true
-        }
-        KeptEvent::Mark { .. } => false,
-    }
-}
-
-/// Takes marks out and the rounds off checks, where a restart leaves the first `settled` events as
-/// they are.
-fn restart_events(events: &mut Vec<KeptEvent>, settled: usize)
-    requires within { settled ≤ vec_len events.old }
-    requires settled { All (λ event. restarted_kept event ≡ Some event)
-        (take settled events.old.items) }
-    ensures items { events.new.items ≡ filter_map restarted_kept events.old.items }
-    ensures few { vec_len events.new ≤ vec_len events.old }
-    ensures capacity { vec_capacity events.new ≡ vec_capacity events.old }
-{
-    let mut end = settled;
-    for i in settled..events.len() {
-        if restart_event(&mut events[i]) {
-            events.swap(i, end);
-            end += 1;
-        }
-    }
-    events.truncate(end);
-}
-
 /// A check as it is kept behind so many states: one that stores no bytes by itself.
 fn keep_check(before: u32, state: &State, round: Option<u32>) -> KeptEvent
     ensures { (bytes : ℕ) → result ≡ kept_as bytes before (Check state.now round) }
@@ -109,39 +74,6 @@ fn keep_state(states: &mut Vec<State>, state: State)
     if !state.bytes().is_empty() {
         states.push_reserved(state);
     }
-}
-
-/// How many bytes of bodies stand before those of these events, of `all` that there are up to their
-/// end.
-fn bytes_before(events: &[KeptEvent], all: usize) -> usize
-    ensures { result ≡ first_byte events.now all }
-{
-    for i in 0..events.len() {
-        match &events[i] {
-            KeptEvent::Send { start, .. } => return *start as usize,
-            KeptEvent::Recv { .. } => {}
-            KeptEvent::Check { .. } => {}
-            KeptEvent::BareCheck { .. } => {}
-            KeptEvent::Mark { .. } => {}
-        }
-    }
-    all
-}
-
-/// How many states stand before those of these events, of `all` that there are up to their end.
-fn states_before(events: &[KeptEvent], all: usize) -> usize
-    ensures { result ≡ first_state events.now all }
-{
-    for i in 0..events.len() {
-        match &events[i] {
-            KeptEvent::Send { .. } => {}
-            KeptEvent::Recv { .. } => {}
-            KeptEvent::Check { before, .. } => return *before as usize,
-            KeptEvent::BareCheck { .. } => {}
-            KeptEvent::Mark { .. } => {}
-        }
-    }
-    all
 }
 
 /// The events of a tape in their order, each in sixteen bytes, and beside them the bytes of bodies,

@@ -18,7 +18,7 @@ use crate::limits::{MOST_EVENTS, MOST_STATE};
 use crate::logs::{Events, Log};
 use crate::receipts::Receipts;
 use line_names::{Choice, MOST_BODY, MsgName, ProcId};
-use rooms::{least_room, room_for_checks};
+use rooms::room_for_checks;
 use std::alloc::{AllocError, Global};
 use std::error::Error;
 use std::fmt;
@@ -252,30 +252,6 @@ impl Tape {
             Some(bytes) => bytes,
             None => unreachable!(),
         }
-    }
-
-    /// Makes room for so many further events, and counts anew for how many there is room.
-    #[inline(never)]
-    fn make_room(&mut self, k: u32) -> Result<(), AllocError>
-        requires { 0 < k }
-        ensures same { self.new.events ≡ self.old.events }
-        ensures ok { OnOk result (k ≤ self.new.room) }
-        ensures succeeds { k ≤ self.old.room → IsOk result }
-        ensures room { self.old.room ≤ self.new.room }
-    {
-        self.log.reserve(k)?;
-        self.checks.reserve(k as usize)?;
-        self.incarnations.reserve(k as usize)?;
-        self.addressees.reserve(k as usize)?;
-        self.receipts.reserve(k as usize)?;
-        self.receipts.reserve_senders(k as usize)?;
-        self.spare = least_room(
-            &self.log,
-            &self.receipts,
-            &self.incarnations,
-            &self.addressees,
-        );
-        Ok(())
     }
 
     /// Makes room for so many further events: the next `k` pushes take no memory.

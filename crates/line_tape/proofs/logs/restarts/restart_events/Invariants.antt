@@ -2,7 +2,7 @@ use Rattle.std.proofs.Common.{◌≡◌, ◌≤◌, take, drop}
 use Rattle.std.specs.Prelude.{vec_len, vec_capacity}
 use Rattle.std.specs.List.{filter_map}
 use Rattle.line_tape.specs.Laid.{restarted_kept}
-use Rattle.line_tape.proofs.logs.restart_events.Given as goal
+use Rattle.line_tape.proofs.logs.restarts.restart_events.Given as goal
 
 abbrev pub invariant-loop-i : goal.invariant-loop-i
 invariant-loop-i l = record {

@@ -6,8 +6,8 @@ use Rattle.std.proofs.lemmas.List.{take_all}
 use Rattle.line_tape.specs.declared.logs.KeptEvent.{KeptEvent}
 use Rattle.line_tape.specs.Laid.{restarted_kept}
 use Rattle.line_tape.proofs.IndexLemmas.{same_each, settle-kept, settle-kept_rest, settle-gone, settle-gone_rest}
-use Rattle.line_tape.proofs.logs.restart_events.Goals.{then-restart_event, else-restart_event}
-use Rattle.line_tape.proofs.logs.restart_events.Goals as goal
+use Rattle.line_tape.proofs.logs.restarts.restart_events.Goals.{then-restart_event, else-restart_event}
+use Rattle.line_tape.proofs.logs.restarts.restart_events.Goals as goal
 
 pub loop-i-init : goal.loop-i-init
 loop-i-init c = record {
