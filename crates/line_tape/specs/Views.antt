@@ -8,10 +8,11 @@ pub record TapeView : Type 0 where
   pub events : List Event
   pub room : ℕ
 
--- the events of a log, for how many further ones there is room beside their states, and for how many further states
+-- the events of a log, for how many further ones there is room beside their bodies and states, and for how many further bodies and states
 pub record LogView : Type 0 where
   pub events : List Event
   pub room : ℕ
+  pub bodies : ℕ
   pub states : ℕ
 
 -- the processes of a history, and the room of each tape

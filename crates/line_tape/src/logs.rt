@@ -86,7 +86,7 @@ pub(crate) struct Log {
 }
 
 impl Model for Log {
-    ghost use Rattle.std.specs.Prelude.{◌-◌, ◌/◌, length, map, min, vec_capacity, vec_len};
+    ghost use Rattle.std.specs.Prelude.{◌-◌, ◌/◌, length, map, vec_capacity, vec_len};
     ghost use Rattle.line_names.specs.declared.limits.TheConstants.{MOST_BODY};
     ghost use Rattle.line_tape.specs.Laid.{event_of, IsLaid};
     ghost use Rattle.line_tape.specs.Views.{LogView};
@@ -95,7 +95,8 @@ impl Model for Log {
 
     ghost view = { λ l. record {
       events = map (event_of l.bodies.items l.states.items) l.events.items;
-      room = min (vec_capacity l.events - vec_len l.events) ((vec_capacity l.bodies - vec_len l.bodies) / MOST_BODY);
+      room = vec_capacity l.events - vec_len l.events;
+      bodies = (vec_capacity l.bodies - vec_len l.bodies) / MOST_BODY;
       states = vec_capacity l.states - vec_len l.states;
     } };
 
@@ -137,9 +138,10 @@ impl Log {
     /// Makes room for so many further events.
     pub(crate) fn reserve(&mut self, k: u32) -> Result<(), AllocError>
         ensures same { self.new.events ≡ self.old.events }
-        ensures ok { OnOk result ((k ≤ self.new.room) × (k ≤ self.new.states)) }
-        ensures succeeds { k ≤ self.old.room → k ≤ self.old.states → IsOk result }
+        ensures ok { OnOk result ((k ≤ self.new.room) × (k ≤ self.new.bodies) × (k ≤ self.new.states)) }
+        ensures succeeds { k ≤ self.old.room → k ≤ self.old.bodies → k ≤ self.old.states → IsOk result }
         ensures room { self.old.room ≤ self.new.room }
+        ensures bodies { self.old.bodies ≤ self.new.bodies }
         ensures states { self.old.states ≤ self.new.states }
     {
         let k = k as usize;
@@ -148,13 +150,18 @@ impl Log {
         self.states.reserve(k)
     }
 
-    /// For how many further events there is room, whatever they are, where their states have it.
+    /// For how many further events there is room, where their bodies and states have it.
     pub(crate) fn room(&self) -> usize
         ensures { result ≡ self.now.room }
     {
-        let events = self.events.capacity() - self.events.len();
-        let bodies = self.bodies.capacity() - self.bodies.len();
-        events.min(bodies / MOST_BODY)
+        self.events.capacity() - self.events.len()
+    }
+
+    /// For how many further bodies there is room, whatever they are.
+    pub(crate) fn room_for_bodies(&self) -> usize
+        ensures { result ≡ self.now.bodies }
+    {
+        (self.bodies.capacity() - self.bodies.len()) / MOST_BODY
     }
 
     /// For how many further states there is room.
@@ -167,10 +174,12 @@ impl Log {
     /// Adds a send at the end, in room that was made for it: its body goes behind the others.
     pub(crate) fn append_send(&mut self, to: ProcId, inc: u16, body: &[u8])
         requires room { 0 < self.old.room }
+        requires bodies { 0 < self.old.bodies }
         requires few { length self.old.events < MOST_EVENTS }
         requires short { length body.now ≤ MOST_BODY }
         ensures events { self.new.events ≡ self.old.events ++ Send to inc body.now ∷ [] }
         ensures room { self.old.room ≤ self.new.room + 1 }
+        ensures bodies { self.old.bodies ≤ self.new.bodies + 1 }
         ensures states { self.new.states ≡ self.old.states }
     {
         let kept = KeptEvent::Send {
@@ -188,6 +197,7 @@ impl Log {
         requires room { 0 < self.old.room }
         ensures events { self.new.events ≡ self.old.events ++ Recv message.now ∷ [] }
         ensures room { self.old.room ≤ self.new.room + 1 }
+        ensures bodies { self.new.bodies ≡ self.old.bodies }
         ensures states { self.new.states ≡ self.old.states }
     {
         self.events
@@ -201,6 +211,7 @@ impl Log {
         requires few { length self.old.events < MOST_EVENTS }
         ensures events { self.new.events ≡ self.old.events ++ Check state round ∷ [] }
         ensures room { self.old.room ≤ self.new.room + 1 }
+        ensures bodies { self.new.bodies ≡ self.old.bodies }
         ensures states { self.old.states ≤ self.new.states + 1 }
     {
         let before = self.states.len() as u32;
@@ -213,6 +224,7 @@ impl Log {
         requires room { 0 < self.old.room }
         ensures events { self.new.events ≡ self.old.events ++ Mark from round ∷ [] }
         ensures room { self.old.room ≤ self.new.room + 1 }
+        ensures bodies { self.new.bodies ≡ self.old.bodies }
         ensures states { self.new.states ≡ self.old.states }
     {
         self.events.push_reserved(KeptEvent::Mark { from, round });
@@ -223,6 +235,7 @@ impl Log {
     pub(crate) fn truncate(&mut self, end: usize)
         ensures events { self.new.events ≡ take end self.old.events }
         ensures room { self.old.room ≤ self.new.room }
+        ensures bodies { self.old.bodies ≤ self.new.bodies }
         ensures states { self.old.states ≤ self.new.states }
     {
         if end >= self.events.len() {
@@ -243,6 +256,7 @@ impl Log {
         requires settled { All IsSettled (take settled self.old.events) }
         ensures events { self.new.events ≡ filter_map restarted_event self.old.events }
         ensures room { self.old.room ≤ self.new.room }
+        ensures bodies { self.new.bodies ≡ self.old.bodies }
         ensures states { self.new.states ≡ self.old.states }
     {
         restart_events(&mut self.events, settled);

@@ -5,7 +5,7 @@ ghost use Rattle.line_tape.specs.declared.events.Event.TheVariants.{Check, Mark,
 ghost use Rattle.line_tape.specs.declared.limits.TheConstants.{MOST_STATE};
 ghost use Rattle.line_tape.specs.History.{IsTape};
 
-use super::rooms::count_behind_check;
+use super::rooms::{count_behind_check, count_behind_send};
 use super::{CheckRow, Tape};
 use crate::events::State;
 use crate::limits::MOST_EVENTS;
@@ -13,6 +13,7 @@ use line_names::{MsgName, ProcId};
 
 impl Tape {
     /// Adds a send, with the incarnation and the addressee of it: what `append` does with one.
+    #[inline]
     pub fn append_send(&mut self, to: ProcId, inc: u16, body: &[u8])
         requires room { 0 < self.old.room }
         requires few { length self.old.events < MOST_EVENTS }
@@ -24,7 +25,7 @@ impl Tape {
         self.incarnations.push_reserved(inc);
         self.addressees.push_reserved(to);
         self.log.append_send(to, inc, body);
-        self.spare -= 1;
+        self.spare = count_behind_send(self.spare, &self.log);
     }
 
     /// Adds the receipt of a message: what `append` does with one.

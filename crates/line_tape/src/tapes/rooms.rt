@@ -25,12 +25,27 @@ fn least_room(
     least.min(u32::MAX as usize) as u32
 }
 
-/// For how many further checks there is room, whatever they store.
-pub(super) fn room_for_checks(log: &Log, checks: &Vec<CheckRow>) -> usize
-    ensures { result ≡ min (vec_capacity checks.now - vec_len checks.now) log.now.states }
+/// For how many further events the lists have room that a tape does not count: those of bodies, and
+/// of what checks alone take.
+pub(super) fn room_beside(log: &Log, checks: &Vec<CheckRow>) -> usize
+    ensures { result ≡ min log.now.bodies (min (vec_capacity checks.now - vec_len checks.now) log.now.states) }
 {
     let rows = checks.capacity() - checks.len();
-    rows.min(log.room_for_states())
+    log.room_for_bodies().min(rows.min(log.room_for_states()))
+}
+
+/// The count of further events that have room, behind a send: none where no further body has it.
+pub(super) fn count_behind_send(spare: u32, log: &Log) -> u32
+    requires { 0 < spare }
+    ensures less { result ≤ spare - 1 }
+    ensures least { min (spare - 1) log.now.bodies ≤ result }
+    ensures one_body { min 1 result ≤ log.now.bodies }
+{
+    if log.room_for_bodies() > 0 {
+        spare - 1
+    } else {
+        0
+    }
 }
 
 /// The count of further events that have room, behind a check: none where no further check has it.

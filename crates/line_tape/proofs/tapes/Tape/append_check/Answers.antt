@@ -28,5 +28,5 @@ invariant_of-self c =
       received = c.self.invariant.received ∙ sym (told-none received_name items event refl) ∙ ap names_received (sym pushed);
       unchanged = subst (λ (xs : List Event). AreSettled xs c.self.inside.settled) (sym pushed) (AreSettled-push items event c.self.inside.settled c.self.invariant.unchanged);
       counted = lower _ _ _ c.count_behind_check-self-inside.ensures.less (counted-push _ _ _ _ _ _ _ _ _ c.self.invariant.counted c.append_check.ensures.room (omega arith) (omega arith) (omega arith));
-      one_check = c.count_behind_check-self-inside.ensures.one_check;
+      one_more = omega (arith, c.self.invariant.one_more, c.append_check.ensures.bodies, c.count_behind_check-self-inside.ensures.one_check, c.count_behind_check-self-inside.ensures.less);
     }

@@ -24,5 +24,5 @@ invariant_of-self c =
       received = c.self.invariant.received ∙ sym (told-none received_name items event refl) ∙ ap names_received (sym pushed);
       unchanged = subst (λ (xs : List Event). AreSettled xs c.self.inside.settled) (sym pushed) (AreSettled-push items event c.self.inside.settled c.self.invariant.unchanged);
       counted = counted-push _ _ _ _ _ _ _ _ _ c.self.invariant.counted c.append_mark.ensures.room (omega arith) (omega arith) (omega arith);
-      one_check = omega (arith, c.self.invariant.one_check, c.append_mark.ensures.states);
+      one_more = omega (arith, c.self.invariant.one_more, c.append_mark.ensures.bodies, c.append_mark.ensures.states);
     }

@@ -30,5 +30,5 @@ invariant_of-self c =
       received = c.note.ensures.names ∙ ap (λ (names : List MsgName). names ++ c.args.message.now ∷ []) c.self.invariant.received ∙ sym (told-some received_name items event c.args.message.now refl) ∙ ap names_received (sym pushed);
       unchanged = subst (λ (xs : List Event). AreSettled xs c.self.inside.settled) (sym pushed) (AreSettled-push items event c.self.inside.settled c.self.invariant.unchanged);
       counted = counted-push _ _ _ _ _ _ _ _ _ c.self.invariant.counted c.append_receipt.ensures.room c.note.ensures.room (omega arith) (omega arith);
-      one_check = omega (arith, c.self.invariant.one_check, c.append_receipt.ensures.states);
+      one_more = omega (arith, c.self.invariant.one_more, c.append_receipt.ensures.bodies, c.append_receipt.ensures.states);
     }

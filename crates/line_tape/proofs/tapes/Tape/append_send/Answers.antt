@@ -7,7 +7,7 @@ use Rattle.line_tape.specs.History.{IsTape}
 use Rattle.line_tape.specs.Kept.{AreRows, AreSettled}
 use Rattle.line_tape.specs.Transit.{names_received, received_name}
 use Rattle.line_tape.specs.Views.{TapeView}
-use Rattle.line_tape.proofs.IndexLemmas.{AreSettled-push, IsTape-push, counted-push, room_left}
+use Rattle.line_tape.proofs.IndexLemmas.{AreSettled-push, IsTape-push, counted-push, lower, room_left}
 use Rattle.line_tape.proofs.RowLemmas.{AreRows-send, told-none}
 use Rattle.line_tape.proofs.tapes.Tape.append_send.Goals as goal
 
@@ -26,6 +26,6 @@ invariant_of-self c =
       checked = subst (λ (xs : List Event). AreRows xs c.self.inside.checks.items c.push_reserved.new.self.items c.push_reserved-2.new.self.items) (sym pushed) (checked);
       received = c.self.invariant.received ∙ sym (told-none received_name items event refl) ∙ ap names_received (sym pushed);
       unchanged = subst (λ (xs : List Event). AreSettled xs c.self.inside.settled) (sym pushed) (AreSettled-push items event c.self.inside.settled c.self.invariant.unchanged);
-      counted = counted-push _ _ _ _ _ _ _ _ _ c.self.invariant.counted c.append_send.ensures.room (omega arith) (room_left _ _ _ _ (omega arith, omega (arith, c.push_reserved.ensures.len))) (room_left _ _ _ _ (omega arith, omega (arith, c.push_reserved-2.ensures.len)));
-      one_check = omega (arith, c.self.invariant.one_check, c.append_send.ensures.states);
+      counted = lower _ _ _ c.count_behind_send-self-inside.ensures.less (counted-push _ _ _ _ _ _ _ _ _ c.self.invariant.counted c.append_send.ensures.room (omega arith) (room_left _ _ _ _ (omega arith, omega (arith, c.push_reserved.ensures.len))) (room_left _ _ _ _ (omega arith, omega (arith, c.push_reserved-2.ensures.len))));
+      one_more = omega (arith, c.self.invariant.one_more, c.append_send.ensures.states, c.count_behind_send-self-inside.ensures.one_body, c.count_behind_send-self-inside.ensures.less);
     }

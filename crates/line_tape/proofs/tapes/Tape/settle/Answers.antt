@@ -41,7 +41,7 @@ invariant_of-self c =
       received = c.self.invariant.received ∙ sym (names_restarted items) ∙ ap names_received (sym left);
       unchanged = subst (λ (n : ℕ). AreSettled c.settle.new.self.events n) (sym many) (subst (λ (xs : List Event). AreSettled xs (length xs)) (sym left) (settled_left items));
       counted = omega (arith, c.self.invariant.counted, c.settle.ensures.room);
-      one_check = omega (arith, c.self.invariant.one_check, c.settle.ensures.states, c.place_checks.ensures.len, c.place_checks.ensures.capacity);
+      one_more = omega (arith, c.self.invariant.one_more, c.settle.ensures.bodies, c.settle.ensures.states, c.place_checks.ensures.len, c.place_checks.ensures.capacity);
     }
 
 pub returns-clause-limits : goal.returns-clause-limits
