@@ -38,7 +38,7 @@ pub record AreSettled (events : List Event) (settled : ℕ) : Type 0 where
   pub within : settled ≤ length events
   pub each : All IsSettled (take settled events)
 
--- the events of a tape, an index that answers for them, and a count of further events that have room beside bodies and what checks alone take; where it is not 0, one event more has room for that too
+-- the events of a tape, an index that answers for them, and a count of further events that have room beside bodies, senders and what checks alone take; where it is not 0, one event more has room for that too
 pub record IsIndexed (events : List Event) (rows : List CheckRow) (incarnations addressed : List ℕ) (receipts : ReceiptsView) (settled spare room room_beside : ℕ) : Type 0 where
   pub tape : IsTape events
   pub checked : AreRows events rows incarnations addressed

@@ -163,6 +163,13 @@ impl Receipts {
         self.receipts.reserve(k)
     }
 
+    /// Whether there is room for so many further senders.
+    pub fn has_room_for_senders(&self, k: usize) -> bool
+        ensures { IsTrue result ↔ (k ≤ self.now.senders) }
+    {
+        self.last.has_room(k)
+    }
+
     /// Makes room for so many further senders.
     pub fn reserve_senders(&mut self, k: usize) -> Result<(), AllocError>
         ensures same { self.new.names ≡ self.old.names }

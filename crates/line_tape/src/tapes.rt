@@ -18,7 +18,7 @@ use crate::limits::{MOST_EVENTS, MOST_STATE};
 use crate::logs::{Events, Log};
 use crate::receipts::Receipts;
 use line_names::{Choice, MOST_BODY, MsgName, ProcId};
-use rooms::room_beside;
+use rooms::has_room_beside;
 use std::alloc::{AllocError, Global};
 use std::error::Error;
 use std::fmt;
@@ -40,9 +40,8 @@ pub struct CheckRow {
 ///
 /// `spare` counts further events that have room in the lists to which many events add, so that
 /// these are seldom asked. Lists that have room for one further element as a rule and seldom take
-/// it are not in the count, which would be one again and again. The links by sender are asked each
-/// time; the bodies, and the rows and the states of checks, have room for one where the count is
-/// not 0.
+/// it are not in the count, which would be one again and again: the bodies, the links by sender, and
+/// the rows and the states of checks. Where the count is not 0, they have room for one.
 #[derive(Drop)]
 pub struct Tape {
     log: Log,
@@ -71,7 +70,7 @@ impl Model for Tape {
     ghost invariant = { λ t. IsIndexed t.log.events t.checks.items t.incarnations.items t.addressees.items t.receipts t.settled t.spare
         (min (min t.log.room t.receipts.room)
         (min (vec_capacity t.incarnations - vec_len t.incarnations) (vec_capacity t.addressees - vec_len t.addressees)))
-        (min t.log.bodies (min (vec_capacity t.checks - vec_len t.checks) t.log.states)) };
+        (min (min t.log.bodies t.receipts.senders) (min (vec_capacity t.checks - vec_len t.checks) t.log.states)) };
 }
 
 /// Whether the event stores or carries more than a tape takes. A body never does.
@@ -264,8 +263,10 @@ impl Tape {
         ensures succeeds { k ≤ self.old.room → IsOk result }
         ensures room { self.old.room ≤ self.new.room }
     {
-        if k <= self.spare && (k <= 1 || k as usize <= room_beside(&self.log, &self.checks)) {
-            return self.receipts.reserve_senders(k as usize);
+        if k <= self.spare
+            && (k <= 1 || has_room_beside(k as usize, &self.log, &self.receipts, &self.checks))
+        {
+            return Ok(());
         }
         self.make_room(k)
     }

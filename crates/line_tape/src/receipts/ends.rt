@@ -1,5 +1,5 @@
 //! The link to the last receipt of each sender that is ahead.
-ghost use Rattle.std.specs.Prelude.{◌≡◌, ◌≢◌, ◌<◌, ◌≤◌, ◌+◌, ℕ, IfOk, IsOk, OnOk, slice_index_or, vec_capacity, vec_len};
+ghost use Rattle.std.specs.Prelude.{◌≡◌, ◌≢◌, ◌<◌, ◌≤◌, ◌+◌, ◌↔◌, ℕ, IfOk, IsOk, IsTrue, OnOk, slice_index_or, vec_capacity, vec_len};
 ghost use Rattle.line_tape.specs.Ends.{IsEndPut, block_of, end_of};
 
 use std::alloc::{AllocError, Global};
@@ -65,6 +65,14 @@ impl LastLinks {
         self.links[(block as usize - 1) * 16 + sender as usize % 16]
     }
 
+    /// Whether there is room for so many further senders: for any number where all have their links.
+    pub fn has_room(&self, k: usize) -> bool
+        ensures { IsTrue result ↔ (k ≤ self.now.room) }
+    {
+        let capacity = self.links.capacity();
+        k <= (capacity - self.links.len()) / 16 || capacity >= 256
+    }
+
     /// Takes memory for so many further senders. There are 256 at most, so it never takes more than
     /// their room.
     #[inline(never)]
@@ -78,15 +86,14 @@ impl LastLinks {
         self.links.reserve(k.min(further) * 16)
     }
 
-    /// Makes room for so many further senders. Where there is room, which is so for almost each
-    /// event, it is one comparison.
+    /// Makes room for so many further senders.
     pub fn reserve(&mut self, k: usize) -> Result<(), AllocError>
         ensures same { (sender : ℕ) → end_of self.new sender ≡ end_of self.old sender }
         ensures ok { OnOk result (k ≤ self.new.room) }
         ensures succeeds { k ≤ self.old.room → IsOk result }
         ensures room { self.old.room ≤ self.new.room }
     {
-        if k <= (self.links.capacity() - self.links.len()) / 16 {
+        if self.has_room(k) {
             return Ok(());
         }
         self.grow(k)

@@ -5,7 +5,7 @@ ghost use Rattle.line_tape.specs.declared.events.Event.TheVariants.{Check, Mark,
 ghost use Rattle.line_tape.specs.declared.limits.TheConstants.{MOST_STATE};
 ghost use Rattle.line_tape.specs.History.{IsTape};
 
-use super::rooms::{count_behind_check, count_behind_send};
+use super::rooms::{count_behind_check, count_behind_receipt, count_behind_send};
 use super::{CheckRow, Tape};
 use crate::events::State;
 use crate::limits::MOST_EVENTS;
@@ -38,7 +38,7 @@ impl Tape {
     {
         self.receipts.note(message);
         self.log.append_receipt(message);
-        self.spare -= 1;
+        self.spare = count_behind_receipt(self.spare, &self.receipts);
     }
 
     /// Adds a check, with the row of it.

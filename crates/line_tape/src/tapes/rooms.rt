@@ -1,5 +1,5 @@
 //! For how much a tape has room.
-ghost use Rattle.std.specs.Prelude.{◌≡◌, ◌≤◌, ◌<◌, ◌-◌, ◌^◌, min, vec_len, vec_capacity, OnOk, IsOk};
+ghost use Rattle.std.specs.Prelude.{◌≡◌, ◌≤◌, ◌<◌, ◌-◌, ◌^◌, min, vec_len, vec_capacity, ◌↔◌, OnOk, IsOk, IsTrue};
 
 use super::{CheckRow, Tape};
 use crate::logs::Log;
@@ -25,13 +25,35 @@ fn least_room(
     least.min(u32::MAX as usize) as u32
 }
 
-/// For how many further events the lists have room that a tape does not count: those of bodies, and
-/// of what checks alone take.
-pub(super) fn room_beside(log: &Log, checks: &Vec<CheckRow>) -> usize
-    ensures { result ≡ min log.now.bodies (min (vec_capacity checks.now - vec_len checks.now) log.now.states) }
+/// Whether so many further events have room in the lists that a tape does not count: those of bodies
+/// and of senders, and of what checks alone take.
+pub(super) fn has_room_beside(
+    k: usize,
+    log: &Log,
+    receipts: &Receipts,
+    checks: &Vec<CheckRow>,
+) -> bool
+    ensures { IsTrue result ↔ (k ≤ min (min log.now.bodies receipts.now.senders)
+        (min (vec_capacity checks.now - vec_len checks.now) log.now.states)) }
 {
     let rows = checks.capacity() - checks.len();
-    log.room_for_bodies().min(rows.min(log.room_for_states()))
+    k <= log.room_for_bodies().min(rows.min(log.room_for_states()))
+        && receipts.has_room_for_senders(k)
+}
+
+/// The count of further events that have room, behind a receipt: none where no further sender has
+/// it.
+pub(super) fn count_behind_receipt(spare: u32, receipts: &Receipts) -> u32
+    requires { 0 < spare }
+    ensures less { result ≤ spare - 1 }
+    ensures least { min (spare - 1) receipts.now.senders ≤ result }
+    ensures one_sender { min 1 result ≤ receipts.now.senders }
+{
+    if receipts.has_room_for_senders(1) {
+        spare - 1
+    } else {
+        0
+    }
 }
 
 /// The count of further events that have room, behind a send: none where no further body has it.

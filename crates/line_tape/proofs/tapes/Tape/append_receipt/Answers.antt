@@ -8,7 +8,7 @@ use Rattle.line_tape.specs.History.{IsTape}
 use Rattle.line_tape.specs.Kept.{AreRows, AreSettled}
 use Rattle.line_tape.specs.Transit.{names_received, received_name}
 use Rattle.line_tape.specs.Views.{TapeView}
-use Rattle.line_tape.proofs.IndexLemmas.{AreSettled-push, IsTape-push, counted-push}
+use Rattle.line_tape.proofs.IndexLemmas.{AreSettled-push, IsTape-push, counted-push, lower}
 use Rattle.line_tape.proofs.RowLemmas.{AreRows-other, receipts_le, told-some}
 use Rattle.line_tape.proofs.tapes.Tape.append_receipt.Goals as goal
 
@@ -29,6 +29,6 @@ invariant_of-self c =
       checked = subst (λ (xs : List Event). AreRows xs c.self.inside.checks.items c.self.inside.incarnations.items c.self.inside.addressees.items) (sym pushed) (AreRows-other items event c.self.inside.checks.items c.self.inside.incarnations.items c.self.inside.addressees.items refl refl refl c.self.invariant.checked);
       received = c.note.ensures.names ∙ ap (λ (names : List MsgName). names ++ c.args.message.now ∷ []) c.self.invariant.received ∙ sym (told-some received_name items event c.args.message.now refl) ∙ ap names_received (sym pushed);
       unchanged = subst (λ (xs : List Event). AreSettled xs c.self.inside.settled) (sym pushed) (AreSettled-push items event c.self.inside.settled c.self.invariant.unchanged);
-      counted = counted-push _ _ _ _ _ _ _ _ _ c.self.invariant.counted c.append_receipt.ensures.room c.note.ensures.room (omega arith) (omega arith);
-      one_more = omega (arith, c.self.invariant.one_more, c.append_receipt.ensures.bodies, c.append_receipt.ensures.states);
+      counted = lower _ _ _ c.count_behind_receipt-self-inside.ensures.less (counted-push _ _ _ _ _ _ _ _ _ c.self.invariant.counted c.append_receipt.ensures.room c.note.ensures.room (omega arith) (omega arith));
+      one_more = omega (arith, c.self.invariant.one_more, c.append_receipt.ensures.bodies, c.append_receipt.ensures.states, c.count_behind_receipt-self-inside.ensures.one_sender, c.count_behind_receipt-self-inside.ensures.less);
     }

@@ -36,5 +36,5 @@ invariant_of-self c =
       received = noted ∙ ap names_received (sym cut);
       unchanged = subst (λ (xs : List Event). AreSettled xs c.min-self-inside.result) (sym cut) (subst (AreSettled kept) (sym c.min-self-inside.ensures) (AreSettled-take items c.self.inside.settled n few c.self.invariant.unchanged));
       counted = omega (arith, c.self.invariant.counted, c.cut.ensures.room, c.truncate.ensures.room);
-      one_more = omega (arith, c.self.invariant.one_more, c.truncate.ensures.bodies, c.truncate.ensures.states, c.truncate-2.ensures.capacity, c.truncate-2.ensures.len);
+      one_more = omega (arith, c.self.invariant.one_more, c.cut.ensures.senders, c.truncate.ensures.bodies, c.truncate.ensures.states, c.truncate-2.ensures.capacity, c.truncate-2.ensures.len);
     }
