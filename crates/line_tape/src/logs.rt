@@ -1,5 +1,5 @@
 //! The events of a tape, as it keeps and shows them.
-ghost use Rattle.std.specs.Prelude.{◌≡◌, ◌<◌, ◌≤◌, ◌+◌, ◌-◌, ◌^◌, ◌↔◌, ℕ, Option, if◌then◌else◌, [], ◌∷◌, ◌++◌, All, IsOk, IsTrue, None, OnOk, Some, drop, length, slice_get, take, vec_capacity, vec_len};
+ghost use Rattle.std.specs.Prelude.{◌≡◌, ◌<◌, ◌≤◌, ◌+◌, ◌-◌, ◌^◌, ◌↔◌, ℕ, Option, [], ◌∷◌, ◌++◌, All, IsOk, IsTrue, OnOk, Some, drop, length, slice_get, take, vec_capacity, vec_len};
 ghost use Rattle.std.specs.List.{filter_map};
 ghost use Rattle.line_tape.specs.declared.events.Event.TheVariants.{Check, Mark, Recv, Send};
 ghost use Rattle.line_tape.specs.Kept.{IsSettled};
@@ -138,8 +138,10 @@ impl Log {
     /// Makes room for so many further events.
     pub(crate) fn reserve(&mut self, k: u32) -> Result<(), AllocError>
         ensures same { self.new.events ≡ self.old.events }
-        ensures ok { OnOk result ((k ≤ self.new.room) × (k ≤ self.new.bodies) × (k ≤ self.new.states)) }
-        ensures succeeds { k ≤ self.old.room → k ≤ self.old.bodies → k ≤ self.old.states → IsOk result }
+        ensures ok { OnOk result
+            ((k ≤ self.new.room) × (k ≤ self.new.bodies) × (k ≤ self.new.states)) }
+        ensures succeeds { k ≤ self.old.room → k ≤ self.old.bodies → k ≤ self.old.states
+            → IsOk result }
         ensures room { self.old.room ≤ self.new.room }
         ensures bodies { self.old.bodies ≤ self.new.bodies }
         ensures states { self.old.states ≤ self.new.states }

@@ -40,8 +40,8 @@ pub struct CheckRow {
 ///
 /// `spare` counts further events that have room in the lists to which many events add, so that
 /// these are seldom asked. Lists that have room for one further element as a rule and seldom take
-/// it are not in the count, which would be one again and again: the bodies, the links by sender, and
-/// the rows and the states of checks. Where the count is not 0, they have room for one.
+/// it are not in the count, which would be one again and again: the bodies, the links by sender,
+/// and the rows and the states of checks. Where the count is not 0, they have room for one.
 #[derive(Drop)]
 pub struct Tape {
     log: Log,
@@ -70,7 +70,8 @@ impl Model for Tape {
     ghost invariant = { λ t. IsIndexed t.log.events t.checks.items t.incarnations.items t.addressees.items t.receipts t.settled t.spare
         (min (min t.log.room t.receipts.room)
         (min (vec_capacity t.incarnations - vec_len t.incarnations) (vec_capacity t.addressees - vec_len t.addressees)))
-        (min (min t.log.bodies t.receipts.senders) (min (vec_capacity t.checks - vec_len t.checks) t.log.states)) };
+        (min (min t.log.bodies t.receipts.senders)
+        (min (vec_capacity t.checks - vec_len t.checks) t.log.states)) };
 }
 
 /// Whether the event stores or carries more than a tape takes. A body never does.

@@ -65,7 +65,7 @@ impl LastLinks {
         self.links[(block as usize - 1) * 16 + sender as usize % 16]
     }
 
-    /// Whether there is room for so many further senders: for any number where all have their links.
+    /// Whether there is room for so many further senders: for any number where all have links.
     pub fn has_room(&self, k: usize) -> bool
         ensures { IsTrue result ↔ (k ≤ self.now.room) }
     {

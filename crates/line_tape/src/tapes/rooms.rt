@@ -25,8 +25,8 @@ fn least_room(
     least.min(u32::MAX as usize) as u32
 }
 
-/// Whether so many further events have room in the lists that a tape does not count: those of bodies
-/// and of senders, and of what checks alone take.
+/// Whether so many further events have room in the lists that a tape does not count: those of
+/// bodies and of senders, and of what checks alone take.
 pub(super) fn has_room_beside(
     k: usize,
     log: &Log,
