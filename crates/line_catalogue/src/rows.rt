@@ -1,5 +1,5 @@
 //! What is known of the checks of one process, and of where it stands.
-ghost use Rattle.std.specs.Prelude.{◌≡◌, ◌<◌, ◌≤◌, ◌+◌, ◌-◌, ℕ, Bool, false, List, [], ◌∷◌, ◌++◌, if◌then◌else◌, length, map, replicate, vec_len, vec_capacity, IfOk, IsOk, OnOk};
+ghost use Rattle.std.specs.Prelude.{◌≡◌, ◌<◌, ◌≤◌, ◌+◌, ◌-◌, ◌^◌, ℕ, Bool, false, List, [], ◌∷◌, ◌++◌, if◌then◌else◌, length, map, replicate, vec_len, vec_capacity, IfOk, IsOk, OnOk};
 ghost use Rattle.line_names.specs.declared.choices.Choice.TheVariants.{Check as AtCheck};
 ghost use Rattle.line_tape.specs.Event.{checks, sends, NamesBelow};
 ghost use Rattle.line_tape.specs.Shown.{shown};
@@ -73,6 +73,15 @@ fn lay(lanes: &mut Vec<u32>, present: &Reach, heard: bool)
     }
 }
 
+/// Where the last vector of `n` lanes begins.
+fn last_start(lanes: &Vec<u32>, n: usize) -> u32
+    requires within { n ≤ vec_len lanes.now }
+    requires few { vec_len lanes.now < 2 ^ 32 }
+    ensures { result ≡ vec_len lanes.now - n }
+{
+    (lanes.len() - n) as u32
+}
+
 /// Adds the row of a check, with the vector of where the process stands, in room that was made for
 /// both.
 fn add_row(
@@ -98,7 +107,7 @@ fn add_row(
 {
     lay(lanes, present, heard);
     let n = present.n();
-    let start = (lanes.len() - n) as u32;
+    let start = last_start(lanes, n);
     rows.push_reserved(KeptRow {
         place,
         sends,
@@ -264,6 +273,7 @@ impl ProcessRows {
     fn grow(&mut self, k: u32) -> Result<(), AllocError>
         ensures same { (self.new.rows ≡ self.old.rows) × (self.new.present ≡ self.old.present) }
         ensures ok { OnOk result (k ≤ self.new.room) }
+        ensures succeeds { k ≤ self.old.room → IsOk result }
         ensures room { self.old.room ≤ self.new.room }
     {
         let n = self.present.n();
