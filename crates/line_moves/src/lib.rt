@@ -19,14 +19,16 @@ mod restarts;
 mod restores;
 mod round_moves;
 mod rounds;
+mod state_moves;
 
 pub use fates::{Fate, fate_of};
 pub use links::Links;
 pub use listings::Listing;
 pub use modes::Mode;
-pub use moves::{add_check, add_receipt, put_message, take_message};
+pub use moves::{add_check, add_receipt, put_message, put_message_lent, take_message};
 pub use openings::{OpenRound, is_forced, list_completed, still_open};
 pub use restarts::restart_links;
 pub use restores::{restarted_incarnations, restored_states};
-pub use round_moves::{begin_round, take_marker, turn_round};
+pub use round_moves::{begin_round_lent, take_marker_lent, turn_round_lent};
 pub use rounds::Round;
+pub use state_moves::{begin_round, take_marker, turn_round};

@@ -22,7 +22,7 @@ use crate::links::Links;
 use crate::modes::Mode;
 use crate::openings::{OpenRound, note};
 use line_catalogue::Catalogue;
-use line_names::{Body, MsgName, ProcId};
+use line_names::{Body, MOST_BODY, MsgName, ProcId};
 use line_tape::{Event, History, Item, MOST_EVENTS, MOST_STATE, State};
 use std::alloc::AllocError;
 
@@ -65,11 +65,36 @@ pub fn put_message(
     ensures marks { catalogue.new.marks ≡ catalogue.old.marks }
     ensures kept { OnErr result (links.new ≡ links.old) }
 {
+    put_message_lent(catalogue, links, from, to, body.bytes())
+}
+
+/// Sends a message as `put_message` does, with a body whose bytes are lent.
+pub fn put_message_lent(
+    catalogue: &mut Catalogue,
+    links: &mut Links,
+    from: ProcId,
+    to: ProcId,
+    body: &[u8],
+) -> Result<MsgName, AllocError>
+    requires shape { IsTable (length catalogue.old.processes) links.old }
+    requires from { from < length catalogue.old.processes }
+    requires to { to < length catalogue.old.processes }
+    requires short { length body.now ≤ MOST_BODY }
+    requires few { length (tape_at catalogue.old.processes from) < MOST_EVENTS }
+    ensures name { IfOk result (λ message. message ≡ next_name catalogue.old.processes from) }
+    ensures sent { OnOk result (catalogue.new.processes
+        ≡ with_event catalogue.old.processes from (SendEvent to (incarnation_at catalogue.old.processes from) body.now)) }
+    ensures put { OnOk result (links.new
+        ≡ with_list links.old from to (between links.old from to ++ Message (next_name catalogue.old.processes from) ∷ [])) }
+    ensures err { OnErr result (catalogue.new.processes ≡ catalogue.old.processes) }
+    ensures marks { catalogue.new.marks ≡ catalogue.old.marks }
+    ensures kept { OnErr result (links.new ≡ links.old) }
+{
     catalogue.reserve(from, 1)?;
     let inc = catalogue.history().incarnation(from);
     let number = catalogue.history().tape(from).sends();
     links.push(from, to, Item::Message(MsgName { from, inc, number }))?;
-    catalogue.append_send(from, to, inc, body.bytes());
+    catalogue.append_send(from, to, inc, body);
     Ok(MsgName { from, inc, number })
 }
 

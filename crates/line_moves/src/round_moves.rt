@@ -31,17 +31,13 @@ use line_tape::{Event, Item, LAST_ROUND, MOST_EVENTS, MOST_STATE, State};
 use line_turns::{Colours, SharedChannels, Turning};
 use std::alloc::{AllocError, Global};
 
-/// Begins the round of markers after the last one: the check on the tape of a process, and a marker
-/// on each link from it to another. It tells the round, which is open now, and the index of the
-/// check.
-///
-/// It makes what each process records of the round (Chandy and Lamport, ACM TOCS 3(1), 1985).
-pub fn begin_round(
+/// Begins a round as `begin_round` does, with a state whose bytes are lent.
+pub fn begin_round_lent(
     alloc: Global,
     catalogue: &mut Catalogue,
     links: &mut Links,
     at: ProcId,
-    state: &State,
+    state: &[u8],
     last: u32,
 ) -> Result<(OpenRound, u32), AllocError>
     requires at { at < length catalogue.old.processes }
@@ -59,7 +55,7 @@ pub fn begin_round(
     ensures marks { catalogue.new.marks ≡ catalogue.old.marks }
     ensures kept { OnErr result (links.new ≡ links.old) }
 {
-    let state = state.copy(alloc)?;
+    let state = State::of(Vec::from_slice(alloc, state)?);
     catalogue.reserve(at, 1)?;
     let mut running = OpenRound::new(alloc, catalogue.history(), last)?;
     running.reserve(at)?;
@@ -80,7 +76,7 @@ fn force_round(
     running: &mut OpenRound,
     from: ProcId,
     to: ProcId,
-    state: &State,
+    state: &[u8],
 ) -> Result<(), AllocError>
     requires from { from < length catalogue.old.processes }
     requires to { to < length catalogue.old.processes }
@@ -100,7 +96,7 @@ fn force_round(
     ensures marks { catalogue.new.marks ≡ catalogue.old.marks }
 {
     let number = running.number();
-    let state = state.copy(alloc)?;
+    let state = State::of(Vec::from_slice(alloc, state)?);
     catalogue.reserve(to, 2)?;
     running.reserve(to)?;
     links.push_each(to, Item::Marker(number))?;
@@ -144,12 +140,8 @@ fn hear_round(
     Ok(())
 }
 
-/// Takes the marker that is first on a link, after the check of its round where the process has
-/// none: `forced` is what `is_forced` says.
-///
-/// A forced check puts a marker on each link from the process to another; else it costs a look at
-/// the channels of the process.
-pub fn take_marker(
+/// Takes a marker as `take_marker` does, with a state whose bytes are lent.
+pub fn take_marker_lent(
     alloc: Global,
     catalogue: &mut Catalogue,
     links: &mut Links,
@@ -157,7 +149,7 @@ pub fn take_marker(
     from: ProcId,
     to: ProcId,
     round: u32,
-    state: &State,
+    state: &[u8],
     forced: bool,
 ) -> Result<(), AllocError>
     requires from { from < length catalogue.old.processes }
@@ -197,7 +189,7 @@ fn take_turn(
     turning: &mut Turning,
     rounds: &[Round],
     at: ProcId,
-    state: &State,
+    state: &[u8],
     further: u32,
 ) -> Result<(u32, Option<SharedChannels>), AllocError>
     requires at { at < length catalogue.old.processes }
@@ -221,7 +213,7 @@ fn take_turn(
     ensures colours { OnErr result (colours.new ≡ colours.old) }
     ensures kept { OnErr result (turning.new ≡ turning.old) }
 {
-    let state = state.copy(alloc)?;
+    let state = State::of(Vec::from_slice(alloc, state)?);
     catalogue.reserve(at, 1 + further)?;
     let channels = count_channels(alloc, catalogue, turning, rounds, at)?;
     let tape = catalogue.history().tape(at);
@@ -235,22 +227,15 @@ fn take_turn(
     Ok((check, channels))
 }
 
-/// A process takes its check of the round of colours that is open, which has number `_round` (Lai
-/// and Yang, Information Processing Letters 25(3), 1987), and the index of the check is told. The
-/// round is listed if this was the last of its checks. There is room for `further` events of the
-/// process then.
-///
-/// The last check of a round costs a step for each process where nothing was sent or received since
-/// the checks of the round before. Else it looks at what was sent and received since channels were
-/// last counted, and at each message that is in transit at its checks. Another check costs a push.
-pub fn turn_round(
+/// Takes a check as `turn_round` does, with a state whose bytes are lent.
+pub fn turn_round_lent(
     alloc: Global,
     catalogue: &mut Catalogue,
     colours: &mut Colours,
     turning: &mut Option<Turning>,
     rounds: &mut Listing,
     at: ProcId,
-    state: &State,
+    state: &[u8],
     _round: u32,
     further: u32,
 ) -> Result<u32, AllocError>

@@ -18,15 +18,15 @@ use Rattle.line_moves.proofs.round_moves.force_round.Goals as goal
 
 pub add_event-requires-clause-agrees : goal.add_event-requires-clause-agrees
 add_event-requires-clause-agrees c =
-    AgreesNext-check c.reserve.new.self.processes c.history.ensures.agrees c.args.to (omega (arith, c.requires.to, ap (λ (h : List Process). length h) c.in_ok-reserve.ensures.processes)) c.in_ok-state.state (Some c.number-number.result)
+    AgreesNext-check c.reserve.new.self.processes c.history.ensures.agrees c.args.to (omega (arith, c.requires.to, ap (λ (h : List Process). length h) c.in_ok-reserve.ensures.processes)) c.of-state.result (Some c.number-number.result)
 
 pub append_mark-requires-clause-agrees : goal.append_mark-requires-clause-agrees
 append_mark-requires-clause-agrees c =
     let old : List Process = c.reserve.new.self.processes in
-    let e : Event = Check c.in_ok-state.state (Some c.number-number.result) in
+    let e : Event = Check c.of-state.result (Some c.number-number.result) in
     let within : c.args.to < length old = omega (arith, c.requires.to, ap (λ (h : List Process). length h) c.in_ok-reserve.ensures.processes) in
     let agrees : Agrees c.add_event.new.catalogue.processes =
-    subst Agrees (sym c.add_event.ensures.processes) (AgreesNext-check old c.history.ensures.agrees c.args.to within c.in_ok-state.state (Some c.number-number.result)).agrees in
+    subst Agrees (sym c.add_event.ensures.processes) (AgreesNext-check old c.history.ensures.agrees c.args.to within c.of-state.result (Some c.number-number.result)).agrees in
     AgreesNext-mark c.add_event.new.catalogue.processes agrees c.args.to
     (omega (arith, within, ap (λ (h : List Process). length h) c.add_event.ensures.processes, length-with_event old c.args.to e)) c.args.from c.number-number.result
 
@@ -37,7 +37,7 @@ returns-clause-world c =
     let to : ℕ = c.args.to in
     let from : ℕ = c.args.from in
     let r : ℕ = c.number-number.result in
-    let e : Event = Check c.in_ok-state.state (Some r) in
+    let e : Event = Check c.of-state.result (Some r) in
     let f : Event = Mark from r in
     let number : r ≡ c.args.running.now.number = c.number-number.ensures in
     let after : c.append_mark.new.self.processes ≡ with_event (with_event history to e) to f =
@@ -46,5 +46,5 @@ returns-clause-world c =
     c.drop_first.ensures ∙ ap (λ (q : List (List (List Item))). with_list q from to (drop 1 (between q from to))) c.in_ok-push_each.ensures.ok in
     subst (λ (h : List Process). IsWorld Fifo h c.drop_first.new.self) (sym after)
     (subst (λ (q : List (List (List Item))). IsWorld Fifo (with_event (with_event history to e) to f) q) (sym queues)
-    (IsWorld-forced history links c.requires.world from to r c.in_ok-state.state c.requires.from c.requires.to c.requires.other
+    (IsWorld-forced history links c.requires.world from to r c.of-state.result c.requires.from c.requires.to c.requires.other
     (ap (λ (v : ℕ). has_check_of v (tape_at history to)) number ∙ c.requires.first) (c.requires.marker ∙ ap (λ (v : ℕ). Some (Marker v)) (sym number))))

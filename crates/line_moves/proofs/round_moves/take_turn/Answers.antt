@@ -25,7 +25,7 @@ count_channels-requires-clause-turning c = subst (λ (h : List Process). IsTurni
 pub add_event-requires-clause-agrees : goal.add_event-requires-clause-agrees
 add_event-requires-clause-agrees c =
     let kept : c.count_channels.new.catalogue.processes ≡ c.args.catalogue.now.processes = c.in_ok-channels.ensures.processes ∙ c.in_ok-reserve.ensures.processes in
-    AgreesNext-check c.count_channels.new.catalogue.processes c.history.ensures.agrees c.args.at (omega (arith, c.requires.at, ap (λ (h : List Process). length h) kept)) c.in_ok-state.state (Some c.number-number.result)
+    AgreesNext-check c.count_channels.new.catalogue.processes c.history.ensures.agrees c.args.at (omega (arith, c.requires.at, ap (λ (h : List Process). length h) kept)) c.of-state.result (Some c.number-number.result)
 
 pub count_channels-requires-clause-rounds : goal.count_channels-requires-clause-rounds
 count_channels-requires-clause-rounds c = subst (λ (h : List Process). All (IsSnapshotOf h) c.args.rounds.now) (sym c.in_ok-reserve.ensures.processes) c.requires.rounds
@@ -34,7 +34,7 @@ pub returns-clause-channels : goal.returns-clause-channels
 returns-clause-channels c =
     let history : List Process = c.args.catalogue.now.processes in
     let at : ℕ = c.args.at in
-    let state : List ℕ = c.in_ok-state.state in
+    let state : List ℕ = c.of-state.result in
     let r : ℕ = c.args.turning.now.number in
     let e : Event = Check state (Some r) in
     let told : Option (List (List (List MsgName))) = c.in_ok-channels.channels in
