@@ -6,3 +6,4 @@ pub mod Runs
 pub mod Marked
 pub mod Sound
 pub mod Flagged
+pub mod Shown

@@ -18,5 +18,5 @@ mod worlds;
 pub use laws::{runs_keep_rounds, runs_name_apart};
 pub use line_moves::{Mode, Round};
 pub use replies::{Answer, Reply, RunStopped, StepError};
-pub use steps::Step;
+pub use steps::{Step, StepRef};
 pub use worlds::World;

@@ -55,3 +55,52 @@ pub enum Step {
         failed: ProcSet,
     },
 }
+
+/// A step that is asked for with its message, state or set lent, so that the caller keeps it. It is
+/// the step that `shown` says.
+#[derive(Clone, Copy, Debug)]
+pub enum StepRef<'a> {
+    /// A process sends a message of at most `MOST_BODY` bytes to another.
+    Send {
+        from: ProcId,
+        to: ProcId,
+        body: &'a [u8],
+    },
+    /// A process takes the item that stands at place `pick` of the link from another, or looks at
+    /// it.
+    Deliver {
+        from: ProcId,
+        to: ProcId,
+        pick: u64,
+        state: &'a [u8],
+    },
+    /// A process takes a check.
+    Check {
+        at: ProcId,
+        state: &'a [u8],
+    },
+    /// A process begins the next round.
+    Begin {
+        at: ProcId,
+        state: &'a [u8],
+    },
+    /// A process takes its check of the round that is open.
+    Turn {
+        at: ProcId,
+        state: &'a [u8],
+    },
+    /// A check of a process is found to be damaged.
+    Damage {
+        at: ProcId,
+        check: u32,
+    },
+    /// An operator bars a process.
+    Bar {
+        at: ProcId,
+        check: u32,
+    },
+    /// The processes of the set failed, and all go on from the latest line.
+    Recover {
+        failed: &'a ProcSet,
+    },
+}

@@ -1,5 +1,5 @@
 //! The world: the machine that answers steps.
-ghost use Rattle.std.specs.Prelude.{◌≡◌, ◌≢◌, ◌<◌, ◌↔◌, ◌⊎◌, All, AllPairs, None, length, take, slice_get, IfOk, IfErr, IsErrOf, IsTrue};
+ghost use Rattle.std.specs.Prelude.{◌≡◌, ◌≢◌, ◌<◌, ◌≤◌, ◌↔◌, ◌⊎◌, All, AllPairs, None, length, take, slice_get, IfOk, IfErr, IsErrOf, IsTrue};
 ghost use Rattle.line_tape.specs.History.{incarnation_at};
 ghost use Rattle.line_world.specs.declared.replies.Answer.TheVariants.{Done, Refused};
 ghost use Rattle.line_world.specs.declared.steps.Step.TheVariants.{Send, Check, Damage, Bar};
@@ -7,6 +7,7 @@ ghost use Rattle.line_moves.specs.Listed.{Listed, IsReached, IsSnapshotOf};
 ghost use Rattle.line_world.specs.Machine.{start, items_on, IsFit};
 ghost use Rattle.line_world.specs.Refusals.{refusal_of, has_stranger};
 ghost use Rattle.line_world.specs.Runs.{Takes, Run};
+ghost use Rattle.line_world.specs.Shown.{shown, HasShortBody};
 ghost use Rattle.line_world.specs.Steps.{IsPlan};
 
 mod deliveries;
@@ -16,10 +17,10 @@ mod rounds;
 
 use crate::received::reserve_flag;
 use crate::replies::{Answer, Reply, RunStopped, StepError};
-use crate::steps::Step;
+use crate::steps::{Step, StepRef};
 use line_catalogue::Catalogue;
-use line_moves::{Links, Listing, Mode, OpenRound, Round, add_check, put_message};
-use line_names::{Body, MOST_PROCESSES, ProcId, ProcSet};
+use line_moves::{Links, Listing, Mode, OpenRound, Round, add_check, put_message_lent};
+use line_names::{MOST_BODY, MOST_PROCESSES, ProcId, ProcSet};
 use line_plan::Plan;
 use line_tape::{CountError, History, Item, Marks, State};
 use line_turns::{Colours, ReceivedSends, Turning};
@@ -157,7 +158,8 @@ impl World {
     }
 
     /// Sends a message.
-    fn send(&mut self, from: ProcId, to: ProcId, body: &Body) -> Result<Reply, StepError>
+    fn send(&mut self, from: ProcId, to: ProcId, body: &[u8]) -> Result<Reply, StepError>
+        requires short { length body.now ≤ MOST_BODY }
         ensures done { IfOk result (λ reply. Takes self.old (Send from to body.now) (Done reply) self.new) }
         ensures refused { IfErr result (λ e. e ≢ StepError.OutOfMemory → Takes self.old (Send from to body.now) (Refused e) self.new) }
         ensures memory { IsErrOf result StepError.OutOfMemory → self.new ≡ self.old }
@@ -168,12 +170,12 @@ impl World {
         }
         let history = self.catalogue.history();
         reserve_flag(self.mode, history, &mut self.received, from)?;
-        let message = put_message(&mut self.catalogue, &mut self.links, from, to, body)?;
+        let message = put_message_lent(&mut self.catalogue, &mut self.links, from, to, body)?;
         Ok(Reply::Sent { message })
     }
 
     /// Takes a check.
-    fn check(&mut self, alloc: Global, at: ProcId, state: &State) -> Result<Reply, StepError>
+    fn check(&mut self, alloc: Global, at: ProcId, state: &[u8]) -> Result<Reply, StepError>
         ensures done { IfOk result (λ reply. Takes self.old (Check at state.now) (Done reply) self.new) }
         ensures refused { IfErr result (λ e. e ≢ StepError.OutOfMemory → Takes self.old (Check at state.now) (Refused e) self.new) }
         ensures memory { IsErrOf result StepError.OutOfMemory → self.new ≡ self.old }
@@ -182,8 +184,8 @@ impl World {
         if let Some(e) = self.check_refusal(at, state) {
             return Err(e);
         }
-        let state = state.copy(alloc)?;
-        let check = add_check(&mut self.catalogue, at, state)?;
+        let bytes = Vec::from_slice(alloc, state)?;
+        let check = add_check(&mut self.catalogue, at, State::of(bytes))?;
         Ok(Reply::Checked { at, check })
     }
 
@@ -251,20 +253,49 @@ impl World {
         ensures memory { IsErrOf result StepError.OutOfMemory → self.new ≡ self.old }
         ensures unrefused { IsErrOf result StepError.OutOfMemory → refusal_of self.old step.now ≡ None }
     {
+        // Each arm lends its bytes at once: put into a `StepRef` first, a step took some 80
+        // instructions more.
         match step {
-            Step::Send { from, to, body } => self.send(*from, *to, body),
+            Step::Send { from, to, body } => self.send(*from, *to, body.bytes()),
             Step::Deliver {
                 from,
                 to,
                 pick,
                 state,
-            } => self.deliver(alloc, *from, *to, *pick, state),
-            Step::Check { at, state } => self.check(alloc, *at, state),
-            Step::Begin { at, state } => self.begin(alloc, *at, state),
-            Step::Turn { at, state } => self.turn(alloc, *at, state),
+            } => self.deliver(alloc, *from, *to, *pick, state.bytes()),
+            Step::Check { at, state } => self.check(alloc, *at, state.bytes()),
+            Step::Begin { at, state } => self.begin(alloc, *at, state.bytes()),
+            Step::Turn { at, state } => self.turn(alloc, *at, state.bytes()),
             Step::Damage { at, check } => self.damage(*at, *check),
             Step::Bar { at, check } => self.bar(*at, *check),
             Step::Recover { failed } => self.recover(alloc, failed),
+        }
+    }
+
+    /// Takes one step as `step` does, what it carries lent.
+    ///
+    /// It costs what `step` does.
+    pub fn step_lent(&mut self, alloc: Global, step: &StepRef<'_>) -> Result<Reply, StepError>
+        requires short { HasShortBody step.now }
+        ensures done { IfOk result (λ reply. Takes self.old (shown step.now) (Done reply) self.new) }
+        ensures refused { IfErr result (λ e. e ≢ StepError.OutOfMemory → Takes self.old (shown step.now) (Refused e) self.new) }
+        ensures memory { IsErrOf result StepError.OutOfMemory → self.new ≡ self.old }
+        ensures unrefused { IsErrOf result StepError.OutOfMemory → refusal_of self.old (shown step.now) ≡ None }
+    {
+        match step {
+            StepRef::Send { from, to, body } => self.send(*from, *to, body),
+            StepRef::Deliver {
+                from,
+                to,
+                pick,
+                state,
+            } => self.deliver(alloc, *from, *to, *pick, state),
+            StepRef::Check { at, state } => self.check(alloc, *at, state),
+            StepRef::Begin { at, state } => self.begin(alloc, *at, state),
+            StepRef::Turn { at, state } => self.turn(alloc, *at, state),
+            StepRef::Damage { at, check } => self.damage(*at, *check),
+            StepRef::Bar { at, check } => self.bar(*at, *check),
+            StepRef::Recover { failed } => self.recover(alloc, failed),
         }
     }
 

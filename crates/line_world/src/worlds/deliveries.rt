@@ -14,10 +14,11 @@ use super::World;
 use crate::received::{fate_of, set_flag};
 use crate::replies::{Reply, StepError};
 use line_moves::{
-    Fate, Mode, add_receipt, is_forced, list_completed, take_marker, take_message, turn_round,
+    Fate, Mode, add_receipt, is_forced, list_completed, take_marker_lent, take_message,
+    turn_round_lent,
 };
 use line_names::{MsgName, ProcId};
-use line_tape::{Item, State};
+use line_tape::Item;
 use std::alloc::Global;
 
 impl World {
@@ -54,7 +55,7 @@ impl World {
         from: ProcId,
         to: ProcId,
         pick: u64,
-        _state: &State,
+        _state: &[u8],
         message: &MsgName,
     ) -> Result<Reply, StepError>
         requires passed { first_cause (link_causes self.old from to pick _state.now) ≡ None }
@@ -94,7 +95,7 @@ impl World {
         from: ProcId,
         to: ProcId,
         pick: u64,
-        state: &State,
+        state: &[u8],
         message: &MsgName,
         round: u32,
     ) -> Result<Reply, StepError>
@@ -113,7 +114,7 @@ impl World {
         if self.is_full(to, 2) {
             return Err(StepError::TapeFull);
         }
-        turn_round(
+        turn_round_lent(
             alloc,
             &mut self.catalogue,
             &mut self.colours,
@@ -139,7 +140,7 @@ impl World {
         from: ProcId,
         to: ProcId,
         pick: u64,
-        state: &State,
+        state: &[u8],
         message: &MsgName,
     ) -> Result<Reply, StepError>
         requires passed { first_cause (link_causes self.old from to pick state.now) ≡ None }
@@ -169,7 +170,7 @@ impl World {
         alloc: Global,
         from: ProcId,
         to: ProcId,
-        state: &State,
+        state: &[u8],
         round: u32,
     ) -> Result<Reply, StepError>
         requires mode { self.old.mode ≡ Fifo }
@@ -188,7 +189,7 @@ impl World {
             return Err(StepError::TapeFull);
         }
         self.rounds.reserve()?;
-        take_marker(
+        take_marker_lent(
             alloc,
             &mut self.catalogue,
             &mut self.links,
@@ -211,7 +212,7 @@ impl World {
         from: ProcId,
         to: ProcId,
         pick: u64,
-        state: &State,
+        state: &[u8],
     ) -> Result<Reply, StepError>
         ensures done { IfOk result (λ reply. Takes self.old (Deliver from to pick state.now) (Done reply) self.new) }
         ensures refused { IfErr result (λ e. e ≢ StepError.OutOfMemory

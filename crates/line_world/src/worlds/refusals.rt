@@ -9,7 +9,7 @@ use super::World;
 use crate::replies::StepError;
 use line_moves::Mode;
 use line_names::{ProcId, ProcSet};
-use line_tape::{LAST_ROUND, MOST_EVENTS, MOST_STATE, State};
+use line_tape::{LAST_ROUND, MOST_EVENTS, MOST_STATE};
 
 impl World {
     /// Whether the tape of a process has no room for so many events.
@@ -57,7 +57,7 @@ impl World {
         from: ProcId,
         to: ProcId,
         pick: u64,
-        state: &State,
+        state: &[u8],
     ) -> Option<StepError>
         ensures { result ≡ first_cause (link_causes self.now from to pick state.now) }
     {
@@ -68,7 +68,7 @@ impl World {
         if from == to {
             return Some(StepError::ToSelf);
         }
-        if state.bytes().len() > MOST_STATE {
+        if state.len() > MOST_STATE {
             return Some(StepError::StateTooLong);
         }
         if self.link_len(from, to) == 0 {
@@ -81,13 +81,13 @@ impl World {
     }
 
     /// Why a process may not take a check now.
-    pub(super) fn check_refusal(&self, at: ProcId, state: &State) -> Option<StepError>
+    pub(super) fn check_refusal(&self, at: ProcId, state: &[u8]) -> Option<StepError>
         ensures { result ≡ refusal_of self.now (Check at state.now) }
     {
         if at.get() >= self.catalogue.n() {
             return Some(StepError::NoSuchProcess);
         }
-        if state.bytes().len() > MOST_STATE {
+        if state.len() > MOST_STATE {
             return Some(StepError::StateTooLong);
         }
         if self.is_full(at, 1) {
@@ -107,13 +107,13 @@ impl World {
     }
 
     /// Why a process may not begin a round now.
-    pub(super) fn begin_refusal(&self, at: ProcId, state: &State) -> Option<StepError>
+    pub(super) fn begin_refusal(&self, at: ProcId, state: &[u8]) -> Option<StepError>
         ensures { result ≡ refusal_of self.now (Begin at state.now) }
     {
         if at.get() >= self.catalogue.n() {
             return Some(StepError::NoSuchProcess);
         }
-        if state.bytes().len() > MOST_STATE {
+        if state.len() > MOST_STATE {
             return Some(StepError::StateTooLong);
         }
         if self.is_open() {
@@ -141,7 +141,7 @@ impl World {
     }
 
     /// Why a process may not turn to a round now.
-    pub(super) fn turn_refusal(&self, at: ProcId, state: &State) -> Option<StepError>
+    pub(super) fn turn_refusal(&self, at: ProcId, state: &[u8]) -> Option<StepError>
         ensures { result ≡ refusal_of self.now (Turn at state.now) }
     {
         if at.get() >= self.catalogue.n() {
@@ -150,7 +150,7 @@ impl World {
         if self.mode.is_fifo() {
             return Some(StepError::WrongMode);
         }
-        if state.bytes().len() > MOST_STATE {
+        if state.len() > MOST_STATE {
             return Some(StepError::StateTooLong);
         }
         if !self.may_turn(at) {

@@ -8,20 +8,14 @@ ghost use Rattle.line_world.specs.Runs.{Takes};
 
 use super::World;
 use crate::replies::{Reply, StepError};
-use line_moves::{Mode, begin_round, still_open, turn_round};
+use line_moves::{Mode, begin_round_lent, still_open, turn_round_lent};
 use line_names::ProcId;
-use line_tape::State;
 use line_turns::Turning;
 use std::alloc::Global;
 
 impl World {
     /// Begins a round of markers.
-    fn begin_markers(
-        &mut self,
-        alloc: Global,
-        at: ProcId,
-        state: &State,
-    ) -> Result<Reply, StepError>
+    fn begin_markers(&mut self, alloc: Global, at: ProcId, state: &[u8]) -> Result<Reply, StepError>
         requires mode { self.old.mode ≡ Fifo }
         requires passed { refusal_of self.old (Begin at state.now) ≡ None }
         ensures done { IfOk result (λ reply. Takes self.old (Begin at state.now) (Done reply) self.new) }
@@ -30,7 +24,7 @@ impl World {
         ensures unrefused { IsErrOf result StepError.OutOfMemory → refusal_of self.old (Begin at state.now) ≡ None }
     {
         self.rounds.reserve()?;
-        let (begun, check) = begin_round(
+        let (begun, check) = begin_round_lent(
             alloc,
             &mut self.catalogue,
             &mut self.links,
@@ -53,12 +47,7 @@ impl World {
     }
 
     /// Begins a round of colours.
-    fn begin_colours(
-        &mut self,
-        alloc: Global,
-        at: ProcId,
-        state: &State,
-    ) -> Result<Reply, StepError>
+    fn begin_colours(&mut self, alloc: Global, at: ProcId, state: &[u8]) -> Result<Reply, StepError>
         requires mode { self.old.mode ≡ Unordered }
         requires passed { refusal_of self.old (Begin at state.now) ≡ None }
         ensures done { IfOk result (λ reply. Takes self.old (Begin at state.now) (Done reply) self.new) }
@@ -69,7 +58,7 @@ impl World {
         let n = self.catalogue.n();
         let round = self.last_round + 1;
         let mut turning = Some(Turning::new(alloc, n, round)?);
-        let check = turn_round(
+        let check = turn_round_lent(
             alloc,
             &mut self.catalogue,
             &mut self.colours,
@@ -90,7 +79,7 @@ impl World {
         &mut self,
         alloc: Global,
         at: ProcId,
-        state: &State,
+        state: &[u8],
     ) -> Result<Reply, StepError>
         ensures done { IfOk result (λ reply. Takes self.old (Begin at state.now) (Done reply) self.new) }
         ensures refused { IfErr result (λ e. e ≢ StepError.OutOfMemory → Takes self.old (Begin at state.now) (Refused e) self.new) }
@@ -111,7 +100,7 @@ impl World {
         &mut self,
         alloc: Global,
         at: ProcId,
-        state: &State,
+        state: &[u8],
     ) -> Result<Reply, StepError>
         ensures done { IfOk result (λ reply. Takes self.old (Turn at state.now) (Done reply) self.new) }
         ensures refused { IfErr result (λ e. e ≢ StepError.OutOfMemory → Takes self.old (Turn at state.now) (Refused e) self.new) }
@@ -121,7 +110,7 @@ impl World {
         if let Some(e) = self.turn_refusal(at, state) {
             return Err(e);
         }
-        let check = turn_round(
+        let check = turn_round_lent(
             alloc,
             &mut self.catalogue,
             &mut self.colours,

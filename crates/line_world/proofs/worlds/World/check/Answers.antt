@@ -28,15 +28,15 @@ invariant_of-self-2 c =
     let may = may_check c.args.self.now c.args.at c.args.state.now (sym c.check_refusal.ensures ∙ c.in_default.is) in
     let history : List Process = c.self.inside.catalogue.processes in
     let mode : Mode = c.self.inside.mode in
-    let e : Event = CheckEvent c.in_ok-state.state None in
+    let e : Event = CheckEvent c.of.result None in
     let within : c.args.at < length history = omega (arith, may.within, ap (λ (m : Machine). length m.history) c.self.view_is) in (
       subst (λ (h : List Process). IsWorld mode h c.self.inside.links) (sym c.in_ok-check.ensures.checked)
-          (IsWorld-check history c.self.inside.links mode c.self.invariant.0 c.args.at c.in_ok-state.state within),
+          (IsWorld-check history c.self.inside.links mode c.self.invariant.0 c.args.at c.of.result within),
       subst (λ (h : List Process). AreRounds mode h c.self.inside.last_round running c.self.inside.rounds.items) (sym c.in_ok-check.ensures.checked)
           (AreRounds-kept history c.args.at e within (λ r. refl) (λ r p. refl) mode c.self.inside.last_round running running c.self.inside.rounds.items refl
           (IsOpening-kept history c.args.at e within (λ r. refl) mode running (λ r p. refl) (λ r p. refl) c.self.invariant.1.opening) c.self.invariant.1),
       subst (λ (h : List Process). ArePainted mode h c.self.inside.colours) (sym c.in_ok-check.ensures.checked)
-          (ArePainted-check history c.self.inside.links c.self.inside.colours mode c.self.invariant.0 c.args.at c.in_ok-state.state within c.self.invariant.2),
+          (ArePainted-check history c.self.inside.links c.self.inside.colours mode c.self.invariant.0 c.args.at c.of.result within c.self.invariant.2),
       subst (λ (h : List Process). AreFlaggedIn mode h c.self.inside.received) (sym c.in_ok-check.ensures.checked)
           (AreFlaggedIn-other mode history c.self.inside.links c.args.at e c.self.inside.received c.self.invariant.0 within refl refl c.self.invariant.3),
     )
@@ -52,7 +52,7 @@ returns-clause-done c =
     let e : Event = CheckEvent c.args.state.now None in
     let within : c.args.at < length history = omega (arith, may.within, ap (λ (m : Machine). length m.history) c.self.view_is) in
     let after : Machine = seen mode c.add_check.new.catalogue.processes c.add_check.new.catalogue.marks last rounds c.self.inside.links in
-    let done : c.add_check.new.catalogue.processes ≡ with_event history c.args.at e = c.in_ok-check.ensures.checked ∙ ap (λ (bytes : List ℕ). with_event history c.args.at (CheckEvent bytes None)) c.in_ok-state.ensures in (
+    let done : c.add_check.new.catalogue.processes ≡ with_event history c.args.at e = c.in_ok-check.ensures.checked ∙ ap (λ (bytes : List ℕ). with_event history c.args.at (CheckEvent bytes None)) (c.of.ensures ∙ c.in_ok-bytes.ensures.items) in (
       none,
       subst (λ (m : Machine). Does m (Check c.args.at c.args.state.now) (Checked c.args.at c.in_ok-check.check) after) c.self.view_is (
         ap (λ (k : ℕ). Checked c.args.at k) c.in_ok-check.ensures.check,

@@ -1,0 +1,29 @@
+-- The step that is asked for with what it carries lent.
+use Rattle.std.specs.Prelude.{◌≤◌, length}
+use Rattle.line_names.specs.declared.limits.TheConstants.{MOST_BODY}
+use Rattle.line_world.specs.declared.steps.Step.{Step}
+use Rattle.line_world.specs.declared.steps.Step.TheVariants.{Send, Deliver, Check, Begin, Turn, Damage, Bar, Recover}
+use Rattle.line_world.specs.declared.steps.StepRef.{StepRef}
+use Rattle.line_world.specs.declared.steps.StepRef.TheVariants.{Send as SendRef, Deliver as DeliverRef, Check as CheckRef, Begin as BeginRef, Turn as TurnRef, Damage as DamageRef, Bar as BarRef, Recover as RecoverRef}
+
+-- the step that is asked for so, its message, state or set lent
+abbrev pub shown : StepRef → Step
+shown (SendRef from to body) = Send from to body.now
+shown (DeliverRef from to pick state) = Deliver from to pick state.now
+shown (CheckRef at state) = Check at state.now
+shown (BeginRef at state) = Begin at state.now
+shown (TurnRef at state) = Turn at state.now
+shown (DamageRef at check) = Damage at check
+shown (BarRef at check) = Bar at check
+shown (RecoverRef failed) = Recover failed.now
+
+-- the bytes lent as the body of a message are no more than a body has
+abbrev pub HasShortBody : StepRef → Type 0
+HasShortBody (SendRef from to body) = length body.now ≤ MOST_BODY
+HasShortBody (DeliverRef from to pick state) = Unit {0}
+HasShortBody (CheckRef at state) = Unit {0}
+HasShortBody (BeginRef at state) = Unit {0}
+HasShortBody (TurnRef at state) = Unit {0}
+HasShortBody (DamageRef at check) = Unit {0}
+HasShortBody (BarRef at check) = Unit {0}
+HasShortBody (RecoverRef failed) = Unit {0}
