@@ -1,11 +1,11 @@
 -- Commands with all their bytes: one more behind the others, and the first one out.
 use Rattle.std.proofs.Common.{◌≡◌, ℕ, ◌+◌, List, [], ◌∷◌, ◌++◌, drop, get_or, length, take, sym, ap, ◌∙◌, subst, arith, reverse, length-append}
-use Rattle.std.proofs.lemmas.List.{take_more, take_all, take-append-le, drop-append-le, reverse-append}
+use Rattle.std.proofs.lemmas.List.{take_more, take_all, take-append-drop, take-append-le, drop-append-le, reverse-append}
 use Rattle.std.proofs.Math.Seq.{take-length, drop-length}
 use Rattle.line_scripts.specs.declared.commands.Command.{Command}
 use Rattle.line_scripts.specs.declared.keeping.Bare.{Bare}
 use Rattle.line_scripts.specs.declared.keeping.Kept.{Kept}
-use Rattle.line_scripts.specs.Keeping.{ArePacked, MayHave, unpacked, with_bytes}
+use Rattle.line_scripts.specs.Keeping.{ArePacked, MayHave, behind, unpacked, with_bytes}
 
 abbrev kept_of : Bare → List ℕ → Kept
 kept_of bare own = record { bare = bare; long = length own }
@@ -31,6 +31,27 @@ unpacked_more (k ∷ ks) bytes bare own (fits, within, others) =
     ap (λ (bs : List ℕ). with_bytes k.bare bs ∷ unpacked (ks ++ kept_of bare own ∷ []) (drop k.long (bytes ++ own))) front
     ∙ ap (λ (bs : List ℕ). with_bytes k.bare (take k.long bytes) ∷ unpacked (ks ++ kept_of bare own ∷ []) bs) rest
     ∙ ap (λ (cs : List Command). with_bytes k.bare (take k.long bytes) ∷ cs) (unpacked_more ks (drop k.long bytes) bare own others)
+
+-- a list that keeps what it had has that and what is behind it
+pub with_behind : (old new : List ℕ) → take (length old) new ≡ old → new ≡ old ++ behind old new
+with_behind old new kept = sym (take-append-drop (length old) new) ∙ ap (λ (front : List ℕ). front ++ behind old new) kept
+
+-- one more, whose bytes were put behind the others
+abbrev kept_long : Bare → ℕ → Kept
+kept_long bare long = record { bare = bare; long = long }
+
+pub packed_behind : (ks later : List Kept) (old new : List ℕ) (bare : Bare) (long : ℕ) → later ≡ ks ++ kept_long bare long ∷ [] → long ≡ length (behind old new) → take (length old) new ≡ old
+    → MayHave bare (length (behind old new)) → ArePacked ks old → ArePacked later new
+packed_behind ks later old new bare long more is kept may packed =
+    rw (more, is)
+    (subst (λ (bs : List ℕ). ArePacked (ks ++ kept_of bare (behind old new) ∷ []) bs) (sym (with_behind old new kept)) (packed_more ks old bare (behind old new) may packed))
+
+pub unpacked_behind : (ks later : List Kept) (old new : List ℕ) (bare : Bare) (long : ℕ) → later ≡ ks ++ kept_long bare long ∷ [] → long ≡ length (behind old new) → take (length old) new ≡ old
+    → ArePacked ks old → unpacked later new ≡ unpacked ks old ++ with_bytes bare (behind old new) ∷ []
+unpacked_behind ks later old new bare long more is kept packed =
+    rw (more, is)
+    (subst (λ (bs : List ℕ). unpacked (ks ++ kept_of bare (behind old new) ∷ []) bs ≡ unpacked ks old ++ with_bytes bare (behind old new) ∷ []) (sym (with_behind old new kept))
+    (unpacked_more ks old bare (behind old new) packed))
 
 -- a list with one command more is one longer
 pub one_longer : (xs ys : List Command) (c : Command) → ys ≡ xs ++ c ∷ [] → length ys ≡ length xs + 1

@@ -1,3 +1,4 @@
+mod BehindLemmas
 pub mod AgainLemmas
 pub mod FailedLemmas
 pub mod FaultLemmas

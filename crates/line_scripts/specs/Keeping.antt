@@ -30,6 +30,10 @@ with_bytes bares.History bytes = History
 with_bytes (bares.Bundle failed) bytes = Bundle failed.value
 with_bytes (bares.Refused code) bytes = Refused code
 
+-- what a list has behind what it had
+abbrev pub behind : List ℕ → List ℕ → List ℕ
+behind old new = drop (length old) new
+
 -- it may have so many bytes
 abbrev pub MayHave : Bare → ℕ → Type 0
 MayHave (bares.Send from to) long = long ≤ MOST_BODY

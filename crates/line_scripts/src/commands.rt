@@ -1,18 +1,18 @@
 //! What one record of a script says.
 
-ghost use Rattle.std.specs.Prelude.{◌≡◌, ◌≤◌, ◌==◌, Bool, ℕ, List, length, IfOk};
+ghost use Rattle.std.specs.Prelude.{◌≡◌, ◌≤◌, ◌==◌, Bool, ℕ, List, length, take, IfOk};
 ghost use Rattle.line_names.specs.declared.limits.TheConstants.{MOST_PROCESSES};
 ghost use Rattle.line_fields.specs.declared.faults.Fault.TheVariants as faults;
 ghost use Rattle.line_fields.specs.Faults.{code_of};
-ghost use Rattle.line_fields.specs.Fields.{Gives};
+ghost use Rattle.line_fields.specs.Fields.{Gives, hex};
 ghost use Rattle.line_world.specs.declared.steps.Step.{Step};
-ghost use Rattle.line_scripts.specs.Keeping.{MayHave, of_found, with_bytes};
+ghost use Rattle.line_scripts.specs.Keeping.{MayHave, behind, of_found, with_bytes};
 ghost use Rattle.line_scripts.specs.Scripts as spec;
 
 use crate::keeping::Bare;
 use crate::names::{Name, name_of};
 use line_claims::{LAST_VERSION, failed_of, most_in, plain, want};
-use line_fields::{Fault, ReadError, Row, hex_into, number};
+use line_fields::{Fault, ReadError, Row, hex_behind, number};
 use line_names::{MOST_BODY, ProcId, ProcSet};
 use line_world::{Mode, Step};
 use std::alloc::{AllocError, Global};
@@ -77,23 +77,34 @@ pub(crate) fn world_of(row: &Row) -> Result<(u32, Mode), Fault>
     Ok((n, mode))
 }
 
+// Puts the bytes that a field spells behind those that a list has.
+#[tactic(auto, using(crate::proofs::BehindLemmas::given_behind))]
+fn spell_behind(bytes: &mut Vec<u8>, text: &[u8]) -> Result<(), ReadError>
+    ensures exact { Gives (λ _. behind bytes.old.items bytes.new.items) result (hex text.now) }
+    ensures kept { take (length bytes.old.items) bytes.new.items ≡ bytes.old.items }
+{
+    hex_behind(bytes, text)
+}
+
 #[tactic(auto, unfolding(crate::specs::Scripts::send_of, line_fields::specs::Shapes::three))]
 fn send_of(n: u32, row: &Row, bytes: &mut Vec<u8>) -> Result<Bare, ReadError>
     requires { n ≤ MOST_PROCESSES }
-    ensures exact { Gives (λ bare. with_bytes bare bytes.new.items) result (spec.send_of n row.now) }
-    ensures fits { IfOk result (λ bare. MayHave bare (length bytes.new.items)) }
+    ensures exact { Gives (λ bare. with_bytes bare (behind bytes.old.items bytes.new.items)) result (spec.send_of n row.now) }
+    ensures fits { IfOk result (λ bare. MayHave bare (length (behind bytes.old.items bytes.new.items))) }
+    ensures kept { take (length bytes.old.items) bytes.new.items ≡ bytes.old.items }
 {
     want(row.len() == 4, Fault::BadRecord)?;
     let from = plain(row, 1)?;
     let to = plain(row, 2)?;
-    hex_into(bytes, row.field(3))?;
+    let start = bytes.len();
+    spell_behind(bytes, row.field(3))?;
     let Ok(from) = ProcId::try_new(from, n) else {
         return Ok(no_process());
     };
     let Ok(to) = ProcId::try_new(to, n) else {
         return Ok(no_process());
     };
-    if bytes.len() > MOST_BODY {
+    if bytes.len() - start > MOST_BODY {
         return Ok(refused(Fault::BodyTooLong));
     }
     Ok(Bare::Send { from, to })
@@ -102,14 +113,15 @@ fn send_of(n: u32, row: &Row, bytes: &mut Vec<u8>) -> Result<Bare, ReadError>
 #[tactic(auto, unfolding(crate::specs::Scripts::deliver_of, line_fields::specs::Shapes::four))]
 fn deliver_of(n: u32, row: &Row, bytes: &mut Vec<u8>) -> Result<Bare, ReadError>
     requires { n ≤ MOST_PROCESSES }
-    ensures exact { Gives (λ bare. with_bytes bare bytes.new.items) result (spec.deliver_of n row.now) }
-    ensures fits { IfOk result (λ bare. MayHave bare (length bytes.new.items)) }
+    ensures exact { Gives (λ bare. with_bytes bare (behind bytes.old.items bytes.new.items)) result (spec.deliver_of n row.now) }
+    ensures fits { IfOk result (λ bare. MayHave bare (length (behind bytes.old.items bytes.new.items))) }
+    ensures kept { take (length bytes.old.items) bytes.new.items ≡ bytes.old.items }
 {
     want(row.len() == 5, Fault::BadRecord)?;
     let from = plain(row, 1)?;
     let to = plain(row, 2)?;
     let pick = number(row.field(3), 0, u64::MAX)?;
-    hex_into(bytes, row.field(4))?;
+    spell_behind(bytes, row.field(4))?;
     let Ok(from) = ProcId::try_new(from, n) else {
         return Ok(no_process());
     };
@@ -119,16 +131,17 @@ fn deliver_of(n: u32, row: &Row, bytes: &mut Vec<u8>) -> Result<Bare, ReadError>
     Ok(Bare::Deliver { from, to, pick })
 }
 
-// The process of a record with a state, whose bytes the list then has; none where there is no such
-// process.
+// The process of a record with a state, whose bytes the list then has behind the others; none where
+// there is no such process.
 #[tactic(auto, unfolding(crate::specs::Scripts::with_state, line_fields::specs::Shapes::two))]
 fn with_state(n: u32, row: &Row, bytes: &mut Vec<u8>) -> Result<Option<ProcId>, ReadError>
     requires { n ≤ MOST_PROCESSES }
-    ensures { (step : ℕ → List ℕ → Step) → Gives (of_found (λ at. Command.Do (step at bytes.new.items))) result (spec.with_state step n row.now) }
+    ensures exact { (step : ℕ → List ℕ → Step) → Gives (of_found (λ at. Command.Do (step at (behind bytes.old.items bytes.new.items)))) result (spec.with_state step n row.now) }
+    ensures kept { take (length bytes.old.items) bytes.new.items ≡ bytes.old.items }
 {
     want(row.len() == 3, Fault::BadRecord)?;
     let at = plain(row, 1)?;
-    hex_into(bytes, row.field(2))?;
+    spell_behind(bytes, row.field(2))?;
     Ok(ProcId::try_new(at, n).ok())
 }
 
@@ -174,8 +187,8 @@ fn with_failed(alloc: Global, n: u32, row: &Row) -> Result<Option<Box<ProcSet>>,
     }
 }
 
-/// The command that a record after the first spells, or its first fault. What a list has gives way
-/// to the bytes that the command carries.
+/// The command that a record after the first spells, or its first fault. The bytes that the command
+/// carries are put behind those that a list has; of one that is refused they may be there too.
 #[tactic(auto, unfolding(crate::specs::Scripts::command_of, line_fields::specs::Shapes::alone))]
 pub(crate) fn command_of(
     alloc: Global,
@@ -184,10 +197,10 @@ pub(crate) fn command_of(
     bytes: &mut Vec<u8>,
 ) -> Result<Bare, ReadError>
     requires { n ≤ MOST_PROCESSES }
-    ensures exact { Gives (λ bare. with_bytes bare bytes.new.items) result (spec.command_of n row.now) }
-    ensures fits { IfOk result (λ bare. MayHave bare (length bytes.new.items)) }
+    ensures exact { Gives (λ bare. with_bytes bare (behind bytes.old.items bytes.new.items)) result (spec.command_of n row.now) }
+    ensures fits { IfOk result (λ bare. MayHave bare (length (behind bytes.old.items bytes.new.items))) }
+    ensures kept { take (length bytes.old.items) bytes.new.items ≡ bytes.old.items }
 {
-    bytes.clear();
     let Some(name) = name_of(row.field(0)) else {
         return Err(ReadError::Fault(Fault::BadRecord));
     };

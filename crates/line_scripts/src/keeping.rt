@@ -64,24 +64,12 @@ impl Model for Commands {
     ghost invariant = { λ c. (c.at ≤ length c.bytes.items) × ArePacked (reverse c.kept.items) (drop c.at c.bytes.items) };
 }
 
-/// Puts a command behind the others.
-pub(crate) fn keep(
-    kept: &mut Vec<Kept>,
-    bytes: &mut Vec<u8>,
-    bare: Bare,
-    own: &[u8],
-) -> Result<(), AllocError>
-    requires fits { MayHave bare (length own.now) }
-    requires packed { ArePacked kept.old.items bytes.old.items }
-    ensures packed { OnOk result (ArePacked kept.new.items bytes.new.items) }
-    ensures more { OnOk result (unpacked kept.new.items bytes.new.items ≡ unpacked kept.old.items bytes.old.items ++ with_bytes bare own.now ∷ []) }
+/// Puts a command that carries so many bytes behind the others.
+pub(crate) fn keep(kept: &mut Vec<Kept>, bare: Bare, long: usize) -> Result<(), AllocError>
+    ensures { OnOk result (kept.new.items ≡ kept.old.items ++ record { bare = bare; long = long } ∷ []) }
 {
     kept.reserve(1)?;
-    bytes.extend_from_slice(own)?;
-    kept.push_reserved(Kept {
-        bare,
-        long: own.len(),
-    });
+    kept.push_reserved(Kept { bare, long });
     Ok(())
 }
 

@@ -1,11 +1,11 @@
 //! Scripts, read record by record.
 
-ghost use Rattle.std.specs.Prelude.{◌≡◌, ◌+◌, ◌^◌, ◌≤◌, ◌<◌, ◌⊎◌, length, IfErr, IfOk};
+ghost use Rattle.std.specs.Prelude.{◌≡◌, ◌+◌, ◌^◌, ◌≤◌, ◌<◌, ◌⊎◌, length, take, IfErr, IfOk};
 ghost use Rattle.line_names.specs.declared.limits.TheConstants.{MOST_PROCESSES};
 ghost use Rattle.line_scripts.specs.Scripts as spec;
 ghost use Rattle.line_claims.specs.Reads.{Reads, Yields, no_memory};
 ghost use Rattle.line_claims.specs.Reads as reads;
-ghost use Rattle.line_scripts.specs.Keeping.{MayHave, with_bytes};
+ghost use Rattle.line_scripts.specs.Keeping.{MayHave, behind, with_bytes};
 ghost use Rattle.line_scripts.specs.Reads.{IsOfScript, seen, seen_kept};
 
 use crate::commands::{Command, command_of, world_of};
@@ -50,7 +50,8 @@ fn world_at(row: &Row) -> Result<(u32, Mode), TextError>
     }
 }
 
-// What the record with that number asks for, and in a list the bytes that it carries.
+// What the record with that number asks for; the bytes that it carries are put behind those that a
+// list has.
 fn command_at(
     alloc: Global,
     n: u32,
@@ -59,8 +60,9 @@ fn command_at(
     bytes: &mut Vec<u8>,
 ) -> Result<Bare, TextError>
     requires { n ≤ MOST_PROCESSES }
-    ensures exact { Yields (λ bare. with_bytes bare bytes.new.items) result (reads.numbered record_number (spec.command_of n row.now)) }
-    ensures fits { IfOk result (λ bare. MayHave bare (length bytes.new.items)) }
+    ensures exact { Yields (λ bare. with_bytes bare (behind bytes.old.items bytes.new.items)) result (reads.numbered record_number (spec.command_of n row.now)) }
+    ensures fits { IfOk result (λ bare. MayHave bare (length (behind bytes.old.items bytes.new.items))) }
+    ensures kept { take (length bytes.old.items) bytes.new.items ≡ bytes.old.items }
 {
     match command_of(alloc, n, row, bytes) {
         Ok(bare) => Ok(bare),
@@ -85,7 +87,6 @@ fn read(alloc: Global, text: &[u8]) -> Result<KeptScript, TextError>
     let (n, mode) = world_at(&row)?;
     let mut kept = Vec::new(alloc);
     let mut bytes = Vec::new(alloc);
-    let mut own = Vec::new(alloc);
     let mut record_number = 2u64;
     'records: loop {
         if !records.next_row(&mut row)? {
@@ -95,8 +96,9 @@ fn read(alloc: Global, text: &[u8]) -> Result<KeptScript, TextError>
                 commands: Commands::of(alloc, kept, bytes),
             });
         }
-        let command = command_at(alloc, n, record_number, &row, &mut own)?;
-        keep(&mut kept, &mut bytes, command, &own)?;
+        let start = bytes.len();
+        let command = command_at(alloc, n, record_number, &row, &mut bytes)?;
+        keep(&mut kept, command, bytes.len() - start)?;
         record_number += 1;
     }
 }

@@ -1,8 +1,8 @@
-use Rattle.std.proofs.Common.{◌≡◌, ◌∙◌, [], List, sym, ap, length, arith}
+use Rattle.std.proofs.Common.{◌≡◌, ◌∙◌, ◌-◌, [], List, sym, ap, length, arith, length-drop}
 use Rattle.std.proofs.lemmas.Result.{err_from_is_err_and}
 use Rattle.line_scripts.specs.declared.keeping.Kept.{Kept}
-use Rattle.line_scripts.specs.Keeping.{unpacked}
-use Rattle.line_scripts.proofs.KeepingLemmas.{one_longer}
+use Rattle.line_scripts.specs.Keeping.{behind, unpacked}
+use Rattle.line_scripts.proofs.KeepingLemmas.{one_longer, packed_behind, unpacked_behind}
 use Rattle.line_scripts.proofs.ReadLemmas.{not_plain, no_records, started, not_started, ended_at, read_more, stopped}
 use Rattle.line_scripts.proofs.scripts.read.Goals as goal
 
@@ -49,10 +49,13 @@ records-preserved c =
     let row = rw c.if-not-branch-2.false at c.in_ok-next_row-2.ensures.ok in
     let one = ap length row in
     let room = c.records.invariant.room in
-    let more = rw c.deref.ensures.value at c.in_ok-keep.ensures.more in
+    let kept = c.in_ok-command.ensures.kept in
+    let long : c.len.result - c.len-start.result ≡ length (behind c.records.bytes.items c.command_at.new.bytes.items) =
+    omega (arith, c.len.ensures, c.len-start.ensures, c.records.bytes.ok.0, c.command_at.new.bytes.ok.0, length-drop (length c.records.bytes.items) c.command_at.new.bytes.items) in
+    let more = unpacked_behind _ _ _ _ _ _ c.in_ok-keep.ensures long kept c.records.invariant.packed in
     record {
       counts = omega (arith, c.records.invariant.counts, one_longer _ _ _ more);
       room = omega (arith, one, room);
-      packed = c.in_ok-keep.ensures.packed;
+      packed = packed_behind _ _ _ _ _ _ c.in_ok-keep.ensures long kept c.in_ok-command.ensures.fits c.records.invariant.packed;
       so_far = rw more (read_more _ _ _ _ _ _ _ _ row c.in_ok-command.ensures.exact c.records.invariant.so_far);
     }
