@@ -9,3 +9,4 @@ pub mod OpenLemmas
 pub mod LeftLemmas
 pub mod DamageLemmas
 pub mod LaidLemmas
+pub mod KnownLemmas

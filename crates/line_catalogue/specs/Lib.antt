@@ -7,3 +7,4 @@ pub mod Laid
 pub mod Plain
 pub mod Refusals
 pub mod Left
+pub mod Known

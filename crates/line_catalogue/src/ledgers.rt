@@ -14,6 +14,7 @@ ghost use Rattle.line_catalogue.specs.Left.{place_at, start_at, AreEnds, AreLeft
 mod appends;
 
 use crate::candidates::candidates;
+use crate::known::find_known;
 use crate::transits::add_open;
 use line_names::{Choice, Line, MsgName, ProcId};
 use line_tape::{Event, History, MOST_EVENTS};
@@ -63,6 +64,7 @@ fn find_transit(
     let bounds = ends_before(history, starts, alloc, line)?;
     let ends = bounds.as_slice();
     let mut rows = candidates(history, ends, places, left, alloc, line)?;
+    let received = find_known(history, ends, places, alloc, line);
     let mut messages = Vec::new(alloc);
     for sender in 0..n {
         let p = ProcId::try_new(sender, n).unwrap();
@@ -73,6 +75,7 @@ fn find_transit(
             p,
             end,
             &mut rows[sender as usize],
+            received.row(sender),
             &mut messages,
         )?;
     }
@@ -300,9 +303,13 @@ impl Ledger {
 
     /// The messages in transit at a line, by sender, then number.
     ///
-    /// It looks at what was kept last, at each send since, and at each event between the two lines;
-    /// it takes a number for each process, for each of the first, and for each receipt between them
-    /// of a message that was sent before both, and room for the result.
+    /// It looks at what was kept last, at each send since, and at each event that was kept and is
+    /// behind the line; and where they are not many beside these sends, at the events since that
+    /// stand before the line, so that it need not search for their receipts.
+    ///
+    /// It takes a number for each process, for each of the first, and for each receipt between the
+    /// two of a message that was sent before both, and room for the result; and where it gets them,
+    /// one number more for each process, and a flag for each send since that stands before the line.
     pub fn transit(&self, alloc: Global, line: &Line) -> Result<Vec<MsgName>, AllocError>
         requires { IsLine self.now.processes line.now }
         ensures { IfOk result (λ messages.

@@ -11,6 +11,7 @@ mod agreement;
 mod candidates;
 mod catalogues;
 mod kept_rows;
+mod known;
 mod laws;
 mod ledgers;
 mod numbers;

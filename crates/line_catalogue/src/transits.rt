@@ -5,8 +5,10 @@ ghost use Rattle.line_names.specs.declared.messages.MsgName.{MsgName};
 ghost use Rattle.line_tape.specs.Event.{sends};
 ghost use Rattle.line_tape.specs.Line.{events_before, IsLine};
 ghost use Rattle.line_tape.specs.Transit.{Letter, has_received, open_letters};
-ghost use Rattle.line_catalogue.specs.Left.{open_first, start_at, HasOpen};
+ghost use Rattle.line_catalogue.specs.Known.{AreReceived};
+ghost use Rattle.line_catalogue.specs.Left.{open_first, HasOpen};
 
+use crate::known::is_marked;
 use crate::numbers::Numbers;
 use line_names::{Line, MsgName, ProcId};
 use line_tape::History;
@@ -81,19 +83,21 @@ fn add_old(
 }
 
 /// Adds the messages of a process that are in transit: of its first `end` ones those whose numbers
-/// the row has, and of the others each.
+/// the row has, and of the others each that is not known to be received.
 pub fn add_open(
     history: &History,
     line: &Line,
     p: ProcId,
     end: u32,
     row: &mut Numbers,
+    known: &[bool],
     messages: &mut Vec<MsgName>,
 ) -> Result<(), AllocError>
     requires line { IsLine history.now.processes line.now }
     requires process { p < length history.now.processes }
     requires end { end ≤ sends (events_before history.now.processes line.now p) }
     requires held { HasOpen history.now.processes line.now p end row.old }
+    requires known { AreReceived history.now.processes line.now p end known.now }
     ensures { OnOk result (messages.new.items
         ≡ messages.old.items
         ++ map (λ (letter : Letter). letter.message) (open_letters history.now.processes line.now p)) }
@@ -102,7 +106,9 @@ pub fn add_open(
     let sends = history.tape(p).sends_before(line.at(p));
     add_old(history, line, p, end, row.as_slice(), messages)?;
     for number in end..sends {
-        add_if_open(history, line, p, number, messages)?;
+        if !is_marked(known, number - end) {
+            add_if_open(history, line, p, number, messages)?;
+        }
     }
     Ok(())
 }
