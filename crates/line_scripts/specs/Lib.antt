@@ -4,3 +4,4 @@ pub mod Records
 pub mod Ranges
 pub mod Keeping
 pub mod Names
+pub mod Shown

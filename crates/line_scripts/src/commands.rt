@@ -14,7 +14,7 @@ use crate::names::{Name, name_of};
 use line_claims::{LAST_VERSION, failed_of, most_in, plain, want};
 use line_fields::{Fault, ReadError, Row, hex_behind, number};
 use line_names::{MOST_BODY, ProcId, ProcSet};
-use line_world::{Mode, Step};
+use line_world::{Mode, Step, StepRef};
 use std::alloc::{AllocError, Global};
 
 /// What a record of a script asks for.
@@ -29,6 +29,24 @@ pub enum Command {
     /// A check text of the machine's history, damage and bars, with the plan for these failed
     /// processes.
     Bundle(ProcSet),
+    /// Nothing: a process isn't below the number of processes, or a body is too long. The number of
+    /// the refusal tells which.
+    Refused(u32),
+}
+
+/// What a record of a script asks for, its message, state or set lent, so that the script keeps it.
+/// It is the command that `shown` says.
+#[derive(Clone, Copy, Debug)]
+pub enum CommandRef<'a> {
+    /// A step of the machine.
+    Do(StepRef<'a>),
+    /// The rounds that were completed, and what was on its way at their checks.
+    Rounds,
+    /// The machine's history, as a text.
+    History,
+    /// A check text of the machine's history, damage and bars, with the plan for these failed
+    /// processes.
+    Bundle(&'a ProcSet),
     /// Nothing: a process isn't below the number of processes, or a body is too long. The number of
     /// the refusal tells which.
     Refused(u32),

@@ -1,12 +1,13 @@
 //! Commands that wait to be done: a few bytes for each, and one list of the bytes that they carry.
 
-ghost use Rattle.std.specs.Prelude.{◌≡◌, ◌≤◌, ◌<◌, ◌++◌, [], ◌∷◌, true, false, length, IfOk, OnErr, OnOk};
+ghost use Rattle.std.specs.Prelude.{◌≡◌, ◌≤◌, ◌<◌, ◌++◌, ◌-◌, [], ◌∷◌, true, false, drop, length, take, IfNone, IfOk, IfSome, OnErr, OnOk};
 ghost use Rattle.line_scripts.specs.Keeping.{ArePacked, MayHave, unpacked, with_bytes};
+ghost use Rattle.line_scripts.specs.Shown.{HasShortBody, shown};
 
-use crate::commands::Command;
+use crate::commands::{Command, CommandRef};
 use line_names::{Body, ProcId, ProcSet};
 use line_tape::State;
-use line_world::Step;
+use line_world::{Step, StepRef};
 use std::alloc::{AllocError, Global};
 use std::marker::Model;
 use std::mem;
@@ -183,6 +184,52 @@ fn command_with(
     }
 }
 
+// The command that it makes with its bytes, which are lent.
+fn lent<'a>(bare: &'a Bare, own: &'a [u8]) -> CommandRef<'a>
+    requires { MayHave bare.now (length own.now) }
+    ensures value { shown result ≡ with_bytes bare.now own.now }
+    ensures short { HasShortBody result }
+{
+    match bare {
+        Bare::Send { from, to } => CommandRef::Do(StepRef::Send {
+            from: *from,
+            to: *to,
+            body: own,
+        }),
+        Bare::Deliver { from, to, pick } => CommandRef::Do(StepRef::Deliver {
+            from: *from,
+            to: *to,
+            pick: *pick,
+            state: own,
+        }),
+        Bare::Check { at } => CommandRef::Do(StepRef::Check {
+            at: *at,
+            state: own,
+        }),
+        Bare::Begin { at } => CommandRef::Do(StepRef::Begin {
+            at: *at,
+            state: own,
+        }),
+        Bare::Turn { at } => CommandRef::Do(StepRef::Turn {
+            at: *at,
+            state: own,
+        }),
+        Bare::Damage { at, check } => CommandRef::Do(StepRef::Damage {
+            at: *at,
+            check: *check,
+        }),
+        Bare::Bar { at, check } => CommandRef::Do(StepRef::Bar {
+            at: *at,
+            check: *check,
+        }),
+        Bare::Recover(failed) => CommandRef::Do(StepRef::Recover { failed }),
+        Bare::Rounds => CommandRef::Rounds,
+        Bare::History => CommandRef::History,
+        Bare::Bundle(failed) => CommandRef::Bundle(failed),
+        Bare::Refused(code) => CommandRef::Refused(*code),
+    }
+}
+
 // Gives back what commands that are gone have held, where that is as much as those that are left
 // hold.
 fn shrink(kept: &mut Vec<Kept>)
@@ -191,6 +238,15 @@ fn shrink(kept: &mut Vec<Kept>)
     if kept.len() <= kept.capacity() / 2 {
         kept.shrink_to_fit();
     }
+}
+
+// Lets the first of the commands go, the last one of the list.
+fn let_go(kept: &mut Vec<Kept>)
+    requires { 0 < length kept.old.items }
+    ensures { kept.new.items ≡ take (length kept.old.items - 1) kept.old.items }
+{
+    kept.truncate(kept.len() - 1);
+    shrink(kept);
 }
 
 impl Commands {
@@ -206,6 +262,28 @@ impl Commands {
             at: 0,
             room: Vec::new(alloc),
         }
+    }
+
+    /// The first one, its message, state or set lent, if there is one.
+    pub fn first(&self) -> Option<CommandRef<'_>>
+        ensures some { IfSome result (λ command. self.now ≡ shown command ∷ drop 1 self.now) }
+        ensures short { IfSome result HasShortBody }
+        ensures none { IfNone result (self.now ≡ []) }
+    {
+        let first = self.kept.last()?;
+        let own = &self.bytes[self.at..self.at + first.long];
+        Some(lent(&first.bare, own))
+    }
+
+    /// Lets the first one go, if there is one.
+    pub fn drop_first(&mut self)
+        ensures { self.new ≡ drop 1 self.old }
+    {
+        let Some(first) = self.kept.last() else {
+            return;
+        };
+        self.at += first.long;
+        let_go(&mut self.kept);
     }
 
     /// Takes the first one out, if there is one, and puts it in that place. It answers false where
@@ -225,8 +303,7 @@ impl Commands {
         let own = &self.bytes[self.at..end];
         *command = command_with(alloc, &mut self.room, &first.bare, own)?;
         self.at = end;
-        self.kept.truncate(count - 1);
-        shrink(&mut self.kept);
+        let_go(&mut self.kept);
         Ok(true)
     }
 }

@@ -7,7 +7,7 @@ mod laws;
 mod names;
 mod scripts;
 
-pub use commands::Command;
+pub use commands::{Command, CommandRef};
 pub use keeping::Commands;
 pub use laws::{scripts_are_read_again, version_2_reads_scripts_of_version_1};
 pub use scripts::{KeptScript, Script, keep_script, read_script};

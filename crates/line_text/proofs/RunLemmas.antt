@@ -1,6 +1,6 @@
 -- A run grows by one command, and so do its text and its count of refusals.
-use Rattle.std.proofs.Common.{inl, inr, ◌≡◌, ◌<◌, ◌≤◌, ℕ, ◌+◌, cond, List, [], ◌∷◌, ◌++◌, Option, Some, None, append_assoc, drop, get_or, length, take, refl, sym, ap, ◌∙◌, subst, arith}
-use Rattle.std.specs.Prelude.{◌⊎◌, Bool, Err, IsTrue, Ok, Result}
+use Rattle.std.proofs.Common.{inl, inr, ◌≡◌, ◌≢◌, ◌<◌, ◌≤◌, ℕ, ◌+◌, cond, List, [], ◌∷◌, ◌++◌, Option, Some, None, append_assoc, drop, get_or, length, take, refl, sym, ap, ◌∙◌, subst, arith}
+use Rattle.std.specs.Prelude.{◌⊎◌, Bool, Err, IfErr, IfOk, IsTrue, Ok, Result}
 use Rattle.std.specs.List.{flat_map}
 use Rattle.std.proofs.lemmas.Grind.{flat_map-append}
 use Rattle.std.proofs.lemmas.List.{append-nil, drop_more, length-drop, take_more}
@@ -22,12 +22,13 @@ use Rattle.line_scripts.specs.declared.commands.Command.TheVariants as commands
 use Rattle.line_world.specs.declared.steps.Step.{Step}
 use Rattle.line_world.specs.declared.replies.Reply.{Reply}
 use Rattle.line_world.specs.declared.replies.StepError.{StepError}
+use Rattle.line_world.specs.declared.replies.StepError.TheVariants as errors
 use Rattle.line_world.specs.declared.replies.Answer.TheVariants as answers
 use Rattle.line_world.specs.Runs.{Takes}
 use Rattle.line_world.specs.Codes.{refusal_code}
 use Rattle.line_replies.specs.Replies.{reply_records, refused as refused_record}
 use Rattle.line_replies.specs.Rounds.{rounds_records}
-use Rattle.line_text.specs.Runs.{Told, Answered, Refused, Listing, Shown, Claimed, IsClaimFor, told_records, is_refused, Tells, TellsAll, text_of, refusals, IsRunTo, Runs, RunsFront, RunsText, RunsTextFront, StopsAt, StopsText, Writes, WritesFront, Does, HaltsAt, first_of}
+use Rattle.line_text.specs.Runs.{Answers, Told, Answered, Refused, Listing, Shown, Claimed, IsClaimFor, told_records, is_refused, Tells, TellsAll, text_of, refusals, IsRunTo, Runs, RunsFront, RunsText, RunsTextFront, StopsAt, StopsText, Writes, WritesFront, Does, HaltsAt, first_of}
 use Rattle.line_text.specs.Pieces.{Halts, PutsButEnd}
 use Rattle.line_text.specs.declared.pieces.Halt.{Halt}
 use Rattle.line_text.specs.declared.pieces.Halt.TheVariants as halts
@@ -84,6 +85,12 @@ reply_written old new step reply text later refused takes written = record { tol
 pub reply_front : (old new : Machine) (step : Step) (reply : Reply) (text later : List ℕ) → Takes old step (answers.Done reply) new → PutsFront (Some text) (Some later) (records_text (reply_records reply))
     → WritesFront old (commands.Do step) text later
 reply_front old new step reply text later takes front = tells_front old new (commands.Do step) (Answered (answers.Done reply)) text later takes front
+
+-- what the machine answers to a step is an answer to it
+pub answered : (old new : Machine) (step : Step) (answer : Result Reply StepError) → IfOk answer (λ reply. Takes old step (answers.Done reply) new)
+    → IfErr answer (λ error. error ≢ errors.OutOfMemory → Takes old step (answers.Refused error) new) → Answers old step answer new
+answered old new step (Ok reply) done refused = done
+answered old new step (Err error) done refused = refused
 
 -- a refusal that was written
 pub refusal_written : (old new : Machine) (step : Step) (error : StepError) (code : ℕ) (text later : List ℕ) (refused count : ℕ) → Takes old step (answers.Refused error) new → code ≡ refusal_code error

@@ -1,5 +1,5 @@
 -- What commands are told, and the text of a run.
-use Rattle.std.specs.Prelude.{IsTrue, ◌≡◌, ◌<◌, ◌≤◌, ℕ, ◌+◌, ◌++◌, Bool, true, false, List, [], ◌∷◌, Option, drop, length, take, Ok}
+use Rattle.std.specs.Prelude.{IsTrue, ◌≡◌, ◌≢◌, ◌<◌, ◌≤◌, ℕ, ◌+◌, ◌++◌, Bool, true, false, List, [], ◌∷◌, Option, drop, length, take, Result, Ok, Err}
 use Rattle.std.specs.List.{count_by, flat_map}
 use Rattle.line_devices.specs.Devices.{Puts, PutsFront, one_more}
 use Rattle.line_claims.specs.Claims.{Claim}
@@ -9,6 +9,10 @@ use Rattle.line_fields.specs.Faults.{code_of}
 use Rattle.line_fields.specs.Records.{Record}
 use Rattle.line_fields.specs.Texts.{records_text}
 use Rattle.line_world.specs.declared.replies.Answer.TheVariants as answers
+use Rattle.line_world.specs.declared.replies.Reply.{Reply}
+use Rattle.line_world.specs.declared.replies.StepError.{StepError}
+use Rattle.line_world.specs.declared.replies.StepError.TheVariants as errors
+use Rattle.line_world.specs.declared.steps.Step.{Step}
 use Rattle.line_moves.specs.Listed.{Listed}
 use Rattle.line_world.specs.Machine.{Machine, start}
 use Rattle.line_plan.specs.declared.plans.Plan.{Plan}
@@ -58,6 +62,11 @@ pub record IsClaimFor (machine : Machine) (failed : List Bool) (claim : Claim) :
   pub plan : Plan
   pub planned : IsPlan machine failed plan
   pub claim_is : claim ≡ record { marks = in_order machine.history machine.marks; failed = failed; line = plan.line; certificate = plan.certificate.items }
+
+-- from old, a step was answered so and left new, unless memory did not suffice for it
+abbrev pub Answers : Machine → Step → Result Reply StepError → Machine → Type 0
+Answers old step (Ok reply) new = Takes old step (answers.Done reply) new
+Answers old step (Err error) new = error ≢ errors.OutOfMemory → Takes old step (answers.Refused error) new
 
 -- from old, a command may be told this, and leaves new
 abbrev pub Tells : Machine → Command → Told → Machine → Type 0

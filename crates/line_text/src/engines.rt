@@ -15,6 +15,9 @@ ghost use Rattle.line_text.specs.Inputs.{HearsEnd};
 ghost use Rattle.line_text.specs.Pieces.{Halts, IsBlamed, PutsButEnd};
 ghost use Rattle.line_text.specs.Runs as spec;
 ghost use Rattle.line_scripts.specs.Scripts.{script_of_text};
+ghost use Rattle.line_scripts.specs.Shown.{HasShortBody, shown};
+ghost use Rattle.line_world.specs.declared.steps.Step.{Step};
+ghost use Rattle.line_world.specs.Machine.{Machine};
 
 use crate::ends::{WRITE_FAULT, fault_of, put, read_input};
 use crate::listings::pass_rounds;
@@ -24,9 +27,9 @@ use line_devices::{Sink, Source};
 use line_fields::{Draft, Fault, RecordWriter};
 use line_names::ProcSet;
 use line_replies::{put_refusal, put_reply, refusal_code};
-use line_scripts::{Command, Commands, KeptScript, keep_script};
+use line_scripts::{Command, CommandRef, Commands, KeptScript, keep_script};
 use line_tape::CountError;
-use line_world::{Step, World};
+use line_world::{Reply, StepError, World};
 use std::alloc::{AllocError, Global};
 
 // Why commands were not done to their end.
@@ -133,20 +136,18 @@ fn show_history<K: Sink>(
     pass_history(sink, writer, draft, version, history)
 }
 
-// Takes a step, and writes what it is told, or a front of it where memory does not suffice.
-fn do_step(
-    alloc: Global,
-    world: &mut World,
+// Writes what a step was answered, or a front of it where memory does not suffice.
+fn tell_step(
     writer: &mut RecordWriter,
     draft: &mut Draft,
     refused: &mut u64,
-    step: &Step,
+    answer: Result<Reply, StepError>,
 ) -> Result<(), AllocError>
     requires { refused.old < 18446744073709551615 }
-    ensures ok { OnOk result (spec.Writes world.old (Command.Do step.now) world.new writer.old refused.old writer.new refused.new) }
-    ensures err { OnErr result (spec.WritesFront world.old (Command.Do step.now) writer.old writer.new) }
+    ensures ok { (old new : Machine) (step : Step) → spec.Answers old step answer new → OnOk result (spec.Writes old (Command.Do step) new writer.old refused.old writer.new refused.new) }
+    ensures err { (old new : Machine) (step : Step) → spec.Answers old step answer new → OnErr result (spec.WritesFront old (Command.Do step) writer.old writer.new) }
 {
-    match world.step(alloc, step) {
+    match answer {
         Ok(reply) => put_reply(writer, draft, &reply),
         Err(error) => {
             if error.is_out_of_memory() {
@@ -165,44 +166,45 @@ fn do_command<K: Sink>(
     writer: &mut RecordWriter,
     draft: &mut Draft,
     refused: &mut u64,
-    command: &Command,
+    command: &CommandRef<'_>,
 ) -> Result<(), Halt>
-    requires { refused.old < 18446744073709551615 }
-    ensures ok { OnOk result (spec.Does world.old command.now world.new (K.taken sink.old) (K.taken sink.new) writer.old refused.old writer.new refused.new) }
-    ensures err { IfErr result (λ halt. spec.HaltsAt halt world.old command.now (K.taken sink.old) (K.taken sink.new) writer.old writer.new) }
+    requires few { refused.old < 18446744073709551615 }
+    requires short { HasShortBody command.now }
+    ensures ok { OnOk result (spec.Does world.old (shown command.now) world.new (K.taken sink.old) (K.taken sink.new) writer.old refused.old writer.new refused.new) }
+    ensures err { IfErr result (λ halt. spec.HaltsAt halt world.old (shown command.now) (K.taken sink.old) (K.taken sink.new) writer.old writer.new) }
     ensures sound { OnOk result (K.faults sink.new ≡ K.faults sink.old) }
     ensures blamed { IfErr result (λ halt. IsBlamed halt (K.faults sink.old) (K.faults sink.new)) }
 {
     match command {
-        Command::Refused(code) => {
+        CommandRef::Refused(code) => {
             refuse(writer, draft, refused, *code)?;
             Ok(())
         }
-        Command::Rounds => list_rounds(world, sink, writer, draft),
-        Command::History => show_history(world, sink, writer, draft),
-        Command::Bundle(failed) => bundle(alloc, world, sink, writer, draft, refused, failed),
-        Command::Do(step) => {
-            do_step(alloc, world, writer, draft, refused, step)?;
+        CommandRef::Rounds => list_rounds(world, sink, writer, draft),
+        CommandRef::History => show_history(world, sink, writer, draft),
+        CommandRef::Bundle(failed) => bundle(alloc, world, sink, writer, draft, refused, failed),
+        CommandRef::Do(step) => {
+            let answer = world.step_lent(alloc, step);
+            tell_step(writer, draft, refused, answer)?;
             Ok(())
         }
     }
 }
 
-// Does the first command, as `do_command` does, and leaves it in that place. It answers false where
-// there is none.
+// Does the first command, as `do_command` does, where it stands, and then lets it go. It answers
+// false where there is none.
 fn do_next<K: Sink>(
     alloc: Global,
     world: &mut World,
     commands: &mut Commands,
-    command: &mut Command,
     sink: &mut K,
     writer: &mut RecordWriter,
     draft: &mut Draft,
     refused: &mut u64,
 ) -> Result<bool, Halt>
     requires { refused.old < 18446744073709551615 }
-    ensures ok { IfOk result (λ more. more ≡ true → (commands.old ≡ command.new ∷ commands.new)
-        × spec.Does world.old command.new world.new (K.taken sink.old) (K.taken sink.new) writer.old refused.old writer.new refused.new) }
+    ensures ok { IfOk result (λ more. more ≡ true → (first : Command) × (commands.old ≡ first ∷ commands.new)
+        × spec.Does world.old first world.new (K.taken sink.old) (K.taken sink.new) writer.old refused.old writer.new refused.new) }
     ensures none { IfOk result (λ more. more ≡ false → (commands.old ≡ []) × (commands.new ≡ []) × (world.new ≡ world.old)
         × (sink.new ≡ sink.old) × (writer.new ≡ writer.old) × (refused.new ≡ refused.old)) }
     ensures err { IfErr result (λ halt. (first : Command) × (rest : List Command) × (commands.old ≡ first ∷ rest)
@@ -210,14 +212,12 @@ fn do_next<K: Sink>(
     ensures sound { OnOk result (K.faults sink.new ≡ K.faults sink.old) }
     ensures blamed { IfErr result (λ halt. IsBlamed halt (K.faults sink.old) (K.faults sink.new)) }
 {
-    match commands.next(alloc, command) {
-        Ok(true) => {
-            do_command(alloc, world, sink, writer, draft, refused, command)?;
-            Ok(true)
-        }
-        Ok(false) => Ok(false),
-        Err(_) => Err(Halt::Memory),
-    }
+    let Some(command) = commands.first() else {
+        return Ok(false);
+    };
+    do_command(alloc, world, sink, writer, draft, refused, &command)?;
+    commands.drop_first();
+    Ok(true)
 }
 
 // Does the commands one after another, and puts the text of what they are told but for an end,
@@ -237,7 +237,6 @@ fn do_commands<K: Sink>(
     ensures blamed { IfErr result (λ stop. spec.Blames stop (K.faults sink.old) (K.faults sink.new)) }
 {
     let mut draft = Draft::new(alloc);
-    let mut command = Command::Rounds;
     let mut refused = 0u64;
     let mut done = 0u64;
     'commands: loop {
@@ -245,7 +244,6 @@ fn do_commands<K: Sink>(
             alloc,
             world,
             commands,
-            &mut command,
             sink,
             writer,
             &mut draft,

@@ -25,15 +25,15 @@ returns-then-not-more-clause-ok g c =
 pub returns-in-Err-clause-err : goal.returns-in-Err-clause-err
 returns-in-Err-clause-err g c =
     let does = c.in-Ok.ensures.ok c.if-not-more.false in
-    let first = first_left _ _ _ _ _ c.commands.invariant.left does.0 in
-    front_behind _ _ _ _ _ _ _ _ _ _ _ _ _ _ first.0 first.1 c.commands.invariant.run does.1 c.in-Err.ensures.err
+    let first = first_left _ _ _ _ _ c.commands.invariant.left does.1 in
+    front_behind _ _ _ _ _ _ _ _ _ _ _ _ _ _ first.0 first.1 c.commands.invariant.run does.2 c.in-Err.ensures.err
 
 pub commands-preserved : goal.commands-preserved
 commands-preserved g c =
     let does = c.in-Ok.ensures.ok c.if-not-more.false in
-    let first = first_left _ _ _ _ _ c.commands.invariant.left does.0 in
+    let first = first_left _ _ _ _ _ c.commands.invariant.left does.1 in
     record {
-      run = does_on _ _ _ _ _ _ _ _ _ _ _ _ _ _ _ first.0 first.1 c.commands.invariant.run does.1 c.in-Ok-put_long.ensures.ok;
+      run = does_on _ _ _ _ _ _ _ _ _ _ _ _ _ _ _ first.0 first.1 c.commands.invariant.run does.2 c.in-Ok-put_long.ensures.ok;
       left = first.2;
       within = omega (arith, first.0);
       sound = c.in-Ok-put_long.ensures.sound ∙ c.in-Ok.ensures.sound ∙ c.commands.invariant.sound;
