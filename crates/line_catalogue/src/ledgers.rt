@@ -237,9 +237,10 @@ impl Ledger {
         &self.history
     }
 
-    /// Keeps what is in transit where each process stands, so that no send before that is looked at
-    /// again. It is put off where memory for it is refused, or where more than an eighth of all sends
-    /// are in transit: who asks for these is answered as many anyway, and keeping them takes memory.
+    /// Keeps what is in transit where each process stands, so that no send before that is looked
+    /// at again. It is put off where memory for it is refused, or where more than an eighth of all
+    /// sends are in transit: who asks for these is answered as many anyway, and keeping them takes
+    /// memory.
     ///
     /// It stands apart, since a line is a large value and events come far more often.
     #[inline(never)]

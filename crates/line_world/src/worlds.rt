@@ -30,9 +30,9 @@ use std::marker::Model;
 /// Processes with a link from each to each.
 ///
 /// It keeps a queue for each link beside a catalogue of the tapes, so that sending, delivering and
-/// taking a check cost the same however much was done before, but for a look of the catalogue now and
-/// then at what was sent since the last one. A step that is refused, or that memory does not suffice
-/// for, changes nothing.
+/// taking a check cost the same however much was done before, but for a look of the catalogue now
+/// and then at what came since the last one. A step that is refused, or that memory does not
+/// suffice for, changes nothing.
 #[derive(Drop)]
 pub struct World {
     mode: Mode,
@@ -239,14 +239,15 @@ impl World {
 
     /// Takes one step.
     ///
-    /// Sending, delivering a message and taking a check cost the same however much was done before,
-    /// but for what `Catalogue::reserve` does now and then; a message that forces a check searches its sender's checks of rounds by halves. A marker
-    /// looks at its receiver's channels, and the last one of a process at all channels of the
-    /// round. A check of a round, begun or forced by a marker, puts a marker on the link to each
-    /// other process; the last one of a round of colours looks at what was in transit at the checks
-    /// of the round or the line before, and at each send and receipt since. Recovering costs what a
-    /// plan does; it looks at each event that it cuts or that came since the last recovery, and at
-    /// each message in transit.
+    /// Sending, delivering a message and taking a check cost the same however much was done
+    /// before, but for what `Catalogue::reserve` does now and then; a message that forces a check
+    /// searches its sender's checks of rounds by halves. A marker looks at its receiver's
+    /// channels, and the last one of a process at all channels of the round. A check of a round,
+    /// begun or forced by a marker, puts a marker on the link to each other process; the last one
+    /// of a round of colours looks at what was in transit at the checks of the round or the line
+    /// before, and at each send and receipt since. Recovering costs what a plan does; it looks at
+    /// each event that it cuts or that came since the last recovery, and at each message in
+    /// transit.
     pub fn step(&mut self, alloc: Global, step: &Step) -> Result<Reply, StepError>
         ensures done { IfOk result (λ reply. Takes self.old step.now (Done reply) self.new) }
         ensures refused { IfErr result (λ e. e ≢ StepError.OutOfMemory → Takes self.old step.now (Refused e) self.new) }
