@@ -257,7 +257,8 @@ impl Tape {
     /// Makes room for so many further events: the next `k` pushes take no memory.
     ///
     /// It asks the lists that are counted only where it is not known that they have room. The count
-    /// is then the room of the fullest one, so the asking is spread over as many events.
+    /// is then the room of the fullest one, so the asking is spread over as many events, or over
+    /// fewer where a list that one kind of event alone takes room in is full before.
     pub fn reserve(&mut self, k: u32) -> Result<(), AllocError>
         ensures same { self.new.events ≡ self.old.events }
         ensures ok { OnOk result (k ≤ self.new.room) }
