@@ -16,7 +16,9 @@ use Rattle.line_tape.proofs.NextLemmas.{slice_get_push}
 use Rattle.line_tape.proofs.SpentLemmas.{tape_start}
 use Rattle.line_posts.specs.Gathered.{AreGathered, gathered_tape}
 use Rattle.line_posts.specs.Generations.{own_history, AreSamePosts, IsSamePost}
-use Rattle.line_posts.specs.Openings.{IsOpening}
+use Rattle.line_marker.specs.Recording.{latest, Recorded}
+use Rattle.line_posts.specs.Markers.{recorded_by}
+use Rattle.line_posts.specs.Openings.{HasBegun, IsOpening}
 use Rattle.line_posts.specs.Posts.{PostView, incarnation_of_post, checked_alone, sent_by}
 use Rattle.line_posts.specs.Receipts.{HasTaken}
 use Rattle.line_posts.proofs.GatherLemmas.{own_tape, own_past, in_list, tape_past}
@@ -43,7 +45,7 @@ follows_long inc (x ∷ xs) (e ∷ es) h = ap suc (follows_long inc xs es h.1)
 
 -- a tape has an event for each order that was done
 pub done_events : (xs : List Order) (a b : PostView) → HasDone xs a b → length b.tape ≡ length a.tape + length xs
-done_events xs a b (s, d, ed, fd) =
+done_events xs a b (s, r, d, ed, fd) =
     let long = follows_long (incarnation_of_post a) xs d fd in
     let all = ap length ed ∙ length-append a.tape d in
     omega (arith, long, all)
@@ -55,32 +57,34 @@ inc_same : (a b : PostView) → IsSamePost a b → incarnation_of_post b ≡ inc
 inc_same a b s = ap (incarnation_at b.opening) s.number ∙ ap (λ o. incarnation_at o a.number) s.opening
 
 pub done_none : (a : PostView) → HasDone [] a a
-done_none a = (same_self a, [], sym (append-nil a.tape), tt)
+done_none a = (same_self a, λ f h. h, [], sym (append-nil a.tape), tt)
 
 pub done_then : (xs ys : List Order) (a b c : PostView) → HasDone xs a b → HasDone ys b c → HasDone (xs ++ ys) a c
-done_then xs ys a b c (s, d, ed, fd) (t, e, ee, fe) = (
+done_then xs ys a b c (s, r, d, ed, fd) (t, q, e, ee, fe) = (
   same_then a b c s t,
+  λ f h. q f (r f h),
   d ++ e,
   ee ∙ (ap (λ x. x ++ e) ed ∙ append_assoc a.tape d e),
   follows_append (incarnation_of_post a) xs ys d e fd (subst (λ i. Follows i ys e) (inc_same a b s) fe),
 )
 
--- a report changes none of it
-pub done_still : (xs : List Order) (a b c : PostView) → HasDone xs a b → IsSamePost b c → c.tape ≡ b.tape → HasDone xs a c
-done_still xs a b c (s, d, ed, fd) t e = (same_then a b c s t, d, e ∙ ed, fd)
+begun_same : (a b : PostView) → b.floor ≡ a.floor → b.rounds ≡ a.rounds → (f : ℕ) → HasBegun f a → HasBegun f b
+begun_same a b floor rounds f h = (floor ∙ h.0, rounds ∙ h.1)
 
 pub done_sent : (a b : PostView) (to : ℕ) (body : List ℕ) → b ≡ sent_by a to body → HasDone (Send to body ∷ []) a b
-done_sent a b to body e = (same_sent a b to body e, SendEvent to (incarnation_of_post a) body ∷ [], ap (λ (v : PostView). v.tape) e, (refl, tt))
+done_sent a b to body e = (same_sent a b to body e, begun_same a b (ap (λ (v : PostView). v.floor) e) (ap (λ (v : PostView). v.rounds) e), SendEvent to (incarnation_of_post a) body ∷ [], ap (λ (v : PostView). v.tape) e, (refl, tt))
 
 pub done_checked : (a b : PostView) (state : List ℕ) → b ≡ checked_alone a state → HasDone (Check state ∷ []) a b
-done_checked a b state e = (same_alone a b state e, CheckEvent state None ∷ [], ap (λ (v : PostView). v.tape) e, (refl, tt))
+done_checked a b state e = (same_alone a b state e, begun_same a b (ap (λ (v : PostView). v.floor) e) (ap (λ (v : PostView). v.rounds) e), CheckEvent state None ∷ [], ap (λ (v : PostView). v.tape) e, (refl, tt))
 
 taken_tape : (a b : PostView) (name : MsgName) (body : List ℕ) → HasTaken a name body b → b.tape ≡ a.tape ++ Recv name ∷ []
-taken_tape a b name body (inl (first, e)) = ap (λ (v : PostView). v.tape) e
-taken_tape a b name body (inr (bare, e)) = ap (λ (v : PostView). v.tape) e
+taken_tape a b name body (e, way) = ap (λ (v : PostView). v.tape) e
+
+taken_begun : (a b : PostView) (name : MsgName) (body : List ℕ) → HasTaken a name body b → (f : ℕ) → HasBegun f a → HasBegun f b
+taken_begun a b name body (e, way) f (floor, rounds) = (ap (λ (v : PostView). v.floor) e ∙ floor, ap (λ (v : PostView). v.rounds) e ∙ ap (λ (r : List Recorded). recorded_by (record a { rounds = r }) (Recv name)) rounds)
 
 pub done_taken : (a b : PostView) (from : ℕ) → HasReceivedFrom a from b → HasDone (Receive from ∷ []) a b
-done_taken a b from (name, body, f, t) = (same_taken a b name body t, Recv name ∷ [], taken_tape a b name body t, ((name, f, refl), tt))
+done_taken a b from (name, body, f, t) = (same_taken a b name body t, taken_begun a b name body t, Recv name ∷ [], taken_tape a b name body t, ((name, f, refl), tt))
 
 -- one worker more
 pub drilled_none : (scripts : List (List Order)) → AreDrilled scripts [] []
@@ -117,7 +121,7 @@ drilled_same scripts old new h = record { count = h.count; each = λ i a b ha hb
 abbrev pub AreFirst : ℕ → List PostView → Type 0
 AreFirst n posts = (p : ℕ) (post : PostView) → slice_get posts p ≡ Some post → IsOpening post × (post.opening ≡ replicate n fresh)
 
-incarnation_start : (n p : ℕ) → incarnation_at (replicate n fresh) p ≡ 0
+pub incarnation_start : (n p : ℕ) → incarnation_at (replicate n fresh) p ≡ 0
 incarnation_start zero p = refl
 incarnation_start (suc n) zero = refl
 incarnation_start (suc n) (suc p) = incarnation_start n p
@@ -131,7 +135,7 @@ follows_all scripts n old new opened drilled long p = elim (cases_lt p (length n
       let c = drilled.count in
       let a = get_or old p b in
       let ha = slice_get-get_or old p b (omega (arith, lt, c)) in
-      let (same, done, is, follows) = drilled.each p a b ha hb in
+      let (same, rounds, done, is, follows) = drilled.each p a b ha hb in
       let (o, first) = opened p a ha in
       let bare : a.tape ≡ [] = o.tape ∙ (ap (λ h. tape_at h a.number) first ∙ tape_start n a.number) in
       let inc : incarnation_of_post a ≡ 0 = ap (λ h. incarnation_at h a.number) first ∙ incarnation_start n a.number in
@@ -161,3 +165,18 @@ on_ok_done (Err e) P Q f h = tt
 -- one order further
 pub done_order : (script : List Order) (k : ℕ) (order : Order) (a b c : PostView) → slice_get script k ≡ Some order → HasDone (take k script) a b → HasDone (order ∷ []) b c → HasDone (take (k + 1) script) a c
 done_order script k order a b c at h j = rw (take_next script k order at) (done_then (take k script) (order ∷ []) a b c h j)
+
+pub some_of : (n : ℕ) → (n ≡ 0 → ⊥) → 0 < n
+some_of zero h = absurd (h refl)
+some_of (suc n) h = omega arith
+
+-- no round was begun in a drill
+pub first_begun : (scripts : List (List Order)) (old new : List PostView) → ((p : ℕ) (post : PostView) → slice_get old p ≡ Some post → HasBegun 0 post) → AreDrilled scripts old new → 0 < length old → (lead : PostView) × ((slice_get new 0 ≡ Some lead) × HasBegun 0 lead)
+first_begun scripts old new begun drilled some =
+    let c = drilled.count in
+    let (lead, at) = in_list new 0 (omega (arith, some, c)) in
+    let (a, ha) = in_list old 0 some in
+    (lead, (at, (drilled.each 0 a lead ha at).1 0 (begun 0 a ha)))
+
+pub floor_of : (lead : PostView) (floor : ℕ) → HasBegun 0 lead → floor ≡ latest lead.floor lead.rounds → floor ≡ 0
+floor_of lead floor begun is = is ∙ (ap (λ f. latest f lead.rounds) begun.0 ∙ ap (latest 0) begun.1)

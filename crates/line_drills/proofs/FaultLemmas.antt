@@ -1,24 +1,30 @@
 -- Why a drill does not end well, and where.
-use Rattle.std.proofs.Common.{◌≡◌, ◌∙◌, ◌+◌, ◌++◌, ◌∷◌, [], ℕ, List, Some, length, take, get_or, refl, sym, ap, inl, inr, arith, subst}
-use Rattle.std.specs.Prelude.{slice_get, Bool, false}
+use Rattle.std.proofs.Common.{cond, suc, true, ◌≡◌, ◌∙◌, ◌+◌, ◌≤◌, ◌<◌, ◌++◌, ◌∷◌, [], ℕ, List, Some, length, replicate, take, get_or, refl, sym, ap, inl, inr, arith, subst}
+use Rattle.std.specs.Prelude.{◌==◌, ◌≢◌, slice_get, Bool, false}
 use Rattle.std.proofs.lemmas.Bool.{false≢true}
 use Rattle.std.proofs.lemmas.List.{length-take-le}
-use Rattle.std.proofs.lemmas.Option.{slice_get_within, slice_get-get_or}
+use Rattle.std.proofs.lemmas.Option.{same_Some, slice_get_within, slice_get-get_or}
 use Rattle.line_names.specs.Sets.{is_member}
-use Rattle.line_tape.specs.History.{tape_at}
+use Rattle.line_tape.specs.declared.events.Event.{Event}
+use Rattle.line_tape.specs.History.{fresh, tape_at}
 use Rattle.line_tape.proofs.SpentLemmas.{tape_start}
 use Rattle.line_posts.specs.Collected.{CollectorView}
 use Rattle.line_posts.specs.Gathered.{AreBelow}
 use Rattle.line_posts.specs.Generations.{AreInOrder, AreSamePosts, AreWhole}
-use Rattle.line_posts.specs.Posts.{PostView}
+use Rattle.line_posts.specs.Openings.{HasSlots}
+use Rattle.line_posts.specs.Parcels.{parcels_sent}
+use Rattle.line_posts.specs.Posts.{PostView, IsPost, incarnation_of_post, opening_tape}
+use Rattle.line_posts.specs.declared.parcels.Parcel.TheVariants.{Message}
+use Rattle.line_rings.specs.Ends.{items_at, slots_at, slots_in}
 use Rattle.line_posts.proofs.MeetLemmas.{get_below, get_last}
 use Rattle.line_drills.specs.declared.orders.Order.{Order}
+use Rattle.line_drills.specs.declared.orders.Order.TheVariants.{Send, Receive, Check}
 use Rattle.line_drills.specs.declared.refusals.DrillError.{DrillError}
 use Rattle.line_drills.specs.declared.refusals.DrillWhy.{DrillWhy}
 use Rattle.line_drills.specs.declared.refusals.DrillWhy.TheVariants.{NoThread}
-use Rattle.line_drills.specs.Faults.{of_order, AreStopped, HasFailed, IsCause, IsFault}
-use Rattle.line_drills.specs.Followed.{HasDone}
-use Rattle.line_drills.specs.Scripts.{script_at}
+use Rattle.line_drills.specs.Faults.{of_order, AreStopped, HasFailed, HasFilledRing, HasFoundNoSlot, IsCause, IsFault}
+use Rattle.line_drills.specs.Followed.{Follows, HasDone}
+use Rattle.line_drills.specs.Scripts.{names_ordered, script_at}
 use Rattle.line_drills.proofs.DrillLemmas.{done_events, AreFirst}
 
 cause_moved : (n n' p p' events events' : ℕ) (order : Order) (why : DrillWhy) → n ≡ n' → p ≡ p' → events ≡ events' → IsCause n p events order why → IsCause n' p' events' order why
@@ -26,35 +32,39 @@ cause_moved n n' p p' events events' order why en ep ee h =
     subst (λ x. IsCause n' p' x order why) ee (subst (λ x. IsCause n' x events order why) ep (subst (λ x. IsCause x p events order why) en h))
 
 -- an order that could not be done, after those before it
-pub failed_at : (script : List Order) (k : ℕ) (order : Order) (old now : PostView) (why : DrillWhy) (p : ℕ) (e : DrillError) → slice_get script k ≡ Some order → HasDone (take k script) old now
-    → p ≡ old.number → IsCause (length now.opening) now.number (length now.tape) order why → e ≡ of_order p k why → HasFailed script old e
-failed_at script k order old now why p e at done number cause is =
-    let (same, events, tape, follows) = done in
+pub failed_at : (turns : ℕ) (script : List Order) (k : ℕ) (order : Order) (old now : PostView) (why : DrillWhy) (p : ℕ) (e : DrillError) → slice_get script k ≡ Some order → HasDone (take k script) old now → IsPost now
+    → HasFoundNoSlot turns now order why → p ≡ old.number → IsCause (length now.opening) now.number (length now.tape) order why → e ≡ of_order p k why → HasFailed turns script old e
+failed_at turns script k order old now why p e at done known slot number cause is =
+    let (same, rounds, events, tape, follows) = done in
     let within = slice_get_within script k order at in
     let first = length-take-le k script (omega (arith, within)) in
     let many = done_events (take k script) old now done in (
       k,
       order,
       why,
+      now,
       at,
+      done,
+      known,
+      slot,
       cause_moved (length now.opening) (length old.opening) now.number old.number (length now.tape) (length old.tape + k) order why
           (ap length same.opening) same.number (omega (arith, many, first)) cause,
       is ∙ ap (λ x. of_order x k why) number,
     )
 
 -- one of the others stopped
-pub stopped_below : (scripts : List (List Order)) (a xs : List PostView) (x : PostView) (e : DrillError) → a ≡ xs ++ x ∷ [] → AreStopped scripts xs e → AreStopped scripts a e
-stopped_below scripts a xs x e is (inl none) = inl none
-stopped_below scripts a xs x e is (inr (p, post, at, failed)) = inr (p, post, subst (λ v. slice_get v p ≡ Some post) (sym is) (get_below xs x p post at), failed)
+pub stopped_below : (turns : ℕ) (scripts : List (List Order)) (a xs : List PostView) (x : PostView) (e : DrillError) → a ≡ xs ++ x ∷ [] → AreStopped turns scripts xs e → AreStopped turns scripts a e
+stopped_below turns scripts a xs x e is (inl none) = inl none
+stopped_below turns scripts a xs x e is (inr (p, post, at, failed)) = inr (p, post, subst (λ v. slice_get v p ≡ Some post) (sym is) (get_below xs x p post at), failed)
 
 -- the last one stopped
-pub stopped_last : (scripts : List (List Order)) (a xs : List PostView) (x : PostView) (script : List Order) (e : DrillError) → a ≡ xs ++ x ∷ [] → script_at scripts (length xs) ≡ script → HasFailed script x e → AreStopped scripts a e
-stopped_last scripts a xs x script e is own failed =
-    inr (length xs, x, subst (λ v. slice_get v (length xs) ≡ Some x) (sym is) (get_last xs x), subst (λ s. HasFailed s x e) (sym own) failed)
+pub stopped_last : (turns : ℕ) (scripts : List (List Order)) (a xs : List PostView) (x : PostView) (script : List Order) (e : DrillError) → a ≡ xs ++ x ∷ [] → script_at scripts (length xs) ≡ script → HasFailed turns script x e → AreStopped turns scripts a e
+stopped_last turns scripts a xs x script e is own failed =
+    inr (length xs, x, subst (λ v. slice_get v (length xs) ≡ Some x) (sym is) (get_last xs x), subst (λ s. HasFailed turns s x e) (sym own) failed)
 
-pub fault_of : (scripts : List (List Order)) (n : ℕ) (posts : List PostView) (e : DrillError) → AreFirst n posts → AreInOrder posts → length scripts ≡ length posts → AreStopped scripts posts e → IsFault scripts e
-fault_of scripts n posts e first order long (inl none) = inl (NoThread, inr (inr (inr refl)), none)
-fault_of scripts n posts e first order long (inr (p, post, at, (k, o, why, here, cause, is))) =
+pub fault_of : (turns : ℕ) (scripts : List (List Order)) (n : ℕ) (posts : List PostView) (e : DrillError) → AreFirst n posts → AreInOrder posts → length scripts ≡ length posts → AreStopped turns scripts posts e → IsFault scripts e
+fault_of turns scripts n posts e first order long (inl none) = inl (NoThread, inr (inr (inr refl)), none)
+fault_of turns scripts n posts e first order long (inr (p, post, at, (k, o, why, now, here, done, known, slot, cause, is))) =
     let (number, many) = order p post at in
     let (opening, begun) = first p post at in
     let bare : length post.tape ≡ 0 = ap length (opening.tape ∙ (ap (λ h. tape_at h post.number) begun ∙ tape_start n post.number)) in
@@ -67,6 +77,48 @@ fault_of scripts n posts e first order long (inr (p, post, at, (k, o, why, here,
       cause_moved (length post.opening) (length scripts) post.number p (length post.tape + k) k o why (many ∙ sym long) number (omega (arith, bare)) cause,
       is ∙ ap (λ x. of_order x k why) number,
     )
+
+-- as many parcels as orders to send
+parcels_ordered : (p to k inc : ℕ) (script : List Order) (tape : List Event) → Follows inc script tape → length (parcels_sent to k tape) ≡ length (names_ordered p to k script)
+parcels_ordered p to k inc [] [] h = refl
+parcels_ordered p to k inc [] (e ∷ es) h = absurd h
+parcels_ordered p to k inc (o ∷ os) [] h = absurd h
+parcels_ordered p to k inc (Send q body ∷ os) (e ∷ es) h =
+    let ih = parcels_ordered p to (suc k) inc os es h.1 in
+    ap (λ x. length (parcels_sent to k (x ∷ es))) h.0
+    ∙ elim (q == to) as (λ b. length (cond b (Message (record { inc = inc; number = k; body = body }) ∷ parcels_sent to (suc k) es) (parcels_sent to (suc k) es)) ≡ length (cond b (record { from = p; inc = 0; number = k } ∷ names_ordered p to (suc k) os) (names_ordered p to (suc k) os))) [ true ↦ ap suc ih | false ↦ ih ]
+parcels_ordered p to k inc (Receive from ∷ os) (e ∷ es) h = ap (λ x. length (parcels_sent to k (x ∷ es))) h.0.2 ∙ parcels_ordered p to k inc os es h.1
+parcels_ordered p to k inc (Check state ∷ os) (e ∷ es) h = ap (λ x. length (parcels_sent to k (x ∷ es))) h.0 ∙ parcels_ordered p to k inc os es h.1
+
+-- a worker that finds no slot for its first orders has sent as much as fits
+filled_by : (n capacity to p : ℕ) (script : List Order) (post now : PostView) → IsPost now → HasDone script post now → post.tape ≡ [] → post.opening ≡ replicate n fresh → HasSlots capacity post
+    → to < length now.opening → to ≢ now.number → slots_at now.outs to ≤ length (items_at now.outs to) → capacity ≤ length (names_ordered p to 0 script)
+filled_by n capacity to p script post now known (same, rounds, done, tape, follows) bare first (slots, line) within other filled =
+    let began : opening_tape now ≡ [] = ap (λ h. tape_at h now.number) (same.opening ∙ first) ∙ tape_start n now.number in
+    let pushed : parcels_sent to 0 done ≡ items_at now.outs to =
+    sym (ap (parcels_sent to 0) (tape ∙ ap (λ t. t ++ done) bare)) ∙ (known.sends_are to within other ∙ ap (λ t. parcels_sent to 0 t ++ items_at now.outs to) began) in
+    let many = ap length (sym pushed) ∙ parcels_ordered p to 0 (incarnation_of_post post) script done follows in
+    let opened = ap length same.opening in
+    let fits : slots_at now.outs to ≡ capacity = ap slots_in (same.outs to) ∙ slots to (omega (arith, within, opened)) in
+    omega (arith, many, fits, filled)
+
+pub ring_filled : (turns capacity n : ℕ) (scripts : List (List Order)) (posts : List PostView) (e : DrillError) → AreFirst n posts → AreInOrder posts → ((p : ℕ) (post : PostView) → slice_get posts p ≡ Some post → HasSlots capacity post)
+    → AreStopped turns scripts posts e → HasFilledRing scripts capacity turns e
+ring_filled turns capacity n scripts posts e first order slots (inl none) = λ p k to body is at turn.
+    (let wrong = ap (λ (x : DrillError). x.worker) (sym none ∙ is) in cc wrong)
+ring_filled turns capacity n scripts posts e first order slots (inr (q, post, there, (j, o, why, now, here, done, known, slot, cause, was))) = λ p k to body is at turn.
+    let same = sym was ∙ is in
+    let number : post.number ≡ p = same_Some post.number p (ap (λ (x : DrillError). x.worker) same) in
+    let place : j ≡ k = same_Some j k (ap (λ (x : DrillError). x.order) same) in
+    let who : q ≡ p = sym (order q post there).0 ∙ number in
+    let is_send : o ≡ Send to body =
+    same_Some o (Send to body) (sym here ∙ (ap (λ x. slice_get (script_at scripts x) j) who ∙ (ap (slice_get (script_at scripts p)) place ∙ at))) in
+    let (may, filled) = slot to body is_send (ap (λ (x : DrillError). x.why) same) turn in
+    let (opening, begun) = first q post there in
+    let bare = opening.tape ∙ (ap (λ h. tape_at h post.number) begun ∙ tape_start n post.number) in
+    let enough = filled_by n capacity to p (take j (script_at scripts q)) post now known done bare begun (slots q post there) may.process may.other filled in
+    subst (λ x. capacity ≤ length (names_ordered p to 0 (take x (script_at scripts p)))) place
+    (subst (λ x. capacity ≤ length (names_ordered p to 0 (take j (script_at scripts x)))) who enough)
 
 pub none_below : (n : ℕ) (failed : List Bool) → ((q : ℕ) → is_member failed q ≡ false) → AreBelow n failed
 none_below n failed none q is = absurd (false≢true (sym (none q) ∙ is))

@@ -2,3 +2,4 @@ mod ScriptLemmas
 mod DrillLemmas
 mod FaultLemmas
 mod CrossingLemmas
+mod MarkerLemmas

@@ -2,10 +2,10 @@
 use Rattle.std.proofs.Common.{cond, zero, suc, true, false, ◌≡◌, ◌∙◌, ◌++◌, ◌∷◌, [], ℕ, List, Option, Some, None, length, map, take, drop, refl, sym, ap, arith, subst}
 use Rattle.std.proofs.lemmas.Option.{same_Some}
 use Rattle.std.specs.Prelude.{◌==◌, slice_get, option_map}
-use Rattle.std.specs.List.{filter_map, cons_option}
+use Rattle.std.specs.List.{filter, filter_map, cons_option}
 use Rattle.std.proofs.lemmas.Bool.{eq-eqb}
 use Rattle.std.proofs.lemmas.List.{append_assoc, append-nil, length-append}
-use Rattle.std.proofs.lemmas.List.Elements.{filter_map-append}
+use Rattle.std.proofs.lemmas.List.Elements.{filter-append, filter_map-append}
 use Rattle.std.proofs.lemmas.Option.{slice_get-map}
 use Rattle.line_names.specs.declared.messages.MsgName.{MsgName}
 use Rattle.line_tape.specs.declared.events.Event.{Event}
@@ -16,7 +16,7 @@ use Rattle.line_tape.specs.Fit.{IsFitFifo, items_sent, item_received, sent, rece
 use Rattle.line_tape.specs.History.{Process, tape_at}
 use Rattle.line_drills.specs.declared.orders.Order.{Order}
 use Rattle.line_drills.specs.declared.orders.Order.TheVariants.{Send, Receive, Check}
-use Rattle.line_drills.specs.Scripts.{script_at, names_ordered, received_by_order, receives, IsEventOf, IsScripted}
+use Rattle.line_drills.specs.Scripts.{script_at, names_ordered, is_received_from, receives, IsEventOf, IsScripted}
 use Rattle.line_drills.specs.Followed.{Does, Follows}
 
 abbrev items_of : List MsgName → List Item
@@ -35,21 +35,21 @@ sent_ordered p q k (Receive from ∷ os) (e ∷ es) h = ap (λ x. items_sent p q
 sent_ordered p q k (Check state ∷ os) (e ∷ es) h = ap (λ x. items_sent p q k (x ∷ es)) h.0 ∙ sent_ordered p q k os es h.1
 
 -- as many receipts as orders to receive
-one_each : (p : ℕ) (o : Order) (e : Event) → Does 0 o e → length (filter_map (item_received p) (e ∷ [])) ≡ length (filter_map (received_by_order p) (o ∷ []))
+one_each : (p : ℕ) (o : Order) (e : Event) → Does 0 o e → length (filter_map (item_received p) (e ∷ [])) ≡ receives p (o ∷ [])
 one_each p (Send to body) e h = ap (λ x. length (filter_map (item_received p) (x ∷ []))) h
 one_each p (Receive from) e (m, f, h) =
     ap (λ x. length (filter_map (item_received p) (x ∷ []))) h
     ∙ (ap (λ v. length (filter_map (λ (o : Option Item). o) (cond (v == p) (Some (Message m)) None ∷ []))) f
-    ∙ elim (from == p) as (λ b. length (filter_map (λ (o : Option Item). o) (cond b (Some (Message m)) None ∷ [])) ≡ length (filter_map (λ (o : Option ℕ). o) (cond b (Some from) None ∷ []))) [ true ↦ refl | false ↦ refl ])
+    ∙ elim (from == p) as (λ b. length (filter_map (λ (o : Option Item). o) (cond b (Some (Message m)) None ∷ [])) ≡ length (filter (λ (o : Order). b) (Receive from ∷ []))) [ true ↦ refl | false ↦ refl ])
 one_each p (Check state) e h = ap (λ x. length (filter_map (item_received p) (x ∷ []))) h
 
 more_each : (p : ℕ) (before : List Order) (done : List Event) (o : Order) (e : Event) → Does 0 o e → length (filter_map (item_received p) done) ≡ receives p before
     → length (filter_map (item_received p) (done ++ e ∷ [])) ≡ receives p (before ++ o ∷ [])
 more_each p before done o e h same =
     let f = item_received p in
-    let g = received_by_order p in
+    let g = is_received_from p in
     let a = ap length (filter_map-append f done (e ∷ [])) ∙ length-append (filter_map f done) (filter_map f (e ∷ [])) in
-    let b = ap length (filter_map-append g before (o ∷ [])) ∙ length-append (filter_map g before) (filter_map g (o ∷ [])) in
+    let b = ap length (filter-append g before (o ∷ [])) ∙ length-append (filter g before) (filter g (o ∷ [])) in
     let c = one_each p o e h in
     omega (arith, a, b, c, same)
 

@@ -1,12 +1,18 @@
 -- Why a drill does not end well, and where.
-use Rattle.std.specs.Prelude.{◌≡◌, ◌<◌, ◌≤◌, ◌+◌, ◌⊎◌, ℕ, List, [], length, Option, Some, None}
-use Rattle.std.specs.Prelude.{codes, slice_get}
+use Rattle.std.specs.Prelude.{◌≡◌, ◌≢◌, ◌<◌, ◌≤◌, ◌+◌, ◌⊎◌, ℕ, List, [], ◌∷◌, ◌++◌, length}
+use Rattle.std.specs.Prelude.{Option, Some, None}
+use Rattle.std.specs.Prelude.{codes, slice_get, take}
 use Rattle.line_tape.specs.declared.limits.TheConstants.{MOST_EVENTS, MOST_STATE}
+use Rattle.line_rings.specs.Ends.{items_at, row_at}
+use Rattle.line_posts.specs.declared.parcels.Parcel.{Parcel}
+use Rattle.line_posts.specs.declared.parcels.Parcel.TheVariants.{Marker}
 use Rattle.line_posts.specs.declared.refusals.FleetError.{FleetError}
 use Rattle.line_posts.specs.declared.refusals.FleetError.TheVariants.{OutOfMemory as fleet_memory}
 use Rattle.line_posts.specs.declared.refusals.FleetError.TheVariants.{BadCount as fleet_count}
 use Rattle.line_posts.specs.declared.refusals.FleetError.TheVariants.{BadCapacity as fleet_capacity}
-use Rattle.line_posts.specs.Posts.{PostView}
+use Rattle.line_posts.specs.declared.refusals.SendWhy.TheVariants.{RingFull}
+use Rattle.line_posts.specs.Posts.{PostView, IsPost}
+use Rattle.line_posts.specs.Refusals.{IsNotSent}
 use Rattle.line_drills.specs.declared.orders.Order.{Order}
 use Rattle.line_drills.specs.declared.orders.Order.TheVariants.{Send, Receive, Check}
 use Rattle.line_drills.specs.declared.refusals.DrillError.{DrillError}
@@ -16,7 +22,8 @@ use Rattle.line_drills.specs.declared.refusals.DrillWhy.TheVariants.{TapeFull, S
 use Rattle.line_drills.specs.declared.refusals.DrillWhy.TheVariants.{BadCount, ToSelf, WrongMode}
 use Rattle.line_drills.specs.declared.refusals.DrillWhy.TheVariants.{HeldOut, WaitedOut}
 use Rattle.line_drills.specs.declared.refusals.DrillWhy.TheVariants.{BadCapacity, NoThread}
-use Rattle.line_drills.specs.Scripts.{script_at}
+use Rattle.line_drills.specs.Followed.{HasDone}
+use Rattle.line_drills.specs.Scripts.{names_ordered, script_at}
 
 -- the name that stands beside the number of a refusal
 abbrev pub name_of : DrillWhy → List ℕ
@@ -58,6 +65,12 @@ stored_by (Send to body) = []
 stored_by (Receive from) = []
 stored_by (Check state) = state
 
+-- a marker came from process q: the worker popped it last, or sees it next
+abbrev pub HasMetMarker : PostView → ℕ → Type 0
+HasMetMarker post q = (round : ℕ) × (others : List Parcel)
+    × ((items_at post.ins q ≡ others ++ Marker round ∷ [])
+    ⊎ (row_at post.seen q ≡ Marker round ∷ others))
+
 -- the cause of a fault of an order of process p, of n processes, where so many events are on its
 -- tape
 abbrev pub IsCause : ℕ → ℕ → ℕ → Order → DrillWhy → Type 0
@@ -68,23 +81,30 @@ IsCause n p events order StateTooLong = MOST_STATE < length (stored_by order)
 IsCause n p events order BadCount = ⊥
 IsCause n p events order ToSelf = other_of order ≡ Some p
 IsCause n p events order WrongMode = (q : ℕ) × (order ≡ Receive q)
+    × (met : PostView) × (met.number ≡ p) × HasMetMarker met q
 IsCause n p events order HeldOut = Unit {0}
 IsCause n p events order WaitedOut = (q : ℕ) × (other_of order ≡ Some q)
 IsCause n p events order BadCapacity = ⊥
 IsCause n p events order NoThread = ⊥
 
--- the worker could not do one of these orders, after those before it
-abbrev pub HasFailed : List Order → PostView → DrillError → Type 0
-HasFailed script post e = (k : ℕ) × (order : Order) × (why : DrillWhy)
-    × (slice_get script k ≡ Some order)
+-- a worker that waited in vain to send, and had a turn, found no slot
+abbrev pub HasFoundNoSlot : ℕ → PostView → Order → DrillWhy → Type 0
+HasFoundNoSlot turns post order why = (to : ℕ) (body : List ℕ) → order ≡ Send to body
+    → why ≡ WaitedOut → turns ≢ 0 → IsNotSent post to RingFull
+
+-- the worker could not do one of these orders within so many turns, after those before it
+abbrev pub HasFailed : ℕ → List Order → PostView → DrillError → Type 0
+HasFailed turns script post e = (k : ℕ) × (order : Order) × (why : DrillWhy) × (now : PostView)
+    × (slice_get script k ≡ Some order) × HasDone (take k script) post now × IsPost now
+    × HasFoundNoSlot turns now order why
     × IsCause (length post.opening) post.number (length post.tape + k) order why
     × (e ≡ of_order post.number k why)
 
 -- one of the workers was not started, or could not do an order of its script
-abbrev pub AreStopped : List (List Order) → List PostView → DrillError → Type 0
-AreStopped scripts posts e = (e ≡ of_no_order NoThread)
+abbrev pub AreStopped : ℕ → List (List Order) → List PostView → DrillError → Type 0
+AreStopped turns scripts posts e = (e ≡ of_no_order NoThread)
     ⊎ ((p : ℕ) × (post : PostView) × (slice_get posts p ≡ Some post)
-    × HasFailed (script_at scripts p) post e)
+    × HasFailed turns (script_at scripts p) post e)
 
 -- a fault of no order
 abbrev pub IsOfNone : DrillWhy → Type 0
@@ -97,3 +117,10 @@ IsFault scripts e = ((why : DrillWhy) × IsOfNone why × (e ≡ of_no_order why)
     ⊎ ((p : ℕ) × (k : ℕ) × (order : Order) × (why : DrillWhy)
     × (slice_get (script_at scripts p) k ≡ Some order)
     × IsCause (length scripts) p k order why × (e ≡ of_order p k why))
+
+-- a worker that had a turn waited in vain to send only where the orders before had sent as many
+-- messages to that process as a ring holds
+abbrev pub HasFilledRing : List (List Order) → ℕ → ℕ → DrillError → Type 0
+HasFilledRing scripts capacity turns e = (p k to : ℕ) (body : List ℕ) → e ≡ of_order p k WaitedOut
+    → slice_get (script_at scripts p) k ≡ Some (Send to body) → turns ≢ 0
+    → capacity ≤ length (names_ordered p to 0 (take k (script_at scripts p)))

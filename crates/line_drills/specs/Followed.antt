@@ -5,6 +5,7 @@ use Rattle.line_tape.specs.declared.events.Event.{Event}
 use Rattle.line_tape.specs.declared.events.Event.TheVariants.{Send as SendEvent, Recv}
 use Rattle.line_tape.specs.declared.events.Event.TheVariants.{Check as CheckEvent}
 use Rattle.line_posts.specs.Generations.{IsSamePost}
+use Rattle.line_posts.specs.Openings.{HasBegun}
 use Rattle.line_posts.specs.Posts.{PostView, incarnation_of_post}
 use Rattle.line_posts.specs.Receipts.{HasTaken}
 use Rattle.line_drills.specs.declared.orders.Order.{Order}
@@ -30,9 +31,12 @@ Follows inc (order ∷ rest) (event ∷ tape) = Does inc order event × Follows 
 Follows inc [] (event ∷ tape) = ⊥
 Follows inc (order ∷ rest) [] = ⊥
 
--- the worker has the rings that it had, and further events on its tape, one for each order
+-- the worker has the rings that it had, no more rounds than it had where it had none, and further
+-- events on its tape, one for each order
 abbrev pub HasDone : List Order → PostView → PostView → Type 0
-HasDone script old new = IsSamePost old new × (done : List Event) × (new.tape ≡ old.tape ++ done)
+HasDone script old new = IsSamePost old new
+    × ((floor : ℕ) → HasBegun floor old → HasBegun floor new)
+    × (done : List Event) × (new.tape ≡ old.tape ++ done)
     × Follows (incarnation_of_post old) script done
 
 -- each worker has done its script

@@ -1,7 +1,7 @@
 -- The tape of a worker as its script and those of the others make it.
 use Rattle.std.specs.Prelude.{◌≡◌, ℕ, suc, ◌==◌, if◌then◌else◌, List, [], ◌∷◌, length, map, take}
-use Rattle.std.specs.Prelude.{Option, Some, None, slice_get, slice_index_or}
-use Rattle.std.specs.List.{filter_map}
+use Rattle.std.specs.Prelude.{Bool, false, Some, None, slice_get, slice_index_or}
+use Rattle.std.specs.List.{filter}
 use Rattle.std.specs.declared.alloc.Global.{Global}
 use Rattle.std.specs.declared.vec.Vec.{Vec}
 use Rattle.line_names.specs.declared.messages.MsgName.{MsgName}
@@ -31,14 +31,14 @@ names_ordered p q number (Receive from ∷ rest) = names_ordered p q number rest
 names_ordered p q number (Check state ∷ rest) = names_ordered p q number rest
 
 -- whether an order receives from process p
-abbrev pub received_by_order : ℕ → Order → Option ℕ
-received_by_order p (Send to body) = None
-received_by_order p (Receive from) = if from == p then Some from else None
-received_by_order p (Check state) = None
+abbrev pub is_received_from : ℕ → Order → Bool
+is_received_from p (Send to body) = false
+is_received_from p (Receive from) = from == p
+is_received_from p (Check state) = false
 
 -- how many of these orders receive from process p
 abbrev pub receives : ℕ → List Order → ℕ
-receives p orders = length (filter_map (received_by_order p) orders)
+receives p orders = length (filter (is_received_from p) orders)
 
 -- the event of an order of process q, after these orders of its script: the j-th Receive from p has
 -- the j-th message that the script of p sends to q

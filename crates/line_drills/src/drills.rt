@@ -3,8 +3,9 @@ ghost use Rattle.std.specs.Prelude.{◌≡◌, ◌≢◌, ◌<◌, ◌≤◌, �
 ghost use Rattle.std.specs.Prelude.{length, vec_capacity};
 ghost use Rattle.line_names.specs.Sets.{nobody};
 ghost use Rattle.line_tape.specs.Fit.{IsFitFifo};
-ghost use Rattle.line_tape.specs.History.{tape_at};
-ghost use Rattle.line_drills.specs.Faults.{of_no_order, AreStopped, IsFault};
+ghost use Rattle.line_tape.specs.History.{incarnation_at, tape_at};
+ghost use Rattle.line_tape.specs.Views.{no_marks};
+ghost use Rattle.line_drills.specs.Faults.{of_no_order, AreStopped, HasFilledRing, IsFault};
 ghost use Rattle.line_drills.specs.Followed.{AreDrilled, HasDone};
 ghost use Rattle.line_drills.specs.Scripts.{scripts_of, IsScripted};
 
@@ -20,9 +21,10 @@ use std::sync::Wait;
 use std::thread;
 use std::thread::{Promise, PromisedHandle, Scope, Threads};
 
-/// The worker that comes back has done its script, or could not do one of its orders.
+/// The worker that comes back has done its script, or could not do one of its orders within so many
+/// turns.
 #[derive(Drop)]
-struct Drilled(Snapshot<Post>, Snapshot<Vec<Order>>);
+struct Drilled(Snapshot<Post>, Snapshot<Vec<Order>>, u64);
 
 impl Promise<Result<Post, DrillError>> for Drilled {
     ghost use Rattle.std.specs.Prelude.{IfOk, IfErr};
@@ -30,7 +32,7 @@ impl Promise<Result<Post, DrillError>> for Drilled {
     ghost use Rattle.line_drills.specs.Followed.{HasDone};
 
     ghost kept_by = { λ p r. IfOk r (λ back. HasDone p.1.value.items p.0.value back)
-        × IfErr r (λ e. HasFailed p.1.value.items p.0.value e) };
+        × IfErr r (λ e. HasFailed p.2 p.1.value.items p.0.value e) };
 }
 
 /// Starts a worker.
@@ -42,10 +44,10 @@ fn start<'s, E, G: Gate>(
     gate: &'s G,
 ) -> Result<PromisedHandle<Result<Post, DrillError>, Drilled>, DrillError>
     ensures started { IfOk result (λ handle. (handle.promise.0.value ≡ post)
-        × (handle.promise.1.value ≡ script.now)) }
+        × (handle.promise.1.value ≡ script.now) × (handle.promise.2 ≡ turns)) }
     ensures none { IfErr result (λ e. e ≡ of_no_order DrillWhy.NoThread) }
 {
-    let promise = Drilled(Snapshot::of(&post), Snapshot::of(script));
+    let promise = Drilled(Snapshot::of(&post), Snapshot::of(script), turns);
     let Ok(handle) = scope.spawn_with(promise, move || follow(script, gate, turns, post)) else {
         return Err(of_no_order(DrillWhy::NoThread));
     };
@@ -68,7 +70,7 @@ fn level<'s, E, G: Gate, R: Threads>(
     ensures drilled { IfOk result (λ back.
         AreDrilled (scripts_of scripts.now) posts.items back.items) }
     ensures room { IfOk result (λ back. vec_capacity back ≡ vec_capacity posts) }
-    ensures stopped { IfErr result (λ e. AreStopped (scripts_of scripts.now) posts.items e) }
+    ensures stopped { IfErr result (λ e. AreStopped turns (scripts_of scripts.now) posts.items e) }
 {
     let mut posts = posts;
     let Some(post) = posts.pop() else {
@@ -94,7 +96,7 @@ fn all_at_once<G: Gate, R: Threads + Wait + Sync>(
     requires { length posts.items ≤ length scripts.now }
     ensures drilled { IfOk result (λ back.
         AreDrilled (scripts_of scripts.now) posts.items back.items) }
-    ensures stopped { IfErr result (λ e. AreStopped (scripts_of scripts.now) posts.items e) }
+    ensures stopped { IfErr result (λ e. AreStopped turns (scripts_of scripts.now) posts.items e) }
 {
     thread::scope(
         thread::scope_env(),
@@ -104,7 +106,7 @@ fn all_at_once<G: Gate, R: Threads + Wait + Sync>(
             ensures drilled { IfOk result (λ back.
                 AreDrilled (scripts_of scripts.entry.now) posts.items back.items) }
             ensures stopped { IfErr result (λ e.
-                AreStopped (scripts_of scripts.entry.now) posts.items e) }
+                AreStopped turns (scripts_of scripts.entry.now) posts.items e) }
         { level(rt, scope, posts, scripts, turns, gate) },
     )
 }
@@ -131,6 +133,10 @@ pub fn drill<G: Gate, R: Threads + Wait + Sync>(
     ensures fit { IfOk result (λ g. IsFitFifo g.processes) }
     ensures scripted { IfOk result (λ g. (q : ℕ)
         → IsScripted (scripts_of scripts.now) q (tape_at g.processes q)) }
+    ensures incarnations { IfOk result (λ g. (q : ℕ) → incarnation_at g.processes q ≡ 0) }
+    ensures marks { IfOk result (λ g. g.marks ≡ no_marks (length scripts.now)) }
+    ensures floor { IfOk result (λ g. g.floor ≡ 0) }
+    ensures slots { IfOk result (λ g. g.capacity ≡ capacity) }
     ensures scripts { OnOk result ((1 ≤ length scripts.now)
         × (length scripts.now ≤ MOST_WORKERS)) }
     ensures capacity { OnOk result ((1 ≤ capacity) × (capacity ≤ MOST_CAPACITY)) }
@@ -142,6 +148,8 @@ pub fn drill<G: Gate, R: Threads + Wait + Sync>(
         ↔ ((length scripts.now ≢ 0) × (length scripts.now ≤ MOST_WORKERS)
         × ((capacity ≡ 0) ⊎ (MOST_CAPACITY < capacity))) }
     ensures fault { IfErr result (λ e. IsFault (scripts_of scripts.now) e) }
+    ensures filled { IfErr result (λ e.
+        HasFilledRing (scripts_of scripts.now) capacity turns e) }
 {
     if scripts.len() > MOST_WORKERS {
         return Err(of_no_order(DrillWhy::BadCount));

@@ -15,6 +15,3 @@ pub use drills::drill;
 pub use gates::Gate;
 pub use orders::Order;
 pub use refusals::{DrillError, DrillWhy};
-
-#[cfg(test)]
-mod tests;

@@ -1,7 +1,10 @@
 //! A worker that does its script.
-ghost use Rattle.std.specs.Prelude.{◌≡◌, ◌∷◌, [], IfOk, IfErr, MatchBool, OnErr, OnOk, length};
+ghost use Rattle.std.specs.Prelude.{◌≡◌, ◌≢◌, ◌∷◌, [], IfOk, IfErr, MatchBool, OnErr, OnOk};
+ghost use Rattle.std.specs.Prelude.{length};
 ghost use Rattle.line_posts.specs.Posts.{checked_alone, sent_by};
-ghost use Rattle.line_drills.specs.Faults.{IsCause, HasFailed};
+ghost use Rattle.line_posts.specs.Receipts.{HasOnlySeen};
+ghost use Rattle.line_posts.specs.Refusals.{IsNotSent};
+ghost use Rattle.line_drills.specs.Faults.{IsCause, HasFailed, HasFoundNoSlot};
 ghost use Rattle.line_drills.specs.Followed.{HasDone, HasReceivedFrom};
 ghost use Rattle.line_drills.specs.declared.orders.Order.TheVariants.{Send, Receive, Check};
 
@@ -17,9 +20,11 @@ use std::thread::yield_now;
 /// Sends, if the ring has a free slot.
 fn send_once(post: &mut Post, to: ProcId, body: &Body) -> Result<bool, DrillWhy>
     ensures ok { IfOk result (λ did.
-        MatchBool did (post.new ≡ sent_by post.old to body.now) (post.new ≡ post.old)) }
+        MatchBool did (post.new ≡ sent_by post.old to body.now)
+        ((post.new ≡ post.old) × IsNotSent post.old to SendWhy.RingFull)) }
     ensures cause { IfErr result (λ why. IsCause (length post.old.opening) post.old.number
         (length post.old.tape) (Send to body.now) why) }
+    ensures tried { IfErr result (λ why. why ≢ DrillWhy.WaitedOut) }
 {
     match post.send(to, body.copy()) {
         Ok(_) => Ok(true),
@@ -38,6 +43,8 @@ fn send_within(post: &mut Post, to: ProcId, body: &Body, turns: u64) -> Result<(
     ensures ok { OnOk result (post.new ≡ sent_by post.old to body.now) }
     ensures cause { IfErr result (λ why. IsCause (length post.old.opening) post.old.number
         (length post.old.tape) (Send to body.now) why) }
+    ensures slot { IfErr result (λ why. why ≡ DrillWhy.WaitedOut → turns ≢ 0
+        → IsNotSent post.old to SendWhy.RingFull) }
 {
     for _turn in 0..turns {
         if send_once(post, to, body)? {
@@ -52,7 +59,7 @@ fn send_within(post: &mut Post, to: ProcId, body: &Body, turns: u64) -> Result<(
 /// for.
 fn receive_once(alloc: Global, post: &mut Post, from: ProcId) -> Result<bool, DrillWhy>
     ensures ok { IfOk result (λ did.
-        MatchBool did (HasReceivedFrom post.old from post.new) (post.new ≡ post.old)) }
+        MatchBool did (HasReceivedFrom post.old from post.new) (HasOnlySeen post.old post.new)) }
     ensures cause { IfErr result (λ why. IsCause (length post.old.opening) post.old.number
         (length post.old.tape) (Receive from) why) }
 {
@@ -115,6 +122,7 @@ fn obey(alloc: Global, post: &mut Post, order: &Order, turns: u64) -> Result<(),
     ensures done { OnOk result (HasDone (order.now ∷ []) post.old post.new) }
     ensures cause { IfErr result (λ why. IsCause (length post.old.opening) post.old.number
         (length post.old.tape) order.now why) }
+    ensures slot { IfErr result (λ why. HasFoundNoSlot turns post.old order.now why) }
 {
     match order {
         Order::Send { to, body } => send_within(post, *to, body, turns),
@@ -135,6 +143,7 @@ fn step<G: Gate>(
     ensures done { OnOk result (HasDone (order.now ∷ []) post.old post.new) }
     ensures cause { IfErr result (λ why. IsCause (length post.old.opening) post.old.number
         (length post.old.tape) order.now why) }
+    ensures slot { IfErr result (λ why. HasFoundNoSlot turns post.old order.now why) }
 {
     if !passes(gate, k, post, turns) {
         return Err(DrillWhy::HeldOut);
@@ -154,7 +163,7 @@ pub(crate) fn follow<G: Gate>(
     post: Post,
 ) -> Result<Post, DrillError>
     ensures done { IfOk result (λ back. HasDone script.now.items post back) }
-    ensures failed { IfErr result (λ e. HasFailed script.now.items post e) }
+    ensures failed { IfErr result (λ e. HasFailed turns script.now.items post e) }
 {
     let mut post = post;
     let alloc = *script.allocator();

@@ -1,6 +1,6 @@
 -- What a worker has recorded of rounds, beside its tape.
-use Rattle.std.specs.Prelude.{◌≡◌, ◌≢◌, ℕ, ◌<◌, ◌≤◌, true, false, if◌then◌else◌, nat_lt, List, length, Some, None, All}
-use Rattle.line_marker.specs.Recording.{Channel, Recorded, channel_at, latest, noted, with_marker, with_round, IsOver}
+use Rattle.std.specs.Prelude.{◌≡◌, ◌≢◌, ℕ, ◌<◌, ◌≤◌, true, false, if◌then◌else◌, nat_lt, IsTrue, List, MatchOption, length, Some, None, All}
+use Rattle.line_marker.specs.Recording.{Channel, Recorded, channel_at, latest, noted, with_marker, with_round, round_of}
 use Rattle.line_tape.specs.declared.events.Event.{Event}
 use Rattle.line_tape.specs.declared.events.Event.TheVariants.{Send, Recv, Check, Mark}
 use Rattle.line_tape.specs.Rounds.{channel_on, has_check_of, has_mark_of}
@@ -52,12 +52,14 @@ MayCome n me tape (Check state None) = Unit {0}
 MayCome n me tape (Check state (Some r)) = has_check_of r tape ≡ false
 MayCome n me tape (Mark from r) = (from < n) × (from ≢ me) × (has_check_of r tape ≡ true)
 
+-- the marker of the round is in from each of the n processes but `me`
+abbrev pub IsAllIn : ℕ → ℕ → Recorded → Type 0
+IsAllIn n me round = (q : ℕ) → q < n → q ≢ me → IsTrue (channel_at round q).is_closed
+
 -- the last round that it recorded is still open: not every other process's marker is in
 abbrev pub IsOpen : ℕ → ℕ → ℕ → List Recorded → Type 0
-IsOpen n me floor rounds =
-    (floor < latest floor rounds)
-    × (IsOver (record { n = n; me = me; floor = floor; rounds = rounds; room = 0; round_room = 0 })
-    (latest floor rounds) → ⊥)
+IsOpen n me floor rounds = (floor < latest floor rounds)
+    × (MatchOption (round_of rounds (latest floor rounds)) ⊥ (IsAllIn n me) → ⊥)
 
 -- of the same process of the same computation
 pub record IsSameJournal (old new : JournalView) : Type 0 where

@@ -2,13 +2,14 @@
 use Rattle.std.proofs.Common.{add-one, zero, suc, ◌≡◌, ◌∙◌, ◌+◌, ◌<◌, ◌++◌, ◌∷◌, [], ℕ, List, Some, length, map, drop, replicate, refl, sym, ap, inl, inr, arith, subst}
 use Rattle.std.specs.Prelude.{slice_get, option_map}
 use Rattle.std.proofs.lemmas.List.{length-map, length-drop, length_push}
+use Rattle.std.proofs.lemmas.Option.{slice_get_within}
 use Rattle.line_marker.specs.Recording.{Recorded}
 use Rattle.line_tape.specs.declared.events.Event.{Event}
 use Rattle.line_tape.specs.History.{Process, fresh, tape_at}
 use Rattle.line_tape.specs.Rounds.{rounds_checked}
 use Rattle.line_tape.proofs.SpentLemmas.{tape_start}
 use Rattle.line_tape.proofs.NextLemmas.{slice_get_push}
-use Rattle.line_rings.specs.Ends.{End, items_at, items_of, ring_at, row_at, AreFresh, AreLinked}
+use Rattle.line_rings.specs.Ends.{End, items_at, items_of, ring_at, row_at, slots_at, AreFresh, AreLinked, HaveSlots}
 use Rattle.line_posts.specs.declared.parcels.Letter.{Letter}
 use Rattle.line_posts.specs.declared.parcels.Parcel.{Parcel}
 use Rattle.line_posts.specs.Posts.{post_of, PostView}
@@ -29,11 +30,11 @@ next_row (x ∷ xs) zero row rest e = (cc e, cc e)
 next_row (x ∷ xs) (suc q) row rest e = next_row xs q row rest e
 
 pub opening_of : (opening : List Process) (q me n : ℕ) (tape : List Event) (kept : List (List Letter)) (outs ins : List (List (End Parcel))) (lines in_lines : List (List (End Event)))
-    (out in_ : List (End Parcel)) (line : End Event) (floor : ℕ) (rounds : List Recorded)
+    (out in_ : List (End Parcel)) (seen : List (List Parcel)) (line : End Event) (floor : ℕ) (rounds : List Recorded)
     → me ≡ q → q < n → n ≡ length opening → tape ≡ tape_at opening me → AreReplays opening me kept → AreLinked n n outs ins → AreLinked n 1 lines in_lines
     → out ≡ row_at outs q → in_ ≡ row_at ins q → line ∷ [] ≡ row_at lines q
-    → IsOpening (post_of me opening tape kept out in_ line floor rounds)
-opening_of opening q me n tape kept outs ins lines in_lines out in_ line floor rounds em lt long et ek l m eo ei el = record {
+    → IsOpening (post_of me opening tape kept out in_ seen line floor rounds)
+opening_of opening q me n tape kept outs ins lines in_lines out in_ seen line floor rounds em lt long et ek l m eo ei el = record {
   within = omega (arith, lt, long, em);
   out_count = ap length eo ∙ (l.out_count q lt ∙ long);
   in_count = ap length ei ∙ (l.in_count q lt ∙ long);
@@ -71,14 +72,15 @@ made_more opening floor outs ins lines q lo li lo' li' ll ll' posts posts' post 
   lines_left = sym ((next_row lines q line ll' (sym el ∙ h.lines_left)).1) ∙ ap (λ k. drop k lines) (sym (add-one q));
 }
 
-pub made_of : (opening : List Process) (floor : ℕ) (outs ins : List (List (End Parcel))) (lines : List (List (End Event))) (q me : ℕ) (tape : List Event) (kept : List (List Letter)) (out in_ : List (End Parcel)) (line : End Event) (base : ℕ) (rounds : List Recorded) (post : PostView)
-    → post ≡ post_of me opening tape kept out in_ line base rounds → me ≡ q → IsOpening (post_of me opening tape kept out in_ line base rounds) → base ≡ floor → rounds ≡ [] → out ≡ row_at outs q → in_ ≡ row_at ins q → line ∷ [] ≡ row_at lines q → IsMade opening floor outs ins lines q post
-made_of opening floor outs ins lines q me tape kept out in_ line base rounds post e em o ef er eo ei el = rw e (record { number = em; opened = refl; opens = o; begun = (ef, er); outs_are = eo; ins_are = ei; line_is = el })
+pub made_of : (opening : List Process) (floor : ℕ) (outs ins : List (List (End Parcel))) (lines : List (List (End Event))) (q me : ℕ) (tape : List Event) (kept : List (List Letter)) (out in_ : List (End Parcel)) (seen : List (List Parcel)) (line : End Event) (base : ℕ) (rounds : List Recorded) (post : PostView)
+    → post ≡ post_of me opening tape kept out in_ seen line base rounds → me ≡ q → IsOpening (post_of me opening tape kept out in_ seen line base rounds) → base ≡ floor → rounds ≡ [] → out ≡ row_at outs q → in_ ≡ row_at ins q → line ∷ [] ≡ row_at lines q → IsMade opening floor outs ins lines q post
+made_of opening floor outs ins lines q me tape kept out in_ seen line base rounds post e em o ef er eo ei el = rw e (record { number = em; opened = refl; opens = o; begun = (ef, er); outs_are = eo; ins_are = ei; line_is = el })
 
 -- all of them, with the other ends of their report lines
-pub opened_of : (opening : List Process) (floor : ℕ) (outs ins : List (List (End Parcel))) (lines in_lines : List (List (End Event))) (posts : List PostView) (n : ℕ) (row : List (End Event)) (rest : List (List (End Event)))
-    → n ≡ length opening → AreLinked n n outs ins → AreLinked n 1 lines in_lines → AreAllMade opening floor outs ins lines posts → in_lines ≡ row ∷ rest → AreOpened opening floor posts row
-opened_of opening floor outs ins lines in_lines posts n row rest long l m made er =
+pub opened_of : (opening : List Process) (floor capacity : ℕ) (outs ins : List (List (End Parcel))) (lines in_lines : List (List (End Event))) (posts : List PostView) (n : ℕ) (row : List (End Event)) (rest : List (List (End Event)))
+    → n ≡ length opening → AreLinked n n outs ins → AreLinked n 1 lines in_lines → AreAllMade opening floor outs ins lines posts → in_lines ≡ row ∷ rest
+    → HaveSlots n n capacity outs → HaveSlots n 1 capacity lines → AreOpened opening floor capacity posts row
+opened_of opening floor capacity outs ins lines in_lines posts n row rest long l m made er so sl =
     let first : row_at in_lines 0 ≡ row = ap (λ t. row_at t 0) er in
     let ring : (i j : ℕ) (a b : PostView) → slice_get posts i ≡ Some a → slice_get posts j ≡ Some b → HasRing a b =
     λ i j a b ha hb.
@@ -91,9 +93,17 @@ opened_of opening floor outs ins lines in_lines posts n row rest long l m made e
     record {
       count = made.count;
       order = λ p post at. ((made.made p post at).number, ap length ((made.made p post at).opened) ∙ sym made.count);
-      generation = λ i j a b ha hb. ((made.made i a ha).opened ∙ sym ((made.made j b hb).opened), ring i j a b ha hb, ring j i b a hb ha);
+      rings = ring;
       each = λ p post at. ((made.made p post at).opens, (made.made p post at).opened);
       begun = λ p post at. (made.made p post at).begun;
+      slots = λ p post at.
+          let x = made.made p post at in
+          let w = slice_get_within posts p post at in
+          let c = made.count in
+          let lt : p < n = omega (arith, w, c, long) in (
+            λ q below. ap (λ t. slots_at t q) x.outs_are ∙ so p q lt (let e = ap length x.opened in omega (arith, below, e, long)),
+            ap (λ t. slots_at t 0) x.line_is ∙ sl p 0 lt (omega arith),
+          );
       line_count = ap length (sym first) ∙ (m.in_count 0 (omega arith) ∙ long);
       lined = λ p post at.
           let x = made.made p post at in
@@ -107,6 +117,9 @@ pub no_rounds_fresh : (n : ℕ) → ArePlain (replicate n fresh)
 no_rounds_fresh n p = ap rounds_checked (tape_start n p)
 
 -- the collector of a generation has the other ends of its report lines
-pub opened_lined : (v : CollectorView) (opening processes : List Process) (marks : MarksView) (lines : List (End Event)) (capacity floor : ℕ) (posts : List PostView)
-    → v ≡ collector_of opening processes marks lines capacity → AreOpened opening floor posts lines → IsGeneration posts × AreLined v posts
-opened_lined v opening processes marks lines capacity floor posts e o = (o.generation, rw e (λ i post at. ((o.each i post at).1, o.lined i post at)))
+pub opened_lined : (v : CollectorView) (opening processes : List Process) (marks : MarksView) (lines : List (End Event)) (seen : List (List Event)) (capacity floor : ℕ) (posts : List PostView)
+    → v ≡ collector_of opening processes marks lines seen capacity → AreOpened opening floor capacity posts lines → IsGeneration posts × AreLined v posts
+opened_lined v opening processes marks lines seen capacity floor posts e o = (λ i j a b ha hb. ((o.each i a ha).1 ∙ sym ((o.each j b hb).1), o.rings i j a b ha hb, o.rings j i b a hb ha), rw e (λ i post at. ((o.each i post at).1, o.lined i post at)))
+
+pub opened_same : {capacity : ℕ} (h h' : List Process) (floor : ℕ) (posts : List PostView) (lines : List (End Event)) → h ≡ h' → AreOpened h floor capacity posts lines → AreOpened h' floor capacity posts lines
+opened_same {capacity} h h' floor posts lines e o = subst (λ (t : List Process). AreOpened t floor capacity posts lines) e o

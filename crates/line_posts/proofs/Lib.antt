@@ -11,6 +11,7 @@ pub mod OpeningLemmas
 pub mod FleetLemmas
 pub mod AgreedLemmas
 pub mod SameLemmas
+pub mod LookLemmas
 pub mod SendLemmas
 pub mod ReplayLemmas
 pub mod SortLemmas

@@ -1,5 +1,5 @@
 -- Markers on the rings, and that they keep what holds of a worker.
-use Rattle.std.proofs.Common.{cond, zero, suc, ◌≡◌, ◌≢◌, ◌∙◌, ◌+◌, ◌<◌, ◌++◌, ◌∷◌, [], ℕ, true, false, List, Option, Some, None, length, refl, sym, ap, inl, inr, arith, subst, add-one}
+use Rattle.std.proofs.Common.{cond, zero, suc, ◌≡◌, ◌≢◌, ◌∙◌, ◌+◌, ◌<◌, ◌≤◌, ◌++◌, ◌∷◌, [], ℕ, true, false, List, Option, Some, None, length, map, refl, sym, ap, inl, inr, arith, subst, add-one}
 use Rattle.std.specs.Prelude.{◌||◌, Contains}
 use Rattle.std.specs.List.{filter_map}
 use Rattle.std.proofs.lemmas.Bool.{cases_eq, eq-eqb, ne_eqb}
@@ -22,9 +22,34 @@ use Rattle.line_posts.specs.declared.parcels.Parcel.{Parcel}
 use Rattle.line_posts.specs.declared.parcels.Parcel.TheVariants.{Marker}
 use Rattle.line_posts.specs.Parcels.{items_of_letters}
 use Rattle.line_posts.specs.Posts.{IsPost, PostView}
-use Rattle.line_posts.specs.Markers.{with_first, with_others}
-use Rattle.line_posts.specs.Markers.{with_others_below}
+use Rattle.line_posts.specs.Markers.{and_item, with_others}
 use Rattle.line_posts.proofs.StepLemmas.{IsStep, stepped, post_step}
+
+-- the first k of these ends, each after one more item
+abbrev pub with_first : {T : Type 0} → List (End T) → ℕ → T → List (End T)
+with_first [] k item = []
+with_first (e ∷ es) zero item = e ∷ es
+with_first (e ∷ es) (suc k) item = and_item e item ∷ with_first es k item
+
+-- the first k of these ends but the one at `me`
+abbrev pub with_others_below : {T : Type 0} → List (End T) → ℕ → ℕ → T → List (End T)
+with_others_below [] me k item = []
+with_others_below (e ∷ es) me zero item = e ∷ es
+with_others_below (e ∷ es) zero (suc k) item = e ∷ with_first es k item
+with_others_below (e ∷ es) (suc me) (suc k) item = and_item e item ∷ with_others_below es me k item
+
+first_past : {T : Type 0} (es : List (End T)) (k : ℕ) (x : T) → length es ≤ k → with_first es k x ≡ map (λ (other : End T). and_item other x) es
+first_past [] k x le = refl
+first_past (e ∷ es) zero x le = absurd (omega (arith, le))
+first_past (e ∷ es) (suc k) x le = ap (λ t. and_item e x ∷ t) (first_past es k x (omega (arith, le)))
+
+-- all of them
+pub below_past : {T : Type 0} (es : List (End T)) (me k : ℕ) (x : T) → length es ≤ k → with_others_below es me k x ≡ with_others es me x
+below_past [] me k x le = refl
+below_past (e ∷ es) zero zero x le = absurd (omega (arith, le))
+below_past (e ∷ es) (suc me) zero x le = absurd (omega (arith, le))
+below_past (e ∷ es) zero (suc k) x le = ap (λ t. e ∷ t) (first_past es k x (omega (arith, le)))
+below_past (e ∷ es) (suc me) (suc k) x le = ap (λ t. and_item e x ∷ t) (below_past es me k x (omega (arith, le)))
 
 first_zero : {T : Type 0} (es : List (End T)) (x : T) → with_first es zero x ≡ es
 first_zero [] x = refl
@@ -91,7 +116,7 @@ items_below (e ∷ es) (suc me) (suc k) zero x lt less ne = refl
 items_below (e ∷ es) (suc me) (suc k) (suc q) x lt less ne = items_below es me k q x (omega (arith, lt)) (omega (arith, less)) (λ s. ne (ap suc s))
 
 pub items_others : {T : Type 0} (es : List (End T)) (me q : ℕ) (x : T) → q < length es → (q ≡ me → ⊥) → items_at (with_others es me x) q ≡ items_at es q ++ x ∷ []
-items_others es me q x lt ne = items_below es me (length es) q x lt lt ne
+items_others es me q x lt ne = ap (λ t. items_at t q) (sym (below_past es me (length es) x (omega arith))) ∙ items_below es me (length es) q x lt lt ne
 
 ring_first : {T : Type 0} (es : List (End T)) (k q : ℕ) (x : T) → ring_at (with_first es k x) q ≡ ring_at es q
 ring_first [] k q x = refl
@@ -99,7 +124,7 @@ ring_first (e ∷ es) zero q x = refl
 ring_first (e ∷ es) (suc k) zero x = refl
 ring_first (e ∷ es) (suc k) (suc q) x = ring_first es k q x
 
-pub ring_below : {T : Type 0} (es : List (End T)) (me k q : ℕ) (x : T) → ring_at (with_others_below es me k x) q ≡ ring_at es q
+ring_below : {T : Type 0} (es : List (End T)) (me k q : ℕ) (x : T) → ring_at (with_others_below es me k x) q ≡ ring_at es q
 ring_below [] me k q x = refl
 ring_below (e ∷ es) zero zero q x = refl
 ring_below (e ∷ es) (suc me) zero q x = refl
@@ -107,6 +132,9 @@ ring_below (e ∷ es) zero (suc k) zero x = refl
 ring_below (e ∷ es) zero (suc k) (suc q) x = ring_first es k q x
 ring_below (e ∷ es) (suc me) (suc k) zero x = refl
 ring_below (e ∷ es) (suc me) (suc k) (suc q) x = ring_below es me k q x
+
+pub ring_others : {T : Type 0} (es : List (End T)) (me q : ℕ) (x : T) → ring_at (with_others es me x) q ≡ ring_at es q
+ring_others es me q x = ap (λ t. ring_at t q) (sym (below_past es me (length es) x (omega arith))) ∙ ring_below es me (length es) q x
 
 -- what the marker of process `from` takes from p
 mark_here : (p from r : ℕ) → p ≡ from → filter_map (item_received p) (Mark from r ∷ []) ≡ item_marker r ∷ []
@@ -121,7 +149,7 @@ pub check_step : (post : PostView) (state : List ℕ) (r : ℕ) → IsPost post 
 check_step post state r h none =
     let c = h.out_count in
     record {
-      out_count = length_below post.outs post.number (length post.outs) (Marker r);
+      out_count = ap length (sym (below_past post.outs post.number (length post.outs) (Marker r) (omega arith))) ∙ length_below post.outs post.number (length post.outs) (Marker r);
       in_count = refl;
       kept_count = refl;
       put = λ q within other. items_others post.outs post.number q (Marker r) (omega (arith, within, c)) other;

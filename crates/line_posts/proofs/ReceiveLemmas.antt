@@ -1,12 +1,15 @@
 -- Taking a message keeps what holds of a worker.
-use Rattle.std.proofs.Common.{cond, ◌≡◌, ◌≢◌, ◌∙◌, ◌<◌, ◌++◌, ◌∷◌, [], ℕ, List, Option, Some, None, length, map, set, get_or, drop, refl, sym, ap, inl, inr, arith}
+use Rattle.std.proofs.Common.{cond, ◌≡◌, ◌≢◌, ◌∙◌, ◌<◌, ◌++◌, ◌∷◌, [], ℕ, List, Option, Some, None, length, map, set, get_or, drop, refl, sym, ap, inl, inr, arith, subst}
+use mathlib.Core.List.{IsPrefix}
+use Rattle.std.specs.declared.alloc.Global.{Global}
+use Rattle.rtrb.specs.declared.AnyItems.{AnyItems}
+use Rattle.rtrb.specs.declared.consumer.Consumer.{Consumer}
 use Rattle.std.proofs.lemmas.Bool.{cases_eq, eq-eqb, ne_eqb}
 use Rattle.std.proofs.lemmas.List.{append-nil, map-set, get_or-set_same, get_or-set_other, length-set, length-map}
-use Rattle.line_rings.specs.Ends.{row_at}
 use Rattle.line_rings.proofs.RowLemmas.{row_seen}
 use Rattle.std.specs.List.{filter_map}
-use Rattle.line_rings.specs.Ends.{End, items_at, with_item}
-use Rattle.line_rings.proofs.EndLemmas.{length_item, items_same, items_other}
+use Rattle.line_rings.specs.Ends.{End, StillKnow, consumer_end, in_ends, items_at, known_at, known_rows, row_at, with_item}
+use Rattle.line_rings.proofs.EndLemmas.{knows_more, length_item, items_same, items_other, prefix_self, still_rows, taken_still}
 use Rattle.line_marker.specs.Recording.{Recorded}
 use Rattle.line_tape.specs.declared.events.Event.{Event}
 use Rattle.line_tape.specs.declared.events.Event.TheVariants.{Recv}
@@ -18,7 +21,7 @@ use Rattle.line_posts.specs.declared.parcels.Parcel.{Parcel}
 use Rattle.line_posts.specs.declared.parcels.Parcel.TheVariants.{Message}
 use Rattle.line_posts.specs.Parcels.{items_of_letters, letter_name}
 use Rattle.line_posts.specs.Posts.{IsPost, PostView}
-use Rattle.line_posts.specs.Receipts.{without_first}
+use Rattle.line_posts.specs.Receipts.{without_first, StillSees}
 use Rattle.line_posts.proofs.StepLemmas.{IsStep, post_step}
 
 pub pop_row : {X Y : Type 0} (f : X → List Y) (xs : List X) (p : ℕ) (old new : X) (x : Y) → p < length xs → old ≡ get_or xs p old → f old ≡ x ∷ f new
@@ -115,3 +118,27 @@ next_keeps post from letter tape ins floor rounds h lt ne bare et ei = rw (et, e
 pub replay_keeps : (post : PostView) (from : ℕ) (letter : Letter) (rest : List Letter) (tape : List Event) (kept : List (List Letter)) (floor : ℕ) (rounds : List Recorded) → IsPost post → from < length post.opening → row_at post.kept from ≡ letter ∷ rest
     → tape ≡ post.tape ++ Recv (letter_name from letter) ∷ [] → kept ≡ without_first post.kept from → IsPost (record post { tape = tape; kept = kept; floor = floor; rounds = rounds })
 replay_keeps post from letter rest tape kept floor rounds h lt first et ek = rw (et, ek) (post_step post _ _ _ _ floor rounds h (replay_step post from letter rest h lt first))
+
+-- what was seen is next
+module _ (rows : List (List Parcel)) (old looked new : List (Consumer Parcel Global AnyItems)) (from : ℕ) (parcel : Parcel) where
+  pub sees_taken : StillKnow rows old → from < length old → IsPrefix (known_at old from) (known_at looked from) → ((k : ℕ) → (k ≡ from → ⊥) → known_at looked k ≡ known_at old k)
+      → known_at looked from ≡ parcel ∷ known_at new from → ((k : ℕ) → (k ≡ from → ⊥) → known_at new k ≡ known_at looked k) → in_ends new ≡ with_item (in_ends old) from parcel
+      → (p : ℕ) → (popped : List Parcel) × (items_at (in_ends new) p ≡ items_at (in_ends old) p ++ popped) × IsPrefix (row_at rows p) (popped ++ row_at (known_rows new) p)
+  sees_taken know lt here others first apart ends p =
+      let long = length-map old consumer_end in
+      let part = taken_still rows old looked new from parcel know here others first apart p in
+      elim (cases_eq p from) [
+        | inl same ↦ (parcel ∷ [], ap (λ t. items_at t p) ends ∙ items_same (in_ends old) from p parcel (omega (arith, lt, long)) same, part.0 same)
+        | inr ne ↦ ([], ap (λ t. items_at t p) ends ∙ (items_other (in_ends old) from p parcel ne ∙ sym (append-nil (items_at (in_ends old) p))), part.1 ne)
+      ]
+
+pub sees_more : (rows : List (List Parcel)) (old new : List (Consumer Parcel Global AnyItems)) (from : ℕ) → StillKnow rows old → IsPrefix (known_at old from) (known_at new from) → ((k : ℕ) → (k ≡ from → ⊥) → known_at new k ≡ known_at old k) → in_ends new ≡ in_ends old
+    → (p : ℕ) → (popped : List Parcel) × (items_at (in_ends new) p ≡ items_at (in_ends old) p ++ popped) × IsPrefix (row_at rows p) (popped ++ row_at (known_rows new) p)
+sees_more rows old new from know here others ends p =
+    ([], ap (λ t. items_at t p) ends ∙ sym (append-nil (items_at (in_ends old) p)), still_rows rows new (knows_more rows old new from know here others) p)
+
+pub sees_self : (post : PostView) → StillSees post post
+sees_self post p = ([], sym (append-nil (items_at post.ins p)), prefix_self (row_at post.seen p))
+
+pub sees_same : (a b : PostView) → b.ins ≡ a.ins → b.seen ≡ a.seen → StillSees a b
+sees_same a b ei es p = ([], ap (λ t. items_at t p) ei ∙ sym (append-nil (items_at a.ins p)), subst (λ (t : List (List Parcel)). IsPrefix (row_at a.seen p) (row_at t p)) (sym es) (prefix_self (row_at a.seen p)))

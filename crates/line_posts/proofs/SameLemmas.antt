@@ -1,5 +1,5 @@
 -- Workers that come back with their rings are of the generation that they were of.
-use Rattle.std.proofs.Common.{cond, Bool, true, false, ◌≡◌, ◌∙◌, ◌++◌, ◌∷◌, [], ◌+◌, ℕ, List, Some, length, get_or, refl, sym, ap, inl, inr, arith, subst}
+use Rattle.std.proofs.Common.{cond, Bool, true, false, ◌≡◌, ◌∙◌, ◌++◌, ◌∷◌, [], ◌+◌, ℕ, List, Some, get_or, refl, sym, ap, inl, inr, arith, subst}
 use Rattle.std.specs.Prelude.{Result, Ok, Err, IfOk, IfErr, OnErr}
 use Rattle.std.proofs.lemmas.List.{length_push}
 use Rattle.line_tape.proofs.NextLemmas.{slice_get_push}
@@ -7,11 +7,12 @@ use Rattle.std.proofs.lemmas.Option.{slice_get_within, slice_get-get_or}
 use Rattle.line_names.specs.declared.messages.MsgName.{MsgName}
 use Rattle.line_rings.specs.Ends.{ring_at}
 use Rattle.line_rings.proofs.EndLemmas.{ring_item}
-use Rattle.line_posts.specs.Receipts.{HasReceived, HasTaken}
+use Rattle.line_posts.specs.Receipts.{HasOnlySeen, HasReceived, HasTaken}
 use Rattle.line_posts.specs.Markers.{checked_by, marked_by}
+use Rattle.line_posts.specs.declared.parcels.Parcel.{Parcel}
 use Rattle.line_posts.specs.declared.receiving.Received.{Received}
 use Rattle.line_posts.specs.declared.receiving.Received.TheVariants.{Message, Marked}
-use Rattle.line_posts.proofs.MarkerLemmas.{ring_below}
+use Rattle.line_posts.proofs.MarkerLemmas.{ring_others}
 use Rattle.line_posts.specs.Posts.{checked_alone, sent_by, PostView}
 use Rattle.line_posts.specs.Reports.{HasReported}
 use Rattle.line_posts.specs.Collected.{CollectorView, HasCollectedMore}
@@ -34,8 +35,25 @@ pub same_sent : (a b : PostView) (to : ℕ) (body : List ℕ) → b ≡ sent_by 
 same_sent a b to body e = rw e (record { number = refl; opening = refl; outs = λ q. ring_item a.outs to q _; ins = λ p. refl; line = refl })
 
 pub same_taken : (a b : PostView) (name : MsgName) (body : List ℕ) → HasTaken a name body b → IsSamePost a b
-same_taken a b name body (inl (first, e)) = rw e (record { number = refl; opening = refl; outs = λ q. refl; ins = λ p. refl; line = refl })
-same_taken a b name body (inr (bare, e)) = rw e (record { number = refl; opening = refl; outs = λ q. refl; ins = λ p. ring_item a.ins name.from p _; line = refl })
+same_taken a b name body (e, from) = record {
+  number = ap (λ (v : PostView). v.number) e;
+  opening = ap (λ (v : PostView). v.opening) e;
+  outs = λ q. ap (λ (v : PostView). ring_at v.outs q) e;
+  ins = elim from [
+    | inl replay ↦ λ p. ap (λ t. ring_at t p) replay.2
+    | inr next ↦ λ p. ap (λ t. ring_at t p) next.2 ∙ ring_item a.ins name.from p _
+  ];
+  line = ap (λ (v : PostView). v.line.ring) e;
+}
+
+pub same_seen : (a b : PostView) → HasOnlySeen a b → IsSamePost a b
+same_seen a b e = record {
+  number = ap (λ (v : PostView). v.number) e;
+  opening = ap (λ (v : PostView). v.opening) e;
+  outs = λ q. ap (λ (v : PostView). ring_at v.outs q) e;
+  ins = λ p. ap (λ (v : PostView). ring_at v.ins p) e;
+  line = ap (λ (v : PostView). v.line.ring) e;
+}
 
 same_two : (a a' b b' : PostView) → IsSamePost a a' → IsSamePost b b' → AreLinkedTwo a b → AreLinkedTwo a' b'
 same_two a a' b b' ha hb l =
@@ -61,7 +79,7 @@ same_if_sent (Ok x) a b to body P Q h k = same_sent a b to body h.1
 same_if_sent (Err e) a b to body P Q h k = same_from a b k.1
 
 pub same_checked : (a : PostView) (state : List ℕ) (round : ℕ) → IsSamePost a (checked_by a state round)
-same_checked a state round = record { number = refl; opening = refl; outs = λ q. ring_below a.outs a.number (length a.outs) q _; ins = λ p. refl; line = refl }
+same_checked a state round = record { number = refl; opening = refl; outs = λ q. ring_others a.outs a.number q _; ins = λ p. refl; line = refl }
 
 same_marked : (a : PostView) (from round : ℕ) → IsSamePost a (marked_by a from round)
 same_marked a from round = record { number = refl; opening = refl; outs = λ q. refl; ins = λ p. ring_item a.ins from p _; line = refl }
@@ -72,11 +90,12 @@ same_forced a from round state false = same_marked a from round
 
 pub same_received : (x : Received) (a b : PostView) (from : ℕ) (state : List ℕ) → HasReceived a from state x b → IsSamePost a b
 same_received (Message name body) a b from state h = same_taken a b name body h.1
-same_received (Marked round forced) a b from state h = subst (IsSamePost a) (sym h.new_is) (same_forced a from round state forced)
+same_received (Marked round forced) a b from state h =
+    same_then a (marked_by (cond forced (checked_by a state round) a) from round) b (same_forced a from round state forced) (same_seen (marked_by (cond forced (checked_by a state round) a) from round) b h.new_is)
 
-pub same_if_taken : {E : Type 0} (r : Result Received E) (a b : PostView) (from : ℕ) (state : List ℕ) → IfOk r (λ x. HasReceived a from state x b) → OnErr r (b ≡ a) → IsSamePost a b
+pub same_if_taken : {E : Type 0} (r : Result Received E) (a b : PostView) (from : ℕ) (state : List ℕ) → IfOk r (λ x. HasReceived a from state x b) → OnErr r (HasOnlySeen a b) → IsSamePost a b
 same_if_taken (Ok x) a b from state h k = same_received x a b from state h
-same_if_taken (Err e) a b from state h k = same_from a b k
+same_if_taken (Err e) a b from state h k = same_seen a b k
 
 pub same_push : (xs ys : List PostView) (x y : PostView) → AreSamePosts xs ys → IsSamePost x y → AreSamePosts (xs ++ x ∷ []) (ys ++ y ∷ [])
 same_push xs ys x y s h = record {
@@ -136,7 +155,7 @@ pub same_if_replayed : {E : Type 0} (r : Result Received E) (a b : PostView) (fr
 same_if_replayed (Ok x) a b from h k = same_received x a b from [] (h [])
 same_if_replayed (Err e) a b from h k = same_from a b k
 
-pub if_err_given : {T E : Type 0} (r : Result T E) (A : List ℕ → Type 0) (P : E → List ℕ → Type 0)
-    (state : List ℕ) → A state → IfErr r (λ e. (s : List ℕ) → A s → P e s) → IfErr r (λ e. P e state)
-if_err_given (Ok x) A P state a h = tt
-if_err_given (Err e) A P state a h = h state a
+pub if_err_given : {T E : Type 0} (r : Result T E) (A : List ℕ → Type 0) (P : E → List ℕ → List Parcel → Type 0)
+    (state : List ℕ) (shown : List Parcel) → A state → IfErr r (λ e. (s : List ℕ) → A s → (xs : List Parcel) → P e s xs) → IfErr r (λ e. P e state shown)
+if_err_given (Ok x) A P state shown a h = tt
+if_err_given (Err e) A P state shown a h = h state a shown

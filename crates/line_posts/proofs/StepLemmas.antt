@@ -142,3 +142,25 @@ alone_step post state h = record {
 
 pub alone_keeps : (post : PostView) (state : List ℕ) (tape : List Event) (floor : ℕ) (rounds : List Recorded) → IsPost post → tape ≡ post.tape ++ Check state None ∷ [] → IsPost (record post { tape = tape; floor = floor; rounds = rounds })
 alone_keeps post state tape floor rounds h et = rw et (post_step post _ _ _ _ floor rounds h (alone_step post state h))
+
+-- what holds of a worker says nothing of what it has seen, and of what it has recorded
+pub looked_is : (post : PostView) (tape : List Event) (outs ins : List (End Parcel)) (seen : List (List Parcel)) (floor : ℕ) (rounds : List Recorded) → IsPost post → tape ≡ post.tape → outs ≡ post.outs → ins ≡ post.ins
+    → IsPost (record post { tape = tape; outs = outs; ins = ins; seen = seen; floor = floor; rounds = rounds })
+looked_is post tape outs ins seen floor rounds h et eo ei = rw (et, eo, ei) (record {
+  within = h.within;
+  out_count = h.out_count;
+  in_count = h.in_count;
+  kept_count = h.kept_count;
+  named = h.named;
+  reports = h.reports;
+  sends_are = h.sends_are;
+  receipts_are = h.receipts_are;
+  replays = h.replays;
+  alone = h.alone;
+  present = h.present;
+  rounds = h.rounds;
+  marks = h.marks;
+})
+
+pub seen_free : (post : PostView) (seen : List (List Parcel)) → IsPost post → IsPost (record post { seen = seen })
+seen_free post seen h = looked_is post post.tape post.outs post.ins seen post.floor post.rounds h refl refl refl

@@ -1,28 +1,38 @@
 -- What contracts see of a collector, and what holds of it through a generation.
-use Rattle.std.specs.Prelude.{◌≡◌, ◌+◌, ◌<◌, ℕ, Bool, IsTrue, List, ◌∷◌, [], ◌++◌, length}
+use Rattle.std.specs.Prelude.{◌≡◌, ◌≢◌, ◌+◌, ◌<◌, ℕ, Bool, IsTrue, List, ◌∷◌, [], ◌++◌, length}
+use mathlib.Core.List.{IsPrefix}
 use Rattle.line_names.specs.Sets.{is_member}
 use Rattle.line_tape.specs.declared.events.Event.{Event}
+use Rattle.line_tape.specs.declared.limits.TheConstants.{MOST_EVENTS}
+use Rattle.line_tape.specs.Event.{HasLongState, NamesBelow}
 use Rattle.line_tape.specs.History.{Process, tape_at, incarnation_at, with_event}
 use Rattle.line_tape.specs.Views.{MarksView}
-use Rattle.line_rings.specs.Ends.{End, items_at, ring_at, with_item}
-use Rattle.line_posts.specs.Extension.{Extends}
+use Rattle.line_catalogue.specs.Agreement.{AgreesNext}
+use Rattle.line_catalogue.specs.declared.refusals.AddError.{AddError}
+use Rattle.line_catalogue.specs.declared.refusals.AddError.TheVariants.{OutOfMemory, NoSuchProcess}
+use Rattle.line_catalogue.specs.declared.refusals.AddError.TheVariants.{StateTooLong, TapeFull}
+use Rattle.line_catalogue.specs.declared.refusals.AddError.TheVariants.{NamesDisagree}
+use Rattle.line_rings.specs.Ends.{End, items_at, ring_at, row_at, with_item}
 
 -- a collector: the history that its generation opened with, what it has collected, the marks of
--- damage that it was given, its ends of the report lines, and the capacity of a ring
+-- damage that it was given, its ends of the report lines, what it has seen on each of these and not
+-- taken, and the capacity of a ring
 pub record CollectorView : Type 0 where
   pub opening : List Process
   pub processes : List Process
   pub marks : MarksView
   pub lines : List (End Event)
+  pub seen : List (List Event)
   pub capacity : ℕ
 
-abbrev pub collector_of : List Process → List Process → MarksView → List (End Event) → ℕ
-    → CollectorView
-collector_of opening processes marks lines capacity = record {
+abbrev pub collector_of : List Process → List Process → MarksView → List (End Event)
+    → List (List Event) → ℕ → CollectorView
+collector_of opening processes marks lines seen capacity = record {
   opening = opening;
   processes = processes;
   marks = marks;
   lines = lines;
+  seen = seen;
   capacity = capacity;
 }
 
@@ -35,12 +45,27 @@ pub record IsCollector (collector : CollectorView) : Type 0 where
   pub incarnations : (p : ℕ)
       → incarnation_at collector.processes p ≡ incarnation_at collector.opening p
 
+-- the collector is as it was, but that it may have seen more of the lines
+abbrev pub HasOnlyLooked : CollectorView → CollectorView → Type 0
+HasOnlyLooked old new = (new ≡ record old { seen = new.seen })
+    × ((p : ℕ) → IsPrefix (row_at old.seen p) (row_at new.seen p))
+
 -- it has taken one report of process p
 abbrev pub HasCollected : CollectorView → ℕ → CollectorView → Type 0
 HasCollected old p new = (event : Event) × (new ≡ record old {
   processes = with_event old.processes p event;
   lines = with_item old.lines p event;
-})
+  seen = new.seen;
+}) × IsPrefix (row_at old.seen p) (event ∷ row_at new.seen p)
+
+-- the line of process p shows no report
+abbrev pub ShowsNone : CollectorView → ℕ → Type 0
+ShowsNone collector p = row_at collector.seen p ≡ []
+
+-- nothing was taken of process p, and its line shows what it showed
+abbrev pub HasLeft : CollectorView → ℕ → CollectorView → Type 0
+HasLeft old p new = (items_at new.lines p ≡ items_at old.lines p)
+    × (row_at new.seen p ≡ row_at old.seen p)
 
 -- how many items passed these ends
 abbrev pub passed : List (End Event) → ℕ
@@ -48,16 +73,38 @@ passed [] = 0
 passed (e ∷ es) = length e.items + passed es
 
 -- the collector has taken further reports: of each worker it has so many more events as it popped,
--- on the same lines, and nothing else changed
+-- those that it had seen first, on the same lines, and nothing else changed
 pub record HasCollectedMore (old new : CollectorView) : Type 0 where
   pub opening : new.opening ≡ old.opening
   pub marks : new.marks ≡ old.marks
   pub capacity : new.capacity ≡ old.capacity
-  pub extends : Extends new.processes old.processes
+  pub count : length new.processes ≡ length old.processes
+  pub incarnations : (p : ℕ)
+      → incarnation_at new.processes p ≡ incarnation_at old.processes p
   pub rings : (p : ℕ) → ring_at new.lines p ≡ ring_at old.lines p
   pub tapes : (p : ℕ) → (more : List Event)
       × (tape_at new.processes p ≡ tape_at old.processes p ++ more)
       × (items_at new.lines p ≡ items_at old.lines p ++ more)
+      × IsPrefix (row_at old.seen p) (more ++ row_at new.seen p)
+
+-- the cause for which an event is not added to the tape of process p, where those before it do not
+-- hold; want of memory comes last
+abbrev pub IsNotAdded : List Process → ℕ → Event → AddError → Type 0
+IsNotAdded history p event NoSuchProcess = NamesBelow (length history) event → ⊥
+IsNotAdded history p event StateTooLong = NamesBelow (length history) event × HasLongState event
+IsNotAdded history p event TapeFull = NamesBelow (length history) event
+    × (HasLongState event → ⊥) × (length (tape_at history p) ≡ MOST_EVENTS)
+IsNotAdded history p event NamesDisagree = NamesBelow (length history) event
+    × (HasLongState event → ⊥) × (length (tape_at history p) ≢ MOST_EVENTS)
+    × (AgreesNext history p event → ⊥)
+IsNotAdded history p event OutOfMemory = NamesBelow (length history) event
+    × (HasLongState event → ⊥) × (length (tape_at history p) ≢ MOST_EVENTS)
+    × AgreesNext history p event
+
+-- why the next report of process p is not taken: its line shows it
+abbrev pub IsNotTaken : CollectorView → ℕ → AddError → Type 0
+IsNotTaken collector p why = (event : Event) × (rest : List Event)
+    × (row_at collector.seen p ≡ event ∷ rest) × IsNotAdded collector.processes p event why
 
 -- each of the first n processes failed
 abbrev pub HaveAllFailed : ℕ → List Bool → Type 0

@@ -1,5 +1,5 @@
 -- Rounds at a worker (Chandy and Lamport, ACM TOCS 3(1), 1985): markers go out with its check.
-use Rattle.std.specs.Prelude.{ℕ, zero, suc, List, [], ◌∷◌, ◌++◌, length, Some}
+use Rattle.std.specs.Prelude.{ℕ, zero, suc, List, [], ◌∷◌, ◌++◌, length, map, Some}
 use Rattle.line_marker.specs.Recording.{Recorded}
 use Rattle.line_tape.specs.declared.events.Event.{Event}
 use Rattle.line_tape.specs.declared.events.Event.TheVariants.{Check, Mark}
@@ -12,22 +12,11 @@ use Rattle.line_posts.specs.Posts.{PostView}
 abbrev pub and_item : {T : Type 0} → End T → T → End T
 and_item e item = record e { items = e.items ++ item ∷ [] }
 
--- the first k of these ends, each after one more item
-abbrev pub with_first : {T : Type 0} → List (End T) → ℕ → T → List (End T)
-with_first [] k item = []
-with_first (e ∷ es) zero item = e ∷ es
-with_first (e ∷ es) (suc k) item = and_item e item ∷ with_first es k item
-
--- the first k of these ends but the one at `me`, each after one more item
-abbrev pub with_others_below : {T : Type 0} → List (End T) → ℕ → ℕ → T → List (End T)
-with_others_below [] me k item = []
-with_others_below (e ∷ es) me zero item = e ∷ es
-with_others_below (e ∷ es) zero (suc k) item = e ∷ with_first es k item
-with_others_below (e ∷ es) (suc me) (suc k) item = and_item e item ∷ with_others_below es me k item
-
--- each but the one at `me`
+-- these ends but the one at `me`, each after one more item
 abbrev pub with_others : {T : Type 0} → List (End T) → ℕ → T → List (End T)
-with_others ends me item = with_others_below ends me (length ends) item
+with_others [] me item = []
+with_others (e ∷ es) zero item = e ∷ map (λ other. and_item other item) es
+with_others (e ∷ es) (suc me) item = and_item e item ∷ with_others es me item
 
 -- what a worker has recorded of rounds after an event
 abbrev pub recorded_by : PostView → Event → List Recorded

@@ -4,9 +4,9 @@ use Rattle.line_tape.specs.declared.events.Event.{Event}
 use Rattle.line_tape.specs.Fit.{received}
 use Rattle.line_tape.specs.History.{Process, tape_at}
 use Rattle.line_tape.specs.Rounds.{rounds_checked}
-use Rattle.line_rings.specs.Ends.{AreFresh, End, ring_at, row_at}
+use Rattle.line_rings.specs.Ends.{AreFresh, End, ring_at, row_at, slots_at, slots_of}
 use Rattle.line_posts.specs.declared.parcels.Parcel.{Parcel}
-use Rattle.line_posts.specs.Generations.{AreInOrder, IsGeneration}
+use Rattle.line_posts.specs.Generations.{AreInOrder, HasRing}
 use Rattle.line_posts.specs.Parcels.{parcels_of, parcels_sent}
 use Rattle.line_posts.specs.Posts.{PostView}
 
@@ -36,16 +36,23 @@ pub record IsOpening (post : PostView) : Type 0 where
 abbrev pub HasBegun : ℕ → PostView → Type 0
 HasBegun floor post = (post.floor ≡ floor) × (post.rounds ≡ [])
 
--- workers that begin a generation with this history and this floor, and the other ends of their
--- report lines
-pub record AreOpened (opening : List Process) (floor : ℕ) (posts : List PostView)
+-- its rings to the processes, and its report line, have this capacity
+abbrev pub HasSlots : ℕ → PostView → Type 0
+HasSlots capacity post = ((q : ℕ) → q < length post.opening → slots_at post.outs q ≡ capacity)
+    × (slots_of post.line.ring ≡ capacity)
+
+-- workers that begin a generation with this history and this floor, over rings of this capacity,
+-- and the other ends of their report lines
+pub record AreOpened (opening : List Process) (floor capacity : ℕ) (posts : List PostView)
     (lines : List (End Event)) : Type 0 where
   pub count : length posts ≡ length opening
   pub order : AreInOrder posts
-  pub generation : IsGeneration posts
   pub each : (p : ℕ) (post : PostView) → slice_get posts p ≡ Some post
       → IsOpening post × (post.opening ≡ opening)
   pub begun : (p : ℕ) (post : PostView) → slice_get posts p ≡ Some post → HasBegun floor post
+  pub slots : (p : ℕ) (post : PostView) → slice_get posts p ≡ Some post → HasSlots capacity post
+  pub rings : (i j : ℕ) (a b : PostView) → slice_get posts i ≡ Some a → slice_get posts j ≡ Some b
+      → HasRing a b
   pub line_count : length lines ≡ length opening
   pub lined : (p : ℕ) (post : PostView) → slice_get posts p ≡ Some post
       → Some post.line.ring ≡ ring_at lines post.number

@@ -17,8 +17,9 @@ use Rattle.line_posts.specs.declared.parcels.Parcel.TheVariants.{Message}
 use Rattle.line_posts.specs.Parcels.{items_of_letters, items_of_parcels, parcels_sent}
 
 -- a worker: its number, the history that its generation opened with, its tape, the replays that it
--- still keeps by sender, its ends of the rings to and from each process, its end of the report
--- line, and what it has recorded of rounds, those up to the floor being old
+-- still keeps by sender, its ends of the rings to and from each process, what it has seen on the
+-- latter and not taken, its end of the report line, and what it has recorded of rounds, those up to
+-- the floor being old
 pub record PostView : Type 0 where
   pub number : ℕ
   pub opening : List Process
@@ -26,19 +27,21 @@ pub record PostView : Type 0 where
   pub kept : List (List Letter)
   pub outs : List (End Parcel)
   pub ins : List (End Parcel)
+  pub seen : List (List Parcel)
   pub line : End Event
   pub floor : ℕ
   pub rounds : List Recorded
 
 abbrev pub post_of : ℕ → List Process → List Event → List (List Letter) → List (End Parcel)
-    → List (End Parcel) → End Event → ℕ → List Recorded → PostView
-post_of number opening tape kept outs ins line floor rounds = record {
+    → List (End Parcel) → List (List Parcel) → End Event → ℕ → List Recorded → PostView
+post_of number opening tape kept outs ins seen line floor rounds = record {
   number = number;
   opening = opening;
   tape = tape;
   kept = kept;
   outs = outs;
   ins = ins;
+  seen = seen;
   line = line;
   floor = floor;
   rounds = rounds;

@@ -1,10 +1,11 @@
 -- What a worker receives: the replays that it kept first, then what comes on the ring.
 use Rattle.std.specs.Prelude.{◌≡◌, ◌⊎◌, ℕ, List, [], ◌∷◌, ◌++◌, Bool, not}
 use Rattle.std.specs.Prelude.{if◌then◌else◌, drop, slice_set}
+use mathlib.Core.List.{IsPrefix}
 use Rattle.line_names.specs.declared.messages.MsgName.{MsgName}
 use Rattle.line_tape.specs.declared.events.Event.TheVariants.{Recv}
 use Rattle.line_tape.specs.Rounds.{has_check_of}
-use Rattle.line_rings.specs.Ends.{with_item, row_at}
+use Rattle.line_rings.specs.Ends.{items_at, row_at, with_item}
 use Rattle.line_posts.specs.declared.parcels.Letter.{Letter}
 use Rattle.line_posts.specs.declared.parcels.Parcel.{Parcel}
 use Rattle.line_posts.specs.declared.parcels.Parcel.TheVariants.{Message, Marker}
@@ -21,22 +22,36 @@ without_first rows p = slice_set rows p (drop 1 (row_at rows p))
 abbrev pub letter_named : MsgName → List ℕ → Letter
 letter_named name body = record { inc = name.inc; number = name.number; body = body }
 
--- the worker has taken that message: the first of the replays that it kept of the sender, or where
--- it kept none the next of the ring; and its tape says so
+-- what it had seen on its rings comes first of what it pops, and else is seen still
+abbrev pub StillSees : PostView → PostView → Type 0
+StillSees old new = (p : ℕ) → (popped : List Parcel)
+    × (items_at new.ins p ≡ items_at old.ins p ++ popped)
+    × IsPrefix (row_at old.seen p) (popped ++ row_at new.seen p)
+
+-- the worker is as it was, but that it may have seen more of its rings
+abbrev pub HasOnlySeen : PostView → PostView → Type 0
+HasOnlySeen old new = new ≡ record old { seen = new.seen }
+
+-- it took the first of the replays that it kept of process p
+abbrev pub IsReplay : PostView → ℕ → Letter → PostView → Type 0
+IsReplay old p letter new = (row_at old.kept p ≡ letter ∷ row_at new.kept p)
+    × (new.kept ≡ without_first old.kept p) × (new.ins ≡ old.ins)
+
+-- it kept no replay of process p, and took the next of the ring
+abbrev pub IsNext : PostView → ℕ → Letter → PostView → Type 0
+IsNext old p letter new = (row_at old.kept p ≡ []) × (new.kept ≡ old.kept)
+    × (new.ins ≡ with_item old.ins p (Message letter))
+
+-- the worker has taken that message of its sender, and its tape says so
 abbrev pub HasTaken : PostView → MsgName → List ℕ → PostView → Type 0
-HasTaken old name body new =
-    ((row_at old.kept name.from ≡ letter_named name body ∷ row_at new.kept name.from)
-    × (new ≡ record old {
-      tape = old.tape ++ Recv name ∷ [];
-      kept = without_first old.kept name.from;
-      rounds = recorded_by old (Recv name);
-    }))
-    ⊎ ((row_at old.kept name.from ≡ [])
-    × (new ≡ record old {
-      tape = old.tape ++ Recv name ∷ [];
-      ins = with_item old.ins name.from (Message (letter_named name body));
-      rounds = recorded_by old (Recv name);
-    }))
+HasTaken old name body new = (new ≡ record old {
+  tape = old.tape ++ Recv name ∷ [];
+  rounds = recorded_by old (Recv name);
+  kept = new.kept;
+  ins = new.ins;
+  seen = new.seen;
+}) × (IsReplay old name.from (letter_named name body) new
+    ⊎ IsNext old name.from (letter_named name body) new)
 
 abbrev pub IsMessage : Parcel → Type 0
 IsMessage (Message letter) = Unit {0}
@@ -58,7 +73,8 @@ pub record HasMarked (old : PostView) (from : ℕ) (state : List ℕ) (round : �
     (new : PostView) : Type 0 where
   pub bare : row_at old.kept from ≡ []
   pub forced_is : forced ≡ not (has_check_of round old.tape)
-  pub new_is : new ≡ marked_by (if forced then checked_by old state round else old) from round
+  pub new_is : new ≡ record (marked_by (if forced then checked_by old state round else old)
+      from round) { seen = new.seen }
 
 -- the worker has taken what came next from a process
 abbrev pub HasReceived : PostView → ℕ → List ℕ → Received → PostView → Type 0

@@ -1,8 +1,9 @@
 -- Why a call of a worker is refused, in the order of the causes.
-use Rattle.std.specs.Prelude.{◌≡◌, ◌≢◌, ◌<◌, ◌≤◌, ℕ, suc, List, [], length}
+use Rattle.std.specs.Prelude.{◌≡◌, ◌≢◌, ◌<◌, ◌≤◌, ◌+◌, ◌∷◌, ◌++◌, ℕ, suc, List, [], length, false, if◌then◌else◌}
 use Rattle.line_marker.specs.Recording.{latest}
 use Rattle.line_tape.specs.declared.limits.TheConstants.{LAST_ROUND, MOST_EVENTS, MOST_STATE}
-use Rattle.line_rings.specs.Ends.{row_at}
+use Rattle.line_tape.specs.Rounds.{has_check_of}
+use Rattle.line_rings.specs.Ends.{row_at, HasFilled, IsFilled}
 use Rattle.line_journals.specs.Journals.{IsOpen}
 use Rattle.line_posts.specs.declared.refusals.SendWhy.{SendWhy}
 use Rattle.line_posts.specs.declared.refusals.SendWhy.TheVariants.{OutOfMemory as send_memory}
@@ -22,6 +23,9 @@ use Rattle.line_posts.specs.declared.refusals.BeginWhy.TheVariants.{OutOfMemory,
 use Rattle.line_posts.specs.declared.refusals.BeginWhy.TheVariants.{StateTooLong, RoundOpen}
 use Rattle.line_posts.specs.declared.refusals.BeginWhy.TheVariants.{NoMoreRounds, TapeFull}
 use Rattle.line_posts.specs.declared.refusals.BeginWhy.TheVariants.{RingFull}
+use Rattle.line_posts.specs.declared.parcels.Parcel.{Parcel}
+use Rattle.line_posts.specs.declared.parcels.Parcel.TheVariants.{Message, Marker}
+use Rattle.line_posts.specs.Parcels.{parcels_of}
 use Rattle.line_posts.specs.Posts.{PostView}
 
 -- the message goes to another process, and the tape has room for it
@@ -36,7 +40,7 @@ IsNotSent post to send_process = length post.opening ≤ to
 IsNotSent post to send_self = (to < length post.opening) × (to ≡ post.number)
 IsNotSent post to send_full =
     (to < length post.opening) × (to ≢ post.number) × (MOST_EVENTS ≤ length post.tape)
-IsNotSent post to send_ring = MaySend post to
+IsNotSent post to send_ring = MaySend post to × IsFilled post.outs to
 IsNotSent post to send_memory = MaySend post to
 
 -- it is another process, and the state is short
@@ -45,22 +49,35 @@ pub record MayReceive (post : PostView) (from : ℕ) (state : List ℕ) : Type 0
   pub other : from ≢ post.number
   pub short : length state ≤ MOST_STATE
 
--- the cause of a refusal, where those before it do not hold; a tape with room for one event alone
--- is full for a marker that forces a check
-abbrev pub IsNotReceived : PostView → ℕ → List ℕ → ReceiveWhy → Type 0
-IsNotReceived post from state NoSuchProcess = length post.opening ≤ from
-IsNotReceived post from state ToSelf = (from < length post.opening) × (from ≡ post.number)
-IsNotReceived post from state take_long =
+-- the first of the replays that it keeps of the process, or where it keeps none of what its ring
+-- shows
+abbrev pub ComesNext : PostView → List Parcel → ℕ → Parcel → Type 0
+ComesNext post shown from next = (rest : List Parcel)
+    × (parcels_of (row_at post.kept from) ++ shown ≡ next ∷ rest)
+
+-- how many events it adds: a marker that forces a check adds two
+abbrev pub events_of : PostView → Parcel → ℕ
+events_of post (Message letter) = 1
+events_of post (Marker round) = if has_check_of round post.tape then 1 else 2
+
+-- the cause of a refusal, where those before it do not hold and the ring shows these items
+abbrev pub IsNotReceived : PostView → List Parcel → ℕ → List ℕ → ReceiveWhy → Type 0
+IsNotReceived post shown from state NoSuchProcess = length post.opening ≤ from
+IsNotReceived post shown from state ToSelf = (from < length post.opening) × (from ≡ post.number)
+IsNotReceived post shown from state take_long =
     (from < length post.opening) × (from ≢ post.number) × (MOST_STATE < length state)
-IsNotReceived post from state NothingThere =
-    MayReceive post from state × (row_at post.kept from ≡ [])
-IsNotReceived post from state take_full =
-    MayReceive post from state × (MOST_EVENTS ≤ suc (length post.tape))
-IsNotReceived post from state take_ring =
-    MayReceive post from state × (row_at post.kept from ≡ [])
-    × (suc (length post.tape) < MOST_EVENTS)
-IsNotReceived post from state take_memory =
-    MayReceive post from state × (length post.tape < MOST_EVENTS)
+IsNotReceived post shown from state NothingThere =
+    MayReceive post from state × (row_at post.kept from ≡ []) × (shown ≡ [])
+IsNotReceived post shown from state take_full = MayReceive post from state
+    × (next : Parcel) × ComesNext post shown from next
+    × (MOST_EVENTS < length post.tape + events_of post next)
+IsNotReceived post shown from state take_ring = MayReceive post from state
+    × (row_at post.kept from ≡ []) × (round : ℕ) × ComesNext post shown from (Marker round)
+    × (has_check_of round post.tape ≡ false) × (suc (length post.tape) < MOST_EVENTS)
+    × HasFilled post.outs
+IsNotReceived post shown from state take_memory = MayReceive post from state
+    × (next : Parcel) × ComesNext post shown from next
+    × (length post.tape + events_of post next ≤ MOST_EVENTS)
 
 -- the last round that the worker recorded is still open
 abbrev pub HasOpenRound : PostView → Type 0
@@ -83,5 +100,6 @@ IsNotBegun post state NoMoreRounds =
     (post.number ≡ 0) × (length state ≤ MOST_STATE) × (HasOpenRound post → ⊥)
     × (LAST_ROUND ≤ latest post.floor post.rounds)
 IsNotBegun post state TapeFull = MayBegin post state × (MOST_EVENTS ≤ length post.tape)
-IsNotBegun post state RingFull = MayBegin post state × (length post.tape < MOST_EVENTS)
+IsNotBegun post state RingFull =
+    MayBegin post state × (length post.tape < MOST_EVENTS) × HasFilled post.outs
 IsNotBegun post state OutOfMemory = MayBegin post state × (length post.tape < MOST_EVENTS)

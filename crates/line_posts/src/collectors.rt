@@ -1,15 +1,16 @@
 //! The collector: what the workers have reported so far.
-ghost use Rattle.std.specs.Prelude.{◌≡◌, ◌<◌, ◌≤◌, ◌+◌, Bool, List, if◌then◌else◌, IfOk, MatchBool};
-ghost use Rattle.std.specs.Prelude.{OnErr, length};
+ghost use Rattle.std.specs.Prelude.{◌≡◌, ◌≢◌, ◌<◌, ◌≤◌, ◌+◌, ◌⊎◌, ℕ, Bool, List, if◌then◌else◌};
+ghost use Rattle.std.specs.Prelude.{IfErr, IfOk, MatchBool, OnErr, length, vec_len};
 ghost use Rattle.line_tape.specs.Chain.{IsChain};
 ghost use Rattle.line_tape.specs.History.{Process};
 ghost use Rattle.line_tape.specs.Line.{IsConsistent};
 ghost use Rattle.line_tape.specs.Survival.{IsLatest};
 ghost use Rattle.line_tape.specs.Transit.{in_transit};
-ghost use Rattle.line_rings.specs.Ends.{in_ends, AreFresh};
+ghost use Rattle.line_rings.specs.Ends.{in_ends, items_at, known_rows, AreFresh};
 ghost use Rattle.line_posts.specs.Extension.{Extends};
 ghost use Rattle.line_posts.specs.Collected.{collector_of, passed, HasCollected, HasCollectedMore};
-ghost use Rattle.line_posts.specs.Collected.{HaveAllFailed, IsCollector};
+ghost use Rattle.line_posts.specs.Collected.{HasLeft, HasOnlyLooked, HaveAllFailed, IsCollector};
+ghost use Rattle.line_posts.specs.Collected.{IsNotTaken, ShowsNone};
 
 use line_catalogue::{AddError, Catalogue};
 use line_names::{MOST_PROCESSES, ProcId, ProcSet};
@@ -34,16 +35,17 @@ pub struct Collector {
 }
 
 impl Model for Collector {
-    ghost use Rattle.line_rings.specs.Ends.{in_ends};
+    ghost use Rattle.line_rings.specs.Ends.{in_ends, known_rows};
     ghost use Rattle.line_posts.specs.Collected.{collector_of, CollectorView, IsCollector};
 
     ghost Value = { CollectorView };
 
     ghost view = { λ c. collector_of c.opening.value.processes c.catalogue.processes
-        c.catalogue.marks (in_ends c.lines.items) c.capacity };
+        c.catalogue.marks (in_ends c.lines.items) (known_rows c.lines.items) c.capacity };
 
     ghost invariant = { λ c. IsCollector (collector_of c.opening.value.processes
-        c.catalogue.processes c.catalogue.marks (in_ends c.lines.items) c.capacity) };
+        c.catalogue.processes c.catalogue.marks (in_ends c.lines.items)
+        (known_rows c.lines.items) c.capacity) };
 }
 
 /// A collector at the opening of a generation.
@@ -56,7 +58,7 @@ pub(crate) fn open_collector(
     requires count { length lines.items ≡ length catalogue.processes }
     requires fresh { AreFresh (in_ends lines.items) }
     ensures { result ≡ collector_of catalogue.processes catalogue.processes catalogue.marks
-        (in_ends lines.items) capacity }
+        (in_ends lines.items) (known_rows lines.items) capacity }
 {
     let opening = Snapshot::of(catalogue.history());
     Collector {
@@ -98,6 +100,8 @@ impl Collector {
             × HaveAllFailed (length self.now.processes) failed
             × IsLatest self.now.processes self.now.marks failed plan.line
             × IsChain self.now.processes self.now.marks failed plan.certificate.items plan.line) }
+        ensures some_sweep { IfOk result (λ plan. 1 ≤ plan.sweeps) }
+        ensures few_sweeps { IfOk result (λ plan. plan.sweeps ≤ vec_len plan.certificate + 1) }
         ensures replays { IfOk result (λ plan.
             plan.replays.items ≡ in_transit self.now.processes plan.line) }
         ensures onward { IfOk result (λ plan. (later : List Process)
@@ -111,19 +115,25 @@ impl Collector {
     /// is tested there, so that it need not be copied.
     fn take_one(&mut self, p: ProcId) -> Result<bool, AddError>
         requires { p < length self.old.opening }
-        ensures ok { IfOk result (λ did.
-            MatchBool did (HasCollected self.old p self.new) (self.new ≡ self.old)) }
+        ensures ok { IfOk result (λ did. MatchBool did (HasCollected self.old p self.new)
+            (HasOnlyLooked self.old self.new × ShowsNone self.new p)) }
         ensures more { HasCollectedMore self.old self.new }
         ensures count { IfOk result (λ did.
             passed self.new.lines ≡ passed self.old.lines + (if did then 1 else 0)) }
-        ensures err { OnErr result (self.new ≡ self.old) }
+        ensures others { (q : ℕ) → q ≢ p → HasLeft self.old q self.new }
+        ensures err { OnErr result (HasOnlyLooked self.old self.new) }
+        ensures why { IfErr result (λ why. IsNotTaken self.new p why) }
     {
         let at = p.get() as usize;
         if !look_at(&mut self.lines, at) {
             return Ok(false);
         }
-        self.catalogue.test(p, front_at(&self.lines, at))?;
-        self.catalogue.reserve(p, 1)?;
+        if let Err(why) = self.catalogue.test(p, front_at(&self.lines, at)) {
+            return Err(why);
+        }
+        if self.catalogue.reserve(p, 1).is_err() {
+            return Err(AddError::OutOfMemory);
+        }
         let event = take_at(&mut self.lines, at);
         self.catalogue.append(p, event);
         Ok(true)
@@ -135,6 +145,12 @@ impl Collector {
         ensures more { HasCollectedMore self.old self.new }
         ensures limit { IfOk result (λ k. k ≤ limit) }
         ensures count { IfOk result (λ k. passed self.new.lines ≡ passed self.old.lines + k) }
+        ensures others { (q : ℕ) → q ≢ p → HasLeft self.old q self.new }
+        ensures none { IfOk result (λ k. k ≡ 0
+            → items_at self.new.lines p ≡ items_at self.old.lines p) }
+        ensures all { IfOk result (λ k. (k ≡ limit) ⊎ ShowsNone self.new p) }
+        ensures some { OnErr result (0 < limit) }
+        ensures why { IfErr result (λ why. IsNotTaken self.new p why) }
     {
         for i in 0..limit {
             if !self.take_one(p)? {
@@ -147,12 +163,23 @@ impl Collector {
     /// Takes reports, of each process in turn until its line shows none, and at most `limit`. It
     /// answers how many it took.
     ///
-    /// A refused report stays in front of its line, and those taken before it stay taken. It costs
-    /// a look at each line, and for each report what `Catalogue::add` costs.
+    /// A refused report stays in front of its line, and those taken before it stay taken. It is
+    /// refused for what it is and for its tape before memory is asked for. It costs a look at each
+    /// line, and for each report what `Catalogue::add` costs.
     pub fn take(&mut self, limit: u32) -> Result<u32, AddError>
         ensures more { HasCollectedMore self.old self.new }
         ensures limit { IfOk result (λ k. k ≤ limit) }
         ensures count { IfOk result (λ k. passed self.new.lines ≡ passed self.old.lines + k) }
+
+        // Each process in turn, until its line shows none.
+        ensures turns { (p q : ℕ) → p < q
+            → items_at self.new.lines q ≢ items_at self.old.lines q → ShowsNone self.new p }
+        ensures all { IfOk result (λ k. (k ≡ limit)
+            ⊎ ((p : ℕ) → p < length self.old.opening → ShowsNone self.new p)) }
+
+        // The refusals: those of the next report of a process, where none before it has one.
+        ensures why { IfErr result (λ why. (p : ℕ) × (p < length self.old.opening)
+            × IsNotTaken self.new p why × ((q : ℕ) → q < p → ShowsNone self.new q)) }
     {
         let n = self.catalogue.n();
         let mut taken = 0;

@@ -88,7 +88,7 @@ pub(crate) fn open_all(
 ) -> Result<Opened, AllocError>
     requires fit { IsFitFifo history.now.processes }
     requires plain { ArePlain history.now.processes }
-    ensures { IfOk result (λ opened. AreOpened history.now.processes floor opened.posts.items
+    ensures { IfOk result (λ opened. AreOpened history.now.processes floor capacity opened.posts.items
         (in_ends opened.lines.items)) }
 {
     let count = history.n() as usize;
@@ -108,8 +108,9 @@ pub(crate) fn open_all(
 pub fn fleet(alloc: Global, n: u32, capacity: usize) -> Result<(Collector, Vec<Post>), FleetError>
     ensures collector { IfOk result (λ r. r.0
         ≡ collector_of (replicate n fresh) (replicate n fresh)
-        (no_marks n) r.0.lines capacity) }
-    ensures opened { IfOk result (λ r. AreOpened (replicate n fresh) 0 r.1.items r.0.lines) }
+        (no_marks n) r.0.lines r.0.seen capacity) }
+    ensures opened { IfOk result (λ r.
+        AreOpened (replicate n fresh) 0 capacity r.1.items r.0.lines) }
     ensures generation { IfOk result (λ r. IsGeneration r.1.items × AreLined r.0 r.1.items) }
 
     // The refusals, in their order.

@@ -5,7 +5,7 @@ ghost use Rattle.std.specs.VecDeque.{deque_items};
 ghost use Rattle.line_tape.specs.declared.events.Event.{Event};
 ghost use Rattle.line_tape.specs.History.{process_at, tape_at, incarnation_at};
 ghost use Rattle.line_catalogue.specs.Views.{room_at};
-ghost use Rattle.line_rings.specs.Ends.{in_ends, items_at, ring_at, row_at};
+ghost use Rattle.line_rings.specs.Ends.{in_ends, items_at, known_rows, ring_at, row_at, StillKnow};
 ghost use Rattle.line_posts.specs.Posts.{opening_tape};
 ghost use Rattle.line_posts.specs.Gathered.{gathered_tape};
 ghost use Rattle.line_posts.specs.Gathering.{rows_of, AreFurtherBelow, AreReady, IsOnWay, IsReady};
@@ -29,6 +29,7 @@ impl Post {
         requires ring { Some self.old.line.ring ≡ ring_at (in_ends lines.old.items) p }
         ensures post { self.new ≡ self.old }
         ensures lines { in_ends lines.new.items ≡ in_ends lines.old.items }
+        ensures seen { StillKnow (known_rows lines.old.items) lines.new.items }
         ensures within { result ≤ length self.old.tape }
         ensures told { take result self.old.tape ≡ gathered_tape failed self.old }
         ensures known { (rest : List Event) × (gathered_tape failed self.old
@@ -58,6 +59,7 @@ fn further_of(
     ensures marks { catalogue.new.marks ≡ catalogue.old.marks }
     ensures others { (q : ℕ) → q ≢ p → room_at catalogue.new q ≡ room_at catalogue.old q }
     ensures lines { in_ends lines.new.items ≡ in_ends lines.old.items }
+    ensures seen { StillKnow (known_rows lines.old.items) lines.new.items }
     ensures post { post.new ≡ post.old }
     ensures events { IfOk result (λ events.
         tape_at catalogue.old.processes p ++ deque_items events ≡ gathered_tape failed post.old) }
@@ -84,6 +86,7 @@ pub(crate) fn further_of_all(
     ensures processes { catalogue.new.processes ≡ catalogue.old.processes }
     ensures marks { catalogue.new.marks ≡ catalogue.old.marks }
     ensures lines { in_ends lines.new.items ≡ in_ends lines.old.items }
+    ensures seen { StillKnow (known_rows lines.old.items) lines.new.items }
     ensures posts { posts.new.items ≡ posts.old.items }
     ensures further { IfOk result (λ further. AreFurtherBelow (length posts.old.items) failed.now
         catalogue.old.processes catalogue.new.rooms posts.old.items (rows_of further.items)) }

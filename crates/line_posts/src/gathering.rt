@@ -15,6 +15,7 @@ ghost use Rattle.line_tape.specs.Survival.{is_damaged, survives, IsLatest};
 ghost use Rattle.line_tape.specs.Transit.{in_transit};
 ghost use Rattle.line_tape.specs.Views.{with_mark};
 ghost use Rattle.line_posts.specs.Posts.{PostView};
+ghost use Rattle.line_posts.specs.Collected.{HasOnlyLooked};
 ghost use Rattle.line_posts.specs.Extension.{Extends};
 ghost use Rattle.line_posts.specs.Generations.{own_history, AreAccounted, AreLined, AreWhole};
 ghost use Rattle.line_posts.specs.Generations.{IsGeneration};
@@ -153,7 +154,8 @@ pub fn gather(
     ensures capacity { IfOk result (λ g. g.capacity ≡ collector.capacity) }
     ensures floor { IfOk result (λ g. (lead : PostView) → slice_get posts.items 0 ≡ Some lead
         → g.floor ≡ latest lead.floor lead.rounds) }
-    ensures back { IfErr result (λ e. (e.collector ≡ collector) × (e.posts.items ≡ posts.items)) }
+    ensures back { IfErr result (λ e. HasOnlyLooked collector e.collector
+        × (e.posts.items ≡ posts.items)) }
 
     // The refusals, in their order.
     ensures may { OnOk result (AreBelow (length collector.opening) failed

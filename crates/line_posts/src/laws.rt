@@ -2,6 +2,7 @@
 ghost use Rattle.std.specs.Prelude.{List};
 ghost use Rattle.line_posts.specs.Posts.{PostView};
 ghost use Rattle.line_posts.specs.Collected.{CollectorView, HasCollectedMore};
+ghost use Rattle.line_posts.specs.Extension.{Extends};
 ghost use Rattle.line_posts.specs.Generations.{AreLined, AreSamePosts, IsGeneration};
 
 /// Workers that come back with the rings that they went with are of the generation that they were
@@ -12,4 +13,6 @@ pub fn generations_last()
         → AreLined collector old → AreLined later new }
     ensures workers { (old new : List PostView) → AreSamePosts old new
         → IsGeneration old → IsGeneration new }
+    ensures extends { (collector later : CollectorView)
+        → HasCollectedMore collector later → Extends later.processes collector.processes }
 {}

@@ -1,9 +1,9 @@
 //! Markers on the rings.
-ghost use Rattle.std.specs.Prelude.{◌≡◌, ◌≢◌, ◌<◌, ℕ, length};
+ghost use Rattle.std.specs.Prelude.{◌≡◌, ◌≢◌, ◌<◌, ◌∷◌, ℕ, length};
 ghost use Rattle.line_rings.specs.Ends.{out_ends, in_ends, known_at, free_at, with_item};
 ghost use Rattle.line_rings.specs.Ends.{HasRoomBelow};
 ghost use Rattle.line_posts.specs.Receipts.{BeginsWithMarker};
-ghost use Rattle.line_posts.specs.Markers.{with_others, with_others_below};
+ghost use Rattle.line_posts.specs.Markers.{with_others};
 ghost use Rattle.line_posts.specs.declared.parcels.Parcel.TheVariants.{Marker};
 
 use crate::parcels::Parcel;
@@ -45,7 +45,9 @@ pub(crate) fn push_markers(outs: &mut Vec<Producer<Parcel>>, me: usize, round: u
 pub(crate) fn take_marker(ins: &mut Vec<Consumer<Parcel>>, p: usize, round: u32)
     requires within { p < length ins.old.items }
     requires first { BeginsWithMarker round (known_at ins.old.items p) }
-    ensures { in_ends ins.new.items ≡ with_item (in_ends ins.old.items) p (Marker round) }
+    ensures ends { in_ends ins.new.items ≡ with_item (in_ends ins.old.items) p (Marker round) }
+    ensures first { known_at ins.old.items p ≡ Marker round ∷ known_at ins.new.items p }
+    ensures others { (k : ℕ) → k ≢ p → known_at ins.new.items k ≡ known_at ins.old.items k }
 {
     let _ = take_at(ins, p);
 }

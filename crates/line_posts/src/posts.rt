@@ -5,7 +5,7 @@ ghost use Rattle.std.specs.VecDeque.{deque_items};
 ghost use Rattle.line_tape.specs.Event.{checks};
 ghost use Rattle.line_tape.specs.Fit.{IsFitFifo};
 ghost use Rattle.line_tape.specs.History.{IsTape};
-ghost use Rattle.line_rings.specs.Ends.{free_at, out_ends, in_ends, producer_end};
+ghost use Rattle.line_rings.specs.Ends.{free_at, out_ends, in_ends, known_rows, producer_end};
 ghost use Rattle.line_journals.specs.Journals.{IsSameJournal};
 ghost use Rattle.line_posts.specs.Posts.{checked_alone, next_name, post_of, sent_by, IsPost, PostView};
 ghost use Rattle.line_posts.specs.Refusals.{IsNotSent, MaySend};
@@ -41,6 +41,7 @@ pub struct Post {
     pub(crate) kept: Vec<VecDeque<Letter>>,
     pub(crate) outs: Vec<Producer<Parcel>>,
     pub(crate) ins: Vec<Consumer<Parcel>>,
+    pub(crate) shown: Snapshot<Vec<Consumer<Parcel>>>,
     pub(crate) line: Producer<Event>,
     pub(crate) reported: u32,
 }
@@ -49,23 +50,25 @@ impl Model for Post {
     ghost use Rattle.std.specs.Prelude.{◌≡◌, ◌+◌, length, map};
     ghost use Rattle.std.specs.VecDeque.{deque_items};
     ghost use Rattle.line_tape.specs.History.{tape_at, incarnation_at};
-    ghost use Rattle.line_rings.specs.Ends.{out_ends, in_ends, producer_end};
+    ghost use Rattle.line_rings.specs.Ends.{out_ends, in_ends, known_rows, producer_end, StillKnow};
     ghost use Rattle.line_posts.specs.Posts.{post_of, IsPost, PostView};
 
     ghost Value = { PostView };
 
     ghost view = { λ s. post_of s.me s.opening.value.processes s.journal.tape
         (map deque_items s.kept.items) (out_ends s.outs.items) (in_ends s.ins.items)
-        (producer_end s.line) s.journal.floor s.journal.rounds };
+        (known_rows s.shown.value.items) (producer_end s.line) s.journal.floor
+        s.journal.rounds };
 
     ghost invariant = { λ s. IsPost (post_of s.me s.opening.value.processes s.journal.tape
         (map deque_items s.kept.items) (out_ends s.outs.items) (in_ends s.ins.items)
-        (producer_end s.line) s.journal.floor s.journal.rounds)
+        (known_rows s.shown.value.items) (producer_end s.line) s.journal.floor s.journal.rounds)
         × (s.incarnation ≡ incarnation_at s.opening.value.processes s.me)
         × (s.reported ≡ length (tape_at s.opening.value.processes s.me)
         + length (producer_end s.line).items)
         × (s.journal.n ≡ length s.opening.value.processes)
-        × (s.journal.me ≡ s.me) };
+        × (s.journal.me ≡ s.me)
+        × StillKnow (known_rows s.shown.value.items) s.ins.items };
 }
 
 /// The name of a message.
@@ -111,7 +114,8 @@ fn make_way(
 
     // The refusals, in their order.
     ensures why { IfErr result (λ e. (post : PostView) → length post.opening ≡ length outs.old.items
-        → post.number ≡ me → post.tape ≡ journal.old.tape → IsNotSent post to e) }
+        → post.number ≡ me → post.tape ≡ journal.old.tape → post.outs ≡ out_ends outs.old.items
+        → IsNotSent post to e) }
 {
     if to.get() as usize >= outs.len() {
         return Err(SendWhy::NoSuchProcess);
@@ -143,18 +147,19 @@ pub(crate) fn open_post(
     line: Producer<Event>,
 ) -> Post
     requires opening { IsOpening (post_of me history.now.processes journal.tape
-        (map deque_items kept.items) (out_ends outs.items) (in_ends ins.items) (producer_end line)
-        journal.floor journal.rounds) }
+        (map deque_items kept.items) (out_ends outs.items) (in_ends ins.items)
+        (known_rows ins.items) (producer_end line) journal.floor journal.rounds) }
     requires fit { IsFitFifo history.now.processes }
     requires count { journal.n ≡ length history.now.processes }
     requires me { journal.me ≡ me }
     ensures { result ≡ post_of me history.now.processes journal.tape (map deque_items kept.items)
-        (out_ends outs.items) (in_ends ins.items) (producer_end line) journal.floor
-        journal.rounds }
+        (out_ends outs.items) (in_ends ins.items) (known_rows ins.items) (producer_end line)
+        journal.floor journal.rounds }
 {
     let incarnation = history.incarnation(me);
     let _limits = history.tape(me);
     let opening = Snapshot::of(history);
+    let shown = Snapshot::of(&ins);
     let reported = journal.len();
     Post {
         alloc,
@@ -165,6 +170,7 @@ pub(crate) fn open_post(
         kept,
         outs,
         ins,
+        shown,
         line,
         reported,
     }

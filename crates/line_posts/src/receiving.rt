@@ -5,7 +5,7 @@ ghost use Rattle.std.specs.VecDeque.{deque_items};
 ghost use Rattle.line_rings.specs.Ends.{in_ends, known_at, row_at, with_item};
 ghost use Rattle.line_posts.specs.Parcels.{letter_name};
 ghost use Rattle.line_posts.specs.Receipts.{BeginsWithMarker, BeginsWithMessage, HasReceived};
-ghost use Rattle.line_posts.specs.Receipts.{IsMessage};
+ghost use Rattle.line_posts.specs.Receipts.{HasOnlySeen, IsMessage, StillSees};
 ghost use Rattle.line_posts.specs.Generations.{IsSamePost};
 ghost use Rattle.line_posts.specs.Refusals.{IsNotReceived, MayReceive};
 ghost use Rattle.line_posts.specs.declared.parcels.Letter.{Letter};
@@ -23,6 +23,7 @@ use line_rings::{front_at, has_room, look_at, take_at};
 use line_tape::{MOST_EVENTS, MOST_STATE, State};
 use rtrb::Consumer;
 use std::collections::VecDeque;
+use std::snapshot::Snapshot;
 
 /// What a worker received.
 #[derive(Debug, Drop)]
@@ -76,6 +77,7 @@ fn take_letter(ins: &mut Vec<Consumer<Parcel>>, p: usize) -> Letter
     requires first { BeginsWithMessage (known_at ins.old.items p) }
     ensures ends { in_ends ins.new.items ≡ with_item (in_ends ins.old.items) p (Message result) }
     ensures first { known_at ins.old.items p ≡ Message result ∷ known_at ins.new.items p }
+    ensures others { (k : ℕ) → k ≢ p → known_at ins.new.items k ≡ known_at ins.old.items k }
 {
     let parcel = take_at(ins, p);
     letter_of(parcel)
@@ -113,8 +115,9 @@ impl Post {
         ensures ok { IfOk result (λ r. (state : List ℕ)
             → HasReceived self.old from state r self.new) }
         ensures err { OnErr result (self.new ≡ self.old) }
-        ensures why { IfErr result (λ e. (state : List ℕ)
-            → MayReceive self.old from state → IsNotReceived self.old from state e) }
+        ensures seen { StillSees self.old self.new }
+        ensures why { IfErr result (λ e. (state : List ℕ) → MayReceive self.old from state
+            → (shown : List Parcel) → IsNotReceived self.old shown from state e) }
     {
         if self.journal.len() as usize >= MOST_EVENTS {
             return Err(ReceiveWhy::TapeFull);
@@ -135,13 +138,16 @@ impl Post {
         requires short { length state ≤ MOST_STATE }
         requires bare { row_at self.old.kept from ≡ [] }
         ensures ok { IfOk result (λ r. HasReceived self.old from state r self.new) }
-        ensures err { OnErr result (self.new ≡ self.old) }
-        ensures why { IfErr result (λ e. IsNotReceived self.old from state e) }
+        ensures err { OnErr result (HasOnlySeen self.old self.new) }
+        ensures seen { StillSees self.old self.new }
+        ensures why { IfErr result (λ e.
+            IsNotReceived self.old (row_at self.new.seen from) from state e) }
     {
         let p = from.get() as usize;
         if !look_at(&mut self.ins, p) {
             return Err(ReceiveWhy::NothingThere);
         }
+        self.shown = Snapshot::of(&self.ins);
         let Some(round) = round_first(&self.ins, p) else {
             if self.journal.len() as usize >= MOST_EVENTS {
                 return Err(ReceiveWhy::TapeFull);
@@ -151,6 +157,7 @@ impl Post {
                 return Err(ReceiveWhy::OutOfMemory);
             }
             let letter = take_letter(&mut self.ins, p);
+            self.shown = Snapshot::of(&self.ins);
             return Ok(opened(from, letter));
         };
         if self.journal.is_checked(from, round) {
@@ -161,6 +168,7 @@ impl Post {
                 return Err(ReceiveWhy::OutOfMemory);
             }
             take_marker(&mut self.ins, p, round);
+            self.shown = Snapshot::of(&self.ins);
             self.journal.mark(from, round);
             return Ok(Received::Marked {
                 round,
@@ -178,6 +186,7 @@ impl Post {
         }
         push_markers(&mut self.outs, self.me.get() as usize, round);
         take_marker(&mut self.ins, p, round);
+        self.shown = Snapshot::of(&self.ins);
         self.journal.force(from, state, round);
         Ok(Received::Marked {
             round,
@@ -194,12 +203,14 @@ impl Post {
     /// process. That wants a free slot on each of these: without one the marker stays in front.
     pub fn receive(&mut self, from: ProcId, state: State) -> Result<Received, ReceiveWhy>
         ensures ok { IfOk result (λ r. HasReceived self.old from state r self.new) }
-        ensures err { OnErr result (self.new ≡ self.old) }
+        ensures err { OnErr result (HasOnlySeen self.old self.new) }
         ensures same { IsSamePost self.old self.new }
+        ensures seen { StillSees self.old self.new }
 
         // The refusals, in their order.
         ensures may { OnOk result (MayReceive self.old from state) }
-        ensures why { IfErr result (λ e. IsNotReceived self.old from state e) }
+        ensures why { IfErr result (λ e.
+            IsNotReceived self.old (row_at self.new.seen from) from state e) }
     {
         if from.get() as usize >= self.outs.len() {
             return Err(ReceiveWhy::NoSuchProcess);

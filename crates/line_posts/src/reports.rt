@@ -2,7 +2,7 @@
 ghost use Rattle.std.specs.Prelude.{◌≡◌, ◌<◌, ◌≤◌, ◌+◌, ◌∷◌, ◌⊎◌, IfOk, OnErr, length, take, drop};
 ghost use Rattle.std.specs.VecDeque.{deque_items};
 ghost use Rattle.rtrb.specs.Ring.{known_free};
-ghost use Rattle.line_rings.specs.Ends.{producer_end};
+ghost use Rattle.line_rings.specs.Ends.{producer_end, slots_of};
 ghost use Rattle.line_posts.specs.Posts.{reported_count};
 ghost use Rattle.line_posts.specs.Generations.{IsSamePost};
 ghost use Rattle.line_posts.specs.Reports.{with_items, HasReported};
@@ -65,7 +65,8 @@ fn next(events: &mut VecDeque<Event>) -> Event
 /// Puts them on a report line that is known to have room for so many.
 fn put_each(line: &mut Producer<Event>, events: VecDeque<Event>)
     requires { length (deque_items events) ≤ known_free line.old }
-    ensures { producer_end line.new ≡ with_items (producer_end line.old) (deque_items events) }
+    ensures end { producer_end line.new ≡ with_items (producer_end line.old) (deque_items events) }
+    ensures free { known_free line.old ≡ known_free line.new + length (deque_items events) }
 {
     let mut events = events;
     for i in 0..events.len() {
@@ -80,7 +81,11 @@ impl Post {
     /// It costs a copy of each event that it puts there.
     pub fn report(&mut self) -> Result<Reported, ReportError>
         ensures ok { IfOk result (λ r. HasReported self.old r.sent self.new) }
+        ensures sent { IfOk result (λ r.
+            reported_count self.new ≡ reported_count self.old + r.sent) }
         ensures left { IfOk result (λ r. reported_count self.new + r.left ≡ length self.new.tape) }
+        ensures most { IfOk result (λ r. (r.left ≡ 0)
+            ⊎ (slots_of self.new.line.ring ≤ length self.new.line.items)) }
         ensures err { OnErr result (self.new ≡ self.old) }
         ensures same { IsSamePost self.old self.new }
     {

@@ -12,7 +12,7 @@ ghost use Rattle.line_tape.specs.Rounds.{check_line, checks_of, is_completed_fif
 ghost use Rattle.line_tape.specs.Survival.{survives, IsLatest};
 ghost use Rattle.line_tape.specs.Transit.{in_transit, in_transit_between};
 ghost use Rattle.line_tape.specs.declared.items.Item.TheVariants.{Message};
-ghost use Rattle.line_rings.specs.Ends.{in_ends, AreFresh};
+ghost use Rattle.line_rings.specs.Ends.{in_ends, known_rows, AreFresh};
 ghost use Rattle.line_posts.specs.Collected.{collector_of};
 ghost use Rattle.line_posts.specs.Generations.{AreLined, IsGeneration};
 ghost use Rattle.line_posts.specs.Openings.{parcels_left, AreOpened};
@@ -60,7 +60,7 @@ impl Gathered {
         requires further { HaveFurther self.now.processes line.now }
         ensures fit { IsFitFifo (restarted self.now.processes line.now) }
         ensures opened { IfOk result (λ opened. AreOpened (restarted self.now.processes line.now)
-            self.now.floor opened.posts.items (in_ends opened.lines.items)) }
+            self.now.floor self.now.capacity opened.posts.items (in_ends opened.lines.items)) }
         ensures links { (p q : ℕ)
             → items_of_parcels p (parcels_left (restarted self.now.processes line.now) p q)
             ≡ map (λ m. Message m) (in_transit_between self.now.processes line.now p q) }
@@ -84,7 +84,7 @@ impl Gathered {
         requires fresh { AreFresh (in_ends lines.items) }
         ensures { result ≡ collector_of (restarted self.processes line.now)
             (restarted self.processes line.now) (restarted_marks self.marks line.now)
-            (in_ends lines.items) self.capacity }
+            (in_ends lines.items) (known_rows lines.items) self.capacity }
     {
         let alloc = self.alloc;
         let capacity = self.capacity;
@@ -121,9 +121,10 @@ impl Gathered {
         // What goes on from the line.
         ensures collector { IfOk result (λ r. r.0
             ≡ collector_of (restarted self.processes r.2.line) (restarted self.processes r.2.line)
-            (restarted_marks self.marks r.2.line) r.0.lines self.capacity) }
+            (restarted_marks self.marks r.2.line) r.0.lines r.0.seen self.capacity) }
         ensures posts { IfOk result (λ r.
-            AreOpened (restarted self.processes r.2.line) self.floor r.1.items r.0.lines) }
+            AreOpened (restarted self.processes r.2.line) self.floor self.capacity r.1.items
+            r.0.lines) }
         ensures links { IfOk result (λ r. (p q : ℕ)
             → items_of_parcels p (parcels_left (restarted self.processes r.2.line) p q)
             ≡ map (λ m. Message m) (in_transit_between self.processes r.2.line p q)) }

@@ -1,12 +1,16 @@
 -- A list of ends after a step on one of them.
-use Rattle.std.proofs.lemmas.Bool.{cases_lt}
+use Rattle.std.proofs.lemmas.Bool.{cases_eq, cases_lt}
 use Rattle.std.proofs.Common.{inl, inr, subst, ◌+◌, ◌≡◌, ◌∙◌, ◌<◌, ◌≤◌, ◌++◌, ◌∷◌, [], ℕ, zero, suc, List, Some, map, set, get_or, length, refl, sym, ap, arith}
+use Rattle.std.specs.Prelude.{All}
+use Rattle.std.specs.declared.vec.Vec.{Vec}
+use Rattle.std.proofs.lemmas.List.{append_assoc, append-nil, length-map}
+use mathlib.Core.List.{IsPrefix}
 use Rattle.std.specs.Prelude.{option_map, slice_get}
 use Rattle.std.specs.declared.alloc.Global.{Global}
 use Rattle.rtrb.specs.declared.producer.Producer.{Producer}
 use Rattle.rtrb.specs.declared.consumer.Consumer.{Consumer}
 use Rattle.rtrb.specs.Ring.{SameProducer, SameConsumer, IsPair, sent, received, known_items, known_free}
-use Rattle.line_rings.specs.Ends.{Ring, End, HasRoomBelow, free_at, known_at, producer_end, consumer_end, with_item, items_of, items_at, ring_at}
+use Rattle.line_rings.specs.Ends.{Ring, End, HasAllFree, HasRoomBelow, HaveAllFree, IsFilled, StillKnow, free_at, known_at, known_rows, out_ends, out_rows, producer_end, consumer_end, row_at, slots_at, slots_of, with_item, items_of, items_at, ring_at}
 
 -- what is seen of the elements, where one is put in another's place that looks the same
 pub seen_kept : {X Y : Type 0} (f : X → Y) (xs : List X) (i : ℕ) (new d : X) → i < length xs → f new ≡ f (get_or xs i d) → map f (set xs i new) ≡ map f xs
@@ -132,3 +136,80 @@ room_more outs outs' q same here below k lt = elim (cases_lt k q) [
   | inl less ↦ subst (λ v. 0 < v) (sym (same k (λ e. omega (arith, e, less)))) (below k less)
   | inr ge ↦ (let e : k ≡ q = omega (arith, ge, lt) in subst (λ v. 0 < free_at outs' v) (sym e) here)
 ]
+
+-- an end that knows of no free slot has pushed as many items as fit in the ring
+filled_of : {T P : Type 0} (p : Producer T Global P) → known_free p ≡ 0 → slots_of (producer_end p).ring ≤ length (producer_end p).items
+filled_of p none =
+    let most = p.counts.0 in
+    let is = p.writes.2 in
+    omega (arith, most, is, none)
+
+pub filled_at : {T P : Type 0} (outs : List (Producer T Global P)) (q : ℕ) (old new : Producer T Global P) → q < length outs → old ≡ get_or outs q old → producer_end new ≡ producer_end old → known_free new ≡ 0 → IsFilled (out_ends outs) q
+filled_at outs q old new lt at same none =
+    let filled : slots_of (producer_end old).ring ≤ length (producer_end old).items = subst (λ (e : End _). slots_of e.ring ≤ length e.items) same (filled_of new none) in
+    rw (ring_there producer_end outs q old old lt (sym at), items_there producer_end outs q old old lt (sym at)) filled
+
+-- the slots of rings that were made
+slots_row : {T P : Type 0} (capacity : ℕ) (outs : List (Producer T Global P)) (q : ℕ) → All (HasAllFree capacity) outs → q < length outs → slots_at (out_ends outs) q ≡ capacity
+slots_row capacity [] q h lt = absurd (omega (arith, lt))
+slots_row capacity (x ∷ xs) zero h lt = sym x.writes.2 ∙ (h 0 x lt).1
+slots_row capacity (x ∷ xs) (suc q) h lt = slots_row capacity xs q (λ i d l. h (suc i) d (omega (arith, l))) (omega (arith, lt))
+
+pub slots_rows : {T P : Type 0} (capacity : ℕ) (outs : List (Vec (Producer T Global P) Global)) (p q : ℕ) → HaveAllFree capacity outs → p < length outs → q < length (row_at (out_rows outs) p) → slots_at (row_at (out_rows outs) p) q ≡ capacity
+slots_rows capacity [] p q h lt within = absurd (omega (arith, lt))
+slots_rows capacity (v ∷ vs) zero q h lt within = (let l = length-map v.items producer_end in slots_row capacity v.items q (h 0 v lt) (omega (arith, l, within)))
+slots_rows capacity (v ∷ vs) (suc p) q h lt within = slots_rows capacity vs p q (λ i d l. h (suc i) d (omega (arith, l))) (omega (arith, lt)) within
+
+-- what was seen, as rows
+pub rows_known : {T P : Type 0} (ins : List (Consumer T Global P)) (p : ℕ) → row_at (known_rows ins) p ≡ known_at ins p
+rows_known [] p = refl
+rows_known (c ∷ cs) zero = refl
+rows_known (c ∷ cs) (suc p) = rows_known cs p
+
+pub prefix_self : {X : Type 0} (xs : List X) → IsPrefix xs xs
+prefix_self xs = ([], append-nil xs)
+
+pub prefix_then : {X : Type 0} (xs ys zs : List X) → IsPrefix xs ys → IsPrefix ys zs → IsPrefix xs zs
+prefix_then xs ys zs (t, e) (u, f) = (t ++ u, sym (append_assoc xs t u) ∙ (ap (λ v. v ++ u) e ∙ f))
+
+pub prefix_behind : {X : Type 0} (first xs ys : List X) → IsPrefix xs ys → IsPrefix (first ++ xs) (first ++ ys)
+prefix_behind first xs ys (t, e) = (t, append_assoc first xs t ∙ ap (λ v. first ++ v) e)
+
+pub knows_self : {T P : Type 0} (ins : List (Consumer T Global P)) → StillKnow (known_rows ins) ins
+knows_self ins p = rw (rows_known ins p) (prefix_self (known_at ins p))
+
+-- what is still known after a look at one of them
+pub knows_more : {T P : Type 0} (rows : List (List T)) (old new : List (Consumer T Global P)) (p : ℕ) → StillKnow rows old → IsPrefix (known_at old p) (known_at new p)
+    → ((k : ℕ) → (k ≡ p → ⊥) → known_at new k ≡ known_at old k) → StillKnow rows new
+knows_more rows old new p know here others k = elim (cases_eq k p) [
+  | inl same ↦ prefix_then (row_at rows k) (known_at old k) (known_at new k) (know k) (subst (λ (v : ℕ). IsPrefix (known_at old v) (known_at new v)) (sym same) here)
+  | inr apart ↦ subst (λ (v : List _). IsPrefix (row_at rows k) v) (sym (others k apart)) (know k)
+]
+
+pub knows_then : {T P : Type 0} (rows : List (List T)) (old new : List (Consumer T Global P)) → StillKnow rows old → StillKnow (known_rows old) new → StillKnow rows new
+knows_then rows old new know later p = prefix_then (row_at rows p) (known_at old p) (known_at new p) (know p) (subst (λ (v : List _). IsPrefix v (known_at new p)) (rows_known old p) (later p))
+
+-- the rows that are seen, after a look at one of them and after a take
+pub looked_rows : {T P : Type 0} (old new : List (Consumer T Global P)) (p : ℕ) → IsPrefix (known_at old p) (known_at new p) → ((k : ℕ) → (k ≡ p → ⊥) → known_at new k ≡ known_at old k)
+    → (q : ℕ) → IsPrefix (row_at (known_rows old) q) (row_at (known_rows new) q)
+looked_rows old new p here others q = subst (λ (v : List _). IsPrefix (row_at (known_rows old) q) v) (sym (rows_known new q)) (knows_more (known_rows old) old new p (knows_self old) here others q)
+
+pub other_rows : {T P : Type 0} (old new : List (Consumer T Global P)) (p : ℕ) → ((k : ℕ) → (k ≡ p → ⊥) → known_at new k ≡ known_at old k) → (q : ℕ) → (q ≡ p → ⊥) → row_at (known_rows new) q ≡ row_at (known_rows old) q
+other_rows old new p others q ne = rows_known new q ∙ (others q ne ∙ sym (rows_known old q))
+
+pub taken_rows : {T P : Type 0} (old looked new : List (Consumer T Global P)) (p : ℕ) (item : T) → IsPrefix (known_at old p) (known_at looked p) → known_at looked p ≡ item ∷ known_at new p
+    → IsPrefix (row_at (known_rows old) p) (item ∷ row_at (known_rows new) p)
+taken_rows old looked new p item here first = rw (rows_known old p, rows_known new p) (subst (λ (v : List _). IsPrefix (known_at old p) v) first here)
+
+pub still_rows : {T P : Type 0} (rows : List (List T)) (new : List (Consumer T Global P)) → StillKnow rows new → (q : ℕ) → IsPrefix (row_at rows q) (row_at (known_rows new) q)
+still_rows rows new know q = subst (λ (v : List _). IsPrefix (row_at rows q) v) (sym (rows_known new q)) (know q)
+
+-- what was known is next, where an item was taken after a look
+pub taken_still : {T P : Type 0} (rows : List (List T)) (old looked new : List (Consumer T Global P)) (p : ℕ) (item : T) → StillKnow rows old → IsPrefix (known_at old p) (known_at looked p) → ((k : ℕ) → (k ≡ p → ⊥) → known_at looked k ≡ known_at old k)
+    → known_at looked p ≡ item ∷ known_at new p → ((k : ℕ) → (k ≡ p → ⊥) → known_at new k ≡ known_at looked k)
+    → (q : ℕ) → (q ≡ p → IsPrefix (row_at rows q) (item ∷ row_at (known_rows new) q)) × ((q ≡ p → ⊥) → IsPrefix (row_at rows q) (row_at (known_rows new) q))
+taken_still rows old looked new p item know here others first apart q =
+    let all = knows_more rows old looked p know here others in (
+      λ e. rw (rows_known new q) (subst (λ (v : ℕ). IsPrefix (row_at rows v) (item ∷ known_at new v)) (sym e) (subst (λ (v : List _). IsPrefix (row_at rows p) v) first (all p))),
+      λ ne. rw (rows_known new q) (subst (λ (v : List _). IsPrefix (row_at rows q) v) (sym (apart q ne)) (all q)),
+    )

@@ -1,6 +1,7 @@
 -- The ends of rings: which ring an end is of, and what has passed it.
-use Rattle.std.specs.Prelude.{◌≡◌, ◌<◌, ℕ, zero, suc, List, [], ◌∷◌, ◌++◌, Option, Some, None, All, slice_get, slice_index_or, map, option_map, length}
+use Rattle.std.specs.Prelude.{◌≡◌, ◌<◌, ◌≤◌, ℕ, zero, suc, List, [], ◌∷◌, ◌++◌, Option, Some, None, All, slice_get, slice_index_or, map, option_map, length}
 use denote.RawPtr.{Ptr}
+use mathlib.Core.List.{IsPrefix}
 use Rattle.std.specs.declared.alloc.Global.{Global}
 use Rattle.std.specs.declared.vec.Vec.{Vec}
 use Rattle.rtrb.specs.Shared.{Names}
@@ -11,6 +12,15 @@ use Rattle.rtrb.specs.Ring.{sent, received, known_items, known_free, producer_ca
 -- which ring it is: its memory, and its names in proofs
 abbrev pub Ring : Type 0
 Ring = Ptr × Ptr × Names × Global
+
+-- how many items fit in a ring
+abbrev pub slots_of : Ring → ℕ
+slots_of ring = ring.2.0
+
+-- in a ring that there may be
+abbrev pub slots_in : Option Ring → ℕ
+slots_in None = 0
+slots_in (Some ring) = slots_of ring
 
 -- an end of a ring: which ring it is, and what was pushed there, or popped
 pub record End (T : Type 0) : Type 0 where
@@ -47,6 +57,14 @@ module _ {T P : Type 0} where
   -- the items that the end at p has seen, the next to be popped first
   abbrev pub known_at : List (Consumer T Global P) → ℕ → List T
   known_at ins p = known_of (slice_get ins p)
+
+  -- the items that each of them has seen
+  abbrev pub known_rows : List (Consumer T Global P) → List (List T)
+  known_rows ins = map known_items ins
+
+  -- these items are the first that each of them knows
+  abbrev pub StillKnow : List (List T) → List (Consumer T Global P) → Type 0
+  StillKnow rows ins = (p : ℕ) → IsPrefix (slice_index_or rows p []) (known_at ins p)
 
   -- how many slots an end knows to be free
   abbrev pub free_of : Option (Producer T Global P) → ℕ
@@ -100,6 +118,19 @@ module _ {T : Type 0} where
   abbrev pub ring_at : List (End T) → ℕ → Option Ring
   ring_at ends q = option_map (λ (e : End T). e.ring) (slice_get ends q)
 
+  -- how many items fit in the ring of the end at q
+  abbrev pub slots_at : List (End T) → ℕ → ℕ
+  slots_at ends q = slots_in (ring_at ends q)
+
+  -- as many items were pushed on the ring of the end at q as fit in it: only who pops can have
+  -- freed slots since
+  abbrev pub IsFilled : List (End T) → ℕ → Type 0
+  IsFilled outs q = slots_at outs q ≤ length (items_at outs q)
+
+  -- as many were pushed on one of the rings as fit in it
+  abbrev pub HasFilled : List (End T) → Type 0
+  HasFilled outs = (q : ℕ) × (q < length outs) × IsFilled outs q
+
   -- nothing has passed any of them
   abbrev pub AreFresh : List (End T) → Type 0
   AreFresh ends = (q : ℕ) → items_at ends q ≡ []
@@ -123,3 +154,8 @@ pub record AreLinked {T : Type 0} (m n : ℕ) (outs ins : List (List (End T))) :
   pub in_count : (q : ℕ) → q < n → length (row_at ins q) ≡ m
   pub linked : (p q : ℕ) → slice_get (row_at outs p) q ≡ slice_get (row_at ins q) p
   pub fresh : (p : ℕ) → AreFresh (row_at outs p)
+
+-- the ring from each of the m senders to each of the n receivers has that many slots
+abbrev pub HaveSlots : {T : Type 0} → ℕ → ℕ → ℕ → List (List (End T)) → Type 0
+HaveSlots m n capacity outs =
+    (p q : ℕ) → p < m → q < n → slots_at (row_at outs p) q ≡ capacity

@@ -75,6 +75,8 @@ pub fn meet<T>(outs: &mut Vec<Producer<T>>, q: usize, ins: &mut Vec<Consumer<T>>
     requires pair { ring_at (out_ends outs.old.items) q ≡ ring_at (in_ends ins.old.items) p }
     ensures outs { out_ends outs.new.items ≡ out_ends outs.old.items }
     ensures ins { in_ends ins.new.items ≡ in_ends ins.old.items }
+    ensures seen { IsPrefix (known_at ins.old.items p) (known_at ins.new.items p) }
+    ensures others { (k : ℕ) → k ≢ p → known_at ins.new.items k ≡ known_at ins.old.items k }
     ensures fifo { (rest : List T) × (length rest ≡ result)
         × (items_at (in_ends ins.old.items) p ++ rest ≡ items_at (out_ends outs.old.items) q) }
 {
@@ -90,6 +92,8 @@ pub fn meet_end<T>(out: &mut Producer<T>, ins: &mut Vec<Consumer<T>>, p: usize) 
     requires pair { Some (producer_end out.old).ring ≡ ring_at (in_ends ins.old.items) p }
     ensures out { producer_end out.new ≡ producer_end out.old }
     ensures ins { in_ends ins.new.items ≡ in_ends ins.old.items }
+    ensures seen { IsPrefix (known_at ins.old.items p) (known_at ins.new.items p) }
+    ensures others { (k : ℕ) → k ≢ p → known_at ins.new.items k ≡ known_at ins.old.items k }
     ensures count { result ≡ length (known_at ins.new.items p) }
     ensures fifo { items_at (in_ends ins.old.items) p ++ known_at ins.new.items p
         ≡ (producer_end out.old).items }

@@ -1,6 +1,6 @@
 //! A ring from each sender to each receiver.
 ghost use Rattle.std.specs.Prelude.{◌≡◌, [], All, IfOk, length, replicate};
-ghost use Rattle.line_rings.specs.Ends.{out_ends, out_rows, in_rows, dealt, AreFresh, AreLinked, HasAllFree, HaveAllFree};
+ghost use Rattle.line_rings.specs.Ends.{out_ends, out_rows, in_rows, dealt, AreFresh, AreLinked, HasAllFree, HaveAllFree, HaveSlots};
 
 use rtrb::{Consumer, Producer, RingBuffer};
 use std::alloc::{AllocError, Global};
@@ -67,6 +67,8 @@ pub fn make_rings<T: Drop>(
     ensures linked { IfOk result (λ l.
         AreLinked senders receivers (out_rows l.outs.items) (in_rows l.ins.items)) }
     ensures capacity { IfOk result (λ l. HaveAllFree capacity l.outs.items) }
+    ensures slots { IfOk result (λ l.
+        HaveSlots senders receivers capacity (out_rows l.outs.items)) }
 {
     let mut ins = columns(alloc, receivers, senders)?;
     let mut outs = Vec::with_capacity(alloc, senders)?;

@@ -1,6 +1,6 @@
 //! Free slots that are known, so that pushes cannot fail: only the sending end fills slots.
 ghost use Rattle.std.specs.Prelude.{◌≡◌, ◌≢◌, ◌<◌, ◌+◌, ℕ, IsTrue, false, length};
-ghost use Rattle.line_rings.specs.Ends.{out_ends, free_at, with_item, HasFullEnd, HasRoomBelow};
+ghost use Rattle.line_rings.specs.Ends.{out_ends, free_at, with_item, HasFilled, HasFullEnd, HasRoomBelow, IsFilled};
 
 use rtrb::Producer;
 
@@ -11,6 +11,7 @@ pub fn has_slot<T>(outs: &mut Vec<Producer<T>>, q: usize) -> bool
     ensures long { length outs.new.items ≡ length outs.old.items }
     ensures room { IsTrue result → 0 < free_at outs.new.items q }
     ensures full { result ≡ false → free_at outs.new.items q ≡ 0 }
+    ensures filled { result ≡ false → IsFilled (out_ends outs.old.items) q }
     ensures others { (k : ℕ) → k ≢ q → free_at outs.new.items k ≡ free_at outs.old.items k }
 {
     let end = &mut outs[q];
@@ -24,6 +25,7 @@ pub fn has_room<T>(outs: &mut Vec<Producer<T>>) -> bool
     ensures long { length outs.new.items ≡ length outs.old.items }
     ensures room { IsTrue result → HasRoomBelow (length outs.new.items) outs.new.items }
     ensures full { result ≡ false → HasFullEnd outs.new.items }
+    ensures filled { result ≡ false → HasFilled (out_ends outs.old.items) }
 {
     for q in 0..outs.len() {
         if !has_slot(outs, q) {

@@ -1,1 +1,1 @@
-mod RotateLemmas
+mod RunLemmas

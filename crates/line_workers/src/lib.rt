@@ -16,6 +16,3 @@ pub use crews::{NoThread, Work, run_crew};
 pub use loads::{Exchange, Stream};
 pub use routines::Routine;
 pub use runs::{RunError, run};
-
-#[cfg(test)]
-mod tests;

@@ -1,11 +1,15 @@
 //! A generation from its fleet to its gathering.
-ghost use Rattle.std.specs.Prelude.{◌≡◌, IfOk, length};
+ghost use Rattle.std.specs.Prelude.{◌≡◌, ◌≢◌, ◌<◌, ◌≤◌, ◌⊎◌, ◌↔◌, ℕ, IfOk, IfErr, IsErrOf};
+ghost use Rattle.std.specs.Prelude.{length};
 ghost use Rattle.line_names.specs.Sets.{nobody};
 ghost use Rattle.line_tape.specs.Fit.{IsFitFifo};
+ghost use Rattle.line_tape.specs.History.{incarnation_at};
+ghost use Rattle.line_tape.specs.Views.{no_marks};
+ghost use Rattle.line_posts.specs.declared.refusals.GatherWhy.{GatherWhy};
 
 use crate::crews::{NoThread, Work, run_crew};
 use line_names::ProcSet;
-use line_posts::{FleetError, GatherWhy, Gathered, fleet, gather};
+use line_posts::{FleetError, GatherWhy, Gathered, MOST_CAPACITY, MOST_WORKERS, fleet, gather};
 use std::alloc::Global;
 use std::error::Error;
 use std::fmt;
@@ -36,12 +40,22 @@ impl fmt::Display for RunError {
 impl Error for RunError {}
 
 impl From<FleetError> for RunError {
+    ghost use Rattle.std.specs.Prelude.{◌≡◌};
+    ghost use Rattle.line_workers.specs.declared.runs.RunError.TheVariants.{Fleet};
+
+    ghost from_gives = { λ why e. e ≡ Fleet why };
+
     fn from(why: FleetError) -> RunError {
         RunError::Fleet(why)
     }
 }
 
 impl From<NoThread> for RunError {
+    ghost use Rattle.std.specs.Prelude.{◌≡◌};
+    ghost use Rattle.line_workers.specs.declared.runs.RunError.TheVariants as run_error;
+
+    ghost from_gives = { λ no_thread e. e ≡ run_error.NoThread };
+
     fn from(_no_thread: NoThread) -> RunError {
         RunError::NoThread
     }
@@ -59,6 +73,18 @@ pub fn run<W: Work, R: Threads + Wait + Sync>(
     ensures fit { IfOk result (λ gathered. IsFitFifo gathered.processes) }
     ensures failed { IfOk result (λ gathered. gathered.failed ≡ nobody) }
     ensures count { IfOk result (λ gathered. length gathered.processes ≡ n) }
+    ensures incarnations { IfOk result (λ gathered.
+        (q : ℕ) → incarnation_at gathered.processes q ≡ 0) }
+    ensures marks { IfOk result (λ gathered. gathered.marks ≡ no_marks n) }
+    ensures slots { IfOk result (λ gathered. gathered.capacity ≡ capacity) }
+
+    // The refusals: nothing but memory stops a gathering.
+    ensures bad_count { IsErrOf result (RunError.Fleet FleetError.BadCount)
+        ↔ ((n ≡ 0) ⊎ (MOST_WORKERS < n)) }
+    ensures bad_capacity { IsErrOf result (RunError.Fleet FleetError.BadCapacity)
+        ↔ ((n ≢ 0) × (n ≤ MOST_WORKERS) × ((capacity ≡ 0) ⊎ (MOST_CAPACITY < capacity))) }
+    ensures gathering { IfErr result (λ e. (why : GatherWhy) → e ≡ RunError.Gather why
+        → why ≡ GatherWhy.OutOfMemory) }
 {
     let (collector, posts) = fleet(alloc, n, capacity)?;
     let (collector, posts) = run_crew(rt, work, collector, posts)?;

@@ -1,7 +1,29 @@
-use Rattle.std.proofs.Common.{refl, subst}
+use Rattle.std.proofs.Common.{◌∙◌, ◌<◌, ℕ, length, ap, refl, arith, subst}
+use Rattle.line_tape.specs.declared.limits.TheConstants.{MOST_EVENTS}
 use Rattle.line_posts.specs.declared.refusals.ReceiveWhy.{ReceiveWhy}
 use Rattle.line_posts.specs.Refusals.{IsNotReceived}
+use Rattle.line_rings.specs.Ends.{row_at}
+use Rattle.line_posts.specs.declared.receiving.Received.{Received}
+use Rattle.line_posts.specs.Receipts.{HasReceived}
+use Rattle.line_drills.proofs.MarkerLemmas.{marker_seen, marker_taken}
 use Rattle.line_drills.proofs.workers.receive_once.Goals as goal
 
 pub returns-in-NoSuchProcess-clause-cause : goal.returns-in-NoSuchProcess-clause-cause
-returns-in-NoSuchProcess-clause-cause c = (c.args.from, refl, subst (λ (why : ReceiveWhy). IsNotReceived c.args.post.now c.args.from c.of.result why) c.in-NoSuchProcess.is c.in-Err.ensures.why)
+returns-in-NoSuchProcess-clause-cause c = (c.args.from, refl, subst (λ (why : ReceiveWhy). IsNotReceived c.args.post.now (row_at c.receive.new.self.seen c.args.from) c.args.from c.of.result why) c.in-NoSuchProcess.is c.in-Err.ensures.why)
+
+pub returns-in-Ok-Marked-clause-cause : goal.returns-in-Ok-Marked-clause-cause
+returns-in-Ok-Marked-clause-cause c =
+    let old = c.args.post.now in
+    let new = c.receive.new.self in
+    let process = c.in-Ok-Marked.ensures.may.process in
+    let count = c.tape.ensures.known.in_count in
+    let marked = subst (λ (r : Received). HasReceived old c.args.from c.of.result r new) c.in-Ok-Marked.field-0-is c.in-Ok-Marked.ensures.ok in
+    (c.args.from, refl, new, c.receive.ensures.same.number, marker_taken old new c.args.from c.in-Ok-Marked.field-0-0 c.of.result c.in-Ok-Marked.field-0-1 (omega (arith, process, count)) marked)
+
+pub returns-else-is_full-clause-cause : goal.returns-else-is_full-clause-cause
+returns-else-is_full-clause-cause c =
+    let old = c.args.post.now in
+    let new = c.receive.new.self in
+    let few = subst (λ (n : ℕ). n < MOST_EVENTS) (c.len.ensures.value ∙ ap length c.tape.ensures.value) c.if-is_full.false in
+    let full = subst (λ (why : ReceiveWhy). IsNotReceived old (row_at new.seen c.args.from) c.args.from c.of.result why) c.in-TapeFull.is c.in-Err.ensures.why in
+    (c.args.from, refl, new, c.receive.ensures.same.number, marker_seen old new c.args.from c.of.result full few)

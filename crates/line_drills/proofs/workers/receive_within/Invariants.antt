@@ -1,5 +1,5 @@
-use Rattle.std.proofs.Common.{◌≡◌}
+use Rattle.line_posts.specs.Receipts.{HasOnlySeen}
 use Rattle.line_drills.proofs.workers.receive_within.Given as goal
 
 abbrev pub invariant-loop-turn : goal.invariant-loop-turn
-invariant-loop-turn l = l.post ≡ l.fn.post
+invariant-loop-turn l = HasOnlySeen l.fn.post l.post

@@ -3,7 +3,7 @@ use Rattle.std.specs.VecDeque.{deque_items}
 use Rattle.std.proofs.lemmas.List.{length-map}
 use Rattle.std.proofs.lemmas.Result.{OkIff-at_ok}
 use Rattle.line_tape.specs.Rounds.{rounds_checked}
-use Rattle.line_rings.specs.Ends.{out_ends, in_ends, out_rows, in_rows, producer_end}
+use Rattle.line_rings.specs.Ends.{out_ends, in_ends, out_rows, in_rows, known_rows, producer_end}
 use Rattle.line_rings.specs.Ends.{row_at}
 use Rattle.line_posts.specs.Fleets.{AreReplays}
 use Rattle.line_posts.specs.Gathering.{rows_of}
@@ -55,7 +55,7 @@ open_post-post-requires-clause-opening c =
     let R = letters_of c.args.replays.items in
     let row = (next_row R c.loop-q.q (rows_of c.take_first-kept.result.items) (letters_of c.take_first-kept.new.items.items) (sym (ap letters_of c.take_first-kept.ensures) ∙ c.loop-q.invariant.replays_left)).0 in
     let kept = subst (AreReplays c.args.history.now.processes c.unwrap-me.result) row (subst (λ v. AreReplays c.args.history.now.processes v (row_at R c.loop-q.q)) (sym me) (c.requires.replays.each c.loop-q.q lt)) in
-    opening_of c.args.history.now.processes c.loop-q.q c.unwrap-me.result (length c.args.history.now.processes) c.in_ok-journal.journal.tape (map deque_items c.take_first-kept.result.items) O I L c.requires.lines.0 (out_ends c.take_first-outs.result.items) (in_ends c.take_first-ins.result.items) (producer_end c.take_first-end.result) c.in_ok-journal.journal.floor c.in_ok-journal.journal.rounds me lt refl tape kept c.requires.rings c.requires.lines.1 (sym out) (sym in_) (sym alone ∙ sym line)
+    opening_of c.args.history.now.processes c.loop-q.q c.unwrap-me.result (length c.args.history.now.processes) c.in_ok-journal.journal.tape (map deque_items c.take_first-kept.result.items) O I L c.requires.lines.0 (out_ends c.take_first-outs.result.items) (in_ends c.take_first-ins.result.items) (known_rows c.take_first-ins.result.items) (producer_end c.take_first-end.result) c.in_ok-journal.journal.floor c.in_ok-journal.journal.rounds me lt refl tape kept c.requires.rings c.requires.lines.1 (sym out) (sym in_) (sym alone ∙ sym line)
 
 pub loop-q-preserved : goal.loop-q-preserved
 loop-q-preserved c =
@@ -73,8 +73,8 @@ loop-q-preserved c =
     let R = letters_of c.args.replays.items in
     let row = (next_row R c.loop-q.q (rows_of c.take_first-kept.result.items) (letters_of c.take_first-kept.new.items.items) (sym (ap letters_of c.take_first-kept.ensures) ∙ c.loop-q.invariant.replays_left)).0 in
     let kept = subst (AreReplays c.args.history.now.processes c.unwrap-me.result) row (subst (λ v. AreReplays c.args.history.now.processes v (row_at R c.loop-q.q)) (sym me) (c.requires.replays.each c.loop-q.q lt)) in
-    let opens = opening_of c.args.history.now.processes c.loop-q.q c.unwrap-me.result (length c.args.history.now.processes) c.in_ok-journal.journal.tape (map deque_items c.take_first-kept.result.items) O I L c.requires.lines.0 (out_ends c.take_first-outs.result.items) (in_ends c.take_first-ins.result.items) (producer_end c.take_first-end.result) c.in_ok-journal.journal.floor c.in_ok-journal.journal.rounds me lt refl tape kept c.requires.rings c.requires.lines.1 (sym out) (sym in_) (sym alone ∙ sym line) in
-    let made = made_of c.args.history.now.processes c.args.floor O I L c.loop-q.q c.unwrap-me.result c.in_ok-journal.journal.tape (map deque_items c.take_first-kept.result.items) (out_ends c.take_first-outs.result.items) (in_ends c.take_first-ins.result.items) (producer_end c.take_first-end.result) c.in_ok-journal.journal.floor c.in_ok-journal.journal.rounds c.open_post-post.result c.open_post-post.ensures me opens c.in_ok-journal.ensures.same.2 c.in_ok-journal.ensures.tape.1 (sym out) (sym in_) (sym alone ∙ sym line) in
+    let opens = opening_of c.args.history.now.processes c.loop-q.q c.unwrap-me.result (length c.args.history.now.processes) c.in_ok-journal.journal.tape (map deque_items c.take_first-kept.result.items) O I L c.requires.lines.0 (out_ends c.take_first-outs.result.items) (in_ends c.take_first-ins.result.items) (known_rows c.take_first-ins.result.items) (producer_end c.take_first-end.result) c.in_ok-journal.journal.floor c.in_ok-journal.journal.rounds me lt refl tape kept c.requires.rings c.requires.lines.1 (sym out) (sym in_) (sym alone ∙ sym line) in
+    let made = made_of c.args.history.now.processes c.args.floor O I L c.loop-q.q c.unwrap-me.result c.in_ok-journal.journal.tape (map deque_items c.take_first-kept.result.items) (out_ends c.take_first-outs.result.items) (in_ends c.take_first-ins.result.items) (known_rows c.take_first-ins.result.items) (producer_end c.take_first-end.result) c.in_ok-journal.journal.floor c.in_ok-journal.journal.rounds c.open_post-post.result c.open_post-post.ensures me opens c.in_ok-journal.ensures.same.2 c.in_ok-journal.ensures.tape.1 (sym out) (sym in_) (sym alone ∙ sym line) in
     record {
       made = made_more c.args.history.now.processes c.args.floor O I L c.loop-q.q (out_rows c.loop-q.rings.outs.items) (in_rows c.loop-q.rings.ins.items) (out_rows c.take_first-outs.new.items.items) (in_rows c.take_first-ins.new.items.items) (out_rows c.loop-q.lines.items) (out_rows c.take_first-line.new.items.items) c.loop-q.posts.items c.push.new.self.items c.open_post-post.result
           (out_ends c.take_first-outs.result.items) (in_ends c.take_first-ins.result.items) (out_ends c.take_first-line.result.items)

@@ -1,4 +1,4 @@
-use Rattle.std.proofs.Common.{◌≡◌, ◌∙◌, ◌++◌, ◌∷◌, [], ◌≤◌, length, get_or, sym, ap, subst, arith}
+use Rattle.std.proofs.Common.{rules, refl, ◌≡◌, ◌∙◌, ◌++◌, ◌∷◌, [], ◌≤◌, length, get_or, sym, ap, subst, arith}
 use Rattle.std.specs.VecDeque.{deque_items}
 use Rattle.std.proofs.lemmas.List.{map-append}
 use Rattle.std.proofs.lemmas.Result.{OkIff-at_ok}
@@ -6,6 +6,8 @@ use Rattle.line_names.specs.Sets.{is_member}
 use Rattle.line_tape.specs.History.{tape_at}
 use Rattle.line_posts.specs.Gathered.{gathered_tape}
 use Rattle.line_posts.specs.Gathering.{rows_of}
+use Rattle.line_rings.specs.Ends.{known_rows}
+use Rattle.line_rings.proofs.EndLemmas.{knows_self, knows_then}
 use Rattle.line_posts.proofs.MeetLemmas.{there, set_back}
 use Rattle.line_posts.proofs.GatheringLemmas.{further_more}
 use Rattle.line_posts.proofs.further.further_of_all.Goals as goal
@@ -41,8 +43,30 @@ loop-r-preserved c =
       processes = e.processes ∙ i.processes;
       marks = e.marks ∙ i.marks;
       lines = e.lines ∙ i.lines;
+      seen = knows_then (known_rows c.args.lines.now.items) c.loop-r.lines.items c.further_of.new.lines.items i.seen e.seen;
       posts = set_back c.loop-r.posts.items c.args.posts.now.items r post c.further_of.new.post i.posts c.index_mut-post.ensures.value e.post;
       further = further_more r failed c.args.catalogue.now.processes c.loop-r.catalogue.rooms c.further_of.new.catalogue.rooms c.args.posts.now.items (rows_of c.loop-r.further.items) (rows_of c.push.new.self.items) post more
           i.further at (ap rows_of c.in_ok-push.ensures.items ∙ map-append deque_items c.loop-r.further.items (c.in_ok-events.events ∷ [])) all
           (subst (λ v. length more ≤ get_or c.further_of.new.catalogue.rooms v 0) p e.room) (λ q ne. e.others q (λ x. ne (x ∙ p)));
     }
+
+pub returns-in_err-further-clause-seen : goal.returns-in_err-further-clause-seen
+returns-in_err-further-clause-seen c = knows_self c.args.lines.now.items
+
+pub loop-r-init : goal.loop-r-init
+loop-r-init c = record {
+  processes = refl;
+  marks = refl;
+  lines = refl;
+  seen = knows_self c.args.lines.now.items;
+  posts = refl;
+  further = search rules;
+}
+
+pub returns-in_err-events-clause-seen : goal.returns-in_err-events-clause-seen
+returns-in_err-events-clause-seen c =
+    knows_then (known_rows c.args.lines.now.items) c.loop-r.lines.items c.further_of.new.lines.items c.loop-r.invariant.seen c.further_of.ensures.seen
+
+pub returns-in_err-push-clause-seen : goal.returns-in_err-push-clause-seen
+returns-in_err-push-clause-seen c =
+    knows_then (known_rows c.args.lines.now.items) c.loop-r.lines.items c.further_of.new.lines.items c.loop-r.invariant.seen c.further_of.ensures.seen

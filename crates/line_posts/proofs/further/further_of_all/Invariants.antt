@@ -1,5 +1,5 @@
 use Rattle.std.proofs.Common.{◌≡◌}
-use Rattle.line_rings.specs.Ends.{in_ends}
+use Rattle.line_rings.specs.Ends.{in_ends, known_rows, StillKnow}
 use Rattle.line_posts.specs.Gathering.{rows_of, AreFurtherBelow}
 use Rattle.line_posts.proofs.further.further_of_all.Given as goal
 
@@ -8,6 +8,7 @@ invariant-loop-r l = record {
   processes : l.catalogue.processes ≡ l.fn.catalogue.processes;
   marks : l.catalogue.marks ≡ l.fn.catalogue.marks;
   lines : in_ends l.lines.items ≡ in_ends l.fn.lines.items;
+  seen : StillKnow (known_rows l.fn.lines.items) l.lines.items;
   posts : l.posts.items ≡ l.fn.posts.items;
   further : AreFurtherBelow l.r l.failed l.fn.catalogue.processes l.catalogue.rooms l.fn.posts.items (rows_of l.further.items);
 }

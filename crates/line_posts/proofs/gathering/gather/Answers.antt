@@ -1,13 +1,15 @@
 use Rattle.std.proofs.Common.{◌≡◌, ◌∙◌, ◌++◌, ℕ, List, length, sym, ap, subst, arith}
 use Rattle.line_tape.specs.declared.events.Event.{Event}
 use Rattle.line_tape.specs.History.{Process, process_at, tape_at, incarnation_at}
-use Rattle.line_rings.specs.Ends.{in_ends, row_at}
+use Rattle.line_rings.specs.Ends.{in_ends, known_rows, row_at}
+use Rattle.line_rings.proofs.EndLemmas.{still_rows}
 use Rattle.line_posts.specs.Posts.{PostView}
 use Rattle.line_posts.specs.Extension.{Extends}
 use Rattle.line_posts.specs.Collected.{CollectorView}
 use Rattle.line_posts.specs.Generations.{own_history}
 use Rattle.line_posts.specs.Gathering.{rows_of, AreFurtherBelow, AreReady}
 use Rattle.line_posts.proofs.OwnLemmas.{back_of, ready_of, way_of, gathered_of, prefixes_of, extends_of}
+use Rattle.line_posts.proofs.ReportLemmas.{looked_only}
 use Rattle.line_posts.proofs.gathering.gather.Goals as goal
 
 added_process : List Process → ℕ → List (List Event) → Process
@@ -150,3 +152,13 @@ returns-in-Err-clause-unfinished c =
     let o = ap (λ (v : CollectorView). length v.opening) c.collector.view_is in
     let m = c.collector.invariant.count in
     (λ e. cc e, λ h. absurd (h.1 (omega (arith, a, b, n, k, o, m), c.account.ensures.order.0 t)))
+
+pub returns-in-Err-clause-back : goal.returns-in-Err-clause-back
+returns-in-Err-clause-back c =
+    let I = c.collector.inside in
+    let f = c.further_of_all.ensures in
+    let N = c.further_of_all.new.lines.items in (
+      looked_only c.args.collector I.opening.value.processes I.catalogue.processes I.catalogue.marks (in_ends I.lines.items) (known_rows I.lines.items) I.capacity c.collector.view_is c.further_of_all.new.catalogue.processes c.further_of_all.new.catalogue.marks (in_ends N) (known_rows N) f.processes f.marks f.lines
+          (still_rows (known_rows I.lines.items) N f.seen),
+      f.posts ∙ c.account.ensures.same,
+    )

@@ -1,7 +1,7 @@
 use Rattle.std.proofs.Common.{◌≡◌, ◌<◌, ◌≤◌, ℕ, length}
 use Rattle.line_rings.specs.Ends.{out_ends, free_at}
-use Rattle.line_posts.specs.Markers.{with_others_below}
 use Rattle.line_posts.specs.declared.parcels.Parcel.TheVariants.{Marker}
+use Rattle.line_posts.proofs.MarkerLemmas.{with_others_below}
 use Rattle.line_posts.proofs.markers.push_markers.Given as goal
 
 abbrev pub invariant-loop-q : goal.invariant-loop-q

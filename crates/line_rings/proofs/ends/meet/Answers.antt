@@ -1,4 +1,4 @@
-use Rattle.line_rings.proofs.EndLemmas.{seen_kept, producer_kept, consumer_kept, items_there, ring_there, is_pair}
+use Rattle.line_rings.proofs.EndLemmas.{seen_kept, producer_kept, consumer_kept, items_there, ring_there, is_pair, known_there, known_set, known_other}
 use Rattle.std.proofs.Common.{sym, ap, ◌∙◌, ◌++◌}
 use Rattle.line_rings.specs.Ends.{producer_end, consumer_end}
 use Rattle.rtrb.specs.Ring.{known_items}
@@ -29,3 +29,11 @@ returns-clause-fifo g c = (
       ∙ (c.slots_beside.ensures.fifo ∙ (c.slots_beside.ensures.producer.1
       ∙ sym (items_there producer_end c.args.outs.now.items c.args.q c.index_mut-producer.result.now c.index_mut-producer.result.now c.requires.out_within (sym c.index_mut-producer.ensures.value)))),
 )
+
+pub returns-clause-seen : goal.returns-clause-seen
+returns-clause-seen g c =
+    rw (known_set c.args.ins.now.items c.args.p c.slots_beside.new.self c.requires.in_within, known_there c.args.ins.now.items c.args.p c.index_mut-consumer.result.now c.requires.in_within c.index_mut-consumer.ensures.value)
+    c.slots_beside.ensures.looked.2
+
+pub returns-clause-others : goal.returns-clause-others
+returns-clause-others g c = λ k ne. known_other c.args.ins.now.items c.args.p k c.slots_beside.new.self ne

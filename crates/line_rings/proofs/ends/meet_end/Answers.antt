@@ -1,4 +1,4 @@
-use Rattle.line_rings.proofs.EndLemmas.{seen_kept, producer_kept, consumer_kept, items_there, ring_there, is_pair, known_set}
+use Rattle.line_rings.proofs.EndLemmas.{seen_kept, producer_kept, consumer_kept, items_there, ring_there, is_pair, known_there, known_set, known_other}
 use Rattle.std.proofs.Common.{sym, ap, ◌∙◌, length, ◌++◌}
 use Rattle.line_rings.specs.Ends.{consumer_end}
 use Rattle.rtrb.specs.Ring.{known_items}
@@ -25,3 +25,11 @@ returns-clause-fifo g c =
     rw (known_set c.args.ins.now.items c.args.p c.slots_beside.new.self c.requires.within)
     (ap (λ t. t ++ known_items c.slots_beside.new.self) (items_there consumer_end c.args.ins.now.items c.args.p c.index_mut-consumer.result.now c.index_mut-consumer.result.now c.requires.within (sym c.index_mut-consumer.ensures.value) ∙ sym c.slots_beside.ensures.looked.1)
     ∙ (c.slots_beside.ensures.fifo ∙ c.slots_beside.ensures.producer.1))
+
+pub returns-clause-seen : goal.returns-clause-seen
+returns-clause-seen g c =
+    rw (known_set c.args.ins.now.items c.args.p c.slots_beside.new.self c.requires.within, known_there c.args.ins.now.items c.args.p c.index_mut-consumer.result.now c.requires.within c.index_mut-consumer.ensures.value)
+    c.slots_beside.ensures.looked.2
+
+pub returns-clause-others : goal.returns-clause-others
+returns-clause-others g c = λ k ne. known_other c.args.ins.now.items c.args.p k c.slots_beside.new.self ne

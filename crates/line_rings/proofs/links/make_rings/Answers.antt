@@ -1,8 +1,9 @@
-use Rattle.std.proofs.Common.{◌∙◌, ◌∷◌, [], sym, ap, subst}
+use Rattle.std.proofs.Common.{◌∙◌, ◌∷◌, [], sym, ap, subst, arith}
 use Rattle.std.proofs.lemmas.List.{map-append, length-map}
 use Rattle.std.proofs.lemmas.List.Elements.{All-nil, All-push}
 use Rattle.std.specs.Prelude.{All}
 use Rattle.line_rings.specs.Ends.{out_ends, out_rows, in_rows, HasAllFree, HaveAllFree}
+use Rattle.line_rings.proofs.EndLemmas.{slots_rows}
 use Rattle.line_rings.proofs.RowLemmas.{linked_start, linked_step, linked_moved}
 use Rattle.line_rings.proofs.links.make_rings.Goals as goal
 
@@ -25,3 +26,12 @@ loop-p-preserved g c =
       capacity = subst (HaveAllFree c.args.capacity) (sym c.in_ok-push.ensures.items)
           (All-push (λ v. All (HasAllFree c.args.capacity) v.items) c.loop-p.outs.items c.in_ok-row.row c.loop-p.invariant.capacity c.in_ok-row.ensures.free);
     }
+
+pub returns-clause-slots : goal.returns-clause-slots
+returns-clause-slots g c = λ p q lp lq.
+    (let l = c.loop-p.invariant.linked in
+    let long = length-map c.loop-p.outs.items (λ v. out_ends v.items) in
+    let f = c.loop-p-test.false in
+    let senders = l.senders in
+    let row = l.out_count p (omega (arith, lp, f)) in
+    slots_rows c.args.capacity c.loop-p.outs.items p q c.loop-p.invariant.capacity (omega (arith, lp, f, long, senders)) (omega (arith, lq, row)))

@@ -1,4 +1,6 @@
-use Rattle.std.proofs.Common.{◌∙◌, arith}
+use Rattle.std.proofs.Common.{◌∙◌, List, subst, arith}
+use Rattle.std.proofs.lemmas.List.{length-map}
+use Rattle.line_rings.specs.Ends.{producer_end, End, IsFilled}
 use Rattle.line_rings.proofs.EndLemmas.{room_more}
 use Rattle.line_rings.proofs.rooms.has_room.Goals as goal
 
@@ -17,3 +19,13 @@ returns-then-not-has_slot-clause-full g c = λ f.
     (let within = c.loop-q-test.true in
     let long = c.has_slot.ensures.long in
     (c.loop-q.q, omega (arith, within, long), c.has_slot.ensures.full c.if-not-has_slot.true))
+
+pub returns-then-not-has_slot-clause-filled : goal.returns-then-not-has_slot-clause-filled
+returns-then-not-has_slot-clause-filled g c = λ f.
+    (let within = c.loop-q-test.true in
+    let end = c.len-q-end.ensures in
+    let l = length-map c.args.outs.now.items producer_end in (
+      c.loop-q.q,
+      omega (arith, within, end, l),
+      subst (λ (t : List (End _)). IsFilled t c.loop-q.q) c.loop-q.invariant.ends (c.has_slot.ensures.filled c.if-not-has_slot.true),
+    ))

@@ -3,7 +3,7 @@ use Rattle.std.proofs.lemmas.List.{length-set}
 use Rattle.std.proofs.lemmas.Bool.{both_ways, not-true, not-false}
 use Rattle.rtrb.specs.Ring.{known_free}
 use Rattle.line_rings.specs.Ends.{producer_end}
-use Rattle.line_rings.proofs.EndLemmas.{seen_kept, producer_kept, free_set, free_other}
+use Rattle.line_rings.proofs.EndLemmas.{seen_kept, producer_kept, filled_at, free_set, free_other}
 use Rattle.line_rings.proofs.rooms.has_slot.Goals as goal
 
 pub returns-clause-ends : goal.returns-clause-ends
@@ -24,3 +24,9 @@ returns-clause-others g c = λ k ne. free_other c.args.outs.now.items c.args.q k
 
 pub returns-clause-full : goal.returns-clause-full
 returns-clause-full g c = λ f. free_set c.args.outs.now.items c.args.q c.is_full.new.self c.requires ∙ c.is_full.ensures.value.0 (not-false c.is_full.result f)
+
+pub returns-clause-filled : goal.returns-clause-filled
+returns-clause-filled g c = λ f.
+    filled_at c.args.outs.now.items c.args.q c.index_mut-end.result.now c.is_full.new.self c.requires c.index_mut-end.ensures.value
+    (producer_kept c.index_mut-end.result.now c.is_full.new.self c.is_full.ensures.looked.0 c.is_full.ensures.looked.1)
+    (c.is_full.ensures.value.0 (not-false c.is_full.result f))

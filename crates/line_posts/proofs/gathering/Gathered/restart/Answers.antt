@@ -12,4 +12,4 @@ into_collector-collector-requires-clause-count c =
 
 pub returns-clause-generation : goal.returns-clause-generation
 returns-clause-generation c =
-    opened_lined _ _ _ _ _ _ _ c.in-Ok-open_next.opened.posts.items c.into_collector-collector.ensures c.in-Ok-open_next.ensures.opened
+    opened_lined _ _ _ _ _ _ _ _ c.in-Ok-open_next.opened.posts.items c.into_collector-collector.ensures c.in-Ok-open_next.ensures.opened

@@ -8,7 +8,7 @@ use Rattle.line_posts.proofs.posts.Post.send.Goals as goal
 
 pub invariant_of-self-2 : goal.invariant_of-self-2
 invariant_of-self-2 c =
-    let (h, inc, told, n, me_is) = c.self.invariant in
+    let (h, inc, told, n, me_is, know) = c.self.invariant in
     let count = h.out_count in
     let long = length-map c.self.inside.outs.items producer_end in
     let sent = c.send.ensures.tape in
@@ -24,6 +24,7 @@ invariant_of-self-2 c =
       told,
       last.n_is ∙ (free.same.n_is ∙ n),
       last.me_is ∙ (free.same.me_is ∙ me_is),
+      know,
     )
 
 pub returns-clause-same : goal.returns-clause-same

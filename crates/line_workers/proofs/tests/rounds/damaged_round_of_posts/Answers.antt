@@ -1,8 +1,0 @@
-use Rattle.line_posts.proofs.SameLemmas.{generation_kept, lined_kept, same_posts_then}
-use Rattle.line_workers.proofs.tests.rounds.damaged_round_of_posts.Goals as goal
-
-pub gather_reported-requires-clause-generation : goal.gather_reported-requires-clause-generation
-gather_reported-requires-clause-generation g c = generation_kept c.in_ok-collector.posts.items c.report_both-first.new.posts.items (same_posts_then _ _ _ c.in_ok-seen.ensures c.report_both-first.ensures) c.in_ok-collector.ensures.generation.0
-
-pub gather_reported-requires-clause-lines : goal.gather_reported-requires-clause-lines
-gather_reported-requires-clause-lines g c = lined_kept c.in_ok-collector.collector c.in_ok-collector.posts.items c.report_both-first.new.posts.items (same_posts_then _ _ _ c.in_ok-seen.ensures c.report_both-first.ensures) c.in_ok-collector.ensures.generation.1
