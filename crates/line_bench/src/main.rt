@@ -19,9 +19,8 @@ use crate::scripts::{dominoes, ring, rounds, unordered};
 use crate::texts::Text;
 use crate::worlds::{Driver, add_plan};
 use anyhow::Result;
-use line_claims::put_check_text;
+use line_claims::write_check_text;
 use line_devices::{MemSink, MemSource};
-use line_fields::{Draft, RecordWriter};
 use line_names::ProcSet;
 use line_plan::Plan;
 use line_text::{check_text, run_text};
@@ -62,18 +61,14 @@ fn check(alloc: Global, digest: &mut Digest, text: Vec<u8>) {
 
 /// The check text of a plan for what a machine did.
 fn claim_text(alloc: Global, world: &World, failed: &ProcSet, plan: &Plan) -> Result<Vec<u8>> {
-    let mut writer = RecordWriter::new(alloc);
-    let mut draft = Draft::new(alloc);
-    put_check_text(
-        &mut writer,
-        &mut draft,
+    Ok(write_check_text(
+        alloc,
         world.history(),
         world.marks(),
         failed,
         &plan.line,
         plan.certificate.as_slice(),
-    )?;
-    Ok(Vec::from_slice(alloc, writer.text())?)
+    )?)
 }
 
 /// A plan is made of what a machine did, and the claim is written and judged.

@@ -1,38 +1,48 @@
--- A record that is written field by field.
-use Rattle.std.proofs.Common.{cond, ◌≡◌, ◌<◌, ℕ, ◌+◌, List, [], ◌∷◌, ◌++◌, get_or, length, take, sym, ap, ◌∙◌, arith}
-use Rattle.std.specs.Prelude.{Bool, true, false, codes, decimal, filter, map}
-use Rattle.std.specs.List.{range_with_len}
-use Rattle.std.proofs.lemmas.List.FromFn.{filter_of_map_range_with_len_more}
-use Rattle.line_names.specs.declared.choices.Choice.{Choice}
+-- Records that are written field by field, and a text that is kept in memory.
+use Rattle.std.proofs.Common.{◌≡◌, ◌<◌, ◌≤◌, ℕ, ◌+◌, List, [], ◌∷◌, ◌++◌, Some, drop, get_or, length, sym, ap, ◌∙◌, arith, refl}
+use Rattle.std.specs.Prelude.{Bool, true, false, decimal, filter}
+use Rattle.std.specs.List.{flat_map, range_with_len}
+use Rattle.std.proofs.lemmas.List.{drop_all, drop_more}
+use Rattle.std.proofs.lemmas.List.FromFn.{get_or-range_with_len, length-range_with_len}
+use Rattle.line_devices.specs.Devices.{Puts, PutsButEnd}
 use Rattle.line_names.specs.Sets.{is_member}
-use Rattle.std.proofs.lemmas.List.{append-nil, map-append, map-id, take_more}
-use Rattle.line_fields.specs.Records.{Record}
-use Rattle.line_claims.specs.Records.{choice_text, failed_record, line_record, members}
 
--- one process more is looked at: it is in the set, or not
-members_more : (n : ℕ) (set : List Bool) → members (n + 1) set ≡ members n set ++ cond (is_member set n) (n ∷ []) []
-members_more n set =
-    let kept : List ℕ → List ℕ = λ ps. filter (λ p. is_member set p) ps in
-    ap kept (sym (map-id (range_with_len 0 (n + 1)))) ∙ filter_of_map_range_with_len_more (λ p. is_member set p) (λ p. p) 0 n n (omega arith)
-    ∙ ap (λ (ps : List ℕ). kept ps ++ cond (is_member set n) (n ∷ []) []) (map-id (range_with_len 0 n))
+-- a comma and the number of each member of a set behind the first i of n
+abbrev pub members_behind : List Bool → ℕ → ℕ → List ℕ
+members_behind set n i = flat_map (λ p. 44 ∷ decimal p) (filter (λ p. is_member set p) (drop i (range_with_len 0 n)))
+
+next_of : (n i : ℕ) → i < n → drop i (range_with_len 0 n) ≡ i ∷ drop (i + 1) (range_with_len 0 n)
+next_of n i lt =
+    let all : List ℕ = range_with_len 0 n in
+    let long : length all ≡ n = length-range_with_len 0 n in
+    let there : i < length all = omega (arith, long, lt) in
+    let first : get_or all i i ≡ i = get_or-range_with_len 0 n i i lt ∙ omega arith in
+    drop_more all i i there ∙ ap (λ (x : ℕ). x ∷ drop (i + 1) all) first
+
+-- the next one is a member
+pub next_member : (set : List Bool) (n i : ℕ) → i < n → is_member set i ≡ true → members_behind set n i ≡ (44 ∷ decimal i) ++ members_behind set n (i + 1)
+next_member set n i lt h =
+    let test : ℕ → Bool = λ p. is_member set p in
+    let rest : List ℕ = drop (i + 1) (range_with_len 0 n) in
+    let kept : filter test (i ∷ rest) ≡ i ∷ filter test rest = rw h refl in
+    ap (λ (ps : List ℕ). flat_map (λ p. 44 ∷ decimal p) ps) (ap (filter test) (next_of n i lt) ∙ kept)
 
 -- it isn't
-pub failed_out : (n : ℕ) (set : List Bool) → is_member set n ≡ false → failed_record (n + 1) set ≡ failed_record n set
-failed_out n set h =
-    ap (λ (ps : List ℕ). codes "failed" ∷ map decimal ps) (members_more n set ∙ ap (λ (b : Bool). members n set ++ cond b (n ∷ []) []) h ∙ append-nil (members n set))
+pub next_other : (set : List Bool) (n i : ℕ) → i < n → is_member set i ≡ false → members_behind set n i ≡ members_behind set n (i + 1)
+next_other set n i lt h =
+    let test : ℕ → Bool = λ p. is_member set p in
+    let rest : List ℕ = drop (i + 1) (range_with_len 0 n) in
+    let kept : filter test (i ∷ rest) ≡ filter test rest = rw h refl in
+    ap (λ (ps : List ℕ). flat_map (λ p. 44 ∷ decimal p) ps) (ap (filter test) (next_of n i lt) ∙ kept)
 
--- it is, and was added
-pub member_added : (before now : Record) (n k : ℕ) (set : List Bool) → is_member set n ≡ true → k ≡ n → before ≡ failed_record n set → now ≡ before ++ decimal k ∷ [] → now ≡ failed_record (n + 1) set
-member_added before now n k set h same is e =
-    e ∙ ap (λ (fields : Record). fields ++ decimal k ∷ []) is ∙ ap (λ (m : ℕ). failed_record n set ++ decimal m ∷ []) same
-    ∙ ap (λ (fields : Record). codes "failed" ∷ fields) (sym (map-append decimal (members n set) (n ∷ [])))
-    ∙ ap (λ (ps : List ℕ). codes "failed" ∷ map decimal ps) (sym (members_more n set ∙ ap (λ (b : Bool). members n set ++ cond b (n ∷ []) []) h))
+pub no_member : (set : List Bool) (n i : ℕ) → n ≤ i → members_behind set n i ≡ []
+no_member set n i le =
+    let all : List ℕ = range_with_len 0 n in
+    let long : length all ≡ n = length-range_with_len 0 n in
+    let test : ℕ → Bool = λ p. is_member set p in
+    ap (λ (ps : List ℕ). flat_map (λ p. 44 ∷ decimal p) (filter test ps)) (drop_all i all (omega (arith, long, le)))
 
--- one choice more is added
-pub choice_added : (before now : Record) (choices : List Choice) (i : ℕ) (d : Choice) → i < length choices → before ≡ line_record (take i choices)
-    → now ≡ before ++ choice_text (get_or choices i d) ∷ [] → now ≡ line_record (take (i + 1) choices)
-choice_added before now choices i d lt is e =
-    let choice : Choice = get_or choices i d in
-    e ∙ ap (λ (fields : Record). fields ++ choice_text choice ∷ []) is
-    ∙ ap (λ (fields : Record). codes "line" ∷ fields) (sym (map-append choice_text (take i choices) (choice ∷ [])))
-    ∙ ap line_record (sym (take_more choices i d lt))
+-- a text that was put into an empty memory but for its end, and then its end
+pub kept_text : (old mid new held text : List ℕ) → old ≡ [] → PutsButEnd (Some old) (Some mid) held text → Puts (Some mid) (Some new) held → new ≡ text
+kept_text old mid new held text none put end =
+    end ∙ ap (λ (t : List ℕ). t ++ held) (put.put ∙ ap (λ (t : List ℕ). t ++ put.front) none) ∙ sym put.parts

@@ -12,8 +12,10 @@ mod events;
 mod faults;
 mod histories;
 mod judgements;
+mod kept;
 mod laws;
 mod numbers;
+mod spellings;
 mod texts;
 mod versions;
 mod writers;
@@ -21,12 +23,11 @@ mod writers;
 pub use claims::Claim;
 pub use entries::failed_of;
 pub use faults::{TextError, TextFault, error_at, fault_at, name_of, told};
-pub use judgements::{
-    put_bar_of, put_check_text, put_damage, put_end, put_failed, put_judged, put_line, put_pass,
-    version_of,
-};
+pub use judgements::{put_check_text, put_pass};
+pub use kept::{write_check_text, write_history};
 pub use laws::{claims_are_read_again, histories_are_read_again, version_2_reads_version_1};
 pub use numbers::{plain, want};
+pub use spellings::{choice_field, number_field, numbers_of};
 pub use texts::{CheckText, read_certificate, read_check_text, read_history};
 pub use versions::{LAST_VERSION, MOST_IN_FIRST_VERSION, earliest_version, most_in};
-pub use writers::{put_event, put_history, put_history_head, put_tape_head, write_history};
+pub use writers::put_history;

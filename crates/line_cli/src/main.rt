@@ -1,57 +1,90 @@
 //! The program `recline`.
 //!
-//! It ends with status 0 where all was done, 1 where a step or a drill was refused or a claim is not valid, 2 for bad input or a bad command line, and 3 for want of memory, of a thread or a device that failed. A fault has one line on standard error.
+//! It ends with status 0 where all was done, 1 where a step or a drill was refused or a claim is
+//! not valid, 2 for bad input or a bad command line, and 3 where memory is out, a thread could not
+//! be started or a device failed. A fault has one line on standard error; a service answers those
+//! of its records in their places.
 #![tactic(auto)]
 
 ghost use Rattle.std.specs.Prelude.{◌≤◌};
 
-mod drills;
-mod helps;
-mod standard;
 mod statuses;
-mod words;
 
-use crate::drills::drill_text;
-use crate::standard::{ReadSource, WriteSink};
-use crate::statuses::{fault_of_reading, status_of_drill, status_of_fault};
-use crate::words::{Job, LineFault, command_of};
+use crate::statuses::{status_of_drill, status_of_fault, status_of_service};
+use line_check::CertFault;
 use line_devices::{Sink, put_all};
+use line_drill_texts::drill_text;
 use line_posts::MOST_WORKERS;
-use line_text::{check_text, run_text};
+use line_service::{Outcome, ServeError};
+use line_streams::{ReadSource, WriteSink};
+use line_text::{Done, TextFault, check_text, run_text};
+use line_words::{Job, WordsFault, command_of, fault_of_reading};
 use std::alloc::{AllocError, Global};
 use std::process::ExitCode;
 use std::sync::Wait;
 use std::thread::Threads;
 use std::{env, io};
 
-// Each fault is told by a line on standard error, and by the status. Where standard error fails, the
-// status is all that tells it, and stays as it is.
+// The words ask for no more workers than a drill can have.
+const _: () = prove!(line_words::MOST_WORKERS as usize == MOST_WORKERS);
+
+// Each fault is told by a line on standard error, and by the status. Where standard error fails,
+// the status is all that tells it, and stays as it is.
+
+/// Tells the fault of a text, and says how it ends the program.
+fn tell(rt: &impl Eprint, fault: &TextFault) -> u8 {
+    let _ = eprintln!(rt; "recline: {fault}");
+    status_of_fault(fault.code)
+}
+
+/// What comes of the script on standard input.
+fn run_input(rt: &(impl Input + Print), alloc: Global) -> Result<Done, TextFault> {
+    let mut source = ReadSource::new(rt.reader());
+    let mut sink = WriteSink::new(io::writer(rt));
+    run_text(alloc, &mut source, &mut sink)
+}
 
 /// Runs the script on standard input, and says how that went.
 fn run(rt: &(impl Input + Print + Eprint), alloc: Global) -> u8 {
-    let mut source = ReadSource::new(rt.reader());
-    let mut sink = WriteSink::new(io::writer(rt));
-    match run_text(alloc, &mut source, &mut sink) {
+    match run_input(rt, alloc) {
         Ok(done) if done.refused == 0 => 0,
         Ok(_) => 1,
-        Err(fault) => {
-            let _ = eprintln!(rt; "recline: {fault}");
-            status_of_fault(fault.code)
+        Err(fault) => tell(rt, &fault),
+    }
+}
+
+/// What comes of answering the records on standard input as they come.
+fn serve_input(rt: &(impl Input + Print), alloc: Global) -> Result<Outcome, ServeError> {
+    let mut source = ReadSource::new(rt.reader());
+    let mut sink = WriteSink::new(io::writer(rt));
+    line_service::serve(alloc, &mut source, &mut sink)
+}
+
+/// Answers the records on standard input as they come, and says how that went.
+fn serve(rt: &(impl Input + Print + Eprint), alloc: Global) -> u8 {
+    match serve_input(rt, alloc) {
+        Ok(outcome) => status_of_service(outcome),
+        Err(error) => {
+            let code = error.code();
+            let _ = eprintln!(rt; "recline: record 0: {code} {error}");
+            status_of_fault(code)
         }
     }
 }
 
-/// Judges the claim on standard input, and says how that went.
-fn check(rt: &(impl Input + Print + Eprint), alloc: Global) -> u8 {
+/// The first fault of the claim on standard input, if it has one.
+fn check_input(rt: &(impl Input + Print), alloc: Global) -> Result<Option<CertFault>, TextFault> {
     let mut source = ReadSource::new(rt.reader());
     let mut sink = WriteSink::new(io::writer(rt));
-    match check_text(alloc, &mut source, &mut sink) {
+    check_text(alloc, &mut source, &mut sink)
+}
+
+/// Judges the claim on standard input, and says how that went.
+fn check(rt: &(impl Input + Print + Eprint), alloc: Global) -> u8 {
+    match check_input(rt, alloc) {
         Ok(None) => 0,
         Ok(Some(_)) => 1,
-        Err(fault) => {
-            let _ = eprintln!(rt; "recline: {fault}");
-            status_of_fault(fault.code)
-        }
+        Err(fault) => tell(rt, &fault),
     }
 }
 
@@ -90,14 +123,14 @@ fn show(rt: &(impl Print + Eprint), text: &str) -> u8 {
 }
 
 /// Answers words that ask for no job, and says how that went.
-fn answer(rt: &(impl Print + Eprint), fault: &LineFault) -> u8 {
+fn answer(rt: &(impl Print + Eprint), fault: &WordsFault) -> u8 {
     match fault {
-        LineFault::Help(text) | LineFault::Version(text) => show(rt, text),
-        LineFault::Bad => {
+        WordsFault::Help(text) | WordsFault::Version(text) => show(rt, text),
+        WordsFault::Bad => {
             let _ = eprintln!(rt; "recline: bad command line");
             2
         }
-        LineFault::OutOfMemory => {
+        WordsFault::OutOfMemory => {
             let _ = eprintln!(rt; "recline: 0 OutOfMemory");
             status_of_fault(0)
         }
@@ -130,10 +163,11 @@ fn done(
     given: &[String],
 ) -> u8 {
     let Ok(words) = command_line(alloc, given) else {
-        return answer(rt, &LineFault::OutOfMemory);
+        return answer(rt, &WordsFault::OutOfMemory);
     };
     match command_of(alloc, &words) {
         Ok(Job::Run) => run(rt, alloc),
+        Ok(Job::Serve) => serve(rt, alloc),
         Ok(Job::Check) => check(rt, alloc),
         Ok(Job::Drill { workers, rounds }) => drill(rt, alloc, workers, rounds),
         Err(fault) => answer(rt, &fault),

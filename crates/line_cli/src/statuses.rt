@@ -1,23 +1,11 @@
 //! How the program ends.
-ghost use Rattle.std.specs.Prelude.{◌≡◌, ◌≢◌};
-ghost use Rattle.std.specs.IoError.{error_kind};
-ghost use Rattle.line_cli.specs.Status.{status_of, status_of_drill};
+ghost use Rattle.std.specs.Prelude.{◌≡◌};
+ghost use Rattle.line_cli.specs.Status.{status_of, status_of_drill, status_of_service};
 
-use crate::words::LineFault;
-use std::io::{Error, ErrorKind};
+use line_service::Outcome;
 
-/// Why the words of the command line were not read: memory was wanting, or one of them is no text.
-pub fn fault_of_reading(error: &Error) -> LineFault
-    ensures memory { error_kind error.now ≡ ErrorKind.OutOfMemory → result ≡ LineFault.OutOfMemory }
-    ensures text { error_kind error.now ≢ ErrorKind.OutOfMemory → result ≡ LineFault.Bad }
-{
-    match error.kind() {
-        ErrorKind::OutOfMemory => LineFault::OutOfMemory,
-        _ => LineFault::Bad,
-    }
-}
-
-/// The status that goes with a fault of a text, by its number: 3 for want of memory (0), a source (36), a sink (37) or a thread (39) that failed, and 2 for the others.
+/// The status that goes with a fault of a text, by its number: 3 for want of memory (0), a source
+/// (36), a sink (37) or a thread (39) that failed, and 2 for the others.
 pub fn status_of_fault(code: u32) -> u8
     ensures { result ≡ status_of code }
 {
@@ -27,7 +15,20 @@ pub fn status_of_fault(code: u32) -> u8
     }
 }
 
-/// The status that goes with a drill that was refused, by its number: 3 for want of memory (0) or a thread (39), and 1 for the others.
+/// The status that goes with what a service answered: 0 where all was done, 1 where a command was
+/// refused, and 2 where a fault was answered.
+pub fn status_of_service(outcome: Outcome) -> u8
+    ensures { result ≡ status_of_service outcome }
+{
+    match outcome {
+        Outcome::Done => 0,
+        Outcome::Refused => 1,
+        Outcome::Faulted => 2,
+    }
+}
+
+/// The status that goes with a drill that was refused, by its number: 3 for want of memory (0) or a
+/// thread (39), and 1 for the others.
 pub fn status_of_drill(code: u32) -> u8
     ensures { result ≡ status_of_drill code }
 {

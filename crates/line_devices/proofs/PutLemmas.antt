@@ -1,8 +1,8 @@
 -- What several puts in a row put, and several fills in a row fill.
-use Rattle.std.proofs.Common.{◌≡◌, ℕ, ◌+◌, ◌-◌, List, [], ◌++◌, length, take, drop, Option, Some, None, sym, ap, ◌∙◌, append_assoc, arith}
+use Rattle.std.proofs.Common.{◌≡◌, ℕ, ◌+◌, ◌-◌, List, [], ◌++◌, length, take, drop, Option, Some, None, refl, sym, ap, ◌∙◌, subst, append_assoc, arith}
 use Rattle.std.proofs.lemmas.List.{append-nil, length-drop, take-append-drop, take_all}
 use Rattle.std.proofs.Math.Seq.{take-add}
-use Rattle.line_devices.specs.Devices.{Fills, FillsFront, IsDone, Puts, PutsFront}
+use Rattle.line_devices.specs.Devices.{Fills, FillsFront, IsDone, Puts, PutsButEnd, PutsFront}
 
 -- a slice from a place on is all that follows that place
 pub slice_from : (i : ℕ) (xs : List ℕ) → take (length xs - i) (drop i xs) ≡ drop i xs
@@ -35,6 +35,60 @@ front_more a b c i xs h k =
     let whole : take i xs ++ (drop i xs ++ []) ≡ xs = ap (λ (t : List ℕ). take i xs ++ t) (append-nil (drop i xs)) ∙ take-append-drop i xs in
     let P : List ℕ → Type 0 = λ t. PutsFront a c t in
     rw (← whole) (front_then a b c (take i xs) (drop i xs) [] h k)
+
+-- a front of a front
+pub front_of_front : (a b : Option (List ℕ)) (bytes rest : List ℕ) → PutsFront a b bytes → PutsFront a b (bytes ++ rest)
+front_of_front None b bytes rest h = tt
+front_of_front (Some xs) b bytes rest h = front_then (Some xs) (Some xs) b [] bytes rest (sym (append-nil xs)) h
+
+-- where nothing was put, all is held
+pub holds_all : (taken : Option (List ℕ)) (held : List ℕ) → PutsButEnd taken taken held held
+holds_all None held = record { front = []; put = tt; parts = refl }
+holds_all (Some xs) held = record { front = []; put = sym (append-nil xs); parts = refl }
+
+-- more is held
+pub holds_more : (old new : Option (List ℕ)) (held text more : List ℕ) → PutsButEnd old new held text → PutsButEnd old new (held ++ more) (text ++ more)
+holds_more old new held text more h = record {
+  front = h.front;
+  put = h.put;
+  parts = ap (λ (t : List ℕ). t ++ more) h.parts ∙ append_assoc h.front held more;
+}
+
+-- what was held is put
+pub holds_none : (old new : Option (List ℕ)) (text : List ℕ) → Puts old new text → PutsButEnd old new [] text
+holds_none old new text h = record { front = text; put = h; parts = sym (append-nil text) }
+
+-- more was put of what was held
+pub puts_of_held : (old mid new : Option (List ℕ)) (held later text : List ℕ) → PutsButEnd old mid held text → PutsButEnd mid new later held → PutsButEnd old new later text
+puts_of_held old mid new held later text h k = record {
+  front = h.front ++ k.front;
+  put = puts_both old mid new h.front k.front h.put k.put;
+  parts = h.parts ∙ ap (λ (t : List ℕ). h.front ++ t) k.parts ∙ sym (append_assoc h.front k.front later);
+}
+
+-- a front of what was held was put
+pub puts_front_of_held : (old mid new : Option (List ℕ)) (held text : List ℕ) → PutsButEnd old mid held text → PutsFront mid new held → PutsFront old new text
+puts_front_of_held old mid new held text h put =
+    let parts : h.front ++ (held ++ []) ≡ text = ap (λ (t : List ℕ). h.front ++ t) (append-nil held) ∙ sym h.parts in
+    subst (λ (t : List ℕ). PutsFront old new t) parts (front_then old mid new h.front held [] h.put put)
+
+-- what was held was put, and more is held
+pub then_held : (old new : Option (List ℕ)) (text more : List ℕ) → Puts old new text → PutsButEnd old new more (text ++ more)
+then_held old new text more h = record { front = text; put = h; parts = refl }
+
+-- one text behind another
+pub then_put : (old mid new : Option (List ℕ)) (held kept later xs ys : List ℕ) → PutsButEnd old mid kept (held ++ xs) → PutsButEnd mid new later (kept ++ ys) → PutsButEnd old new later (held ++ (xs ++ ys))
+then_put old mid new held kept later xs ys h k =
+    subst (λ (t : List ℕ). PutsButEnd old new later t) (append_assoc held xs ys) (puts_of_held old mid new (kept ++ ys) later ((held ++ xs) ++ ys) (holds_more old mid kept (held ++ xs) ys h) k)
+
+-- one text behind another, of which a front was put
+pub then_front : (old mid new : Option (List ℕ)) (held kept xs ys : List ℕ) → PutsButEnd old mid kept (held ++ xs) → PutsFront mid new (kept ++ ys) → PutsFront old new (held ++ (xs ++ ys))
+then_front old mid new held kept xs ys h k =
+    subst (λ (t : List ℕ). PutsFront old new t) (append_assoc held xs ys) (puts_front_of_held old mid new (kept ++ ys) ((held ++ xs) ++ ys) (holds_more old mid kept (held ++ xs) ys h) k)
+
+-- a front of the first of two texts
+pub first_front : (old new : Option (List ℕ)) (held xs ys : List ℕ) → PutsFront old new (held ++ xs) → PutsFront old new (held ++ (xs ++ ys))
+first_front old new held xs ys h = subst (λ (t : List ℕ). PutsFront old new t) (append_assoc held xs ys) (front_of_front old new (held ++ xs) ys h)
 
 -- two fills, one after the other
 pub fills_both : (a b c : Option (List ℕ)) (xs ys : List ℕ) → Fills a b xs → Fills b c ys → Fills a c (xs ++ ys)

@@ -161,6 +161,13 @@ impl MemSink {
     {
         self.bytes.as_slice()
     }
+
+    /// The bytes that were put, in their order, handed out. It takes no memory.
+    pub fn into_bytes(self) -> Vec<u8>
+        ensures { result.items ≡ self.bytes }
+    {
+        self.bytes
+    }
 }
 
 impl Sink for MemSink {

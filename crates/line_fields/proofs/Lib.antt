@@ -9,6 +9,7 @@ pub mod LineLemmas
 pub mod MachineLemmas
 pub mod MarkLemmas
 pub mod NumLemmas
+pub mod OutletLemmas
 pub mod PlainLemmas
 pub mod ReadAgain
 pub mod RoundLemmas

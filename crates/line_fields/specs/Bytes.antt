@@ -1,5 +1,6 @@
 -- Which bytes an input text may have.
 use Rattle.std.specs.Prelude.{ℕ, List, [], ◌∷◌, Bool, true, false, not, ◌==◌, ◌&&◌, ◌||◌, nat_le}
+use Rattle.std.specs.List.{list_all}
 
 -- a line feed comes first
 abbrev pub begins_with_feed : List ℕ → Bool
@@ -18,3 +19,11 @@ is_common byte = (nat_le 32 byte && nat_le byte 126 && not (byte == 34)) || (byt
 unfoldable pub is_input_text : List ℕ → Bool
 is_input_text [] = true
 is_input_text (byte ∷ rest) = is_allowed byte rest && is_input_text rest
+
+-- a byte that may stand in a line: 32 to 126 but the double quote
+abbrev pub is_line_byte : ℕ → Bool
+is_line_byte byte = nat_le 32 byte && nat_le byte 126 && not (byte == 34)
+
+-- each byte may stand in a line
+abbrev pub is_line_text : List ℕ → Bool
+is_line_text line = list_all is_line_byte line

@@ -2,6 +2,7 @@ pub mod Bytes
 pub mod Digits
 pub mod Faults
 pub mod Fields
+pub mod Outlets
 pub mod Records
 pub mod Rows
 pub mod Shapes

@@ -2,7 +2,7 @@
 
 ghost use Rattle.std.specs.Prelude.{◌≡◌};
 ghost use Rattle.std.specs.List.{list_all};
-ghost use Rattle.line_fields.specs.Bytes.{begins_with_feed, is_allowed, is_common, is_input_text};
+ghost use Rattle.line_fields.specs.Bytes.{begins_with_feed, is_allowed, is_common, is_input_text, is_line_byte, is_line_text};
 
 // Whether a byte may stand in an input text, before these.
 fn is_allowed(byte: u8, others: &[u8]) -> bool
@@ -59,4 +59,25 @@ pub fn is_plain(text: &[u8]) -> bool
     ensures { result ≡ is_input_text text.now }
 {
     are_common(text) || are_allowed(text)
+}
+
+// Whether a byte may stand in a line.
+fn is_line_byte(byte: u8) -> bool
+    ensures { result ≡ is_line_byte byte }
+{
+    b' ' <= byte && byte <= b'~' && byte != b'"'
+}
+
+/// Whether a line, given without its end, has only bytes from the blank to the tilde but the double
+/// quote.
+///
+/// It always looks at all of them, so that it is compiled to look at many at once.
+pub fn is_plain_line(line: &[u8]) -> bool
+    ensures { result ≡ is_line_text line.now }
+{
+    let mut plain = true;
+    for byte in line {
+        plain &= is_line_byte(*byte);
+    }
+    plain
 }

@@ -9,17 +9,21 @@ mod faults;
 mod fields;
 mod laws;
 mod lines;
+mod outlets;
 mod records;
 mod splits;
 mod writers;
 
-pub use bytes::is_plain;
+pub use bytes::{is_plain, is_plain_line};
 pub use drafts::Draft;
 pub use faults::{Fault, ReadError};
 pub use fields::{hex, hex_behind, hex_into, number};
 pub use laws::{
     bytes_are_read_again, csv_reads_the_same_records, csv_writes_the_same_text,
     numbers_are_read_again, records_are_few, records_are_read_again,
+};
+pub use outlets::{
+    Field, add_field, begin_record, end_record, put_ending, put_fields, put_numbers,
 };
 pub use records::{RecordReader, Row};
 pub use writers::{RecordWriter, put_record};

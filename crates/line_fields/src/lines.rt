@@ -1,7 +1,7 @@
 //! A record that is written field by field, as the text of its line.
 
 ghost use Rattle.std.specs.Prelude.{◌≡◌, ◌≤◌, ◌<◌, ◌↔◌, ◌++◌, ◌∷◌, ◌+◌, ◌*◌, ◌^◌, [], true, if◌then◌else◌, IsTrue, OnErr, OnOk, length, vec_capacity, vec_len, decimal};
-ghost use Rattle.line_fields.specs.Texts.{has_name, hex_digit, hex_text, is_plain_field, record_text};
+ghost use Rattle.line_fields.specs.Texts.{has_name, hex_digit, hex_pair, hex_text, is_plain_field, record_text};
 ghost use Rattle.line_fields.specs.Writers.{text_before, two_digits};
 
 use crate::digits::push_eights;
@@ -56,9 +56,16 @@ fn hex_digit(value: u8) -> u8
     DIGITS[usize::from(value)]
 }
 
+/// The two hexadecimal digits of a byte.
+pub(crate) fn pair_of(byte: u8) -> [u8; 2]
+    ensures { result ≡ hex_pair byte }
+{
+    [hex_digit(byte / 16), hex_digit(byte % 16)]
+}
+
 // Writes bytes in hexadecimal, where there is room for their digits.
 #[tactic(auto, unfolding(crate::specs::Texts::hex_text))]
-fn push_hex(out: &mut Vec<u8>, bytes: &[u8])
+pub(crate) fn push_hex(out: &mut Vec<u8>, bytes: &[u8])
     requires { vec_len out.old + 2 * length bytes.now ≤ vec_capacity out.old }
     ensures { out.new.items ≡ out.old.items ++ hex_text bytes.now }
 {
@@ -117,10 +124,12 @@ fn push_four(out: &mut Vec<u8>, value: u32)
 
 // Writes a number below 100,000,000, where there is room for eight digits.
 #[inline(always)]
-fn push_number(out: &mut Vec<u8>, value: u32)
+pub(crate) fn push_number(out: &mut Vec<u8>, value: u32)
     requires small { value < 100000000 }
     requires room { vec_len out.old + 8 ≤ vec_capacity out.old }
-    ensures { out.new.items ≡ out.old.items ++ decimal value }
+    ensures text { out.new.items ≡ out.old.items ++ decimal value }
+    ensures len { vec_len out.new ≤ vec_len out.old + 8 }
+    ensures capacity { vec_capacity out.new ≡ vec_capacity out.old }
 {
     if value < 100 {
         push_small(out, value);
@@ -134,7 +143,7 @@ fn push_number(out: &mut Vec<u8>, value: u32)
 }
 
 // Writes bytes, where there is room for them.
-fn push_text(out: &mut Vec<u8>, bytes: &[u8])
+pub(crate) fn push_text(out: &mut Vec<u8>, bytes: &[u8])
     requires { vec_len out.old + length bytes.now ≤ vec_capacity out.old }
     ensures text { out.new.items ≡ out.old.items ++ bytes.now }
     ensures len { vec_len out.new ≡ vec_len out.old + length bytes.now }
@@ -147,9 +156,11 @@ fn push_text(out: &mut Vec<u8>, bytes: &[u8])
 
 // Writes a word, where there is room for it.
 #[inline(always)]
-fn push_word(out: &mut Vec<u8>, word: &[u8])
+pub(crate) fn push_word(out: &mut Vec<u8>, word: &[u8])
     requires { vec_len out.old + length word.now ≤ vec_capacity out.old }
-    ensures { out.new.items ≡ out.old.items ++ word.now }
+    ensures text { out.new.items ≡ out.old.items ++ word.now }
+    ensures len { vec_len out.new ≡ vec_len out.old + length word.now }
+    ensures capacity { vec_capacity out.old ≤ vec_capacity out.new }
 {
     if word.len() > SHORT_WORD {
         push_text(out, word);
@@ -162,7 +173,7 @@ fn push_word(out: &mut Vec<u8>, word: &[u8])
 
 // Whether a list has room for so many bytes and one more.
 #[inline(always)]
-fn has_room(text: &Vec<u8>, bytes: usize) -> bool
+pub(crate) fn has_room(text: &Vec<u8>, bytes: usize) -> bool
     ensures { IsTrue result ↔ vec_len text.now + bytes < vec_capacity text.now }
 {
     bytes < text.capacity() - text.len()

@@ -1,11 +1,12 @@
 //! The records of an input text, one at a time. From the first carriage return on `csv` reads it.
 
-ghost use Rattle.std.specs.Prelude.{◌≡◌, ◌==◌, ◌+◌, ◌≤◌, ◌<◌, ◌∷◌, [], true, false, All, IfOk, IsTrue, MatchBool, OnErr, length, slice_index_or, take};
+ghost use Rattle.std.specs.Prelude.{◌≡◌, ◌==◌, ◌+◌, ◌≤◌, ◌<◌, ◌∷◌, [], true, false, All, IfOk, IsTrue, MatchBool, OnErr, if◌then◌else◌, length, slice_index_or, take};
 ghost use Rattle.csv.specs.Records.{fields_of};
-ghost use Rattle.line_fields.specs.Bytes.{begins_with_feed, is_input_text};
+ghost use Rattle.line_fields.specs.Bytes.{begins_with_feed, is_input_text, is_line_text};
 ghost use Rattle.line_fields.specs.Records.{field, is_line, parts, records_of_text};
 ghost use Rattle.line_fields.specs.Rows.{IsLineEnd, IsReading, IsReadingOn, IsWithin, begin_at, begins_with_end, begins_with_return, fields_in, rows_left, rows_left_in, spans_from};
 
+use crate::bytes::is_plain_line;
 use crate::splits::split;
 use csv::{ByteRecord, Error, Reader, ReaderBuilder};
 use std::alloc::{AllocError, Global};
@@ -145,10 +146,14 @@ impl Row {
         self.by_csv = false;
     }
 
-    // Puts the fields of the first line of a text in place of those of the row, or none where a
-    // growth is refused, and says where that line ends.
+    /// Puts the fields of the first line of a text in place of those of the row, or none where a
+    /// growth is refused, and says where that line ends: before a line feed or a carriage return, or
+    /// with the text.
+    ///
+    /// It looks at the bytes sixteen at a time, as far as the text goes, so a line is best read with
+    /// what stands behind it.
     #[tactic(auto, unfolding(crate::specs::Rows::spans_from))]
-    fn read_line(&mut self, text: &[u8]) -> Result<usize, AllocError>
+    pub fn take_line(&mut self, text: &[u8]) -> Result<usize, AllocError>
         ensures line { IfOk result (λ end. IsLineEnd text.now end) }
         ensures ok { IfOk result (λ end. self.new ≡ parts 44 (take end text.now)) }
         ensures err { OnErr result (self.new ≡ []) }
@@ -162,6 +167,24 @@ impl Row {
         }
         self.ends.clear();
         Err(AllocError)
+    }
+
+    /// Puts the fields of a line, given without its end, in place of those of the row, and says
+    /// whether each of its bytes may stand in a line. It reads none of a line where one may not.
+    ///
+    /// An empty line has one field, which is empty. It takes time in proportion to the line, and
+    /// memory only where the lines before it were shorter.
+    pub fn read_line(&mut self, line: &[u8]) -> Result<bool, AllocError>
+        ensures plain { IfOk result (λ plain. plain ≡ is_line_text line.now) }
+        ensures ok { IfOk result (λ plain. self.new ≡ (if plain then parts 44 line.now else [])) }
+        ensures err { OnErr result (self.new ≡ []) }
+    {
+        if !is_plain_line(line) {
+            self.clear();
+            return Ok(false);
+        }
+        self.take_line(line)?;
+        Ok(true)
     }
 
     // Puts the next record of a reader of `csv` in place of the fields of the row, or none after the
@@ -223,7 +246,7 @@ fn read_first<'a>(text: &'a [u8], row: &mut Row) -> Result<&'a [u8], AllocError>
     ensures ok { IfOk result (λ rest. records_of_text text.now ≡ row.new ∷ records_of_text rest.now) }
     ensures err { OnErr result (row.new ≡ []) }
 {
-    let end = row.read_line(text)?;
+    let end = row.take_line(text)?;
     Ok(&text[end..])
 }
 

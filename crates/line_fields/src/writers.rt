@@ -1,18 +1,21 @@
 //! The text of records that are written.
 
-ghost use Rattle.std.specs.Prelude.{◌≡◌, ◌++◌, [], IsTrue, OnErr, OnOk};
+ghost use Rattle.std.specs.Prelude.{◌≡◌, ◌++◌, [], IfOk, IsTrue, OnErr, OnOk};
 ghost use Rattle.line_fields.specs.Texts.{has_name, record_text};
 
 use crate::Draft;
 use std::alloc::{AllocError, Global};
 use std::marker::Model;
 
+// The room of a writer that puts what it holds where that is full.
+const ROOM: usize = 65_536;
+
 /// The text of the records that were put, each in a line of its own.
 ///
 /// One is best kept for many records, and its text taken away from time to time.
 #[derive(Drop)]
 pub struct RecordWriter {
-    text: Vec<u8>,
+    pub(crate) text: Vec<u8>,
 }
 
 impl Model for RecordWriter {
@@ -31,6 +34,14 @@ impl RecordWriter {
         RecordWriter {
             text: Vec::new(alloc),
         }
+    }
+
+    /// A writer of no records yet, with room for some 64 KiB of text.
+    pub fn with_room(alloc: Global) -> Result<RecordWriter, AllocError>
+        ensures { IfOk result (λ writer. writer ≡ []) }
+    {
+        let text = Vec::with_capacity(alloc, ROOM)?;
+        Ok(RecordWriter { text })
     }
 
     /// Writes a record behind those that were put before: its fields joined by commas, and a line

@@ -1,269 +1,213 @@
 //! The records that are written for what the machine answers.
 
-ghost use Rattle.std.specs.Prelude.{◌≡◌, ◌++◌, ◌∷◌, [], Some, IfOk, IsTrue, OnErr, OnOk, decimal};
-ghost use Rattle.line_claims.specs.Records.{name_fields, number_text};
-ghost use Rattle.line_devices.specs.Devices.{PutsFront};
-ghost use Rattle.line_fields.specs.Texts.{is_plain_field, record_text, records_text};
+ghost use Rattle.std.specs.Prelude.{◌≡◌, ◌++◌, [], IfOk, OnOk};
+ghost use Rattle.line_devices.specs.Devices.{Outputs};
+ghost use Rattle.line_fields.specs.Texts.{record_text, records_text};
 ghost use Rattle.line_replies.specs.Replies as spec;
 ghost use Rattle.line_world.specs.Codes as numbers;
 
 mod recoveries;
 
-use line_claims::name_of;
-use line_fields::{Draft, RecordWriter};
+use line_claims::{name_of, number_field, numbers_of};
+use line_devices::{DeviceFault, MemSink, Sink, put_all};
+use line_fields::{Field, RecordWriter, put_ending, put_numbers};
 use line_names::{MsgName, ProcId};
-use line_world::{Answer, Reply, StepError};
+use line_world::{Reply, StepError};
 use recoveries::put_recovery;
 use std::alloc::{AllocError, Global};
 
-// Adds the name of a message.
-fn add_message(draft: &mut Draft, message: MsgName) -> Result<(), AllocError>
-    ensures { OnOk result (draft.new ≡ draft.old ++ name_fields message) }
-{
-    draft.number(u64::from(message.from.get()))?;
-    draft.number(u64::from(message.inc))?;
-    draft.number(u64::from(message.number))
-}
-
-// Begins a record with its name and the name of a message.
-fn begin(draft: &mut Draft, word: &[u8], message: MsgName) -> Result<(), AllocError>
-    requires { IsTrue (is_plain_field word.now) }
-    ensures { OnOk result (draft.new ≡ word.now ∷ name_fields message) }
-{
-    draft.clear();
-    draft.word(word)?;
-    add_message(draft, message)
-}
-
 // Writes `sent,FROM,INC,NUMBER`.
-fn put_sent(
+fn put_sent<K: Sink>(
+    sink: &mut K,
     writer: &mut RecordWriter,
-    draft: &mut Draft,
     message: MsgName,
-) -> Result<(), AllocError>
-    ensures ok { OnOk result (writer.new ≡ writer.old ++ record_text (spec.sent message)) }
-    ensures err { OnErr result (writer.new ≡ writer.old) }
+) -> Result<(), DeviceFault>
+    ensures { Outputs result (K.taken sink.old) (K.taken sink.new) (K.faults sink.old) (K.faults sink.new) writer.new (writer.old ++ record_text (spec.sent message)) }
 {
-    begin(draft, b"sent", message)?;
-    writer.put(draft)
+    put_numbers(sink, writer, b"sent", &numbers_of(message))
 }
 
 // Writes `stale,FROM,INC,NUMBER`.
-fn put_stale(
+fn put_stale<K: Sink>(
+    sink: &mut K,
     writer: &mut RecordWriter,
-    draft: &mut Draft,
     message: MsgName,
-) -> Result<(), AllocError>
-    ensures ok { OnOk result (writer.new ≡ writer.old ++ record_text (spec.stale message)) }
-    ensures err { OnErr result (writer.new ≡ writer.old) }
+) -> Result<(), DeviceFault>
+    ensures { Outputs result (K.taken sink.old) (K.taken sink.new) (K.faults sink.old) (K.faults sink.new) writer.new (writer.old ++ record_text (spec.stale message)) }
 {
-    begin(draft, b"stale", message)?;
-    writer.put(draft)
+    put_numbers(sink, writer, b"stale", &numbers_of(message))
 }
 
 // Writes `repeated,FROM,INC,NUMBER`.
-fn put_repeated(
+fn put_repeated<K: Sink>(
+    sink: &mut K,
     writer: &mut RecordWriter,
-    draft: &mut Draft,
     message: MsgName,
-) -> Result<(), AllocError>
-    ensures ok { OnOk result (writer.new ≡ writer.old ++ record_text (spec.repeated message)) }
-    ensures err { OnErr result (writer.new ≡ writer.old) }
+) -> Result<(), DeviceFault>
+    ensures { Outputs result (K.taken sink.old) (K.taken sink.new) (K.faults sink.old) (K.faults sink.new) writer.new (writer.old ++ record_text (spec.repeated message)) }
 {
-    begin(draft, b"repeated", message)?;
-    writer.put(draft)
-}
-
-// Adds the round of a forced check, or `-`.
-fn add_round(draft: &mut Draft, forced: Option<u32>) -> Result<(), AllocError>
-    ensures { OnOk result (draft.new ≡ draft.old ++ number_text forced ∷ []) }
-{
-    match forced {
-        None => draft.word(b"-"),
-        Some(round) => draft.number(u64::from(round)),
-    }
+    put_numbers(sink, writer, b"repeated", &numbers_of(message))
 }
 
 // Writes `took,FROM,INC,NUMBER,ROUND`.
-fn put_took(
+fn put_took<K: Sink>(
+    sink: &mut K,
     writer: &mut RecordWriter,
-    draft: &mut Draft,
     message: MsgName,
     forced: Option<u32>,
-) -> Result<(), AllocError>
-    ensures ok { OnOk result (writer.new ≡ writer.old ++ record_text (spec.took message forced)) }
-    ensures err { OnErr result (writer.new ≡ writer.old) }
+) -> Result<(), DeviceFault>
+    ensures { Outputs result (K.taken sink.old) (K.taken sink.new) (K.faults sink.old) (K.faults sink.new) writer.new (writer.old ++ record_text (spec.took message forced)) }
 {
-    begin(draft, b"took", message)?;
-    add_round(draft, forced)?;
-    writer.put(draft)
-}
-
-// Adds a process and a check of it.
-fn add_check(draft: &mut Draft, at: ProcId, check: u32) -> Result<(), AllocError>
-    ensures { OnOk result (draft.new ≡ draft.old ++ decimal at ∷ decimal check ∷ []) }
-{
-    draft.number(u64::from(at.get()))?;
-    draft.number(u64::from(check))
+    let last = number_field(forced);
+    put_ending(sink, writer, b"took", &numbers_of(message), last)
 }
 
 // Writes `checked,P,C`.
-fn put_checked(
+fn put_checked<K: Sink>(
+    sink: &mut K,
     writer: &mut RecordWriter,
-    draft: &mut Draft,
     at: ProcId,
     check: u32,
-) -> Result<(), AllocError>
-    ensures ok { OnOk result (writer.new ≡ writer.old ++ record_text (spec.checked at check)) }
-    ensures err { OnErr result (writer.new ≡ writer.old) }
+) -> Result<(), DeviceFault>
+    ensures { Outputs result (K.taken sink.old) (K.taken sink.new) (K.faults sink.old) (K.faults sink.new) writer.new (writer.old ++ record_text (spec.checked at check)) }
 {
-    draft.clear();
-    draft.word(b"checked")?;
-    add_check(draft, at, check)?;
-    writer.put(draft)
+    let place = at.get();
+    put_numbers(sink, writer, b"checked", &[place as u64, check as u64])
 }
 
 // Writes `marked,ROUND,forced` or `marked,ROUND,closed`.
-fn put_marked(
+fn put_marked<K: Sink>(
+    sink: &mut K,
     writer: &mut RecordWriter,
-    draft: &mut Draft,
     round: u32,
     forced: bool,
-) -> Result<(), AllocError>
-    ensures ok { OnOk result (writer.new ≡ writer.old ++ record_text (spec.marked round forced)) }
-    ensures err { OnErr result (writer.new ≡ writer.old) }
+) -> Result<(), DeviceFault>
+    ensures { Outputs result (K.taken sink.old) (K.taken sink.new) (K.faults sink.old) (K.faults sink.new) writer.new (writer.old ++ record_text (spec.marked round forced)) }
 {
-    draft.clear();
-    draft.word(b"marked")?;
-    draft.number(u64::from(round))?;
     if forced {
-        draft.word(b"forced")?;
+        put_ending(
+            sink,
+            writer,
+            b"marked",
+            &[round as u64],
+            Field::Word(b"forced"),
+        )
     } else {
-        draft.word(b"closed")?;
+        put_ending(
+            sink,
+            writer,
+            b"marked",
+            &[round as u64],
+            Field::Word(b"closed"),
+        )
     }
-    writer.put(draft)
 }
 
 // Writes `begun,P,C,ROUND`.
-fn put_begun(
+fn put_begun<K: Sink>(
+    sink: &mut K,
     writer: &mut RecordWriter,
-    draft: &mut Draft,
     at: ProcId,
     check: u32,
     round: u32,
-) -> Result<(), AllocError>
-    ensures ok { OnOk result (writer.new ≡ writer.old ++ record_text (spec.begun at check round)) }
-    ensures err { OnErr result (writer.new ≡ writer.old) }
+) -> Result<(), DeviceFault>
+    ensures { Outputs result (K.taken sink.old) (K.taken sink.new) (K.faults sink.old) (K.faults sink.new) writer.new (writer.old ++ record_text (spec.begun at check round)) }
 {
-    draft.clear();
-    draft.word(b"begun")?;
-    add_check(draft, at, check)?;
-    draft.number(u64::from(round))?;
-    writer.put(draft)
+    let place = at.get();
+    put_numbers(
+        sink,
+        writer,
+        b"begun",
+        &[place as u64, check as u64, round as u64],
+    )
 }
 
 // Writes `turned,P,C,ROUND`.
-fn put_turned(
+fn put_turned<K: Sink>(
+    sink: &mut K,
     writer: &mut RecordWriter,
-    draft: &mut Draft,
     at: ProcId,
     check: u32,
     round: u32,
-) -> Result<(), AllocError>
-    ensures ok { OnOk result (writer.new ≡ writer.old ++ record_text (spec.turned at check round)) }
-    ensures err { OnErr result (writer.new ≡ writer.old) }
+) -> Result<(), DeviceFault>
+    ensures { Outputs result (K.taken sink.old) (K.taken sink.new) (K.faults sink.old) (K.faults sink.new) writer.new (writer.old ++ record_text (spec.turned at check round)) }
 {
-    draft.clear();
-    draft.word(b"turned")?;
-    add_check(draft, at, check)?;
-    draft.number(u64::from(round))?;
-    writer.put(draft)
+    let place = at.get();
+    put_numbers(
+        sink,
+        writer,
+        b"turned",
+        &[place as u64, check as u64, round as u64],
+    )
 }
 
 // Writes `damaged,P,C`.
-fn put_damaged(
+fn put_damaged<K: Sink>(
+    sink: &mut K,
     writer: &mut RecordWriter,
-    draft: &mut Draft,
     at: ProcId,
     check: u32,
-) -> Result<(), AllocError>
-    ensures ok { OnOk result (writer.new ≡ writer.old ++ record_text (spec.damaged at check)) }
-    ensures err { OnErr result (writer.new ≡ writer.old) }
+) -> Result<(), DeviceFault>
+    ensures { Outputs result (K.taken sink.old) (K.taken sink.new) (K.faults sink.old) (K.faults sink.new) writer.new (writer.old ++ record_text (spec.damaged at check)) }
 {
-    draft.clear();
-    draft.word(b"damaged")?;
-    add_check(draft, at, check)?;
-    writer.put(draft)
+    let place = at.get();
+    put_numbers(sink, writer, b"damaged", &[place as u64, check as u64])
 }
 
 // Writes `barred,P,C`.
-fn put_barred(
+fn put_barred<K: Sink>(
+    sink: &mut K,
     writer: &mut RecordWriter,
-    draft: &mut Draft,
     at: ProcId,
     check: u32,
-) -> Result<(), AllocError>
-    ensures ok { OnOk result (writer.new ≡ writer.old ++ record_text (spec.barred at check)) }
-    ensures err { OnErr result (writer.new ≡ writer.old) }
+) -> Result<(), DeviceFault>
+    ensures { Outputs result (K.taken sink.old) (K.taken sink.new) (K.faults sink.old) (K.faults sink.new) writer.new (writer.old ++ record_text (spec.barred at check)) }
 {
-    draft.clear();
-    draft.word(b"barred")?;
-    add_check(draft, at, check)?;
-    writer.put(draft)
+    let place = at.get();
+    put_numbers(sink, writer, b"barred", &[place as u64, check as u64])
 }
 
-/// Writes the records of a reply behind those that were written before.
+/// Writes the records of a reply behind what a writer holds.
 ///
-/// Where a growth is refused, a front of the reply may be written. The draft is room for one record
-/// at a time, and what it held is lost.
-pub fn put_reply(
+/// It asks for no memory, and fails only where the sink fails; then a front of what was held and of
+/// the reply is put.
+pub fn put_reply<K: Sink>(
+    sink: &mut K,
     writer: &mut RecordWriter,
-    draft: &mut Draft,
     reply: &Reply,
-) -> Result<(), AllocError>
-    ensures ok { OnOk result (writer.new ≡ writer.old ++ records_text (spec.reply_records reply.now)) }
-    ensures err { OnErr result (PutsFront (Some writer.old) (Some writer.new) (records_text (spec.reply_records reply.now))) }
+) -> Result<(), DeviceFault>
+    ensures { Outputs result (K.taken sink.old) (K.taken sink.new) (K.faults sink.old) (K.faults sink.new) writer.new (writer.old ++ records_text (spec.reply_records reply.now)) }
 {
     match reply {
-        Reply::Sent { message } => put_sent(writer, draft, *message),
-        Reply::Took { message, forced } => put_took(writer, draft, *message, *forced),
-        Reply::Marked { round, forced } => put_marked(writer, draft, *round, *forced),
-        Reply::Stale { message } => put_stale(writer, draft, *message),
-        Reply::Repeated { message } => put_repeated(writer, draft, *message),
-        Reply::Checked { at, check } => put_checked(writer, draft, *at, *check),
-        Reply::Begun { at, check, round } => put_begun(writer, draft, *at, *check, *round),
-        Reply::Turned { at, check, round } => put_turned(writer, draft, *at, *check, *round),
-        Reply::Damaged { at, check } => put_damaged(writer, draft, *at, *check),
-        Reply::Barred { at, check } => put_barred(writer, draft, *at, *check),
+        Reply::Sent { message } => put_sent(sink, writer, *message),
+        Reply::Took { message, forced } => put_took(sink, writer, *message, *forced),
+        Reply::Marked { round, forced } => put_marked(sink, writer, *round, *forced),
+        Reply::Stale { message } => put_stale(sink, writer, *message),
+        Reply::Repeated { message } => put_repeated(sink, writer, *message),
+        Reply::Checked { at, check } => put_checked(sink, writer, *at, *check),
+        Reply::Begun { at, check, round } => put_begun(sink, writer, *at, *check, *round),
+        Reply::Turned { at, check, round } => put_turned(sink, writer, *at, *check, *round),
+        Reply::Damaged { at, check } => put_damaged(sink, writer, *at, *check),
+        Reply::Barred { at, check } => put_barred(sink, writer, *at, *check),
         Reply::Recovered {
             plan,
             states,
             incarnations,
-        } => put_recovery(
-            writer,
-            draft,
-            plan,
-            incarnations.as_slice(),
-            states.as_slice(),
-        ),
+        } => put_recovery(sink, writer, plan, incarnations, states),
     }
 }
 
-/// Writes `refused,CODE,NAME` behind the records that were written before, which stay as they are
-/// where a growth is refused.
-pub fn put_refusal(
+/// Writes `refused,CODE,NAME` behind what a writer holds. It asks for no memory, and fails only where
+/// the sink fails.
+pub fn put_refusal<K: Sink>(
+    sink: &mut K,
     writer: &mut RecordWriter,
-    draft: &mut Draft,
     code: u32,
-) -> Result<(), AllocError>
-    ensures ok { OnOk result (writer.new ≡ writer.old ++ record_text (spec.refused code)) }
-    ensures err { OnErr result (writer.new ≡ writer.old) }
+) -> Result<(), DeviceFault>
+    ensures { Outputs result (K.taken sink.old) (K.taken sink.new) (K.faults sink.old) (K.faults sink.new) writer.new (writer.old ++ record_text (spec.refused code)) }
 {
-    draft.clear();
-    draft.word(b"refused")?;
-    draft.number(u64::from(code))?;
-    draft.word(name_of(code).as_bytes())?;
-    writer.put(draft)
+    let name = name_of(code).as_bytes();
+    put_ending(sink, writer, b"refused", &[code as u64], Field::Word(name))
 }
 
 /// The number of a refused step.
@@ -273,29 +217,28 @@ pub fn refusal_code(error: StepError) -> u32
     error.code()
 }
 
-/// Writes the records of a reply, or of a refusal, behind the records that were written before.
-///
-/// Where a growth is refused, a front of them may be written.
-pub fn put_answer(
+// Writes a reply into memory.
+fn keep_reply(
+    sink: &mut MemSink,
     writer: &mut RecordWriter,
-    draft: &mut Draft,
-    answer: &Answer,
-) -> Result<(), AllocError>
-    ensures ok { OnOk result (writer.new ≡ writer.old ++ records_text (spec.answer_records answer.now)) }
-    ensures err { OnErr result (PutsFront (Some writer.old) (Some writer.new) (records_text (spec.answer_records answer.now))) }
+    reply: &Reply,
+) -> Result<(), DeviceFault>
+    requires empty { writer.old ≡ [] }
+    requires none { sink.old.bytes ≡ [] }
+    ensures { OnOk result (sink.new.bytes ≡ records_text (spec.reply_records reply.now)) }
 {
-    match answer {
-        Answer::Done(reply) => put_reply(writer, draft, reply),
-        Answer::Refused(error) => put_refusal(writer, draft, refusal_code(*error)),
-    }
+    put_reply(sink, writer, reply)?;
+    put_all(sink, writer.text())
 }
 
-/// The text of a reply.
+/// The text of a reply. It takes memory for the text, and for 64 KiB.
 pub fn write_reply(alloc: Global, reply: &Reply) -> Result<Vec<u8>, AllocError>
     ensures { IfOk result (λ text. text.items ≡ records_text (spec.reply_records reply.now)) }
 {
-    let mut draft = Draft::new(alloc);
-    let mut writer = RecordWriter::new(alloc);
-    put_reply(&mut writer, &mut draft, reply)?;
-    Vec::from_slice(alloc, writer.text())
+    let mut writer = RecordWriter::with_room(alloc)?;
+    let mut sink = MemSink::new(alloc, usize::MAX, None);
+    match keep_reply(&mut sink, &mut writer, reply) {
+        Ok(()) => Ok(sink.into_bytes()),
+        Err(_) => Err(AllocError),
+    }
 }

@@ -1,90 +1,94 @@
 //! The records that are written for rounds that were completed, one at a time.
 
-ghost use Rattle.std.specs.Prelude.{◌≡◌, ◌≤◌, ◌++◌, OnErr, OnOk, length};
+ghost use Rattle.std.specs.Prelude.{◌≡◌, ◌≤◌, ◌++◌, ◌∷◌, decimal, length, map};
+ghost use Rattle.std.specs.List.{flat_map, range_with_len};
+ghost use Rattle.line_devices.specs.Devices.{Outputs};
 ghost use Rattle.line_fields.specs.Texts.{record_text};
+ghost use Rattle.line_moves.specs.Listed.{check_in};
 ghost use Rattle.line_names.specs.declared.limits.TheConstants.{MOST_PROCESSES};
 ghost use Rattle.line_replies.specs.Rounds as spec;
 
-use line_fields::{Draft, RecordWriter};
+use line_devices::{DeviceFault, Sink};
+use line_fields::{Field, RecordWriter, add_field, begin_record, end_record, put_numbers};
 use line_names::{MOST_PROCESSES, MsgName, ProcId};
 use line_world::Round;
-use std::alloc::AllocError;
 
-// Begins `round,R,C0,C1,..`.
-fn add_round(draft: &mut Draft, n: u32, round: &Round) -> Result<(), AllocError>
+// Writes a comma before each check of a round, and its number.
+fn add_checks<K: Sink>(
+    sink: &mut K,
+    writer: &mut RecordWriter,
+    n: u32,
+    round: &Round,
+) -> Result<(), DeviceFault>
     requires few { n ≤ MOST_PROCESSES }
     requires checks { length round.now.checks ≡ n }
-    ensures { OnOk result (draft.new ≡ spec.round_record n round.now) }
+    ensures { Outputs result (K.taken sink.old) (K.taken sink.new) (K.faults sink.old) (K.faults sink.new) writer.new (writer.old ++ flat_map (λ p. 44 ∷ decimal (check_in round.now p)) (range_with_len 0 n)) }
 {
-    draft.clear();
-    draft.word(b"round")?;
-    draft.number(u64::from(round.number()))?;
     for value in 0..n {
         let Ok(p) = ProcId::try_new(value, n) else {
             unreachable!()
         };
-        draft.number(u64::from(round.check(p)))?;
+        let check = round.check(p);
+        add_field(sink, writer, Field::Number(check as u64))?;
     }
     Ok(())
 }
 
-/// Writes `round,R,C0,C1,..` behind the records that were written before: a round among `n`
-/// processes, with its check of each.
+/// Writes `round,R,C0,C1,..` behind what a writer holds: a round among `n` processes, with its check
+/// of each. The messages on its channels follow.
 ///
-/// Where a growth is refused, the text stays as it was. The messages on its channels follow.
-pub fn put_round(
+/// It asks for no memory, and fails only where the sink fails.
+pub fn put_round<K: Sink>(
+    sink: &mut K,
     writer: &mut RecordWriter,
-    draft: &mut Draft,
     n: u32,
     round: &Round,
-) -> Result<(), AllocError>
+) -> Result<(), DeviceFault>
     requires few { n ≤ MOST_PROCESSES }
     requires checks { length round.now.checks ≡ n }
-    ensures ok { OnOk result (writer.new ≡ writer.old ++ record_text (spec.round_record n round.now)) }
-    ensures err { OnErr result (writer.new ≡ writer.old) }
+    ensures { Outputs result (K.taken sink.old) (K.taken sink.new) (K.faults sink.old) (K.faults sink.new) writer.new (writer.old ++ record_text (spec.round_record n round.now)) }
 {
-    add_round(draft, n, round)?;
-    writer.put(draft)
+    let number = round.number();
+    begin_record(sink, writer, b"round", &[number as u64])?;
+    add_checks(sink, writer, n, round)?;
+    end_record(sink, writer)
 }
 
-/// Writes `channel,R,FROM,TO,INC,NUMBER` behind the records that were written before: a message
-/// that was on a channel as that round was completed.
+/// Writes `channel,R,FROM,TO,INC,NUMBER` behind what a writer holds: a message that was on a channel
+/// as that round was completed.
 ///
-/// Where a growth is refused, the text stays as it was.
-pub fn put_message(
+/// It asks for no memory, and fails only where the sink fails.
+pub fn put_message<K: Sink>(
+    sink: &mut K,
     writer: &mut RecordWriter,
-    draft: &mut Draft,
     round: u32,
     from: ProcId,
     to: ProcId,
     message: MsgName,
-) -> Result<(), AllocError>
-    ensures ok { OnOk result (writer.new ≡ writer.old ++ record_text (spec.channel_record round from to message)) }
-    ensures err { OnErr result (writer.new ≡ writer.old) }
+) -> Result<(), DeviceFault>
+    ensures { Outputs result (K.taken sink.old) (K.taken sink.new) (K.faults sink.old) (K.faults sink.new) writer.new (writer.old ++ record_text (spec.channel_record round from to message)) }
 {
-    draft.clear();
-    draft.word(b"channel")?;
-    draft.number(u64::from(round))?;
-    draft.number(u64::from(from.get()))?;
-    draft.number(u64::from(to.get()))?;
-    draft.number(u64::from(message.inc))?;
-    draft.number(u64::from(message.number))?;
-    writer.put(draft)
+    let sender = from.get();
+    let receiver = to.get();
+    let numbers = [
+        round as u64,
+        sender as u64,
+        receiver as u64,
+        message.inc as u64,
+        message.number as u64,
+    ];
+    put_numbers(sink, writer, b"channel", &numbers)
 }
 
-/// Writes `rounds,COUNT` behind the records that were written before: how many rounds follow.
+/// Writes `rounds,COUNT` behind what a writer holds: how many rounds follow.
 ///
-/// Where a growth is refused, the text stays as it was.
-pub fn put_rounds_head(
+/// It asks for no memory, and fails only where the sink fails.
+pub fn put_rounds_head<K: Sink>(
+    sink: &mut K,
     writer: &mut RecordWriter,
-    draft: &mut Draft,
     count: usize,
-) -> Result<(), AllocError>
-    ensures ok { OnOk result (writer.new ≡ writer.old ++ record_text (spec.rounds_record count)) }
-    ensures err { OnErr result (writer.new ≡ writer.old) }
+) -> Result<(), DeviceFault>
+    ensures { Outputs result (K.taken sink.old) (K.taken sink.new) (K.faults sink.old) (K.faults sink.new) writer.new (writer.old ++ record_text (spec.rounds_record count)) }
 {
-    draft.clear();
-    draft.word(b"rounds")?;
-    draft.number(count as u64)?;
-    writer.put(draft)
+    put_numbers(sink, writer, b"rounds", &[count as u64])
 }

@@ -9,13 +9,14 @@ use Rattle.line_fields.specs.Fields.{◌>>=◌, num, want}
 use Rattle.line_fields.specs.Records.{Record, cut, field, parts, records_of_lines, records_of_text, without}
 use Rattle.line_moves.specs.declared.modes.Mode.{Mode}
 use Rattle.line_claims.specs.declared.faults.TextFault.{TextFault}
-use Rattle.line_claims.specs.declared.versions.TheConstants.{MOST_IN_FIRST_VERSION}
+use Rattle.line_claims.specs.declared.versions.TheConstants.{LAST_VERSION, MOST_IN_FIRST_VERSION}
 use Rattle.line_claims.specs.Numbers.{plain}
 use Rattle.line_claims.specs.Reads.{fault_at}
+use Rattle.line_claims.specs.Texts.{records_in}
 use Rattle.line_claims.specs.Versions.{most_in}
 use Rattle.line_claims.proofs.SpellLemmas.{plain_again}
 use Rattle.line_claims.proofs.VersionLemmas.{most_in_later}
-use Rattle.line_scripts.specs.Records.{world_record}
+use Rattle.line_scripts.specs.Records.{DifferInVersion, with_version, world_record}
 use Rattle.line_scripts.specs.Scripts.{Script, mode_named, script_of, script_of_text, world_of}
 
 -- the number of processes and the mode, as many processes as there is room for
@@ -59,22 +60,18 @@ two_is_read : plain (codes "2") ≡ Ok 2
 unfolding num
 two_is_read = refl
 
-first_world : (others : Record) → world_of (begun (codes "1") others)
-    ≡ world_in (most_in 1) (length (begun (codes "1") others) == 4) (plain (field (begun (codes "1") others) 2)) (mode_named (field (begun (codes "1") others) 3))
+-- what a record of that version says
+spelled_world : (spelled : List ℕ) (version : ℕ) (others : Record) → plain spelled ≡ Ok version → (nat_le 1 version && nat_le version LAST_VERSION) ≡ true → world_of (begun spelled others)
+    ≡ world_in (most_in version) (length (begun spelled others) == 4) (plain (field (begun spelled others) 2)) (mode_named (field (begun spelled others) 3))
 unfolding world_of
-first_world others = rw one_is_read refl
+spelled_world spelled version others read known = rw (read, known) refl
 
-second_world : (others : Record) → world_of (begun (codes "2") others)
-    ≡ world_in (most_in 2) (length (begun (codes "2") others) == 4) (plain (field (begun (codes "2") others) 2)) (mode_named (field (begun (codes "2") others) 3))
-unfolding world_of
-second_world others = rw two_is_read refl
-
-same_world : (others : Record) → world_of (begun (codes "1") others) ≢ Err faults.BadCount → world_of (begun (codes "2") others) ≡ world_of (begun (codes "1") others)
-same_world others good =
-    let r : Record = begun (codes "1") others in
-    second_world others
-    ∙ world_more (most_in 1) (most_in 2) (length r == 4) (plain (field r 2)) (mode_named (field r 3)) (most_in_later (most_in 1) (omega arith)) (λ bad. good (first_world others ∙ bad))
-    ∙ sym (first_world others)
+same_world : (one two : List ℕ) (others : Record) → plain one ≡ Ok 1 → plain two ≡ Ok 2 → world_of (begun one others) ≢ Err faults.BadCount → world_of (begun two others) ≡ world_of (begun one others)
+same_world one two others is_one is_two good =
+    let r : Record = begun one others in
+    spelled_world two 2 others is_two refl
+    ∙ world_more (most_in 1) (most_in 2) (length r == 4) (plain (field r 2)) (mode_named (field r 3)) (most_in_later (most_in 1) (omega arith)) (λ bad. good (spelled_world one 1 others is_one refl ∙ bad))
+    ∙ sym (spelled_world one 1 others is_one refl)
 
 -- the fault of the number of processes
 abbrev bad_count : TextFault
@@ -88,9 +85,25 @@ same_script : (r other : Record) (rest : List Record) → world_of r ≡ world_o
 unfolding script_of
 same_script r other rest same = rw same refl
 
+spelled_records : (one two : List ℕ) (others : Record) (rest : List Record) → plain one ≡ Ok 1 → plain two ≡ Ok 2 → script_of (begun one others ∷ rest) ≢ Err bad_count
+    → script_of (begun two others ∷ rest) ≡ script_of (begun one others ∷ rest)
+spelled_records one two others rest is_one is_two good =
+    same_script (begun two others) (begun one others) rest (same_world one two others is_one is_two (λ bad. good (refused_world (begun one others) rest bad)))
+
 pub same_records : (others : Record) (rest : List Record) → script_of (begun (codes "1") others ∷ rest) ≢ Err bad_count → script_of (begun (codes "2") others ∷ rest) ≡ script_of (begun (codes "1") others ∷ rest)
-same_records others rest good =
-    same_script (begun (codes "2") others) (begun (codes "1") others) rest (same_world others (λ bad. good (refused_world (begun (codes "1") others) rest bad)))
+same_records others rest good = spelled_records (codes "1") (codes "2") others rest one_is_read two_is_read good
+
+-- the script of a text whose records are known
+script_of_records : (text : List ℕ) (records : List Record) → records_in text ≡ Ok records → script_of_text text ≡ script_of records
+unfolding script_of_text
+script_of_records text records is = rw is refl
+
+pub same_as_spelled : (text later : List ℕ) → DifferInVersion text later → script_of_text text ≢ Err bad_count → script_of_text later ≡ script_of_text text
+same_as_spelled text later h good =
+    let of_text : script_of_text text ≡ script_of (with_version h.one h.others h.rest) = script_of_records text (with_version h.one h.others h.rest) h.text_is in
+    script_of_records later (with_version h.two h.others h.rest) h.later_is
+    ∙ spelled_records h.one h.two h.others h.rest h.is_one h.is_two (λ bad. good (of_text ∙ bad))
+    ∙ sym of_text
 
 first_has_room : (n : ℕ) → n ≤ MOST_IN_FIRST_VERSION → n ≤ most_in 1
 unfolding most_in

@@ -1,11 +1,13 @@
 -- How scripts are written, record by record.
-use Rattle.std.specs.Prelude.{ℕ, List, [], ◌∷◌, map, codes, decimal}
+use Rattle.std.specs.Prelude.{◌≡◌, ℕ, List, [], ◌∷◌, map, Ok, codes, decimal}
 use Rattle.line_fields.specs.Records.{Record}
 use Rattle.line_fields.specs.Texts.{hex_text}
 use Rattle.line_moves.specs.declared.modes.Mode.{Mode}
 use Rattle.line_moves.specs.declared.modes.Mode.TheVariants.{Fifo, Unordered}
 use Rattle.line_world.specs.declared.steps.Step.TheVariants.{Send, Deliver, Check, Begin, Turn, Damage, Bar, Recover}
+use Rattle.line_claims.specs.Numbers.{plain}
 use Rattle.line_claims.specs.Records.{members}
+use Rattle.line_claims.specs.Texts.{records_in}
 use Rattle.line_claims.specs.Versions.{earliest_version}
 use Rattle.line_scripts.specs.declared.commands.Command.{Command}
 use Rattle.line_scripts.specs.declared.commands.Command.TheVariants.{Bundle, Do, History, Refused, Rounds}
@@ -38,3 +40,18 @@ command_record n (Refused code) = []
 -- a script, in the earliest version that has room for its processes
 abbrev pub script_records : Script → List Record
 script_records script = world_record (earliest_version script.n) script.n (mode_text script.mode) ∷ map (command_record script.n) script.commands
+
+-- records of which the first is `world`, a version and these further fields
+abbrev pub with_version : List ℕ → Record → List Record → List Record
+with_version version others rest = (codes "world" ∷ version ∷ others) ∷ rest
+
+-- a text of version 1, and one of version 2 that has the same records but for that, however the two spell the version and end their lines
+pub record DifferInVersion (text later : List ℕ) : Type 0 where
+  pub one : List ℕ
+  pub two : List ℕ
+  pub others : Record
+  pub rest : List Record
+  pub is_one : plain one ≡ Ok 1
+  pub is_two : plain two ≡ Ok 2
+  pub text_is : records_in text ≡ Ok (with_version one others rest)
+  pub later_is : records_in later ≡ Ok (with_version two others rest)

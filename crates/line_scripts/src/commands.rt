@@ -78,9 +78,9 @@ fn mode_named(text: &[u8]) -> Result<Mode, Fault>
     }
 }
 
-/// The number of processes and how links deliver, as the first record says, or its first fault.
+/// The number of processes and how links deliver, as a first record says, or its first fault.
 #[tactic(auto, unfolding(crate::specs::Scripts::world_of))]
-pub(crate) fn world_of(row: &Row) -> Result<(u32, Mode), Fault>
+pub fn world_of(row: &Row) -> Result<(u32, Mode), Fault>
     ensures exact { result ≡ spec.world_of row.now }
     ensures within { IfOk result (λ world. (1 ≤ world.0) × (world.0 ≤ MOST_PROCESSES)) }
 {

@@ -184,8 +184,8 @@ fn command_with(
     }
 }
 
-// The command that it makes with its bytes, which are lent.
-fn lent<'a>(bare: &'a Bare, own: &'a [u8]) -> CommandRef<'a>
+/// The command that it makes with its bytes, which are lent.
+pub(crate) fn lent<'a>(bare: &'a Bare, own: &'a [u8]) -> CommandRef<'a>
     requires { MayHave bare.now (length own.now) }
     ensures value { shown result ≡ with_bytes bare.now own.now }
     ensures short { HasShortBody result }

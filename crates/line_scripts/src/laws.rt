@@ -7,7 +7,7 @@ ghost use Rattle.line_fields.specs.Texts.{records_text};
 ghost use Rattle.line_claims.specs.declared.versions.TheConstants.{MOST_IN_FIRST_VERSION};
 ghost use Rattle.line_claims.specs.Reads.{fault_at};
 ghost use Rattle.line_scripts.specs.Ranges.{IsScriptInRange};
-ghost use Rattle.line_scripts.specs.Records.{script_records, world_record};
+ghost use Rattle.line_scripts.specs.Records.{DifferInVersion, script_records, world_record};
 ghost use Rattle.line_scripts.specs.Scripts.{Script, script_of, script_of_text};
 
 /// A script is read again from its own text, where the numbers of its commands keep to the ranges
@@ -21,10 +21,13 @@ pub fn scripts_are_read_again()
 /// version, whatever field names the mode and whatever records follow.
 ///
 /// A text of version 1, whatever its bytes, is read the same in version 2, unless version 1 refuses
-/// it for the number of its processes.
+/// it for the number of its processes: with `world,2,` in place of `world,1,` at its beginning, and
+/// also where its first record stands behind empty lines or spells the version with leading zeros.
 pub fn version_2_reads_scripts_of_version_1()
     ensures records { (n : ℕ) (mode : List ℕ) (rest : List Record) → n ≤ MOST_IN_FIRST_VERSION
         → script_of (world_record 1 n mode ∷ rest) ≡ script_of (world_record 2 n mode ∷ rest) }
     ensures texts { (text : List ℕ) → script_of_text (codes "world,1," ++ text) ≢ Err (fault_at 1 BadCount)
         → script_of_text (codes "world,2," ++ text) ≡ script_of_text (codes "world,1," ++ text) }
+    ensures spelled { (text later : List ℕ) → DifferInVersion text later → script_of_text text ≢ Err (fault_at 1 BadCount)
+        → script_of_text later ≡ script_of_text text }
 {}

@@ -5,9 +5,11 @@ mod commands;
 mod keeping;
 mod laws;
 mod names;
+mod readers;
 mod scripts;
 
-pub use commands::{Command, CommandRef};
+pub use commands::{Command, CommandRef, world_of};
 pub use keeping::Commands;
 pub use laws::{scripts_are_read_again, version_2_reads_scripts_of_version_1};
+pub use readers::CommandReader;
 pub use scripts::{KeptScript, Script, keep_script, read_script};

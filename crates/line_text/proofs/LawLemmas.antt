@@ -6,7 +6,8 @@ use Rattle.line_check.specs.declared.faults.CertFault.{CertFault}
 use Rattle.line_claims.specs.Reads.{fault_at}
 use Rattle.line_claims.specs.Texts.{Check, check_of_text}
 use Rattle.line_scripts.specs.Scripts.{script_of_text}
-use Rattle.line_scripts.proofs.LaterLemmas.{same_text}
+use Rattle.line_scripts.specs.Records.{DifferInVersion}
+use Rattle.line_scripts.proofs.LaterLemmas.{same_as_spelled, same_text}
 use Rattle.line_text.specs.Judgings.{JudgesText, JudgesTextFront}
 use Rattle.line_text.specs.Runs.{RunsText, RunsTextFront, StopsText}
 
@@ -37,6 +38,25 @@ pub stops_alike : (text : List ℕ) (record_number : ℕ) (old new : Option (Lis
 stops_alike text record_number old new good =
     let same = same_text text good in
     (stops_other (codes "world,1," ++ text) (codes "world,2," ++ text) record_number old new same, stops_other (codes "world,2," ++ text) (codes "world,1," ++ text) record_number old new (sym same))
+
+-- a text that is not refused for the number of its processes
+abbrev HasRoom : List ℕ → Type 0
+HasRoom text = script_of_text text ≢ Err (fault_at 1 BadCount)
+
+pub runs_as_spelled : (text later : List ℕ) (refused : ℕ) (old new : Option (List ℕ)) → DifferInVersion text later → HasRoom text → RunsText text refused old new ↔ RunsText later refused old new
+runs_as_spelled text later refused old new h good =
+    let same = same_as_spelled text later h good in
+    (runs_other text later refused old new same, runs_other later text refused old new (sym same))
+
+pub fronts_as_spelled : (text later : List ℕ) (old new : Option (List ℕ)) → DifferInVersion text later → HasRoom text → RunsTextFront text old new ↔ RunsTextFront later old new
+fronts_as_spelled text later old new h good =
+    let same = same_as_spelled text later h good in
+    (front_other text later old new same, front_other later text old new (sym same))
+
+pub stops_as_spelled : (text later : List ℕ) (record_number : ℕ) (old new : Option (List ℕ)) → DifferInVersion text later → HasRoom text → StopsText text record_number old new ↔ StopsText later record_number old new
+stops_as_spelled text later record_number old new h good =
+    let same = same_as_spelled text later h good in
+    (stops_other text later record_number old new same, stops_other later text record_number old new (sym same))
 
 -- the verdict on what a text spells is the verdict on what another spells, which spells the same
 pub judged_alike : (text later : List ℕ) (verdict : Option CertFault) (old new : Option (List ℕ)) → ((check : Check) → check_of_text text ≡ Ok check → check_of_text later ≡ Ok check)

@@ -1,4 +1,3 @@
 pub mod Inputs
 pub mod Judgings
-pub mod Pieces
 pub mod Runs

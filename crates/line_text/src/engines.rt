@@ -1,36 +1,26 @@
 //! Scripts that are run: a text in, the text of the replies out.
 
-ghost use Rattle.std.specs.Prelude.{◌≡◌, ◌≢◌, ◌<◌, ◌≤◌, ◌++◌, ◌+◌, ◌^◌, ◌⊎◌, ℕ, List, [], ◌∷◌, true, false, Err, Ok, Some, length, IfOk, IfErr, OnErr, OnOk};
-ghost use Rattle.line_devices.specs.Devices.{Puts, PutsFront, one_more};
+ghost use Rattle.std.specs.Prelude.{◌≡◌, ◌≢◌, ◌<◌, ◌≤◌, ◌+◌, ◌^◌, ◌⊎◌, ℕ, List, [], ◌∷◌, true, false, Err, Ok, if◌then◌else◌, length, IfOk, IfErr, OnOk};
+ghost use Rattle.line_answers.specs.Answers.{DoesFront};
+ghost use Rattle.line_devices.specs.Devices.{Puts, PutsButEnd, one_more};
 ghost use Rattle.line_devices.specs.Reads.{GivesAll, IsTooLong};
-ghost use Rattle.line_fields.specs.Texts.{record_text, records_text};
-ghost use Rattle.line_replies.specs.Rounds.{rounds_records};
 ghost use Rattle.line_names.specs.declared.limits.TheConstants.{MOST_PROCESSES};
 ghost use Rattle.line_claims.specs.Reads.{IsOfText, no_memory};
-ghost use Rattle.line_claims.specs.Records.{history_records};
 ghost use Rattle.line_text.specs.declared.ends.TheConstants.{READ_FAULT, WRITE_FAULT};
 ghost use Rattle.line_scripts.specs.Reads.{IsOfScript, seen_kept};
-ghost use Rattle.line_replies.specs.Replies.{refused as refused_record};
 ghost use Rattle.line_text.specs.Inputs.{HearsEnd};
-ghost use Rattle.line_text.specs.Pieces.{Halts, IsBlamed, PutsButEnd};
 ghost use Rattle.line_text.specs.Runs as spec;
 ghost use Rattle.line_scripts.specs.Scripts.{script_of_text};
-ghost use Rattle.line_scripts.specs.Shown.{HasShortBody, shown};
-ghost use Rattle.line_world.specs.declared.steps.Step.{Step};
-ghost use Rattle.line_world.specs.Machine.{Machine};
 
 use crate::ends::{WRITE_FAULT, fault_of, put, read_input};
-use crate::listings::pass_rounds;
-use crate::pieces::{Halt, pass_check_text, pass_history, put_long};
-use line_claims::{TextFault, earliest_version};
+use line_answers::{Halt, do_command};
+use line_claims::TextFault;
 use line_devices::{Sink, Source};
-use line_fields::{Draft, Fault, RecordWriter};
-use line_names::ProcSet;
-use line_replies::{put_refusal, put_reply, refusal_code};
-use line_scripts::{Command, CommandRef, Commands, KeptScript, keep_script};
+use line_fields::RecordWriter;
+use line_scripts::{Command, Commands, KeptScript, keep_script};
 use line_tape::CountError;
-use line_world::{Reply, StepError, World};
-use std::alloc::{AllocError, Global};
+use line_world::World;
+use std::alloc::Global;
 
 // Why commands were not done to their end.
 #[derive(Clone, Copy)]
@@ -48,146 +38,13 @@ pub struct Done {
     pub refused: u64,
 }
 
-// Writes a refusal, and counts it.
-fn refuse(
-    writer: &mut RecordWriter,
-    draft: &mut Draft,
-    refused: &mut u64,
-    code: u32,
-) -> Result<(), AllocError>
+// Counts a command that was refused.
+fn count(refused: &mut u64, told: bool)
     requires { refused.old < 18446744073709551615 }
-    ensures ok { OnOk result ((writer.new ≡ writer.old ++ record_text (refused_record code)) × (refused.new ≡ refused.old + 1)) }
-    ensures err { OnErr result (writer.new ≡ writer.old) }
+    ensures { refused.new ≡ refused.old + (if told then 1 else 0) }
 {
-    put_refusal(writer, draft, code)?;
-    *refused += 1;
-    Ok(())
-}
-
-// Writes the check text of the machine's history, damage and bars, with the plan for these failed
-// processes, and puts it in pieces. It is kept apart, since a plan has room for a whole line.
-#[inline(never)]
-fn bundle<K: Sink>(
-    alloc: Global,
-    world: &World,
-    sink: &mut K,
-    writer: &mut RecordWriter,
-    draft: &mut Draft,
-    refused: &mut u64,
-    failed: &ProcSet,
-) -> Result<(), Halt>
-    requires { refused.old < 18446744073709551615 }
-    ensures ok { OnOk result (spec.Does world.now (Command.Bundle failed.now) world.now (K.taken sink.old) (K.taken sink.new) writer.old refused.old writer.new refused.new) }
-    ensures err { IfErr result (λ halt. spec.HaltsAt halt world.now (Command.Bundle failed.now) (K.taken sink.old) (K.taken sink.new) writer.old writer.new) }
-    ensures sound { OnOk result (K.faults sink.new ≡ K.faults sink.old) }
-    ensures blamed { IfErr result (λ halt. IsBlamed halt (K.faults sink.old) (K.faults sink.new)) }
-{
-    match world.plan_for(alloc, failed) {
-        Ok(plan) => pass_check_text(
-            sink,
-            writer,
-            draft,
-            world.history(),
-            world.marks(),
-            failed,
-            &plan.line,
-            plan.certificate.as_slice(),
-        ),
-        Err(error) => {
-            if error.is_out_of_memory() {
-                return Err(Halt::Memory);
-            }
-            refuse(writer, draft, refused, Fault::NoSuchProcess.code())?;
-            Ok(())
-        }
-    }
-}
-
-// Writes the rounds that the machine has completed, and puts them in pieces.
-fn list_rounds<K: Sink>(
-    world: &World,
-    sink: &mut K,
-    writer: &mut RecordWriter,
-    draft: &mut Draft,
-) -> Result<(), Halt>
-    ensures ok { OnOk result (PutsButEnd (K.taken sink.old) (K.taken sink.new) writer.new (writer.old ++ records_text (rounds_records (length world.now.history) world.now.rounds))) }
-    ensures err { IfErr result (λ halt. Halts halt (K.taken sink.old) (K.taken sink.new) writer.old writer.new (records_text (rounds_records (length world.now.history) world.now.rounds))) }
-    ensures sound { OnOk result (K.faults sink.new ≡ K.faults sink.old) }
-    ensures blamed { IfErr result (λ halt. IsBlamed halt (K.faults sink.old) (K.faults sink.new)) }
-{
-    let n = world.history().n();
-    pass_rounds(sink, writer, draft, n, world.rounds())
-}
-
-// Writes the machine's history, and puts it in pieces.
-fn show_history<K: Sink>(
-    world: &World,
-    sink: &mut K,
-    writer: &mut RecordWriter,
-    draft: &mut Draft,
-) -> Result<(), Halt>
-    ensures ok { OnOk result (PutsButEnd (K.taken sink.old) (K.taken sink.new) writer.new (writer.old ++ records_text (history_records world.now.history))) }
-    ensures err { IfErr result (λ halt. Halts halt (K.taken sink.old) (K.taken sink.new) writer.old writer.new (records_text (history_records world.now.history))) }
-    ensures sound { OnOk result (K.faults sink.new ≡ K.faults sink.old) }
-    ensures blamed { IfErr result (λ halt. IsBlamed halt (K.faults sink.old) (K.faults sink.new)) }
-{
-    let history = world.history();
-    let version = earliest_version(history.n());
-    pass_history(sink, writer, draft, version, history)
-}
-
-// Writes what a step was answered, or a front of it where memory does not suffice.
-fn tell_step(
-    writer: &mut RecordWriter,
-    draft: &mut Draft,
-    refused: &mut u64,
-    answer: Result<Reply, StepError>,
-) -> Result<(), AllocError>
-    requires { refused.old < 18446744073709551615 }
-    ensures ok { (old new : Machine) (step : Step) → spec.Answers old step answer new → OnOk result (spec.Writes old (Command.Do step) new writer.old refused.old writer.new refused.new) }
-    ensures err { (old new : Machine) (step : Step) → spec.Answers old step answer new → OnErr result (spec.WritesFront old (Command.Do step) writer.old writer.new) }
-{
-    match answer {
-        Ok(reply) => put_reply(writer, draft, &reply),
-        Err(error) => {
-            if error.is_out_of_memory() {
-                return Err(AllocError);
-            }
-            refuse(writer, draft, refused, refusal_code(error))
-        }
-    }
-}
-
-// Does a command, and writes what it is told. A long reply is put in pieces.
-fn do_command<K: Sink>(
-    alloc: Global,
-    world: &mut World,
-    sink: &mut K,
-    writer: &mut RecordWriter,
-    draft: &mut Draft,
-    refused: &mut u64,
-    command: &CommandRef<'_>,
-) -> Result<(), Halt>
-    requires few { refused.old < 18446744073709551615 }
-    requires short { HasShortBody command.now }
-    ensures ok { OnOk result (spec.Does world.old (shown command.now) world.new (K.taken sink.old) (K.taken sink.new) writer.old refused.old writer.new refused.new) }
-    ensures err { IfErr result (λ halt. spec.HaltsAt halt world.old (shown command.now) (K.taken sink.old) (K.taken sink.new) writer.old writer.new) }
-    ensures sound { OnOk result (K.faults sink.new ≡ K.faults sink.old) }
-    ensures blamed { IfErr result (λ halt. IsBlamed halt (K.faults sink.old) (K.faults sink.new)) }
-{
-    match command {
-        CommandRef::Refused(code) => {
-            refuse(writer, draft, refused, *code)?;
-            Ok(())
-        }
-        CommandRef::Rounds => list_rounds(world, sink, writer, draft),
-        CommandRef::History => show_history(world, sink, writer, draft),
-        CommandRef::Bundle(failed) => bundle(alloc, world, sink, writer, draft, refused, failed),
-        CommandRef::Do(step) => {
-            let answer = world.step_lent(alloc, step);
-            tell_step(writer, draft, refused, answer)?;
-            Ok(())
-        }
+    if told {
+        *refused += 1;
     }
 }
 
@@ -199,23 +56,25 @@ fn do_next<K: Sink>(
     commands: &mut Commands,
     sink: &mut K,
     writer: &mut RecordWriter,
-    draft: &mut Draft,
     refused: &mut u64,
 ) -> Result<bool, Halt>
     requires { refused.old < 18446744073709551615 }
     ensures ok { IfOk result (λ more. more ≡ true → (first : Command) × (commands.old ≡ first ∷ commands.new)
-        × spec.Does world.old first world.new (K.taken sink.old) (K.taken sink.new) writer.old refused.old writer.new refused.new) }
+        × spec.DoesOne world.old first world.new (K.taken sink.old) (K.taken sink.new) writer.old refused.old writer.new refused.new) }
     ensures none { IfOk result (λ more. more ≡ false → (commands.old ≡ []) × (commands.new ≡ []) × (world.new ≡ world.old)
         × (sink.new ≡ sink.old) × (writer.new ≡ writer.old) × (refused.new ≡ refused.old)) }
-    ensures err { IfErr result (λ halt. (first : Command) × (rest : List Command) × (commands.old ≡ first ∷ rest)
-        × spec.HaltsAt halt world.old first (K.taken sink.old) (K.taken sink.new) writer.old writer.new) }
+    ensures memory { IfErr result (λ halt. halt ≡ Halt.Memory → (first : Command) × (rest : List Command) × (commands.old ≡ first ∷ rest)
+        × (world.new ≡ world.old) × (sink.new ≡ sink.old) × (writer.new ≡ writer.old)) }
+    ensures write { IfErr result (λ halt. halt ≡ Halt.Write → (first : Command) × (rest : List Command) × (commands.old ≡ first ∷ rest)
+        × DoesFront world.old first world.new (K.taken sink.old) (K.taken sink.new) writer.old) }
     ensures sound { OnOk result (K.faults sink.new ≡ K.faults sink.old) }
-    ensures blamed { IfErr result (λ halt. IsBlamed halt (K.faults sink.old) (K.faults sink.new)) }
+    ensures failed { IfErr result (λ halt. halt ≡ Halt.Write → K.faults sink.new ≡ one_more (K.faults sink.old)) }
 {
     let Some(command) = commands.first() else {
         return Ok(false);
     };
-    do_command(alloc, world, sink, writer, draft, refused, &command)?;
+    let told = do_command(alloc, world, sink, writer, &command)?;
+    count(refused, told);
     commands.drop_first();
     Ok(true)
 }
@@ -236,29 +95,16 @@ fn do_commands<K: Sink>(
     ensures sound { OnOk result (K.faults sink.new ≡ K.faults sink.old) }
     ensures blamed { IfErr result (λ stop. spec.Blames stop (K.faults sink.old) (K.faults sink.new)) }
 {
-    let mut draft = Draft::new(alloc);
     let mut refused = 0u64;
     let mut done = 0u64;
     'commands: loop {
-        let more = match do_next(
-            alloc,
-            world,
-            commands,
-            sink,
-            writer,
-            &mut draft,
-            &mut refused,
-        ) {
+        let more = match do_next(alloc, world, commands, sink, writer, &mut refused) {
             Ok(more) => more,
             Err(Halt::Memory) => return Err(Stop::Memory(done + 2)),
             Err(Halt::Write) => return Err(Stop::Write),
         };
         if !more {
             return Ok(refused);
-        }
-        match put_long(sink, writer) {
-            Ok(()) => {}
-            Err(_) => return Err(Stop::Write),
         }
         done += 1;
     }
@@ -271,8 +117,10 @@ fn run_commands<K: Sink>(
     world: &mut World,
     commands: &mut Commands,
     sink: &mut K,
+    writer: &mut RecordWriter,
 ) -> Result<u64, TextFault>
-    requires { length commands.old + 2 < 2 ^ 64 }
+    requires empty { writer.old ≡ [] }
+    requires few { length commands.old + 2 < 2 ^ 64 }
     ensures ok { IfOk result (λ refused. spec.Runs world.old commands.old refused (K.taken sink.old) (K.taken sink.new)) }
     ensures write { IfErr result (λ fault. fault.code ≡ WRITE_FAULT
         → (fault.record_number ≡ 0) × (K.faults sink.new ≡ one_more (K.faults sink.old))
@@ -281,8 +129,7 @@ fn run_commands<K: Sink>(
     ensures codes { IfErr result (λ fault. (fault.code ≡ 0) ⊎ (fault.code ≡ WRITE_FAULT)) }
     ensures sound { OnOk result (K.faults sink.new ≡ K.faults sink.old) }
 {
-    let mut writer = RecordWriter::new(alloc);
-    match do_commands(alloc, world, commands, sink, &mut writer) {
+    match do_commands(alloc, world, commands, sink, writer) {
         Ok(refused) => match put(sink, writer.text()) {
             Ok(()) => Ok(refused),
             Err(_) => Err(fault_of(WRITE_FAULT)),
@@ -385,8 +232,11 @@ pub fn run_text<S: Source, K: Sink>(
 {
     let script = script_of(alloc, source)?;
     let mut world = world_of(alloc, &script)?;
+    let Ok(mut writer) = RecordWriter::with_room(alloc) else {
+        return Err(fault_of(0));
+    };
     let mut commands = script.commands;
-    match run_commands(alloc, &mut world, &mut commands, sink) {
+    match run_commands(alloc, &mut world, &mut commands, sink, &mut writer) {
         Ok(refused) => Ok(Done { refused }),
         Err(fault) => Err(fault),
     }

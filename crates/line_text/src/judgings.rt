@@ -1,10 +1,9 @@
 //! Check texts that are judged: a text in, a verdict out.
 
-ghost use Rattle.std.specs.Prelude.{◌≡◌, ◌≢◌, ◌++◌, ◌∷◌, ◌≤◌, ◌⊎◌, [], ℕ, List, Err, Some, IfErr, IfOk, OnOk};
+ghost use Rattle.std.specs.Prelude.{◌≡◌, ◌≢◌, ◌++◌, ◌≤◌, ◌⊎◌, [], ℕ, List, Err, Some, IfErr, IfOk, OnErr, OnOk};
 ghost use Rattle.line_claims.specs.Reads.{IsOfText};
-ghost use Rattle.line_claims.specs.Records.{number_text};
 ghost use Rattle.line_claims.specs.Texts.{check_of_text, seen_check};
-ghost use Rattle.line_devices.specs.Devices.{one_more};
+ghost use Rattle.line_devices.specs.Devices.{Outputs, Puts, PutsFront, one_more};
 ghost use Rattle.line_devices.specs.Reads.{GivesAll, IsTooLong};
 ghost use Rattle.line_fields.specs.Texts.{record_text};
 ghost use Rattle.line_text.specs.declared.ends.TheConstants.{READ_FAULT, WRITE_FAULT};
@@ -13,10 +12,10 @@ ghost use Rattle.line_text.specs.Judgings as spec;
 
 use crate::ends::{WRITE_FAULT, fault_of, put, read_input};
 use line_check::{CertFault, FaultCode, check_certificate};
-use line_claims::{CheckText, TextFault, name_of, read_check_text};
-use line_devices::{Sink, Source};
-use line_fields::{Draft, put_record};
-use std::alloc::{AllocError, Global};
+use line_claims::{CheckText, TextFault, name_of, number_field, read_check_text};
+use line_devices::{DeviceFault, Sink, Source};
+use line_fields::{Field, RecordWriter, put_fields, put_numbers};
+use std::alloc::Global;
 
 // What is wrong with a claim, if anything is.
 fn verdict_of(check: &CheckText) -> Option<CertFault>
@@ -42,50 +41,49 @@ fn code_of(code: FaultCode) -> u32
     code.code()
 }
 
-// Adds the entry that a fault is of, or `-`.
-fn add_entry(draft: &mut Draft, entry: Option<u32>) -> Result<(), AllocError>
-    ensures { OnOk result (draft.new ≡ draft.old ++ number_text entry ∷ []) }
+// Writes `invalid,ENTRY,CODE,NAME`.
+fn put_fault<K: Sink>(
+    sink: &mut K,
+    writer: &mut RecordWriter,
+    fault: CertFault,
+) -> Result<(), DeviceFault>
+    ensures { Outputs result (K.taken sink.old) (K.taken sink.new) (K.faults sink.old) (K.faults sink.new) writer.new (writer.old ++ record_text (spec.verdict_record (Some fault))) }
 {
-    match entry {
-        None => draft.word(b"-"),
-        Some(entry) => draft.number(u64::from(entry)),
-    }
-}
-
-// The text of `valid`.
-fn valid_text(alloc: Global) -> Result<Vec<u8>, AllocError>
-    ensures { IfOk result (λ text. text.items ≡ record_text (spec.verdict_record None)) }
-{
-    let mut draft = Draft::new(alloc);
-    let mut text = Vec::new(alloc);
-    draft.word(b"valid")?;
-    put_record(&mut text, &mut draft)?;
-    Ok(text)
-}
-
-// The text of `invalid,ENTRY,CODE,NAME`.
-fn invalid_text(alloc: Global, fault: CertFault) -> Result<Vec<u8>, AllocError>
-    ensures { IfOk result (λ text. text.items ≡ record_text (spec.verdict_record (Some fault))) }
-{
-    let mut draft = Draft::new(alloc);
-    let mut text = Vec::new(alloc);
     let code = code_of(fault.code);
-    draft.word(b"invalid")?;
-    add_entry(&mut draft, fault.entry)?;
-    draft.number(u64::from(code))?;
-    draft.word(name_of(code).as_bytes())?;
-    put_record(&mut text, &mut draft)?;
-    Ok(text)
+    let entry = number_field(fault.entry);
+    let name = name_of(code).as_bytes();
+    let fields = [entry, Field::Number(code as u64), Field::Word(name)];
+    put_fields(sink, writer, b"invalid", &fields)
 }
 
-// The text of a verdict.
-fn verdict_text(alloc: Global, verdict: Option<CertFault>) -> Result<Vec<u8>, AllocError>
-    ensures { IfOk result (λ text. text.items ≡ record_text (spec.verdict_record verdict)) }
+// Writes a verdict.
+fn put_verdict<K: Sink>(
+    sink: &mut K,
+    writer: &mut RecordWriter,
+    verdict: Option<CertFault>,
+) -> Result<(), DeviceFault>
+    ensures { Outputs result (K.taken sink.old) (K.taken sink.new) (K.faults sink.old) (K.faults sink.new) writer.new (writer.old ++ record_text (spec.verdict_record verdict)) }
 {
     match verdict {
-        None => valid_text(alloc),
-        Some(fault) => invalid_text(alloc, fault),
+        None => put_numbers(sink, writer, b"valid", &[]),
+        Some(fault) => put_fault(sink, writer, fault),
     }
+}
+
+// Writes a verdict, puts it, and lets it out.
+fn tell_verdict<K: Sink>(
+    sink: &mut K,
+    writer: &mut RecordWriter,
+    verdict: Option<CertFault>,
+) -> Result<(), DeviceFault>
+    requires { writer.old ≡ [] }
+    ensures ok { OnOk result (Puts (K.taken sink.old) (K.taken sink.new) (record_text (spec.verdict_record verdict))) }
+    ensures err { OnErr result (PutsFront (K.taken sink.old) (K.taken sink.new) (record_text (spec.verdict_record verdict))) }
+    ensures sound { OnOk result (K.faults sink.new ≡ K.faults sink.old) }
+    ensures failed { OnErr result (K.faults sink.new ≡ one_more (K.faults sink.old)) }
+{
+    put_verdict(sink, writer, verdict)?;
+    put(sink, writer.text())
 }
 
 /// Reads a history and a claim on it, judges the claim, and writes the verdict: `valid`, or
@@ -142,10 +140,10 @@ pub fn check_text<S: Source, K: Sink>(
     let text = read_input(alloc, source)?;
     let check = read_check_text(alloc, &text)?;
     let verdict = verdict_of(&check);
-    let Ok(told) = verdict_text(alloc, verdict) else {
+    let Ok(mut writer) = RecordWriter::with_room(alloc) else {
         return Err(fault_of(0));
     };
-    match put(sink, &told) {
+    match tell_verdict(sink, &mut writer, verdict) {
         Ok(()) => Ok(verdict),
         Err(_) => Err(fault_of(WRITE_FAULT)),
     }

@@ -7,13 +7,15 @@ ghost use Rattle.line_claims.specs.Records.{in_version};
 ghost use Rattle.line_claims.specs.Texts.{records_in};
 ghost use Rattle.line_fields.specs.declared.faults.Fault.TheVariants.{BadCount};
 ghost use Rattle.line_fields.specs.Records.{Record};
+ghost use Rattle.line_scripts.specs.Records.{DifferInVersion};
 ghost use Rattle.line_scripts.specs.Scripts.{script_of_text};
 ghost use Rattle.line_text.specs.Judgings.{JudgesText, JudgesTextFront};
 ghost use Rattle.line_text.specs.Runs.{RunsText, RunsTextFront, StopsText};
 
 /// A script of version 1, whatever its bytes, has the same replies in version 2, unless version 1
 /// refuses it for the number of its processes: what a run puts for the one text it may put for the
-/// other, also where it stops for want of memory or because the sink failed.
+/// other, also where it stops for want of memory or because the sink failed. So it is too where the
+/// first record stands behind empty lines or spells the version with leading zeros.
 pub fn scripts_of_both_versions_run_alike()
     ensures runs { (text : List ℕ) (refused : ℕ) (old new : Option (List ℕ)) → script_of_text (codes "world,1," ++ text) ≢ Err (fault_at 1 BadCount)
         → RunsText (codes "world,1," ++ text) refused old new ↔ RunsText (codes "world,2," ++ text) refused old new }
@@ -21,6 +23,12 @@ pub fn scripts_of_both_versions_run_alike()
         → RunsTextFront (codes "world,1," ++ text) old new ↔ RunsTextFront (codes "world,2," ++ text) old new }
     ensures stops { (text : List ℕ) (record_number : ℕ) (old new : Option (List ℕ)) → script_of_text (codes "world,1," ++ text) ≢ Err (fault_at 1 BadCount)
         → StopsText (codes "world,1," ++ text) record_number old new ↔ StopsText (codes "world,2," ++ text) record_number old new }
+    ensures runs_as_spelled { (text later : List ℕ) (refused : ℕ) (old new : Option (List ℕ)) → DifferInVersion text later → script_of_text text ≢ Err (fault_at 1 BadCount)
+        → RunsText text refused old new ↔ RunsText later refused old new }
+    ensures fronts_as_spelled { (text later : List ℕ) (old new : Option (List ℕ)) → DifferInVersion text later → script_of_text text ≢ Err (fault_at 1 BadCount)
+        → RunsTextFront text old new ↔ RunsTextFront later old new }
+    ensures stops_as_spelled { (text later : List ℕ) (record_number : ℕ) (old new : Option (List ℕ)) → DifferInVersion text later → script_of_text text ≢ Err (fault_at 1 BadCount)
+        → StopsText text record_number old new ↔ StopsText later record_number old new }
 {}
 
 /// A check text of version 1 that spells a claim gets the same verdict in version 2: with

@@ -6,8 +6,6 @@ mod ends;
 mod engines;
 mod judgings;
 mod laws;
-mod listings;
-mod pieces;
 
 pub use engines::{Done, run_text};
 pub use judgings::check_text;
@@ -15,5 +13,5 @@ pub use laws::{
     claims_of_version_1_are_judged_alike_in_version_2, scripts_of_both_versions_run_alike,
 };
 pub use line_claims::{Claim, TextFault, name_of, read_certificate, read_history, write_history};
-pub use line_replies::{put_answer, put_refusal, put_reply, write_reply};
+pub use line_replies::{put_refusal, put_reply, write_reply};
 pub use line_scripts::{Command, Script, read_script};

@@ -1,192 +1,206 @@
 //! The records that are written for a recovery.
 
-ghost use Rattle.std.specs.Prelude.{◌≡◌, ◌<◌, ◌++◌, ◌∷◌, [], None, Some, OnErr, OnOk, decimal, length, slice_index_or};
-ghost use Rattle.line_claims.specs.Records.{choice_text, pass_record};
-ghost use Rattle.line_devices.specs.Devices.{PutsFront};
+ghost use Rattle.std.specs.Prelude.{◌≡◌, ◌<◌, ◌++◌, ◌∷◌, [], None, codes, decimal, length, slice_index_or};
+ghost use Rattle.line_claims.specs.Records.{choice_text};
+ghost use Rattle.line_devices.specs.Devices.{Outputs};
+ghost use Rattle.line_names.specs.Lines.{choice_at};
+ghost use Rattle.line_fields.specs.Outlets.{field_text};
 ghost use Rattle.line_fields.specs.Texts.{record_text, records_text};
 ghost use Rattle.line_replies.specs.Replies as spec;
 
-use super::{add_message, begin};
-use line_fields::{Draft, RecordWriter};
+use line_claims::{numbers_of, put_pass};
+use line_devices::{DeviceFault, Sink};
+use line_fields::{Field, RecordWriter, put_ending, put_fields, put_numbers};
 use line_names::{Choice, MsgName, Passed};
 use line_plan::Plan;
 use line_tape::State;
-use std::alloc::AllocError;
 
 // Writes `recovered,SWEEPS,ENTRIES,REPLAYS`.
-fn put_recovered(
+fn put_recovered<K: Sink>(
+    sink: &mut K,
     writer: &mut RecordWriter,
-    draft: &mut Draft,
     sweeps: u32,
     entries: usize,
     replays: usize,
-) -> Result<(), AllocError>
-    ensures ok { OnOk result (writer.new ≡ writer.old ++ record_text (spec.recovered sweeps entries replays)) }
-    ensures err { OnErr result (writer.new ≡ writer.old) }
+) -> Result<(), DeviceFault>
+    ensures { Outputs result (K.taken sink.old) (K.taken sink.new) (K.faults sink.old) (K.faults sink.new) writer.new (writer.old ++ record_text (spec.recovered sweeps entries replays)) }
 {
-    draft.clear();
-    draft.word(b"recovered")?;
-    draft.number(u64::from(sweeps))?;
-    draft.number(entries as u64)?;
-    draft.number(replays as u64)?;
-    writer.put(draft)
+    let numbers = [sweeps as u64, entries as u64, replays as u64];
+    put_numbers(sink, writer, b"recovered", &numbers)
 }
 
-// Adds a choice.
-fn add_choice(draft: &mut Draft, choice: Choice) -> Result<(), AllocError>
-    ensures { OnOk result (draft.new ≡ draft.old ++ choice_text choice ∷ []) }
-{
-    match choice {
-        Choice::Check(check) => draft.number(u64::from(check)),
-        Choice::Now => draft.word(b"now"),
-    }
-}
-
-// Adds the incarnation of a process.
-fn add_incarnation(draft: &mut Draft, incarnations: &[u16], p: usize) -> Result<(), AllocError>
-    ensures { OnOk result (draft.new ≡ draft.old ++ decimal (slice_index_or incarnations.now p 0) ∷ []) }
+// The incarnation of a process.
+fn incarnation_at(incarnations: &[u16], p: usize) -> u64
+    ensures { result ≡ slice_index_or incarnations.now p 0 }
 {
     match incarnations.get(p) {
-        Some(inc) => draft.number(u64::from(*inc)),
-        None => draft.number(0),
+        Some(inc) => u64::from(*inc),
+        None => 0,
     }
 }
 
-// Adds the state that a process goes on from, or `-`.
-fn add_state(draft: &mut Draft, states: &[Option<State>], p: usize) -> Result<(), AllocError>
-    ensures { OnOk result (draft.new ≡ draft.old ++ spec.state_text (slice_index_or states.now p None) ∷ []) }
+// The state that a process goes on from, or `-`.
+fn state_field<'a>(states: &'a [Option<State>], p: usize) -> Field<'a>
+    ensures { field_text result ≡ spec.state_text (slice_index_or states.now p None) }
 {
     match states.get(p) {
-        Some(Some(state)) => draft.bytes(state.bytes()),
-        Some(None) => draft.word(b"-"),
-        None => draft.word(b"-"),
+        Some(Some(state)) => Field::Bytes(state.bytes()),
+        Some(None) => Field::Word(b"-"),
+        None => Field::Word(b"-"),
     }
+}
+
+// The choice of a process.
+fn choice_of(choices: &[Choice], p: usize) -> Choice
+    requires { p < length choices.now }
+    ensures { result ≡ choice_at choices.now p }
+{
+    choices[p]
+}
+
+// Writes `line,P,now,INC,HEX`.
+#[cold]
+#[inline(never)]
+fn put_now<K: Sink>(
+    sink: &mut K,
+    writer: &mut RecordWriter,
+    p: usize,
+    inc: u64,
+    state: Field<'_>,
+) -> Result<(), DeviceFault>
+    ensures { Outputs result (K.taken sink.old) (K.taken sink.new) (K.faults sink.old) (K.faults sink.new) writer.new (writer.old ++ record_text (codes "line" ∷ decimal p ∷ choice_text Choice.Now ∷ decimal inc ∷ field_text state.entry ∷ [])) }
+{
+    let fields = [
+        Field::Number(p as u64),
+        Field::Word(b"now"),
+        Field::Number(inc),
+        state,
+    ];
+    put_fields(sink, writer, b"line", &fields)
 }
 
 // Writes `line,P,CHOICE,INC,HEX`.
-fn put_line(
+fn put_line<K: Sink>(
+    sink: &mut K,
     writer: &mut RecordWriter,
-    draft: &mut Draft,
     choices: &[Choice],
     incarnations: &[u16],
     states: &[Option<State>],
     p: usize,
-) -> Result<(), AllocError>
+) -> Result<(), DeviceFault>
     requires { p < length choices.now }
-    ensures ok { OnOk result (writer.new ≡ writer.old ++ record_text (spec.line_of choices.now incarnations.now states.now p)) }
-    ensures err { OnErr result (writer.new ≡ writer.old) }
+    ensures { Outputs result (K.taken sink.old) (K.taken sink.new) (K.faults sink.old) (K.faults sink.new) writer.new (writer.old ++ record_text (spec.line_of choices.now incarnations.now states.now p)) }
 {
-    draft.clear();
-    draft.word(b"line")?;
-    draft.number(p as u64)?;
-    add_choice(draft, choices[p])?;
-    add_incarnation(draft, incarnations, p)?;
-    add_state(draft, states, p)?;
-    writer.put(draft)
+    let inc = incarnation_at(incarnations, p);
+    let state = state_field(states, p);
+    match choice_of(choices, p) {
+        Choice::Check(check) => {
+            let numbers = [p as u64, check as u64, inc];
+            put_ending(sink, writer, b"line", &numbers, state)
+        }
+        Choice::Now => put_now(sink, writer, p, inc, state),
+    }
 }
 
 // Writes the line records of all processes.
-fn put_lines(
+fn put_lines<K: Sink>(
+    sink: &mut K,
     writer: &mut RecordWriter,
-    draft: &mut Draft,
     choices: &[Choice],
     incarnations: &[u16],
     states: &[Option<State>],
-) -> Result<(), AllocError>
-    ensures ok { OnOk result (writer.new ≡ writer.old ++ records_text (spec.lines choices.now incarnations.now states.now)) }
-    ensures err { OnErr result (PutsFront (Some writer.old) (Some writer.new) (records_text (spec.lines choices.now incarnations.now states.now))) }
+) -> Result<(), DeviceFault>
+    ensures { Outputs result (K.taken sink.old) (K.taken sink.new) (K.faults sink.old) (K.faults sink.new) writer.new (writer.old ++ records_text (spec.lines choices.now incarnations.now states.now)) }
 {
     for p in 0..choices.len() {
-        put_line(writer, draft, choices, incarnations, states, p)?;
+        put_line(sink, writer, choices, incarnations, states, p)?;
     }
     Ok(())
 }
 
-// Writes `pass,P,CHOICE,FROM,INC,NUMBER`.
-fn put_pass(writer: &mut RecordWriter, draft: &mut Draft, entry: Passed) -> Result<(), AllocError>
-    ensures ok { OnOk result (writer.new ≡ writer.old ++ record_text (pass_record entry)) }
-    ensures err { OnErr result (writer.new ≡ writer.old) }
-{
-    draft.clear();
-    draft.word(b"pass")?;
-    draft.number(u64::from(entry.at.get()))?;
-    add_choice(draft, entry.choice)?;
-    add_message(draft, entry.message)?;
-    writer.put(draft)
-}
-
-// Writes the pass records of a certificate, or a front of them where a growth is refused.
-fn put_passes(
+// Writes the pass records of a certificate.
+fn put_passes<K: Sink>(
+    sink: &mut K,
     writer: &mut RecordWriter,
-    draft: &mut Draft,
     entries: &[Passed],
-) -> Result<(), AllocError>
-    ensures ok { OnOk result (writer.new ≡ writer.old ++ records_text (spec.passes entries.now)) }
-    ensures err { OnErr result (PutsFront (Some writer.old) (Some writer.new) (records_text (spec.passes entries.now))) }
+) -> Result<(), DeviceFault>
+    ensures { Outputs result (K.taken sink.old) (K.taken sink.new) (K.faults sink.old) (K.faults sink.new) writer.new (writer.old ++ records_text (spec.passes entries.now)) }
 {
-    for i in 0..entries.len() {
-        put_pass(writer, draft, entries[i])?;
+    for entry in entries {
+        put_pass(sink, writer, entry)?;
     }
     Ok(())
 }
 
 // Writes `replay,FROM,INC,NUMBER`.
-fn put_replay(
+fn put_replay<K: Sink>(
+    sink: &mut K,
     writer: &mut RecordWriter,
-    draft: &mut Draft,
     message: MsgName,
-) -> Result<(), AllocError>
-    ensures ok { OnOk result (writer.new ≡ writer.old ++ record_text (spec.replay message)) }
-    ensures err { OnErr result (writer.new ≡ writer.old) }
+) -> Result<(), DeviceFault>
+    ensures { Outputs result (K.taken sink.old) (K.taken sink.new) (K.faults sink.old) (K.faults sink.new) writer.new (writer.old ++ record_text (spec.replay message)) }
 {
-    begin(draft, b"replay", message)?;
-    writer.put(draft)
+    put_numbers(sink, writer, b"replay", &numbers_of(message))
 }
 
-// Writes the records of the messages that are replayed, or a front of them where a growth is
-// refused.
-fn put_replays(
+// Writes the records of the messages that are replayed.
+fn put_replays<K: Sink>(
+    sink: &mut K,
     writer: &mut RecordWriter,
-    draft: &mut Draft,
     replays: &[MsgName],
-) -> Result<(), AllocError>
-    ensures ok { OnOk result (writer.new ≡ writer.old ++ records_text (spec.replays_of replays.now)) }
-    ensures err { OnErr result (PutsFront (Some writer.old) (Some writer.new) (records_text (spec.replays_of replays.now))) }
+) -> Result<(), DeviceFault>
+    ensures { Outputs result (K.taken sink.old) (K.taken sink.new) (K.faults sink.old) (K.faults sink.new) writer.new (writer.old ++ records_text (spec.replays_of replays.now)) }
 {
     for i in 0..replays.len() {
-        put_replay(writer, draft, replays[i])?;
+        put_replay(sink, writer, replays[i])?;
     }
     Ok(())
 }
 
-// Writes a certificate and replays, or a front of them where a growth is refused.
-fn put_rest(
+// Writes a certificate and replays.
+fn put_rest<K: Sink>(
+    sink: &mut K,
     writer: &mut RecordWriter,
-    draft: &mut Draft,
     entries: &[Passed],
     replays: &[MsgName],
-) -> Result<(), AllocError>
-    ensures ok { OnOk result (writer.new ≡ writer.old ++ records_text (spec.passes entries.now ++ spec.replays_of replays.now)) }
-    ensures err { OnErr result (PutsFront (Some writer.old) (Some writer.new) (records_text (spec.passes entries.now ++ spec.replays_of replays.now))) }
+) -> Result<(), DeviceFault>
+    ensures { Outputs result (K.taken sink.old) (K.taken sink.new) (K.faults sink.old) (K.faults sink.new) writer.new (writer.old ++ records_text (spec.passes entries.now ++ spec.replays_of replays.now)) }
 {
-    put_passes(writer, draft, entries)?;
-    put_replays(writer, draft, replays)
+    put_passes(sink, writer, entries)?;
+    put_replays(sink, writer, replays)
 }
 
-// Writes the records of a recovery, or a front of them where a growth is refused.
-pub(super) fn put_recovery(
+// Writes the lines of a recovery, its certificate and its replays.
+fn put_line_and_rest<K: Sink>(
+    sink: &mut K,
     writer: &mut RecordWriter,
-    draft: &mut Draft,
-    plan: &Plan,
+    choices: &[Choice],
     incarnations: &[u16],
     states: &[Option<State>],
-) -> Result<(), AllocError>
-    ensures ok { OnOk result (writer.new ≡ writer.old ++ records_text (spec.recovery plan.now.sweeps plan.now.certificate.items plan.now.replays.items plan.now.line incarnations.now states.now)) }
-    ensures err { OnErr result (PutsFront (Some writer.old) (Some writer.new) (records_text (spec.recovery plan.now.sweeps plan.now.certificate.items plan.now.replays.items plan.now.line incarnations.now states.now))) }
+    entries: &[Passed],
+    replays: &[MsgName],
+) -> Result<(), DeviceFault>
+    ensures { Outputs result (K.taken sink.old) (K.taken sink.new) (K.faults sink.old) (K.faults sink.new) writer.new (writer.old ++ records_text (spec.lines choices.now incarnations.now states.now ++ (spec.passes entries.now ++ spec.replays_of replays.now))) }
+{
+    put_lines(sink, writer, choices, incarnations, states)?;
+    put_rest(sink, writer, entries, replays)
+}
+
+// Writes the records of a recovery.
+pub(super) fn put_recovery<K: Sink>(
+    sink: &mut K,
+    writer: &mut RecordWriter,
+    plan: &Plan,
+    incarnations: &Vec<u16>,
+    states: &Vec<Option<State>>,
+) -> Result<(), DeviceFault>
+    ensures { Outputs result (K.taken sink.old) (K.taken sink.new) (K.faults sink.old) (K.faults sink.new) writer.new (writer.old ++ records_text (spec.recovery plan.now.sweeps plan.now.certificate.items plan.now.replays.items plan.now.line incarnations.now.items states.now.items)) }
 {
     let entries = plan.certificate.as_slice();
     let replays = plan.replays.as_slice();
-    put_recovered(writer, draft, plan.sweeps, entries.len(), replays.len())?;
-    put_lines(writer, draft, plan.line.choices(), incarnations, states)?;
-    put_rest(writer, draft, entries, replays)
+    let choices = plan.line.choices();
+    let incs = incarnations.as_slice();
+    let stored = states.as_slice();
+    put_recovered(sink, writer, plan.sweeps, entries.len(), replays.len())?;
+    put_line_and_rest(sink, writer, choices, incs, stored, entries, replays)
 }

@@ -1,6 +1,8 @@
-use Rattle.std.proofs.Common.{◌≡◌, take}
-use Rattle.line_claims.specs.Records.{line_record}
+use Rattle.std.proofs.Common.{◌++◌, ◌∷◌, Ok, take}
+use Rattle.std.specs.List.{flat_map}
+use Rattle.line_devices.specs.Devices.{Outputs}
+use Rattle.line_claims.specs.Records.{choice_text}
 use Rattle.line_claims.proofs.judgements.add_choices.Given as goal
 
-abbrev pub invariant-loop-choice : goal.invariant-loop-choice
-invariant-loop-choice l = l.draft ≡ line_record (take l.choice-index l.choices)
+abbrev pub invariant-loop-i : goal.invariant-loop-i
+invariant-loop-i g l = Outputs {A = Unit} (Ok tt) (g.K.Sink.taken l.fn.sink) (g.K.Sink.taken l.sink) (g.K.Sink.faults l.fn.sink) (g.K.Sink.faults l.sink) l.writer (l.fn.writer ++ flat_map (λ choice. 44 ∷ choice_text choice) (take l.i l.choices))

@@ -1,13 +1,29 @@
-use Rattle.std.proofs.Common.{sym, ap, ◌∙◌}
+use Rattle.std.proofs.Common.{◌≡◌, ◌<◌, ◌≤◌, ap, sym, ◌∙◌, arith}
+use Rattle.line_devices.proofs.OutputLemmas.{out_all, out_front, out_left, out_more, out_none}
 use Rattle.line_names.specs.Sets.{is_member}
-use Rattle.line_claims.proofs.WriteLemmas.{failed_out, member_added}
-use Rattle.line_claims.proofs.judgements.add_members.Goals.{then-has+in_ok-number, else-has}
+use Rattle.line_claims.proofs.WriteLemmas.{next_member, next_other, no_member}
+use Rattle.line_claims.proofs.judgements.add_members.Goals.{then-has+in_ok-add_field, else-has}
 use Rattle.line_claims.proofs.judgements.add_members.Goals as goal
 
+pub loop-value-init : goal.loop-value-init
+loop-value-init g c = out_none _ _ _ _
+
 pub loop-value-preserved : goal.loop-value-preserved
-loop-value-preserved c =
+loop-value-preserved g c =
+    let lt : c.loop-value.value < c.args.n = omega arith in
     let there = ap (is_member c.args.set.now) (sym c.in-Ok.ensures.1) ∙ sym c.has.ensures in
     elim c.if-has.branch [
-      | then-has+in_ok-number w ↦ w.draft-is ∙ member_added _ _ c.loop-value.value _ _ (there ∙ w.if-has.true) w.from.ensures c.loop-value.invariant w.in_ok-number.ensures.ok
-      | else-has w ↦ w.draft-is ∙ c.loop-value.invariant ∙ sym (failed_out c.loop-value.value c.args.set.now (there ∙ w.if-has.false))
+      | then-has+in_ok-add_field w ↦ rw (w.writer-is, w.sink-is) (out_more _ _ (next_member c.args.set.now c.args.n c.loop-value.value lt (there ∙ w.if-has.true)) c.loop-value.invariant w.in_ok-add_field.ensures)
+      | else-has w ↦ rw (w.writer-is, w.sink-is) (out_left _ _ _ _ _ _ _ _ _ (next_other c.args.set.now c.args.n c.loop-value.value lt (there ∙ w.if-has.false)) c.loop-value.invariant)
     ]
+
+pub returns-in_err-add_field : goal.returns-in_err-add_field
+returns-in_err-add_field g c =
+    let lt : c.loop-value.value < c.args.n = omega arith in
+    let there = ap (is_member c.args.set.now) (sym c.in-Ok.ensures.1) ∙ sym c.has.ensures in
+    out_front _ _ _ _ _ (next_member c.args.set.now c.args.n c.loop-value.value lt (there ∙ c.if-has.true)) c.loop-value.invariant c.in_err-add_field.ensures c.from_residual.ensures.1
+
+pub returns : goal.returns
+returns g c =
+    let le : c.args.n ≤ c.loop-value.value = omega arith in
+    out_all tt (no_member c.args.set.now c.args.n c.loop-value.value le) c.loop-value.invariant

@@ -1,16 +1,12 @@
-use Rattle.std.proofs.lemmas.Result.{err_from_is_err_and, on_err_weaker, on_ok_weaker}
 use Rattle.std.proofs.Common.{length}
 use Rattle.line_claims.specs.Records.{in_order, judged_records, marks_records}
-use Rattle.line_claims.proofs.PartLemmas.{front_of_first, front_of_second, two_parts}
+use Rattle.line_devices.proofs.OutputLemmas.{outputs_front, outputs_on}
+use Rattle.line_fields.proofs.OutletLemmas.{both_texts}
+use Rattle.line_fields.specs.Texts.{records_text}
 use Rattle.line_claims.proofs.judgements.put_claim.Goals as goal
 
-pub returns-in_err-put_marks-clause-err : goal.returns-in_err-put_marks-clause-err
-returns-in_err-put_marks-clause-err c =
-    let passed_on = err_from_is_err_and c.from_residual.result c.from_residual.ensures.1 in
-    rw passed_on.1 (front_of_first _ _ (marks_records (in_order c.args.history.now.processes c.args.marks.now)) (judged_records (length c.args.history.now.processes) c.args.failed.now c.args.line.now c.args.certificate.now) c.in_err-put_marks.ensures.err)
+pub returns-in_err-put_marks : goal.returns-in_err-put_marks
+returns-in_err-put_marks g c = outputs_front _ _ _ _ (records_text (marks_records (in_order c.args.history.now.processes c.args.marks.now))) (records_text (judged_records (length c.args.history.now.processes) c.args.failed.now c.args.line.now c.args.certificate.now)) _ (both_texts (marks_records (in_order c.args.history.now.processes c.args.marks.now)) (judged_records (length c.args.history.now.processes) c.args.failed.now c.args.line.now c.args.certificate.now)) c.in_err-put_marks.ensures c.from_residual.ensures.1
 
-pub returns-clause-ok : goal.returns-clause-ok
-returns-clause-ok c = on_ok_weaker c.put_judged.result (two_parts _ _ _ (marks_records (in_order c.args.history.now.processes c.args.marks.now)) (judged_records (length c.args.history.now.processes) c.args.failed.now c.args.line.now c.args.certificate.now) c.in_ok-put_marks.ensures.ok) (rw c.n.ensures.value at c.put_judged.ensures.ok)
-
-pub returns-clause-err : goal.returns-clause-err
-returns-clause-err c = on_err_weaker c.put_judged.result (front_of_second _ _ _ (marks_records (in_order c.args.history.now.processes c.args.marks.now)) (judged_records (length c.args.history.now.processes) c.args.failed.now c.args.line.now c.args.certificate.now) c.in_ok-put_marks.ensures.ok) (rw c.n.ensures.value at c.put_judged.ensures.err)
+pub returns : goal.returns
+returns g c = outputs_on _ (records_text (marks_records (in_order c.args.history.now.processes c.args.marks.now))) (records_text (judged_records (length c.args.history.now.processes) c.args.failed.now c.args.line.now c.args.certificate.now)) _ (both_texts (marks_records (in_order c.args.history.now.processes c.args.marks.now)) (judged_records (length c.args.history.now.processes) c.args.failed.now c.args.line.now c.args.certificate.now)) c.in_ok-put_marks.ensures (rw c.n.ensures.value at c.put_judged.ensures)

@@ -1,12 +1,14 @@
-use Rattle.std.proofs.lemmas.Result.{on_err_weaker, on_ok_weaker}
-use Rattle.std.proofs.Common.{◌++◌, ◌∷◌, []}
+use Rattle.std.proofs.Common.{◌++◌, ◌∷◌, [], refl}
 use Rattle.std.specs.Prelude.{map}
+use Rattle.line_devices.proofs.OutputLemmas.{outputs_front, outputs_on}
+use Rattle.line_fields.specs.Texts.{record_text, records_text}
 use Rattle.line_claims.specs.Records.{end_record, failed_record, line_record, pass_record}
-use Rattle.line_claims.proofs.PartLemmas.{front_behind, record_behind}
 use Rattle.line_claims.proofs.judgements.put_judged.Goals as goal
 
-pub returns-clause-ok : goal.returns-clause-ok
-returns-clause-ok c = on_ok_weaker c.put_chain.result (record_behind _ _ _ (failed_record c.args.n c.args.failed.now) (line_record c.args.line.now ∷ (map pass_record c.args.certificate.now ++ end_record ∷ [])) c.in_ok-put_failed.ensures.ok) c.put_chain.ensures.ok
+pub returns-in_err-put_failed : goal.returns-in_err-put_failed
+returns-in_err-put_failed g c =
+    outputs_front _ _ _ _ (record_text (failed_record c.args.n c.args.failed.now)) (records_text (line_record c.args.line.now ∷ (map pass_record c.args.certificate.now ++ end_record ∷ []))) _ refl c.in_err-put_failed.ensures c.from_residual.ensures.1
 
-pub returns-clause-err : goal.returns-clause-err
-returns-clause-err c = on_err_weaker c.put_chain.result (front_behind _ _ _ (failed_record c.args.n c.args.failed.now) (line_record c.args.line.now ∷ (map pass_record c.args.certificate.now ++ end_record ∷ [])) c.in_ok-put_failed.ensures.ok) c.put_chain.ensures.err
+pub returns : goal.returns
+returns g c =
+    outputs_on _ (record_text (failed_record c.args.n c.args.failed.now)) (records_text (line_record c.args.line.now ∷ (map pass_record c.args.certificate.now ++ end_record ∷ []))) _ refl c.in_ok-put_failed.ensures c.put_chain.ensures

@@ -1,26 +1,41 @@
-use Rattle.std.proofs.Common.{sym}
+use Rattle.std.proofs.Common.{◌≡◌, ◌<◌, ◌≤◌, ℕ, List, get_or, length, sym, arith}
 use Rattle.std.proofs.lemmas.Option.{get_or_from_slice_get, slice_get_within}
-use Rattle.std.proofs.lemmas.Result.{err_from_is_err_and}
+use Rattle.line_devices.proofs.OutputLemmas.{out_all, out_front, out_more, out_none}
+use Rattle.line_fields.proofs.OutletLemmas.{item_left, no_item_left}
+use Rattle.line_tape.specs.declared.events.Event.{Event}
 use Rattle.line_tape.specs.Shown.{shown}
 use Rattle.line_claims.specs.Ranges.{FitsWords}
 use Rattle.line_claims.specs.Records.{event_record}
 use Rattle.line_claims.proofs.MemoryLemmas.{front_fits}
-use Rattle.line_claims.proofs.PartLemmas.{items_front, one_item_more}
 use Rattle.line_claims.proofs.writers.put_events.Goals as goal
 
+pub loop-i-init : goal.loop-i-init
+loop-i-init g c = record { part = out_none _ _ _ _; fits = tt }
+
 pub loop-i-preserved : goal.loop-i-preserved
-loop-i-preserved c =
-    let events = c.args.events.now in
-    let i = c.loop-i.i in
-    let event = shown c.at.result in
-    let within = slice_get_within events i event c.at.ensures in
-    let there = sym (get_or_from_slice_get events i event event c.at.ensures) in
+loop-i-preserved g c =
+    let events : List Event = c.args.events.now in
+    let i : ℕ = c.loop-i.i in
+    let event : Event = shown c.at.result in
+    let within : i < length events = slice_get_within events i event c.at.ensures in
+    let there : event ≡ get_or events i event = sym (get_or_from_slice_get events i event event c.at.ensures) in
+    let next = item_left event_record events i event within there in
     record {
-      written = one_item_more event_record _ _ _ events i event within there c.loop-i.invariant.written c.in_ok-put_event.ensures.ok;
+      part = out_more _ _ next c.loop-i.invariant.part c.in_ok-put_event.ensures.put;
       fits = front_fits FitsWords events i event within there c.loop-i.invariant.fits c.in_ok-put_event.ensures.fits;
     }
 
-pub returns-in_err-put_event-clause-err : goal.returns-in_err-put_event-clause-err
-returns-in_err-put_event-clause-err c =
-    let passed_on = err_from_is_err_and c.from_residual.result c.from_residual.ensures.1 in
-    rw passed_on.1 (items_front event_record _ _ _ c.args.events.now c.loop-i.i c.loop-i.invariant.written c.in_err-put_event.ensures.err)
+pub returns-in_err-put_event-clause-put : goal.returns-in_err-put_event-clause-put
+returns-in_err-put_event-clause-put g c =
+    let events : List Event = c.args.events.now in
+    let i : ℕ = c.loop-i.i in
+    let event : Event = shown c.at.result in
+    let within : i < length events = slice_get_within events i event c.at.ensures in
+    let there : event ≡ get_or events i event = sym (get_or_from_slice_get events i event event c.at.ensures) in
+    let next = item_left event_record events i event within there in
+    out_front _ _ _ _ _ next c.loop-i.invariant.part c.in_err-put_event.ensures.put c.from_residual.ensures.1
+
+pub returns-clause-put : goal.returns-clause-put
+returns-clause-put g c =
+    let le : length c.args.events.now ≤ c.loop-i.i = omega arith in
+    out_all tt (no_item_left event_record c.args.events.now c.loop-i.i le) c.loop-i.invariant.part

@@ -1,46 +1,59 @@
-use Rattle.std.proofs.Common.{◌≡◌, ◌<◌, ◌≤◌, List, length, take, arith}
+use Rattle.std.proofs.Common.{◌≡◌, ◌<◌, ◌≤◌, List, length, take, arith, refl}
 use Rattle.std.proofs.lemmas.List.{get_or_default, take_all}
-use Rattle.std.proofs.lemmas.Result.{err_from_is_err_and}
+use Rattle.line_devices.proofs.OutputLemmas.{out_all, out_front, out_more, out_none, outputs_front}
+use Rattle.line_fields.specs.Texts.{record_text, records_text}
 use Rattle.line_tape.specs.History.{Process, process_at}
 use Rattle.line_claims.specs.Ranges.{FitsProcess}
+use Rattle.line_claims.specs.Records.{history_record, tapes_records}
 use Rattle.line_claims.proofs.MemoryLemmas.{front_fits, history_in_range}
-use Rattle.line_claims.proofs.PartLemmas.{next_tape, no_tape, part_all, part_front, part_left, part_more, part_none}
+use Rattle.line_claims.proofs.PartLemmas.{next_tape, no_tape}
 use Rattle.line_claims.proofs.writers.put_history.Goals as goal
 
+pub returns-in_err-put_history_head-clause-put : goal.returns-in_err-put_history_head-clause-put
+returns-in_err-put_history_head-clause-put g c =
+    let history : List Process = c.args.history.now.processes in
+    outputs_front _ _ _ _ (record_text (history_record c.args.version (length history))) (records_text (tapes_records 0 history)) _ refl (rw c.n-n.ensures.value at c.in_err-put_history_head.ensures) c.from_residual.ensures.1
+
 pub loop-p-init : goal.loop-p-init
-loop-p-init c = record { part = part_more _ _ _ _ _ _ (part_none _ _) (rw c.n-n.ensures.value at c.in_ok-put_history_head.ensures.ok); fits = tt }
+loop-p-init g c =
+    let history : List Process = c.args.history.now.processes in
+    record {
+      part = out_more (record_text (history_record c.args.version (length history))) (records_text (tapes_records 0 history)) refl (out_none _ _ _ _) (rw c.n-n.ensures.value at c.in_ok-put_history_head.ensures);
+      fits = tt;
+    }
 
 pub loop-p-preserved : goal.loop-p-preserved
-loop-p-preserved c =
+loop-p-preserved g c =
     let history : List Process = c.args.history.now.processes in
     let lt : c.loop-p.p < length history = omega arith in
+    let next = next_tape history c.loop-p.p lt in
     record {
-      part = part_more _ _ _ _ _ _ (part_left _ _ _ _ _ (next_tape history c.loop-p.p lt) c.loop-p.invariant.part) (rw c.in-Ok.ensures.1 at c.in_ok-put_tape_of.ensures.ok);
+      part = out_more _ _ next c.loop-p.invariant.part (rw c.in-Ok.ensures.1 at c.in_ok-put_tape_of.ensures.put);
       fits = front_fits FitsProcess history c.loop-p.p (process_at history c.loop-p.p) lt (get_or_default history c.loop-p.p _ _ lt) c.loop-p.invariant.fits (rw c.in-Ok.ensures.1 at c.in_ok-put_tape_of.ensures.fits);
     }
 
-pub returns-in_err-put_tape_of-clause-err : goal.returns-in_err-put_tape_of-clause-err
-returns-in_err-put_tape_of-clause-err c =
+pub returns-in_err-put_tape_of-clause-put : goal.returns-in_err-put_tape_of-clause-put
+returns-in_err-put_tape_of-clause-put g c =
     let history : List Process = c.args.history.now.processes in
     let lt : c.loop-p.p < length history = omega arith in
-    let passed_on = err_from_is_err_and c.from_residual-in_err-put_tape_of.result c.from_residual-in_err-put_tape_of.ensures.1 in
-    rw passed_on.1 (part_front _ _ _ _ _ _ (part_left _ _ _ _ _ (next_tape history c.loop-p.p lt) c.loop-p.invariant.part) (rw c.in-Ok.ensures.1 at c.in_err-put_tape_of.ensures.err))
+    let next = next_tape history c.loop-p.p lt in
+    out_front _ _ _ _ _ next c.loop-p.invariant.part (rw c.in-Ok.ensures.1 at c.in_err-put_tape_of.ensures.put) c.from_residual-in_err-put_tape_of.ensures.1
 
-pub returns-clause-ok : goal.returns-clause-ok
-returns-clause-ok c =
+pub returns-clause-put : goal.returns-clause-put
+returns-clause-put g c =
     let history : List Process = c.args.history.now.processes in
     let le : length history ≤ c.loop-p.p = omega arith in
-    part_all _ _ _ _ c.loop-p.invariant.part (no_tape history c.loop-p.p le)
+    out_all tt (no_tape history c.loop-p.p le) c.loop-p.invariant.part
 
 pub returns-clause-fits : goal.returns-clause-fits
-returns-clause-fits c =
+returns-clause-fits g c =
     let history : List Process = c.args.history.now.processes in
     let whole : take c.loop-p.p history ≡ history = take_all c.loop-p.p history (omega arith) in
     let few = c.n-n.ensures.limits.few in
     record { few = omega (arith, few); processes = rw whole at c.loop-p.invariant.fits }
 
 pub returns-clause-range : goal.returns-clause-range
-returns-clause-range c rounds =
+returns-clause-range g c rounds =
     let history : List Process = c.args.history.now.processes in
     let whole : take c.loop-p.p history ≡ history = take_all c.loop-p.p history (omega arith) in
     let few = c.n-n.ensures.limits.few in

@@ -4,14 +4,8 @@ use Rattle.line_tape.specs.declared.events.Event.{Event}
 use Rattle.line_tape.specs.History.{tape_at}
 use Rattle.line_claims.proofs.writers.put_tape_of.Goals as goal
 
-pub returns-clause-ok : goal.returns-clause-ok
-returns-clause-ok c =
+pub returns-clause-put : goal.returns-clause-put
+returns-clause-put g c =
     let tape : List Event = tape_at c.args.history.now.processes c.args.p in
     let whole : take (length tape) tape ≡ tape = take_all (length tape) tape (omega arith) in
-    rw (c.incarnation-inc.ensures, c.front-events.ensures, c.tape.ensures.events, whole) at c.put_tape.ensures.ok
-
-pub returns-clause-err : goal.returns-clause-err
-returns-clause-err c =
-    let tape : List Event = tape_at c.args.history.now.processes c.args.p in
-    let whole : take (length tape) tape ≡ tape = take_all (length tape) tape (omega arith) in
-    rw (c.incarnation-inc.ensures, c.front-events.ensures, c.tape.ensures.events, whole) at c.put_tape.ensures.err
+    rw (c.incarnation-inc.ensures, c.front-events.ensures, c.tape.ensures.events, whole) at c.put_tape.ensures.put

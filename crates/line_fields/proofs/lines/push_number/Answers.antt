@@ -4,8 +4,8 @@ use Rattle.line_fields.specs.Writers.{two_digits}
 use Rattle.line_fields.proofs.DigitLemmas.{decimal_myriads}
 use Rattle.line_fields.proofs.lines.push_number.Goals as goal
 
-pub returns-else-value-lt10000 : goal.returns-else-value-lt10000
-returns-else-value-lt10000 c =
+pub returns-else-value-lt10000-clause-text : goal.returns-else-value-lt10000-clause-text
+returns-else-value-lt10000-clause-text c =
     rw (c.push_pair-else-value-lt10000.ensures.text, c.push_pair.ensures.text, c.push_four-else-value-lt10000.ensures.text)
     (append_assoc (c.args.out.now.items ++ decimal (c.args.value / 10000)) (two_digits (c.args.value / 100 % 100)) (two_digits (c.args.value % 100))
     ∙ append_assoc c.args.out.now.items (decimal (c.args.value / 10000)) (two_digits (c.args.value / 100 % 100) ++ two_digits (c.args.value % 100))

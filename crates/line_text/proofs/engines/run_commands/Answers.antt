@@ -2,11 +2,11 @@
 use Rattle.std.proofs.Common.{length, refl, ap, ◌∙◌}
 use Rattle.line_devices.specs.Devices.{one_more}
 use Rattle.line_text.proofs.RunLemmas.{stops_front, stops_with}
-use Rattle.line_text.proofs.PieceLemmas.{puts_front_of_held}
+use Rattle.line_devices.proofs.PutLemmas.{puts_front_of_held}
 use Rattle.line_text.proofs.engines.run_commands.Goals as goal
 
-pub returns-in-Ok-clause-write : goal.returns-in-Ok-clause-write
-returns-in-Ok-clause-write g c code =
+pub returns-in-Err-clause-write : goal.returns-in-Err-clause-write
+returns-in-Err-clause-write g c code =
     let run = c.in-Ok.ensures.ok in
     let front = rw c.text.ensures at c.in-Err.ensures.err in (
       rw c.fault_of.ensures refl,
@@ -14,8 +14,8 @@ returns-in-Ok-clause-write g c code =
       record { done = length c.args.commands.now; told = run.told; end = c.do_commands.new.world; run = run.run; text = puts_front_of_held _ _ _ _ _ run.text front },
     )
 
-pub returns-in-Err-Memory-clause-write : goal.returns-in-Err-Memory-clause-write
-returns-in-Err-Memory-clause-write g c code =
+pub returns-in-Err-put-clause-write : goal.returns-in-Err-put-clause-write
+returns-in-Err-put-clause-write g c code =
     let stopped = rw c.in-Err-Memory.field-0-is at c.in-Err-Memory.ensures.err in
     let blamed = rw c.in-Err-Memory.field-0-is at c.in-Err-Memory.ensures.blamed in
     let front = rw c.text-in-Err-Memory.ensures at c.in-Err-put.ensures.err in (

@@ -3,10 +3,10 @@ use Rattle.std.proofs.Common.{inr, refl}
 use Rattle.line_text.proofs.RunLemmas.{front_of_text, runs_text, stops_text}
 use Rattle.line_text.proofs.engines.run_text.Goals as goal
 
-pub returns-in-Ok-clause-done : goal.returns-in-Ok-clause-done
-returns-in-Ok-clause-done g c =
+pub returns-in-Ok-run_commands-clause-done : goal.returns-in-Ok-run_commands-clause-done
+returns-in-Ok-run_commands-clause-done g c =
     let spelt = c.in_ok-script.ensures.spelt in
-    (spelt.0, spelt.1, runs_text _ _ _ _ _ _ _ spelt.2 c.in_ok-world.ensures.ok refl c.in-Ok.ensures.ok)
+    (spelt.0, spelt.1, runs_text _ _ _ _ _ _ _ spelt.2 c.in_ok-world.ensures.ok refl c.in-Ok-run_commands.ensures.ok)
 
 pub returns-clause-write : goal.returns-clause-write
 returns-clause-write g c code =

@@ -14,9 +14,9 @@ returns-in_err-check-clause-text g c =
       (c.in_ok-text.text.items, c.in_ok-text.ensures.whole, ap check_of_text (sym c.deref.ensures.value) ∙ fault_of_text _ _ c.in_err-check.ensures.exact of_text),
     ))
 
-pub returns-in-Ok-put-clause-done : goal.returns-in-Ok-put-clause-done
-returns-in-Ok-put-clause-done g c = (
+pub returns-in-Ok-tell_verdict-clause-done : goal.returns-in-Ok-tell_verdict-clause-done
+returns-in-Ok-tell_verdict-clause-done g c = (
   c.in_ok-text.text.items,
   c.in_ok-text.ensures.whole,
-  judges_text _ _ _ _ _ _ (ap check_of_text (sym c.deref.ensures.value) ∙ c.in_ok-check.ensures.exact) c.verdict_of-verdict.ensures (c.deref-2.ensures.value ∙ c.in-Ok.ensures) c.in-Ok-put.ensures.ok,
+  judges_text _ _ _ _ _ (ap check_of_text (sym c.deref.ensures.value) ∙ c.in_ok-check.ensures.exact) c.verdict_of-verdict.ensures c.in-Ok-tell_verdict.ensures.ok,
 )

@@ -1,13 +1,28 @@
-use Rattle.std.proofs.Common.{arith}
-use Rattle.std.proofs.lemmas.Result.{err_from_is_err_and}
+use Rattle.std.proofs.Common.{◌<◌, ◌≤◌, ℕ, length, arith}
+use Rattle.line_devices.proofs.OutputLemmas.{out_all, out_front, out_more, out_none}
+use Rattle.line_fields.specs.Records.{Record}
+use Rattle.line_fields.proofs.OutletLemmas.{no_number_left, number_left}
 use Rattle.line_replies.specs.Replies.{line_of}
-use Rattle.line_replies.proofs.ReplyLemmas.{lines_front, one_line_more}
 use Rattle.line_replies.proofs.replies.recoveries.put_lines.Goals as goal
 
-pub loop-p-preserved : goal.loop-p-preserved
-loop-p-preserved c = one_line_more _ _ _ (line_of c.args.choices.now c.args.incarnations.now c.args.states.now) _ c.loop-p.invariant c.in_ok-put_line.ensures.ok
+pub loop-p-init : goal.loop-p-init
+loop-p-init g c = out_none _ _ _ _
 
-pub returns-in_err-put_line-clause-err : goal.returns-in_err-put_line-clause-err
-returns-in_err-put_line-clause-err c =
-    let passed_on = err_from_is_err_and c.from_residual.result c.from_residual.ensures.1 in
-    rw passed_on.1 (lines_front _ _ _ (line_of c.args.choices.now c.args.incarnations.now c.args.states.now) c.loop-p.p _ (omega arith) c.loop-p.invariant c.in_err-put_line.ensures.err)
+pub loop-p-preserved : goal.loop-p-preserved
+loop-p-preserved g c =
+    let f : ℕ → Record = line_of c.args.choices.now c.args.incarnations.now c.args.states.now in
+    let lt : c.loop-p.p < length c.args.choices.now = omega arith in
+    let next = number_left f (length c.args.choices.now) c.loop-p.p lt in
+    out_more _ _ next c.loop-p.invariant c.in_ok-put_line.ensures
+
+pub returns-in_err-put_line : goal.returns-in_err-put_line
+returns-in_err-put_line g c =
+    let f : ℕ → Record = line_of c.args.choices.now c.args.incarnations.now c.args.states.now in
+    let lt : c.loop-p.p < length c.args.choices.now = omega arith in
+    let next = number_left f (length c.args.choices.now) c.loop-p.p lt in
+    out_front _ _ _ _ _ next c.loop-p.invariant c.in_err-put_line.ensures c.from_residual.ensures.1
+
+pub returns : goal.returns
+returns g c =
+    let le : length c.args.choices.now ≤ c.loop-p.p = omega arith in
+    out_all tt (no_number_left (line_of c.args.choices.now c.args.incarnations.now c.args.states.now) (length c.args.choices.now) c.loop-p.p le) c.loop-p.invariant

@@ -1,13 +1,25 @@
-use Rattle.std.proofs.Common.{arith}
-use Rattle.std.proofs.lemmas.Result.{err_from_is_err_and}
+use Rattle.std.proofs.Common.{◌<◌, ◌≤◌, length, arith}
+use Rattle.line_devices.proofs.OutputLemmas.{out_all, out_front, out_more, out_none}
+use Rattle.line_fields.proofs.OutletLemmas.{item_left, no_item_left}
 use Rattle.line_replies.specs.Replies.{replay}
-use Rattle.line_claims.proofs.PartLemmas.{items_front, one_item_more}
 use Rattle.line_replies.proofs.replies.recoveries.put_replays.Goals as goal
 
-pub loop-i-preserved : goal.loop-i-preserved
-loop-i-preserved c = one_item_more replay _ _ _ c.args.replays.now c.loop-i.i _ (omega arith) c.index-replays-i.is c.loop-i.invariant c.in_ok-put_replay.ensures.ok
+pub loop-i-init : goal.loop-i-init
+loop-i-init g c = out_none _ _ _ _
 
-pub returns-in_err-put_replay-clause-err : goal.returns-in_err-put_replay-clause-err
-returns-in_err-put_replay-clause-err c =
-    let passed_on = err_from_is_err_and c.from_residual.result c.from_residual.ensures.1 in
-    rw passed_on.1 (items_front replay _ _ _ c.args.replays.now c.loop-i.i c.loop-i.invariant c.in_err-put_replay.ensures.err)
+pub loop-i-preserved : goal.loop-i-preserved
+loop-i-preserved g c =
+    let lt : c.loop-i.i < length c.args.replays.now = omega arith in
+    let next = item_left replay c.args.replays.now c.loop-i.i _ lt c.index-replays-i.is in
+    out_more _ _ next c.loop-i.invariant c.in_ok-put_replay.ensures
+
+pub returns-in_err-put_replay : goal.returns-in_err-put_replay
+returns-in_err-put_replay g c =
+    let lt : c.loop-i.i < length c.args.replays.now = omega arith in
+    let next = item_left replay c.args.replays.now c.loop-i.i _ lt c.index-replays-i.is in
+    out_front _ _ _ _ _ next c.loop-i.invariant c.in_err-put_replay.ensures c.from_residual.ensures.1
+
+pub returns : goal.returns
+returns g c =
+    let le : length c.args.replays.now ≤ c.loop-i.i = omega arith in
+    out_all tt (no_item_left replay c.args.replays.now c.loop-i.i le) c.loop-i.invariant

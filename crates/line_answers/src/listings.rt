@@ -1,0 +1,141 @@
+//! Rounds that were completed, listed.
+
+ghost use Rattle.std.specs.Prelude.{◌≡◌, ◌<◌, ◌≤◌, ◌++◌, All, length, map};
+ghost use Rattle.std.specs.List.{flat_map};
+ghost use Rattle.line_devices.specs.Devices.{Outputs};
+ghost use Rattle.line_fields.specs.Texts.{records_text};
+ghost use Rattle.line_names.specs.declared.limits.TheConstants.{MOST_PROCESSES};
+ghost use Rattle.line_replies.specs.Rounds as records;
+
+use line_devices::{DeviceFault, Sink};
+use line_fields::RecordWriter;
+use line_names::{MOST_PROCESSES, MsgName, ProcId};
+use line_replies::{put_message, put_round, put_rounds_head};
+use line_world::Round;
+
+// Writes the messages of a channel.
+fn put_messages<K: Sink>(
+    sink: &mut K,
+    writer: &mut RecordWriter,
+    round: u32,
+    from: ProcId,
+    to: ProcId,
+    messages: &[MsgName],
+) -> Result<(), DeviceFault>
+    ensures { Outputs result (K.taken sink.old) (K.taken sink.new) (K.faults sink.old) (K.faults sink.new) writer.new (writer.old ++ records_text (map (records.channel_record round from to) messages.now)) }
+{
+    for i in 0..messages.len() {
+        put_message(sink, writer, round, from, to, messages[i])?;
+    }
+    Ok(())
+}
+
+// Writes the channel from one process to another, if they are two.
+fn put_channel<K: Sink>(
+    sink: &mut K,
+    writer: &mut RecordWriter,
+    round: &Round,
+    from: ProcId,
+    to: ProcId,
+) -> Result<(), DeviceFault>
+    requires from { from < length round.now.checks }
+    requires to { to < length round.now.checks }
+    ensures { Outputs result (K.taken sink.old) (K.taken sink.new) (K.faults sink.old) (K.faults sink.new) writer.new (writer.old ++ records_text (records.channel_records round.now from to)) }
+{
+    if from.get() == to.get() {
+        return Ok(());
+    }
+    let number = round.number();
+    let messages = round.channel(from, to);
+    put_messages(sink, writer, number, from, to, messages)
+}
+
+// Writes the channels from one process.
+fn put_channels_from<K: Sink>(
+    sink: &mut K,
+    writer: &mut RecordWriter,
+    n: u32,
+    round: &Round,
+    from: ProcId,
+) -> Result<(), DeviceFault>
+    requires few { n ≤ MOST_PROCESSES }
+    requires checks { length round.now.checks ≡ n }
+    requires from { from < n }
+    ensures { Outputs result (K.taken sink.old) (K.taken sink.new) (K.faults sink.old) (K.faults sink.new) writer.new (writer.old ++ records_text (records.channels_from n round.now from)) }
+{
+    for value in 0..n {
+        let Ok(to) = ProcId::try_new(value, n) else {
+            unreachable!()
+        };
+        put_channel(sink, writer, round, from, to)?;
+    }
+    Ok(())
+}
+
+// Writes the channels of a round.
+fn put_channels<K: Sink>(
+    sink: &mut K,
+    writer: &mut RecordWriter,
+    n: u32,
+    round: &Round,
+) -> Result<(), DeviceFault>
+    requires few { n ≤ MOST_PROCESSES }
+    requires checks { length round.now.checks ≡ n }
+    ensures { Outputs result (K.taken sink.old) (K.taken sink.new) (K.faults sink.old) (K.faults sink.new) writer.new (writer.old ++ records_text (records.channels_of n round.now)) }
+{
+    for value in 0..n {
+        let Ok(from) = ProcId::try_new(value, n) else {
+            unreachable!()
+        };
+        put_channels_from(sink, writer, n, round, from)?;
+    }
+    Ok(())
+}
+
+// Writes a round and its channels.
+fn put_whole_round<K: Sink>(
+    sink: &mut K,
+    writer: &mut RecordWriter,
+    n: u32,
+    round: &Round,
+) -> Result<(), DeviceFault>
+    requires few { n ≤ MOST_PROCESSES }
+    requires checks { length round.now.checks ≡ n }
+    ensures { Outputs result (K.taken sink.old) (K.taken sink.new) (K.faults sink.old) (K.faults sink.new) writer.new (writer.old ++ records_text (records.round_records n round.now)) }
+{
+    put_round(sink, writer, n, round)?;
+    put_channels(sink, writer, n, round)
+}
+
+// Writes rounds one after another.
+fn put_each<K: Sink>(
+    sink: &mut K,
+    writer: &mut RecordWriter,
+    n: u32,
+    rounds: &[Round],
+) -> Result<(), DeviceFault>
+    requires few { n ≤ MOST_PROCESSES }
+    requires checks { All (λ round. length round.checks ≡ n) rounds.now }
+    ensures { Outputs result (K.taken sink.old) (K.taken sink.new) (K.faults sink.old) (K.faults sink.new) writer.new (writer.old ++ records_text (flat_map (records.round_records n) rounds.now)) }
+{
+    for i in 0..rounds.len() {
+        put_whole_round(sink, writer, n, &rounds[i])?;
+    }
+    Ok(())
+}
+
+/// Writes the rounds among `n` processes behind what a writer holds: how many there are, and then of
+/// each its checks and the messages on its channels, by sender and receiver.
+pub(crate) fn put_rounds<K: Sink>(
+    sink: &mut K,
+    writer: &mut RecordWriter,
+    n: u32,
+    rounds: &[Round],
+) -> Result<(), DeviceFault>
+    requires few { n ≤ MOST_PROCESSES }
+    requires checks { All (λ round. length round.checks ≡ n) rounds.now }
+    ensures { Outputs result (K.taken sink.old) (K.taken sink.new) (K.faults sink.old) (K.faults sink.new) writer.new (writer.old ++ records_text (records.rounds_records n rounds.now)) }
+{
+    put_rounds_head(sink, writer, rounds.len())?;
+    put_each(sink, writer, n, rounds)
+}

@@ -1,0 +1,26 @@
+use Rattle.std.proofs.Common.{◌++◌, ◌+◌, ◌∷◌, ℕ, List, take, drop, arith, refl, sym}
+use Rattle.std.specs.List.{flat_map}
+use Rattle.line_devices.proofs.OutputLemmas.{outputs_as, outputs_front, outputs_none, outputs_on}
+use Rattle.line_fields.specs.declared.outlets.Field.{Field}
+use Rattle.line_fields.specs.Outlets.{field_text}
+use Rattle.line_fields.proofs.OutletLemmas.{all_of, one_more_of, up_to_next}
+use Rattle.line_fields.proofs.outlets.add_fields.Goals as goal
+
+abbrev part : Field → List ℕ
+part field = 44 ∷ field_text field
+
+pub loop-i-init : goal.loop-i-init
+loop-i-init g c = outputs_none _ _ _ _
+
+pub loop-i-preserved : goal.loop-i-preserved
+loop-i-preserved g c =
+    outputs_on _ (flat_map part (take c.loop-i.i c.args.fields.now)) _ _ (one_more_of part c.args.fields.now c.loop-i.i _ (omega arith)) c.loop-i.invariant c.in_ok-add_field.ensures
+
+pub returns-in_err-add_field : goal.returns-in_err-add_field
+returns-in_err-add_field g c =
+    outputs_front _ _ _ _ _ (flat_map part (drop (c.loop-i.i + 1) c.args.fields.now)) _
+    (up_to_next part c.args.fields.now c.loop-i.i _ (omega arith))
+    (outputs_on _ (flat_map part (take c.loop-i.i c.args.fields.now)) _ _ refl c.loop-i.invariant c.in_err-add_field.ensures) c.from_residual.ensures.1
+
+pub returns : goal.returns
+returns g c = outputs_as _ _ _ _ _ _ _ _ _ (all_of part c.args.fields.now c.loop-i.i (omega arith)) c.loop-i.invariant

@@ -1,0 +1,241 @@
+//! Records that are written where they stand, in a text that is put to a sink where it is full.
+
+ghost use Rattle.std.specs.Prelude.{◌≡◌, ◌≤◌, ◌<◌, ◌+◌, ◌*◌, ◌++◌, ◌∷◌, [], decimal, length, map, vec_capacity, vec_len};
+ghost use Rattle.std.specs.List.{flat_map, join_with_byte};
+ghost use Rattle.line_devices.specs.Devices.{Outputs};
+ghost use Rattle.line_fields.specs.Texts.{hex_pair, hex_text, record_text};
+ghost use Rattle.line_fields.specs.Outlets.{field_text};
+
+use crate::RecordWriter;
+use crate::digits::push_eights;
+use crate::lines::{has_room, pair_of, push_hex, push_number, push_text, push_word};
+use itoa::Buffer;
+use line_devices::{DeviceFault, Sink, put_all};
+
+// Numbers below this have eight digits at most, and are written two digits at a time.
+const SHORT_NUMBER: u64 = 100_000_000;
+
+// A comma and a short number have so many bytes at most.
+const NUMBER_ROOM: usize = 9;
+
+/// A field of a record that is written.
+#[derive(Clone, Copy)]
+pub enum Field<'a> {
+    /// Plain text, such as `-`.
+    Word(&'a [u8]),
+    /// A number, without leading zeros.
+    Number(u64),
+    /// Bytes, as two hexadecimal digits of lower case each.
+    Bytes(&'a [u8]),
+}
+
+// Writes bytes behind a text that has no room for them: it is put, and what is longer than its
+// whole room is put too.
+#[cold]
+#[inline(never)]
+fn add_far<K: Sink>(sink: &mut K, text: &mut Vec<u8>, bytes: &[u8]) -> Result<(), DeviceFault>
+    ensures { Outputs result (K.taken sink.old) (K.taken sink.new) (K.faults sink.old) (K.faults sink.new) text.new.items (text.old.items ++ bytes.now) }
+{
+    put_all(sink, text.as_slice())?;
+    text.clear();
+    if has_room(text, bytes.len()) {
+        push_text(text, bytes);
+        return Ok(());
+    }
+    put_all(sink, bytes)
+}
+
+// Writes bytes behind a text.
+#[inline(always)]
+fn add<K: Sink>(sink: &mut K, text: &mut Vec<u8>, bytes: &[u8]) -> Result<(), DeviceFault>
+    ensures { Outputs result (K.taken sink.old) (K.taken sink.new) (K.faults sink.old) (K.faults sink.new) text.new.items (text.old.items ++ bytes.now) }
+{
+    if !has_room(text, bytes.len()) {
+        return add_far(sink, text, bytes);
+    }
+    push_word(text, bytes);
+    Ok(())
+}
+
+// Writes a comma behind a text.
+#[inline(always)]
+fn add_comma<K: Sink>(sink: &mut K, text: &mut Vec<u8>) -> Result<(), DeviceFault>
+    ensures { Outputs result (K.taken sink.old) (K.taken sink.new) (K.faults sink.old) (K.faults sink.new) text.new.items (text.old.items ++ 44 ∷ []) }
+{
+    add(sink, text, b",")
+}
+
+// Writes a comma and a word behind a text.
+#[inline(always)]
+fn add_word<K: Sink>(sink: &mut K, text: &mut Vec<u8>, word: &[u8]) -> Result<(), DeviceFault>
+    ensures { Outputs result (K.taken sink.old) (K.taken sink.new) (K.faults sink.old) (K.faults sink.new) text.new.items (text.old.items ++ 44 ∷ word.now) }
+{
+    add_comma(sink, text)?;
+    add(sink, text, word)
+}
+
+// Writes a comma and a number behind a text, also where it is long or there is no room.
+#[cold]
+#[inline(never)]
+fn add_number_far<K: Sink>(sink: &mut K, text: &mut Vec<u8>, value: u64) -> Result<(), DeviceFault>
+    ensures { Outputs result (K.taken sink.old) (K.taken sink.new) (K.faults sink.old) (K.faults sink.new) text.new.items (text.old.items ++ 44 ∷ decimal value) }
+{
+    let mut buffer = Buffer::new();
+    add_word(sink, text, buffer.format(value).as_bytes())
+}
+
+// Writes a comma and a number behind a text.
+#[inline(always)]
+fn add_number<K: Sink>(sink: &mut K, text: &mut Vec<u8>, value: u64) -> Result<(), DeviceFault>
+    ensures { Outputs result (K.taken sink.old) (K.taken sink.new) (K.faults sink.old) (K.faults sink.new) text.new.items (text.old.items ++ 44 ∷ decimal value) }
+{
+    if value >= SHORT_NUMBER || !has_room(text, NUMBER_ROOM) {
+        return add_number_far(sink, text, value);
+    }
+    text.push_reserved(b',');
+    push_number(text, value as u32);
+    Ok(())
+}
+
+// Writes the digits of bytes behind a text that has no room for them all, byte by byte.
+#[cold]
+#[inline(never)]
+fn add_digits_far<K: Sink>(
+    sink: &mut K,
+    text: &mut Vec<u8>,
+    bytes: &[u8],
+) -> Result<(), DeviceFault>
+    ensures { Outputs result (K.taken sink.old) (K.taken sink.new) (K.faults sink.old) (K.faults sink.new) text.new.items (text.old.items ++ hex_text bytes.now) }
+{
+    for i in 0..bytes.len() {
+        add(sink, text, &pair_of(bytes[i]))?;
+    }
+    Ok(())
+}
+
+// Writes a comma and the digits of bytes behind a text.
+fn add_bytes<K: Sink>(sink: &mut K, text: &mut Vec<u8>, bytes: &[u8]) -> Result<(), DeviceFault>
+    ensures { Outputs result (K.taken sink.old) (K.taken sink.new) (K.faults sink.old) (K.faults sink.new) text.new.items (text.old.items ++ 44 ∷ hex_text bytes.now) }
+{
+    add_comma(sink, text)?;
+    if !has_room(text, 2 * bytes.len()) {
+        return add_digits_far(sink, text, bytes);
+    }
+    let left = push_eights(text, bytes);
+    push_hex(text, left);
+    Ok(())
+}
+
+// Writes a comma before each of some numbers and the number, behind a text.
+#[inline(always)]
+fn add_numbers<K: Sink>(
+    sink: &mut K,
+    text: &mut Vec<u8>,
+    numbers: &[u64],
+) -> Result<(), DeviceFault>
+    ensures { Outputs result (K.taken sink.old) (K.taken sink.new) (K.faults sink.old) (K.faults sink.new) text.new.items (text.old.items ++ flat_map (λ n. 44 ∷ decimal n) numbers.now) }
+{
+    for i in 0..numbers.len() {
+        add_number(sink, text, numbers[i])?;
+    }
+    Ok(())
+}
+
+/// Begins a record with its name and some numbers behind what a writer holds.
+///
+/// Where the writer has no room for a field it puts what it holds, and a field that is longer than
+/// its whole room goes to the sink at once. So it asks for no memory, and fails only where the sink
+/// fails; then a front of what it held and of what was written is put.
+#[inline(always)]
+pub fn begin_record<K: Sink>(
+    sink: &mut K,
+    writer: &mut RecordWriter,
+    name: &[u8],
+    numbers: &[u64],
+) -> Result<(), DeviceFault>
+    ensures { Outputs result (K.taken sink.old) (K.taken sink.new) (K.faults sink.old) (K.faults sink.new) writer.new (writer.old ++ join_with_byte 44 (name.now ∷ map decimal numbers.now)) }
+{
+    add(sink, &mut writer.text, name)?;
+    add_numbers(sink, &mut writer.text, numbers)
+}
+
+/// Writes a comma and a field behind what a writer holds, as `begin_record` writes its numbers.
+#[inline(always)]
+pub fn add_field<K: Sink>(
+    sink: &mut K,
+    writer: &mut RecordWriter,
+    field: Field<'_>,
+) -> Result<(), DeviceFault>
+    ensures { Outputs result (K.taken sink.old) (K.taken sink.new) (K.faults sink.old) (K.faults sink.new) writer.new (writer.old ++ 44 ∷ field_text field.entry) }
+{
+    match field {
+        Field::Word(word) => add_word(sink, &mut writer.text, word),
+        Field::Number(value) => add_number(sink, &mut writer.text, value),
+        Field::Bytes(bytes) => add_bytes(sink, &mut writer.text, bytes),
+    }
+}
+
+/// Ends a record behind what a writer holds.
+#[inline(always)]
+pub fn end_record<K: Sink>(sink: &mut K, writer: &mut RecordWriter) -> Result<(), DeviceFault>
+    ensures { Outputs result (K.taken sink.old) (K.taken sink.new) (K.faults sink.old) (K.faults sink.new) writer.new (writer.old ++ 10 ∷ []) }
+{
+    add(sink, &mut writer.text, b"\n")
+}
+
+/// Writes a record of a name and some numbers behind what a writer holds, as `begin_record` does.
+pub fn put_numbers<K: Sink>(
+    sink: &mut K,
+    writer: &mut RecordWriter,
+    name: &[u8],
+    numbers: &[u64],
+) -> Result<(), DeviceFault>
+    ensures { Outputs result (K.taken sink.old) (K.taken sink.new) (K.faults sink.old) (K.faults sink.new) writer.new (writer.old ++ record_text (name.now ∷ map decimal numbers.now)) }
+{
+    begin_record(sink, writer, name, numbers)?;
+    end_record(sink, writer)
+}
+
+/// Writes a record of a name, some numbers and a last field behind what a writer holds, as
+/// `begin_record` does.
+pub fn put_ending<K: Sink>(
+    sink: &mut K,
+    writer: &mut RecordWriter,
+    name: &[u8],
+    numbers: &[u64],
+    last: Field<'_>,
+) -> Result<(), DeviceFault>
+    ensures { Outputs result (K.taken sink.old) (K.taken sink.new) (K.faults sink.old) (K.faults sink.new) writer.new (writer.old ++ record_text (name.now ∷ map decimal numbers.now ++ field_text last.entry ∷ [])) }
+{
+    begin_record(sink, writer, name, numbers)?;
+    add_field(sink, writer, last)?;
+    end_record(sink, writer)
+}
+
+// Writes a comma before each of some fields and the field, behind what a writer holds.
+fn add_fields<K: Sink>(
+    sink: &mut K,
+    writer: &mut RecordWriter,
+    fields: &[Field<'_>],
+) -> Result<(), DeviceFault>
+    ensures { Outputs result (K.taken sink.old) (K.taken sink.new) (K.faults sink.old) (K.faults sink.new) writer.new (writer.old ++ flat_map (λ field. 44 ∷ field_text field) fields.now) }
+{
+    for i in 0..fields.len() {
+        add_field(sink, writer, fields[i])?;
+    }
+    Ok(())
+}
+
+/// Writes a record of a name and some fields behind what a writer holds, as `begin_record` does.
+pub fn put_fields<K: Sink>(
+    sink: &mut K,
+    writer: &mut RecordWriter,
+    name: &[u8],
+    fields: &[Field<'_>],
+) -> Result<(), DeviceFault>
+    ensures { Outputs result (K.taken sink.old) (K.taken sink.new) (K.faults sink.old) (K.faults sink.new) writer.new (writer.old ++ record_text (name.now ∷ map field_text fields.now)) }
+{
+    begin_record(sink, writer, name, &[])?;
+    add_fields(sink, writer, fields)?;
+    end_record(sink, writer)
+}

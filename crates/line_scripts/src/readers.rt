@@ -1,0 +1,74 @@
+//! The command of one record at a time.
+
+ghost use Rattle.std.specs.Prelude.{◌≡◌, ◌≤◌};
+ghost use Rattle.line_fields.specs.Fields.{Gives};
+ghost use Rattle.line_names.specs.declared.limits.TheConstants.{MOST_PROCESSES};
+ghost use Rattle.line_scripts.specs.Scripts.{command_of};
+ghost use Rattle.line_scripts.specs.Shown.{HasShortBody, shown};
+
+use crate::commands::{Command, CommandRef, command_of};
+use crate::keeping::{Bare, lent};
+use line_fields::{ReadError, Row};
+use std::alloc::Global;
+use std::marker::Model;
+
+/// The command that a record spells, in room that is used again for the next record.
+///
+/// It is for records that come one by one, which no script keeps. The room is as large as the bytes
+/// of the longest message or state so far.
+#[derive(Drop)]
+pub struct CommandReader {
+    alloc: Global,
+    bare: Bare,
+    // What it carries.
+    bytes: Vec<u8>,
+}
+
+impl Model for CommandReader {
+    ghost use Rattle.std.specs.Prelude.{length};
+    ghost use Rattle.line_scripts.specs.declared.commands.Command.{Command};
+
+    ghost Value = { Command };
+
+    ghost use Rattle.line_scripts.specs.Keeping.{MayHave, with_bytes};
+
+    ghost view = { λ s. with_bytes s.bare s.bytes.items };
+
+    ghost invariant = { λ s. MayHave s.bare (length s.bytes.items) };
+}
+
+impl CommandReader {
+    /// A reader that has read no record: its command is `Rounds`. It takes no memory.
+    pub fn new(alloc: Global) -> CommandReader
+        ensures { result ≡ Command.Rounds }
+    {
+        CommandReader {
+            alloc,
+            bare: Bare::Rounds,
+            bytes: Vec::new(alloc),
+        }
+    }
+
+    /// Reads the command that a record after the first spells, among `n` processes, or its first
+    /// fault.
+    ///
+    /// It takes memory for a set of processes, and where the bytes of a message or a state are more
+    /// than those of each record before.
+    pub fn read(&mut self, n: u32, row: &Row) -> Result<(), ReadError>
+        requires { n ≤ MOST_PROCESSES }
+        ensures { Gives (λ _. self.new) result (command_of n row.now) }
+    {
+        self.bare = Bare::Rounds;
+        self.bytes.clear();
+        self.bare = command_of(self.alloc, n, row, &mut self.bytes)?;
+        Ok(())
+    }
+
+    /// The command that was read last, its message, state or set lent.
+    pub fn command(&self) -> CommandRef<'_>
+        ensures value { shown result ≡ self.now }
+        ensures short { HasShortBody result }
+    {
+        lent(&self.bare, self.bytes.as_slice())
+    }
+}

@@ -1,0 +1,287 @@
+-- Inputs in pieces, and inputs that are scripts.
+use Rattle.std.proofs.Common.{◌≡◌, ◌≢◌, ℕ, ◌+◌, Bool, true, false, cond, List, [], ◌∷◌, ◌++◌, length, refl, sym, ap, ◌∙◌, subst}
+use Rattle.std.specs.Prelude.{Option, None, Some, Result, Ok, Err, map, if◌then◌else◌}
+use Rattle.std.specs.List.{flat_map}
+use Rattle.std.proofs.lemmas.List.{length-replicate}
+use Rattle.line_answers.specs.Answers.{Told, Tells, TellsAll, is_refused, told_records}
+use Rattle.line_claims.specs.declared.faults.TextFault.{TextFault}
+use Rattle.line_claims.specs.Reads.{numbered}
+use Rattle.line_fields.specs.declared.faults.Fault.{Fault}
+use Rattle.line_fields.specs.declared.faults.ReadError.{ReadError}
+use Rattle.line_fields.specs.Bytes.{is_input_text}
+use Rattle.line_fields.specs.Fields.{◌>>=◌}
+use Rattle.line_fields.specs.Records.{Record, records_of_text}
+use Rattle.line_moves.specs.declared.modes.Mode.{Mode}
+use Rattle.line_scripts.specs.declared.commands.Command.{Command}
+use Rattle.line_scripts.specs.Scripts.{Script, command_of, commands_from, script_of, script_of_text, world_of}
+use Rattle.line_service.specs.declared.outcomes.Outcome.{Outcome}
+use Rattle.line_service.specs.declared.outcomes.Outcome.TheVariants as outcomes
+use Rattle.line_service.specs.Lines.{Pending, pending_after}
+use Rattle.line_service.specs.Pieces.{IsRunOf, ServesBoth}
+use Rattle.line_service.specs.Services.{Answer, Began, Faulted, Replied, Hears, HearsAll, Serves, Standing, answer_records, outcome_of, records_in, records_of, worse, worst}
+use Rattle.line_service.proofs.HeardLemmas.{HearsAll-both, worse_faulted, worst-append}
+use Rattle.line_service.proofs.LengthLemmas.{length_told}
+use Rattle.line_service.proofs.LineLemmas.{pending_both, records_both}
+use Rattle.line_world.specs.Machine.{Machine, start}
+
+-- ---- pieces
+
+-- the answers to some records and to more: those to the first, and the machine between
+record IsParted (old : Option Machine) (records more : List (Result Record Fault)) (answers : List Answer) (new : Option Machine) : Type 0 where
+  first : List Answer
+  rest : List Answer
+  all : answers ≡ first ++ rest
+  mid : Option Machine
+  before : HearsAll old records first mid
+  after : HearsAll mid more rest new
+
+parted : (old : Option Machine) (records more : List (Result Record Fault)) (answers : List Answer) (new : Option Machine) → HearsAll old (records ++ more) answers new → IsParted old records more answers new
+parted old [] more answers new h = record { first = []; rest = answers; all = refl; mid = old; before = refl; after = h }
+parted old (r ∷ records) more [] new h = absurd h
+parted old (r ∷ records) more (one ∷ answers) new (next, is, h) =
+    let k = parted next records more answers new h in
+    record { first = one ∷ k.first; rest = k.rest; all = ap (λ (rest : List Answer). one ∷ rest) k.all; mid = k.mid; before = (next, is, k.before); after = k.after }
+
+pub in_pieces : (old new : Standing) (bytes more : List ℕ) (answers : List Answer) → Serves old (bytes ++ more) answers new → ServesBoth old bytes more answers new
+in_pieces old new bytes more answers h =
+    let k = parted old.machine (records_in old.pending bytes) (records_in (pending_after old.pending bytes) more) answers new.machine
+    (subst (λ (rs : List (Result Record Fault)). HearsAll old.machine rs answers new.machine) (records_both old.pending bytes more) h.heard) in
+    record {
+      first = k.first;
+      rest = k.rest;
+      all = k.all;
+      mid = record { machine = k.mid; pending = pending_after old.pending bytes; outcome = worst old.outcome k.first };
+      before = record { heard = k.before; pending = refl; outcome = refl };
+      after = record {
+        heard = k.after;
+        pending = h.pending ∙ pending_both old.pending bytes more;
+        outcome = h.outcome ∙ ap (λ (these : List Answer). worst old.outcome these) k.all ∙ worst-append old.outcome k.first k.rest;
+      };
+    }
+
+pub of_pieces : (old new : Standing) (bytes more : List ℕ) (answers : List Answer) → ServesBoth old bytes more answers new → Serves old (bytes ++ more) answers new
+of_pieces old new bytes more answers h =
+    let after : HearsAll h.mid.machine (records_in (pending_after old.pending bytes) more) h.rest new.machine =
+    subst (λ (p : Pending). HearsAll h.mid.machine (records_in p more) h.rest new.machine) h.before.pending h.after.heard in
+    record {
+      heard =
+          subst (λ (rs : List (Result Record Fault)). HearsAll old.machine rs answers new.machine) (sym (records_both old.pending bytes more))
+          (subst (λ (these : List Answer). HearsAll old.machine (records_in old.pending bytes ++ records_in (pending_after old.pending bytes) more) these new.machine) (sym h.all)
+          (HearsAll-both old.machine h.mid.machine new.machine (records_in old.pending bytes) (records_in (pending_after old.pending bytes) more) h.first h.rest h.before.heard after));
+      pending = h.after.pending ∙ ap (λ (p : Pending). pending_after p more) h.before.pending ∙ sym (pending_both old.pending bytes more);
+      outcome =
+          h.after.outcome ∙ ap (λ (o : Outcome). worst o h.rest) h.before.outcome ∙ sym (worst-append old.outcome h.first h.rest)
+          ∙ ap (λ (these : List Answer). worst old.outcome these) (sym h.all);
+    }
+
+-- ---- faults
+
+pub same_behind_fault : (old new : Option Machine) (one : Result Record Fault) (error : ReadError) → Hears old one (Faulted error) new → new ≡ old
+same_behind_fault None new one error h = h.1
+same_behind_fault (Some machine) new one error h = h.1
+
+-- ---- outcomes
+
+stays_faulted : (answers : List Answer) → worst outcomes.Faulted answers ≡ outcomes.Faulted
+stays_faulted [] = refl
+stays_faulted (one ∷ answers) = stays_faulted answers
+
+-- behind a fault the outcome is the worst
+faulted_first : (outcome : Outcome) (error : ReadError) (answers : List Answer) → worst outcome (Faulted error ∷ answers) ≡ outcomes.Faulted
+faulted_first outcome error answers = ap (λ (o : Outcome). worst o answers) (worse_faulted outcome) ∙ stays_faulted answers
+
+-- no fault so far, and none of what commands are told
+told_outcome : (refused : Bool) → cond refused outcomes.Refused outcomes.Done ≢ outcomes.Faulted
+told_outcome true e = cc
+told_outcome false e = cc
+
+worse_both : (one other : Outcome) → one ≢ outcomes.Faulted → other ≢ outcomes.Faulted → worse one other ≢ outcomes.Faulted
+worse_both outcomes.Done other a b = b
+worse_both outcomes.Refused outcomes.Done a b = a
+worse_both outcomes.Refused outcomes.Refused a b = a
+worse_both outcomes.Refused outcomes.Faulted a b = b
+worse_both outcomes.Faulted other a b = absurd (a refl)
+
+told_never_faulted : (outcome : Outcome) (told : List Told) → outcome ≢ outcomes.Faulted → worst outcome (map Replied told) ≢ outcomes.Faulted
+told_never_faulted outcome [] good = good
+told_never_faulted outcome (one ∷ told) good = told_never_faulted (worse outcome (outcome_of (Replied one))) told (worse_both outcome (outcome_of (Replied one)) good (told_outcome (is_refused one)))
+
+-- ---- texts
+
+pub texts_alike : (told : List Told) → flat_map answer_records (map Replied told) ≡ flat_map told_records told
+texts_alike [] = refl
+texts_alike (one ∷ told) = ap (λ (rs : List Record). told_records one ++ rs) (texts_alike told)
+
+-- ---- the commands of a script
+
+-- records that spell commands, and what these are told
+numbered_ok : {A : Type 0} (i : ℕ) (read : Result A Fault) (x : A) → numbered i read ≡ Ok x → read ≡ Ok x
+numbered_ok i (Ok y) x h = cc
+numbered_ok i (Err fault) x h = cc
+
+-- what the first of some records spells, and the others
+record IsSpelt (n i : ℕ) (first : Record) (rest : List Record) (commands : List Command) : Type 0 where
+  command : Command
+  others : List Command
+  all : commands ≡ command ∷ others
+  spelt : command_of n first ≡ Ok command
+  rest_are : commands_from n (i + 1) rest ≡ Ok others
+
+spelt_in : (n i : ℕ) (first : Record) (rest : List Record) (commands : List Command) (one : Result Command Fault) (more : Result (List Command) TextFault) → command_of n first ≡ one → commands_from n (i + 1) rest ≡ more
+    → (numbered i one >>= λ command. more >>= λ others. Ok (command ∷ others)) ≡ Ok commands → IsSpelt n i first rest commands
+spelt_in n i first rest commands (Ok command) (Ok others) is are h = record { command = command; others = others; all = cc; spelt = is; rest_are = are }
+spelt_in n i first rest commands (Ok command) (Err fault) is are h = absurd cc
+spelt_in n i first rest commands (Err fault) more is are h = absurd cc
+
+first_spelt : (n i : ℕ) (first : Record) (rest : List Record) (commands : List Command) → commands_from n i (first ∷ rest) ≡ Ok commands → IsSpelt n i first rest commands
+unfolding commands_from
+first_spelt n i first rest commands h = spelt_in n i first rest commands (command_of n first) (commands_from n (i + 1) rest) refl refl h
+
+none_spelt : (n i : ℕ) (commands : List Command) → commands_from n i [] ≡ Ok commands → commands ≡ []
+unfolding commands_from
+none_spelt n i commands h = cc
+
+-- records as they are heard
+abbrev pub heard_records : List Record → List (Result Record Fault)
+heard_records records = map Ok records
+
+command_at : (machine : Machine) (n : ℕ) (r : Record) (command : Command) → n ≡ length machine.history → command_of n r ≡ Ok command → command_of (length machine.history) r ≡ Ok command
+command_at machine n r command is h = subst (λ (m : ℕ). command_of m r ≡ Ok command) is h
+
+-- what commands are told is heard
+told_none : (old new : Machine) (told : List Told) → TellsAll old [] told new → HearsAll (Some old) [] (map Replied told) (Some new)
+told_none old new [] run = ap Some run
+told_none old new (one ∷ told) run = absurd run
+
+told_heard : (n i : ℕ) (records : List Record) (commands : List Command) (old new : Machine) (told : List Told) → n ≡ length old.history → commands_from n i records ≡ Ok commands → TellsAll old commands told new
+    → HearsAll (Some old) (heard_records records) (map Replied told) (Some new)
+told_heard n i [] commands old new told is spelt run = told_none old new told (subst (λ (cs : List Command). TellsAll old cs told new) (none_spelt n i commands spelt) run)
+told_heard n i (r ∷ records) commands old new [] is spelt run =
+    let first = first_spelt n i r records commands spelt in
+    let none : TellsAll old (first.command ∷ first.others) [] new = subst (λ (cs : List Command). TellsAll old cs [] new) first.all run in
+    absurd none
+told_heard n i (r ∷ records) commands old new (one ∷ told) is spelt run =
+    let first = first_spelt n i r records commands spelt in
+    let k : TellsAll old (first.command ∷ first.others) (one ∷ told) new = subst (λ (cs : List Command). TellsAll old cs (one ∷ told) new) first.all run in (
+      Some k.0,
+      (first.command, command_at old n r first.command is first.spelt, k.0, k.1, refl),
+      told_heard n (i + 1) records first.others k.0 new told (is ∙ sym (length_told old first.command one k.0 k.1)) first.rest_are k.2,
+    )
+
+-- commands are told these, which are the answers
+record IsTold (old : Machine) (commands : List Command) (answers : List Answer) (new : Option Machine) : Type 0 where
+  told : List Told
+  end : Machine
+  answers_are : answers ≡ map Replied told
+  new_is : new ≡ Some end
+  run : TellsAll old commands told end
+
+-- what is heard without a fault is what commands are told
+heard_told : (n i : ℕ) (records : List Record) (commands : List Command) (old : Machine) (new : Option Machine) (answers : List Answer) (outcome : Outcome) → n ≡ length old.history
+    → commands_from n i records ≡ Ok commands → HearsAll (Some old) (heard_records records) answers new → worst outcome answers ≢ outcomes.Faulted → IsTold old commands answers new
+heard_told n i [] commands old new [] outcome is spelt heard good =
+    record { told = []; end = old; answers_are = refl; new_is = heard; run = subst (λ (cs : List Command). TellsAll old cs [] old) (sym (none_spelt n i commands spelt)) refl }
+heard_told n i [] commands old new (one ∷ answers) outcome is spelt heard good = absurd heard
+heard_told n i (r ∷ records) commands old new [] outcome is spelt heard good = absurd heard
+heard_told n i (r ∷ records) commands old new (Began ∷ answers) outcome is spelt heard good = absurd heard.1
+heard_told n i (r ∷ records) commands old new (Faulted error ∷ answers) outcome is spelt heard good = absurd (good (faulted_first outcome error answers))
+heard_told n i (r ∷ records) commands old new (Replied one ∷ answers) outcome is spelt (mid, (command, read, later, tells, mid_is), heard) good =
+    let first = first_spelt n i r records commands spelt in
+    let same : command ≡ first.command = let there = command_at old n r first.command is first.spelt in cc in
+    let told : Tells old first.command one later = subst (λ (c : Command). Tells old c one later) same tells in
+    let k = heard_told n (i + 1) records first.others later new answers (worse outcome (outcome_of (Replied one))) (is ∙ sym (length_told old first.command one later told)) first.rest_are
+    (subst (λ (m : Option Machine). HearsAll m (heard_records records) answers new) mid_is heard) good in
+    record {
+      told = one ∷ k.told;
+      end = k.end;
+      answers_are = ap (λ (these : List Answer). Replied one ∷ these) k.answers_are;
+      new_is = k.new_is;
+      run = subst (λ (cs : List Command). TellsAll old cs (one ∷ k.told) k.end) (sym first.all) (later, told, k.run);
+    }
+
+-- ---- a script
+
+-- the records of a text that spells a script
+record IsScriptOf (records : List Record) (script : Script) : Type 0 where
+  first : Record
+  rest : List Record
+  records_are : records ≡ first ∷ rest
+  began : world_of first ≡ Ok (script.n, script.mode)
+  commands_are : commands_from script.n 2 rest ≡ Ok script.commands
+
+-- the number of processes and how links deliver, as a first record that is good says
+abbrev good_world : ℕ → Mode → Result (ℕ × Mode) Fault
+good_world n mode = Ok (n, mode)
+
+script_rest : (n : ℕ) (mode : Mode) (commands_of : ℕ → Result (List Command) TextFault) (read : Result (List Command) TextFault) (script : Script) → commands_of n ≡ read
+    → (read >>= λ commands. Ok (record { n = n; mode = mode; commands = commands })) ≡ Ok script → (good_world n mode ≡ good_world script.n script.mode) × (commands_of script.n ≡ Ok script.commands)
+script_rest n mode commands_of (Ok commands) script is h =
+    let made : Script = record { n = n; mode = mode; commands = commands } in
+    let same : made ≡ script = cc in
+    (ap (λ (s : Script). good_world s.n s.mode) same, subst (λ (s : Script). commands_of s.n ≡ Ok s.commands) same is)
+script_rest n mode commands_of (Err fault) script is h = absurd cc
+
+script_made : (world : Result (ℕ × Mode) Fault) (commands_of : ℕ → Result (List Command) TextFault) (script : Script)
+    → (numbered 1 world >>= λ w. commands_of w.0 >>= λ commands. Ok (record { n = w.0; mode = w.1; commands = commands })) ≡ Ok script → (world ≡ Ok (script.n, script.mode)) × (commands_of script.n ≡ Ok script.commands)
+script_made (Ok w) commands_of script h = script_rest w.0 w.1 commands_of (commands_of w.0) script refl h
+script_made (Err fault) commands_of script h = absurd cc
+
+script_parts : (records : List Record) (script : Script) → script_of records ≡ Ok script → IsScriptOf records script
+unfolding script_of
+script_parts [] script h = absurd cc
+script_parts (first ∷ rest) script h =
+    let made = script_made (world_of first) (λ (n : ℕ). commands_from n 2 rest) script h in
+    record { first = first; rest = rest; records_are = refl; began = made.0; commands_are = made.1 }
+
+script_if : (allowed : Bool) (records : List Record) (fault : TextFault) (script : Script) → ((if allowed then Ok records else Err fault) >>= script_of) ≡ Ok script → (allowed ≡ true) × (script_of records ≡ Ok script)
+script_if true records fault script h = (refl, h)
+script_if false records fault script h = absurd cc
+
+spelt_script : (text : List ℕ) (script : Script) → script_of_text text ≡ Ok script → (is_input_text text ≡ true) × IsScriptOf (records_of_text text) script
+unfolding script_of_text
+spelt_script text script h = let parts = script_if (is_input_text text) (records_of_text text) _ script h in (parts.0, script_parts (records_of_text text) script parts.1)
+
+pub spelt_allowed : (text : List ℕ) (script : Script) → script_of_text text ≡ Ok script → is_input_text text ≡ true
+spelt_allowed text script h = (spelt_script text script h).0
+
+start_long : (n : ℕ) (mode : Mode) → n ≡ length (start n mode).history
+start_long n mode = sym (length-replicate n _)
+
+-- its records are answered as it is run
+pub served_as_run : (text : List ℕ) (script : Script) (answers : List Answer) (new : Option Machine) → script_of_text text ≡ Ok script → records_of text ≡ heard_records (records_of_text text)
+    → IsRunOf script answers new → HearsAll None (records_of text) answers new
+served_as_run text script answers new spelt heard h =
+    let parts = (spelt_script text script spelt).1 in
+    let first : Machine = start script.n script.mode in
+    let run : HearsAll None (heard_records (parts.first ∷ parts.rest)) (Began ∷ map Replied h.told) (Some h.end) = (
+      Some first,
+      ((script.n, script.mode), parts.began, refl),
+      told_heard script.n 2 parts.rest script.commands first h.end h.told (start_long script.n script.mode) parts.commands_are h.run,
+    ) in
+    let P : List (Result Record Fault) → List Answer → Option Machine → Type 0 = λ rs these m. HearsAll None rs these m in
+    subst (λ (m : Option Machine). P (records_of text) answers m) (sym h.new_is)
+    (subst (λ (these : List Answer). P (records_of text) these (Some h.end)) (sym h.answers_are)
+    (subst (λ (rs : List (Result Record Fault)). P rs (Began ∷ map Replied h.told) (Some h.end)) (sym (heard ∙ ap heard_records parts.records_are)) run))
+
+pub good_as_run : (script : Script) (answers : List Answer) (new : Option Machine) → IsRunOf script answers new → worst outcomes.Done answers ≢ outcomes.Faulted
+good_as_run script answers new h bad =
+    told_never_faulted outcomes.Done h.told (λ e. cc) (ap (λ (these : List Answer). worst outcomes.Done these) (sym h.answers_are) ∙ bad)
+
+began_first : (script : Script) (first : Record) (rest : List Record) (answers : List Answer) (new : Option Machine) → world_of first ≡ Ok (script.n, script.mode) → commands_from script.n 2 rest ≡ Ok script.commands
+    → HearsAll None (heard_records (first ∷ rest)) answers new → worst outcomes.Done answers ≢ outcomes.Faulted → IsRunOf script answers new
+began_first script first rest [] new began commands heard good = absurd heard
+began_first script first rest (Faulted error ∷ answers) new began commands heard good = absurd (good (faulted_first outcomes.Done error answers))
+began_first script first rest (Replied told ∷ answers) new began commands heard good = absurd heard.1
+began_first script first rest (Began ∷ answers) new began commands (mid, (world, read, mid_is), heard) good =
+    let same : world ≡ (script.n, script.mode) = cc in
+    let there : mid ≡ Some (start script.n script.mode) = mid_is ∙ ap (λ (w : ℕ × Mode). Some (start w.0 w.1)) same in
+    let k = heard_told script.n 2 rest script.commands (start script.n script.mode) new answers outcomes.Done (start_long script.n script.mode) commands
+    (subst (λ (m : Option Machine). HearsAll m (heard_records rest) answers new) there heard) good in
+    record { told = k.told; end = k.end; run = k.run; answers_are = ap (λ (these : List Answer). Began ∷ these) k.answers_are; new_is = k.new_is }
+
+pub run_as_served : (text : List ℕ) (script : Script) (answers : List Answer) (new : Option Machine) → script_of_text text ≡ Ok script → records_of text ≡ heard_records (records_of_text text)
+    → HearsAll None (records_of text) answers new → worst outcomes.Done answers ≢ outcomes.Faulted → IsRunOf script answers new
+run_as_served text script answers new spelt heard served good =
+    let parts = (spelt_script text script spelt).1 in
+    began_first script parts.first parts.rest answers new parts.began parts.commands_are
+    (subst (λ (rs : List (Result Record Fault)). HearsAll None rs answers new) (heard ∙ ap heard_records parts.records_are) served) good

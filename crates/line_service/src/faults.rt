@@ -1,0 +1,65 @@
+//! The text of a fault, and why a service ended before its input did.
+
+ghost use Rattle.std.specs.Prelude.{◌≡◌, ◌++◌};
+ghost use Rattle.line_service.specs.declared.faults.ServeError.TheVariants as errors;
+ghost use Rattle.line_devices.specs.Devices.{Outputs};
+ghost use Rattle.line_service.specs.Services.{Faulted, answer_text, error_code};
+ghost use Rattle.line_service.specs.Turns.{code_of};
+
+use line_claims::name_of;
+use line_devices::{DeviceFault, Sink};
+use line_fields::{Field, ReadError, RecordWriter, end_record, put_ending};
+use thiserror::Error;
+
+/// Why a service did not begin, or ended before its input did. It is shown by its name, and its
+/// number is `code`.
+#[derive(Clone, Copy, Debug, PartialEq, Eq, Error)]
+pub enum ServeError {
+    /// Memory did not suffice for the start.
+    #[error("OutOfMemory")]
+    OutOfMemory,
+    /// The source failed.
+    #[error("ReadFault")]
+    Read,
+    /// The sink failed.
+    #[error("WriteFault")]
+    Write,
+}
+
+impl ServeError {
+    /// The number of the fault: that of want of memory, or of a source or a sink that failed.
+    pub fn code(self) -> u32
+        ensures { result ≡ code_of self }
+    {
+        match self {
+            ServeError::OutOfMemory => 0,
+            ServeError::Read => 36,
+            ServeError::Write => 37,
+        }
+    }
+}
+
+// The number of a fault; 0 where memory ran out.
+fn error_code(error: ReadError) -> u32
+    ensures { result ≡ error_code error }
+{
+    match error {
+        ReadError::OutOfMemory => 0,
+        ReadError::Fault(fault) => fault.code(),
+    }
+}
+
+/// Writes the answer to a record with this fault behind what a writer holds: `fault,CODE,NAME`, and
+/// an empty line.
+pub(crate) fn put_fault<K: Sink>(
+    sink: &mut K,
+    writer: &mut RecordWriter,
+    error: ReadError,
+) -> Result<(), DeviceFault>
+    ensures { Outputs result (K.taken sink.old) (K.taken sink.new) (K.faults sink.old) (K.faults sink.new) writer.new (writer.old ++ answer_text (Faulted error)) }
+{
+    let code = error_code(error);
+    let name = name_of(code).as_bytes();
+    put_ending(sink, writer, b"fault", &[code as u64], Field::Word(name))?;
+    end_record(sink, writer)
+}

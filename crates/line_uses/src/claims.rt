@@ -1,0 +1,56 @@
+//! Judge a claim, and write one down so that anybody can have it judged.
+ghost use Rattle.std.specs.Prelude.{◌≡◌, ◌↔◌, IfOk, IsTrue};
+ghost use Rattle.line_check.specs.Shape.{HasShape};
+ghost use Rattle.line_claims.specs.Records.{check_records, in_order};
+ghost use Rattle.line_fields.specs.Texts.{records_text};
+ghost use Rattle.line_tape.specs.Chain.{IsChain};
+ghost use Rattle.line_tape.specs.Survival.{IsLatest};
+
+use anyhow::Result;
+use line_check::check_certificate;
+use line_claims::write_check_text;
+use line_names::ProcSet;
+use line_plan::Plan;
+use line_tape::{History, Marks};
+use std::alloc::Global;
+
+/// Whether the certificate of a plan shows that its line is the latest one. The plan may come from
+/// anybody: it is judged by the history alone, and without memory.
+pub fn is_latest(history: &History, marks: &Marks, failed: &ProcSet, plan: &Plan) -> bool
+    ensures right { IsTrue result
+        ↔ (HasShape history.now.processes marks.now failed.now plan.now.certificate.items
+        plan.now.line
+        × IsChain history.now.processes marks.now failed.now plan.now.certificate.items
+        plan.now.line) }
+    ensures latest { IsTrue result
+        → IsLatest history.now.processes marks.now failed.now plan.now.line }
+{
+    check_certificate(
+        history,
+        marks,
+        failed,
+        &plan.line,
+        plan.certificate.as_slice(),
+    )
+    .is_ok()
+}
+
+/// A history and a plan for it as a check text, which `recline check` judges.
+pub fn certificate_text(
+    alloc: Global,
+    history: &History,
+    marks: &Marks,
+    failed: &ProcSet,
+    plan: &Plan,
+) -> Result<Vec<u8>>
+    ensures { IfOk result (λ text. text.items
+        ≡ records_text (check_records history.now.processes (record {
+          marks = in_order history.now.processes marks.now;
+          failed = failed.now;
+          line = plan.now.line;
+          certificate = plan.now.certificate.items;
+        }))) }
+{
+    let certificate = plan.certificate.as_slice();
+    Ok(write_check_text(alloc, history, marks, failed, &plan.line, certificate)?)
+}

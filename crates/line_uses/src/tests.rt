@@ -1,0 +1,133 @@
+//! That the callers do what they say.
+use crate::{
+    answers_to, certificate_text, is_latest, plan_exchange, plan_history, replies_to, run_world,
+};
+use line_names::{Body, Choice, MsgName, ProcId, ProcIdError, ProcSet};
+use line_plan::Plan;
+use line_service::Outcome;
+use line_tape::{Event, History, Marks, State};
+use line_world::{Answer, Mode, Reply, Step};
+use std::alloc::Global;
+use std::test::Fail;
+
+/// One of two processes.
+fn process(p: u32) -> Result<ProcId, ProcIdError> {
+    ProcId::try_new(p, 2)
+}
+
+/// Process 0 sends a message.
+fn sends(history: &mut History) -> Result<(), Fail> {
+    let (to, body) = (process(1)?, Body::try_new(b"hello")?);
+    history.push(process(0)?, Event::Send { to, inc: 0, body })?;
+    Ok(())
+}
+
+/// Process 1 receives it, and takes a checkpoint.
+fn receives(alloc: Global, history: &mut History) -> Result<(), Fail> {
+    let (from, inc, number) = (process(0)?, 0, 0);
+    let message = MsgName { from, inc, number };
+    history.push(process(1)?, Event::Recv { message })?;
+    let state = State::of(Vec::new(alloc));
+    history.push(process(1)?, Event::Check { state, round: None })?;
+    Ok(())
+}
+
+/// Two processes, and a message from the one to the other.
+fn one_message(alloc: Global) -> Result<History, Fail> {
+    let mut history = History::new(alloc, 2)?;
+    sends(&mut history)?;
+    receives(alloc, &mut history)?;
+    Ok(history)
+}
+
+/// The plan after a failure of process 0, and whether its certificate is right.
+fn plan_and_judge(alloc: Global, history: &History) -> Result<(Plan, bool), Fail> {
+    let marks = Marks::new(alloc, history.n())?;
+    let failed = ProcSet::empty().with(process(0)?);
+    let plan = plan_history(alloc, history, &marks, &failed)?;
+    let judged = is_latest(history, &marks, &failed, &plan);
+    Ok((plan, judged))
+}
+
+#[test]
+fn who_received_what_was_not_sent_goes_back(rt: HostRuntime) -> Result<(), Fail> {
+    let history = one_message(rt.alloc())?;
+    let (plan, judged) = plan_and_judge(rt.alloc(), &history)?;
+    assert_eq!(rt;
+        plan.line.choices(),
+        [Choice::Check(0), Choice::Check(0)].as_slice()
+    );
+    assert_eq!(rt; plan.certificate.len(), 2);
+    assert!(rt; judged);
+    Ok(())
+}
+
+/// The check text of that plan.
+fn text_of(alloc: Global, history: &History) -> Result<Vec<u8>, Fail> {
+    let marks = Marks::new(alloc, history.n())?;
+    let failed = ProcSet::empty().with(process(0)?);
+    let plan = plan_history(alloc, history, &marks, &failed)?;
+    Ok(certificate_text(alloc, history, &marks, &failed, &plan)?)
+}
+
+#[test]
+fn a_certificate_is_a_text(rt: HostRuntime) -> Result<(), Fail> {
+    let history = one_message(rt.alloc())?;
+    let text = text_of(rt.alloc(), &history)?;
+    assert_eq!(rt;
+        text.as_slice(),
+        b"history,1,2\ntape,0,0\nsend,1,0,68656c6c6f\ntape,1,0\nrecv,0,0,0\ncheck,,-\n\
+            failed,0\nline,0,0\npass,1,now,0,0,0\npass,1,1,0,0,0\nend\n"
+            .as_slice()
+    );
+    Ok(())
+}
+
+/// What a world of two processes answers to a message and a failure.
+fn answers(alloc: Global) -> Result<Vec<Answer>, Fail> {
+    let (from, to) = (process(0)?, process(1)?);
+    let body = Body::try_new(b"hello")?;
+    let failed = ProcSet::empty().with(from);
+    let mut steps = Vec::with_capacity(alloc, 2)?;
+    steps.push(Step::Send { from, to, body })?;
+    steps.push(Step::Recover { failed })?;
+    let (_world, answers) = run_world(alloc, 2, Mode::Fifo, &steps)?;
+    Ok(answers)
+}
+
+#[test]
+fn a_world_answers_each_step(rt: HostRuntime) -> Result<(), Fail> {
+    let answers = answers(rt.alloc())?;
+    assert!(rt; matches!(answers.get(0), Some(Answer::Done(Reply::Sent { .. }))));
+    assert!(rt; matches!(answers.get(1), Some(Answer::Done(Reply::Recovered { .. }))));
+    assert_eq!(rt; answers.len(), 2);
+    Ok(())
+}
+
+#[test]
+fn a_script_is_answered(rt: HostRuntime) -> Result<(), Fail> {
+    let script = Vec::from_slice(rt.alloc(), b"world,1,2,fifo\nsend,0,1,68656c6c6f\n")?;
+    let replies = replies_to(rt.alloc(), script)?;
+    assert_eq!(rt; replies.bytes(), b"sent,0,0,0\n".as_slice());
+    Ok(())
+}
+
+#[test]
+fn each_record_is_answered(rt: HostRuntime) -> Result<(), Fail> {
+    let records = Vec::from_slice(rt.alloc(), b"world,1,2,fifo\nsned\nsend,0,1,61\n")?;
+    let (answers, outcome) = answers_to(rt.alloc(), records)?;
+    assert_eq!(rt;
+        answers.bytes(),
+        b"\nfault,32,BadRecord\n\nsent,0,0,0\n\n".as_slice()
+    );
+    assert_eq!(rt; outcome, Outcome::Faulted);
+    Ok(())
+}
+
+#[test]
+fn what_workers_did_is_planned(rt: HostRuntime) -> Result<(), Fail> {
+    let (gathered, plan) = plan_exchange(&rt, rt.alloc(), 3, 5)?;
+    assert_eq!(rt; gathered.history().n(), 3);
+    assert_eq!(rt; plan.line.choices(), [Choice::Now; 3].as_slice());
+    Ok(())
+}

@@ -1,0 +1,44 @@
+-- A drill's numbers lie in their ranges, and what an error of the words is told as has its cause there.
+use Rattle.std.proofs.Common.{IfOk, IsSomeAnd, Err, None, Ok, Option, Result, Some, ◌≡◌, ◌∙◌, ◌⊎◌, List, inl, inr, subst, sym}
+use Rattle.std.specs.Result.{result_ok}
+use Rattle.clap.specs.Words.{IsAmong, Row, Text}
+use Rattle.clap.specs.declared.error.kind.ErrorKind.{ErrorKind}
+use Rattle.clap.specs.declared.error.kind.ErrorKind.TheVariants as errors
+use Rattle.line_words.specs.declared.jobs.Job.{Job}
+use Rattle.line_words.specs.declared.jobs.Job.TheVariants.{Check, Drill, Run, Serve}
+use Rattle.line_words.specs.declared.faults.WordsFault.{WordsFault}
+use Rattle.line_words.specs.declared.faults.WordsFault.TheVariants as faults
+use Rattle.line_words.specs.Words.{HasCause, IsAskedBy, IsInRange, IsToldAs, refusals_of}
+use Rattle.line_words.proofs.words.command_of.Goals as goal
+
+no_help : errors.OutOfMemory ≡ errors.DisplayHelp → ⊥
+no_help same = cc same
+
+no_version : errors.OutOfMemory ≡ errors.DisplayVersion → ⊥
+no_version same = cc same
+
+told_for_cause : (words : List Text) (kind : ErrorKind) (fault : WordsFault) → (kind ≡ errors.OutOfMemory) ⊎ IsAmong kind (refusals_of words) → IsToldAs kind fault → HasCause words fault
+told_for_cause words kind (faults.Help text) (inl memory) told = absurd (no_help (sym memory ∙ told))
+told_for_cause words kind (faults.Help text) (inr among) told = subst (λ (k : ErrorKind). IsAmong k (refusals_of words)) told among
+told_for_cause words kind (faults.Version text) (inl memory) told = absurd (no_version (sym memory ∙ told))
+told_for_cause words kind (faults.Version text) (inr among) told = subst (λ (k : ErrorKind). IsAmong k (refusals_of words)) told among
+told_for_cause words kind faults.Bad (inl memory) told = absurd (told.1 memory)
+told_for_cause words kind faults.Bad (inr among) told = inr (record { kind = kind; among = among; other = told.0 })
+told_for_cause words kind faults.OutOfMemory either told = tt
+
+asked_in_range : (asked : Option (Text × List Row)) (job : Job) → IsSomeAnd asked (IsAskedBy job) → IsInRange job
+asked_in_range None job is = absurd is
+asked_in_range (Some asked) Run is = tt
+asked_in_range (Some asked) Serve is = tt
+asked_in_range (Some asked) Check is = tt
+asked_in_range (Some asked) (Drill workers rounds) is = (is.1.no_less, is.1.no_more, is.2.no_less, is.2.no_more)
+
+found_in_range : (r : Result Job WordsFault) (o : Option Job) → o ≡ result_ok r → ((job : Job) → o ≡ Some job → IsInRange job) → IfOk r IsInRange
+found_in_range (Ok job) o same each = each job same
+found_in_range (Err fault) o same each = tt
+
+pub returns-in-Ok-clause-range : goal.returns-in-Ok-clause-range
+returns-in-Ok-clause-range c = found_in_range _ _ c.ok_or.ensures.ok_part (λ job is. asked_in_range _ job ((c.job_of.ensures job).0 is))
+
+pub returns-in-Err-clause-causes : goal.returns-in-Err-clause-causes
+returns-in-Err-clause-causes c = told_for_cause _ _ _ c.in-Err.ensures.kinds c.fault_of.ensures.told
