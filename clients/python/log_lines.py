@@ -1,0 +1,103 @@
+"""Logs of a computation: their lines, read and read again, and what these say."""
+
+from __future__ import annotations
+
+import json
+import os
+import shutil
+import stat
+import tempfile
+from typing import IO, Any
+
+MOST_LINE = 1_048_576  # bytes of a line
+WINDOW = 16_384  # bytes that are read where a line is read again
+
+Event = dict[str, Any]
+decoder = json.JSONDecoder()
+
+
+class Unsound(Exception):
+    """What is wrong with a log: the place of a line in it, and the cause."""
+
+    def __init__(self, cause: str, log: Log | None = None, place: int = 0) -> None:
+        super().__init__(cause)
+        self.cause, self.log, self.place = cause, log, place
+
+
+class Log:
+    """An input. What cannot be read twice from its beginning is copied to a file first."""
+
+    def __init__(self, name: str, file: IO[bytes]) -> None:
+        self.name, self._file = name, file
+        if not stat.S_ISREG(os.fstat(file.fileno()).st_mode) or file.tell():
+            self._file = tempfile.TemporaryFile()
+            shutil.copyfileobj(file, self._file)
+            file.close()
+            self._file.seek(0)
+        self.size = os.fstat(self._file.fileno()).st_size
+        self.read = 0  # the place of the next line
+        self._window, self._start = b"", 0
+
+    def close(self) -> None:
+        self._file.close()
+
+    def next(self) -> bytes:
+        """The next line, b"" at the end."""
+        line = self._file.readline(MOST_LINE + 1)
+        self.read += len(line)
+        return line
+
+    def line_at(self, place: int) -> bytes:
+        """The line that begins at a place, read again."""
+        at = place - self._start
+        end = self._window.find(b"\n", at) if 0 <= at < len(self._window) else -1
+        if end < 0:
+            self._window, self._start, at = os.pread(self._file.fileno(), WINDOW, place), place, 0
+            end = self._window.find(b"\n")
+            if end < 0:
+                return os.pread(self._file.fileno(), MOST_LINE + 1, place).split(b"\n")[0]
+        return self._window[at:end]
+
+    def number_at(self, place: int) -> int:
+        """The number of the line that begins at a place."""
+        self._file.seek(0)
+        number = 1
+        while place > 0:
+            piece = self._file.read(min(place, MOST_LINE))
+            number, place = number + piece.count(b"\n"), place - len(piece)
+        return number
+
+
+def event_of(line: bytes) -> Event | None:
+    """What a line says, None where it is empty."""
+    if len(line) > MOST_LINE:
+        raise Unsound(f"a line of more than {MOST_LINE} bytes")
+    try:
+        text = line.decode().strip()
+        if not text:
+            return None
+        event, end = decoder.raw_decode(text)
+    except json.JSONDecodeError as error:
+        raise Unsound(f"this is no JSON: {error.msg} at character {error.pos + 1}") from None
+    except (ValueError, RecursionError) as error:
+        raise Unsound(f"this is no JSON: {error}") from None
+    if not isinstance(event, dict) or end != len(text):
+        raise Unsound("this is no JSON object")
+    return event
+
+
+def text_of(event: Event, field: str) -> str:
+    """A field that is a text, or a whole number, which is then its digits."""
+    value = event.get(field)
+    if type(value) is str:
+        return value
+    if type(value) is int:
+        return str(value)
+    cause = "is missing" if value is None else "is neither a text nor a whole number"
+    raise Unsound(f"`{field}` {cause}")
+
+
+def shown(name: str) -> str:
+    """A name, as it stands in a log."""
+    text = json.dumps(name)
+    return text if len(text) <= 80 else f"{text[:76]}..\""
