@@ -27,7 +27,7 @@ PARTS = {
     "line_fields", "line_claims", "line_scripts", "line_replies",
 }
 # Crates of tests and of examples.
-EXAMPLES = {"line_bench", "line_examples", "line_stress", "line_two_sums"}
+EXAMPLES = {"line_bench", "line_stress", "line_tests", "line_two_sums", "line_uses"}
 
 HEAD = re.compile(
     r"(?:\s*(?:abbrev|unfoldable)(?: pub)?|\s*pub (?:record|data)|record|data) ([^\s:(]+)")

@@ -3,7 +3,8 @@
    It is loaded before the C library of the program (scripts/preloaded.py). Standard input is read by
    calls that are counted from 1, and so is standard output written; standard error is left alone.
 
-   REFUSED_GROWTH=N   the Nth request for memory is refused, and no other
+   REFUSED_GROWTH=N   the Nth request for memory is refused
+   REFUSED_TIMES=T    so are the T-1 requests behind it (1 where nothing is said)
    FAILING_READ=K     the Kth read fails
    FAILING_WRITE=K    the Kth write fails
    FAILING_TIMES=T    so do the T-1 calls behind it (1 where nothing is said)
@@ -24,7 +25,7 @@ extern void *__libc_memalign(size_t, size_t);
 
 struct counts { atomic_ulong growths, reads, writes; };
 
-static unsigned long refused, failing_read, failing_write, times, most;
+static unsigned long refused, refused_times, failing_read, failing_write, times, most;
 static int error;
 static struct counts own, *counts = &own;
 
@@ -35,6 +36,7 @@ static unsigned long setting(const char *name, unsigned long otherwise) {
 
 __attribute__((constructor)) static void begin(void) {
     refused = setting("REFUSED_GROWTH", 0);
+    refused_times = setting("REFUSED_TIMES", 1);
     failing_read = setting("FAILING_READ", 0);
     failing_write = setting("FAILING_WRITE", 0);
     times = setting("FAILING_TIMES", 1);
@@ -46,7 +48,8 @@ __attribute__((constructor)) static void begin(void) {
 }
 
 static int is_refused(void) {
-    int is_it = atomic_fetch_add(&counts->growths, 1) + 1 == refused;
+    unsigned long growth = atomic_fetch_add(&counts->growths, 1) + 1;
+    int is_it = refused && refused <= growth && growth - refused < refused_times;
     if (is_it) errno = ENOMEM;
     return is_it;
 }

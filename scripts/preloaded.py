@@ -47,14 +47,19 @@ def built_program() -> str:
     return str(TOP / "crates" / "line_cli" / "out" / "line_cli")
 
 
+def compiler() -> str:
+    """The C compiler."""
+    named = [os.environ.get("CC"), "cc", "clang", "gcc"]
+    found = next((it for it in named if it and shutil.which(it)), None)
+    if found is None:
+        raise SystemExit("a C compiler is wanted: set CC, or put cc on the path")
+    return found
+
+
 def compiled(folder: str) -> str:
     """Compiles the library into the folder, and answers its path."""
-    named = [os.environ.get("CC"), "cc", "clang", "gcc"]
-    compiler = next((it for it in named if it and shutil.which(it)), None)
-    if compiler is None:
-        raise SystemExit("a C compiler is wanted: set CC, or put cc on the path")
     library = f"{folder}/preloaded.so"
-    words = [compiler, "-shared", "-fPIC", "-O1", "-w", "-fno-builtin", "-o", library]
+    words = [compiler(), "-shared", "-fPIC", "-O1", "-w", "-fno-builtin", "-o", library]
     subprocess.run([*words, str(TOP / "scripts" / "preloaded.c")], check=True)
     return library
 

@@ -68,7 +68,7 @@ class Claim:
                 return i, 11
             if message not in self.history.received(at, passed):
                 return i, 12
-            if self.history.is_sent_before(ceilings, message):
+            if message in self.history.sent_before(ceilings):
                 return i, 13
             ceilings[at] = self.history.next_lower(self.marks, at, passed)
         if ceilings != self.line:

@@ -122,26 +122,29 @@ class History:
         """The messages received before a choice."""
         return [event.message for event in among(Recv, self.front(p, choice))]
 
-    def is_sent_before(self, line: Sequence[int], message: Name) -> bool:
-        return message in [name for name, _ in self.sent(message.sender, line[message.sender])]
-
     def is_held(self, message: Name) -> bool:
-        return self.is_sent_before([NOW for _ in self.processes()], message)
+        return message in [name for name, _ in self.sent(message.sender)]
+
+    def sent_before(self, line: Sequence[int]) -> set[Name]:
+        """All messages that are sent before a line."""
+        return {name for p in self.processes() for name, _ in self.sent(p, line[p])}
 
     def orphans(self, line: Sequence[int], p: int) -> list[Name]:
         """What a process has received before a line and what is not sent before it."""
-        return [name for name in self.received(p, line[p]) if not self.is_sent_before(line, name)]
+        sent = self.sent_before(line)
+        return [name for name in self.received(p, line[p]) if name not in sent]
 
     def is_consistent(self, line: Sequence[int]) -> bool:
         return not any(self.orphans(line, p) for p in self.processes())
 
     def in_transit(self, line: Sequence[int]) -> list[tuple[Name, int]]:
         """What is in transit at a line, each message with its addressee."""
+        received = [set(self.received(p, line[p])) for p in self.processes()]
         return [
             (name, to)
             for p in self.processes()
             for name, to in self.sent(p, line[p])
-            if name not in self.received(to, line[to])
+            if name not in received[to]
         ]
 
     def restart(self, line: Sequence[int]) -> None:

@@ -1,0 +1,62 @@
+"""The service: `recline serve`, which answers each record of a script as it comes."""
+
+import re
+from collections.abc import Iterator
+
+from .machine import Records, World
+from .scripts import answer, command_of, world_of
+from .texts import NAMES, Fault, want, written
+
+MOST_LINE = 65_536  # bytes of a line without its line feed; a carriage return is one of them
+LINE = re.compile(rb"[ !#-~]*")  # blanks to tildes but the double quote
+
+
+class Service:
+    """A machine, once a good `world` has come, the line that has begun, and the status so far."""
+
+    def __init__(self) -> None:
+        self.world: World | None = None
+        self.begun = b""  # the first bytes of a line, one more than it may have at most
+        self.status = 0
+
+    def take(self, piece: bytes) -> bytes:
+        """Takes the next bytes of the input, and answers the records that end in them."""
+        return b"".join(self.answers(piece))
+
+    def answers(self, piece: bytes) -> Iterator[bytes]:
+        """The same answers, one for each line: to an empty line that is nothing."""
+        *ends, rest = piece.split(b"\n")
+        for end in ends:
+            yield self.answer_to(self.line_with(end), b"\r")
+        self.begun += rest[:MOST_LINE + 1 - len(self.begun)]
+
+    def line_with(self, end: bytes) -> bytes:
+        """The line that has begun and ends so; the next one begins."""
+        line, self.begun = self.begun + end, b""
+        return line
+
+    def end(self) -> bytes:
+        """Answers what stands behind the last line feed, at the end of the input."""
+        return self.answer_to(self.line_with(b""), b"")
+
+    def answer_to(self, line: bytes, may_end: bytes) -> bytes:
+        """The answer to a line, nothing to an empty one; these bytes at its end are not read."""
+        try:
+            want(len(line) <= MOST_LINE, 32)
+            line = line.removesuffix(may_end)
+            if not line:
+                return b""
+            want(LINE.fullmatch(line), 32)
+            records, status = self.record(line.decode("ascii").split(","))
+        except Fault as fault:
+            records, status = [("fault", fault.code, NAMES[fault.code])], 2
+        self.status = max(self.status, status)
+        return written(records) + b"\n"
+
+    def record(self, fields: list[str]) -> tuple[Records, int]:
+        """The records of an answer, and 1 where it is a refusal."""
+        if self.world is None:
+            self.world = World(*world_of(fields))
+            return [], 0
+        records, is_refusal = answer(self.world, *command_of(fields))
+        return records, int(is_refusal)
