@@ -1,4 +1,5 @@
--- Histories that agree: no message was received under a name that its sender could not have given it.
+-- Histories that agree: no message was received under a name that its sender could not have given
+-- it.
 use Rattle.std.specs.Prelude.{◌≡◌, ℕ, ◌≤◌, ◌⊎◌, List, All, slice_index_or}
 use Rattle.line_names.specs.declared.messages.MsgName.{MsgName}
 use Rattle.line_tape.specs.declared.events.Event.{Event}
@@ -6,10 +7,13 @@ use Rattle.line_tape.specs.declared.events.Event.TheVariants.{Send, Recv, Check,
 use Rattle.line_tape.specs.Event.{Holds, incarnations_sent, sends}
 use Rattle.line_tape.specs.History.{Process, tape_at, incarnation_at, with_event}
 
--- the sender's send of that number has that incarnation, or it is still to come and the incarnation is the present one
+-- the sender's send of that number has that incarnation, or it is still to come and the incarnation
+-- is the present one
 abbrev pub NameAgrees : List Process → MsgName → Type 0
 NameAgrees history message =
-    Holds (tape_at history message.from) message.inc message.number ⊎ ((sends (tape_at history message.from) ≤ message.number) × (message.inc ≡ incarnation_at history message.from))
+    Holds (tape_at history message.from) message.inc message.number
+    ⊎ ((sends (tape_at history message.from) ≤ message.number)
+    × (message.inc ≡ incarnation_at history message.from))
 
 -- the name of a message that the event receives agrees with its sender
 abbrev pub EventAgrees : List Process → Event → Type 0
@@ -34,7 +38,13 @@ pub record AgreesNext (history : List Process) (p : ℕ) (event : Event) : Type 
   pub agrees : Agrees (with_event history p event)
   pub present : IsSentAsNow history p event
 
--- the name of the message of process p with this number: under the incarnation of that send, and where it is still to come under the present one
+-- the name of the message of process p with this number: under the incarnation of that send, and
+-- where it is still to come under the present one
 abbrev pub named : List Process → ℕ → ℕ → MsgName
 named history p number =
-    record { from = p; inc = slice_index_or (incarnations_sent (tape_at history p)) number (incarnation_at history p); number = number }
+    record {
+      from = p;
+      inc =
+          slice_index_or (incarnations_sent (tape_at history p)) number (incarnation_at history p);
+      number = number;
+    }

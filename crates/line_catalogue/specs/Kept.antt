@@ -8,7 +8,8 @@ use Rattle.line_catalogue.specs.Agreement.{Agrees}
 use Rattle.line_catalogue.specs.Damage.{AreOnChecks}
 use Rattle.line_catalogue.specs.Rows.{AreRows}
 
--- the rows of one process, the vector of where it stands, and how many further events are taken with no more memory
+-- the rows of one process, the vector of where it stands, and how many further events are taken
+-- with no more memory
 pub record RowsView : Type 0 where
   pub rows : List Row
   pub present : List ℕ
@@ -29,11 +30,14 @@ abbrev pub present_at : List (List ℕ) → ℕ → List ℕ
 present_at presents p = slice_index_or presents p []
 
 -- an agreeing history, marks of its checks, and the rows and vectors that tell of both
-pub record IsCatalogue (history : List Process) (marks : MarksView) (rows : List (List Row)) (presents : List (List ℕ)) : Type 0 where
+pub record IsCatalogue (history : List Process) (marks : MarksView) (rows : List (List Row))
+    (presents : List (List ℕ)) : Type 0 where
   pub agrees : Agrees history
   pub marked : AreOnChecks history marks
   pub marks_count : length marks.damaged ≡ length history
   pub rows_count : length rows ≡ length history
   pub presents_count : length presents ≡ length history
-  pub shown : (p : ℕ) → p < length history → AreRows (length history) (tape_at history p) (damaged_at marks p) (rows_at rows p)
-  pub heard : (p : ℕ) → p < length history → present_at presents p ≡ reach_of (length history) (tape_at history p)
+  pub shown : (p : ℕ) → p < length history
+      → AreRows (length history) (tape_at history p) (damaged_at marks p) (rows_at rows p)
+  pub heard : (p : ℕ) → p < length history
+      → present_at presents p ≡ reach_of (length history) (tape_at history p)

@@ -1,5 +1,7 @@
--- What is kept so that what is in transit is found from little: what was in transit at some line, and the sends and events before it.
-use Rattle.std.specs.Prelude.{◌≡◌, ℕ, ◌<◌, ◌≤◌, false, List, [], length, map, filter, take, drop, Contains, slice_index_or}
+-- What is kept so that what is in transit is found from little: what was in transit at some line,
+-- and the sends and events before it.
+use Rattle.std.specs.Prelude.{◌≡◌, ℕ, ◌<◌, ◌≤◌, false, List, [], length, map, filter, take, drop}
+use Rattle.std.specs.Prelude.{Contains, slice_index_or}
 use Rattle.line_names.specs.declared.choices.Choice.{Choice}
 use Rattle.line_names.specs.declared.messages.MsgName.{MsgName}
 use Rattle.line_names.specs.Lines.{choice_at}
@@ -15,29 +17,34 @@ use Rattle.line_tape.specs.Transit.{Letter, letters, is_open, has_received, name
 abbrev pub start_at : List ℕ → ℕ → ℕ
 start_at starts p = slice_index_or starts p 0
 
--- of process p, behind how many first events no receipt is to be looked at
+-- of process p, after how many first events no receipt is to be looked at
 abbrev pub place_at : List ℕ → ℕ → ℕ
 place_at places p = slice_index_or places p 0
 
 -- of what was sent before the starts, all that isn't received before the places is left to look at
-pub record AreLeft (history : List Process) (starts places : List ℕ) (left : List MsgName) : Type 0 where
+pub record AreLeft (history : List Process) (starts places : List ℕ)
+    (left : List MsgName) : Type 0 where
   pub count : length starts ≡ length history
   pub places_count : length places ≡ length history
   pub within : (p : ℕ) → start_at starts p ≤ sends (tape_at history p)
   pub placed : (p : ℕ) → place_at places p ≤ length (tape_at history p)
-  pub held : (q : ℕ) (message : MsgName) → IsSentTo history q message → message.number < start_at starts message.from
-      → has_received (take (place_at places q) (tape_at history q)) message ≡ false → Contains left message
+  pub held : (q : ℕ) (message : MsgName) → IsSentTo history q message
+      → message.number < start_at starts message.from
+      → has_received (take (place_at places q) (tape_at history q)) message ≡ false
+      → Contains left message
 
--- what process p did behind its choice, among its first `kept` events
+-- what process p did after its choice, among its first `kept` events
 abbrev pub events_between : List Process → List Choice → ℕ → ℕ → List Event
-events_between history line p kept = drop (place (tape_at history p) (choice_at line p)) (take kept (tape_at history p))
+events_between history line p kept =
+    drop (place (tape_at history p) (choice_at line p)) (take kept (tape_at history p))
 
 -- the row of process p
 abbrev pub numbers_at : List (List ℕ) → ℕ → List ℕ
 numbers_at rows p = slice_index_or rows p []
 
--- for each process an end: no later than its start, and not behind the line
-pub record AreEnds (history : List Process) (starts : List ℕ) (line : List Choice) (ends : List ℕ) : Type 0 where
+-- for each process an end: no later than its start, and not after the line
+pub record AreEnds (history : List Process) (starts : List ℕ) (line : List Choice)
+    (ends : List ℕ) : Type 0 where
   pub count : length ends ≡ length history
   pub started : (p : ℕ) → start_at ends p ≤ start_at starts p
   pub before : (p : ℕ) → start_at ends p ≤ sends (events_before history line p)
@@ -45,22 +52,28 @@ pub record AreEnds (history : List Process) (starts : List ℕ) (line : List Cho
 -- the numbers of these messages below the ends stand in the rows of their senders
 abbrev pub AreIn : List MsgName → List ℕ → List (List ℕ) → Type 0
 AreIn names ends rows =
-    (message : MsgName) → Contains names message → message.number < start_at ends message.from → message.from < length rows
+    (message : MsgName) → Contains names message → message.number < start_at ends message.from
+    → message.from < length rows
     → Contains (numbers_at rows message.from) message.number
 
--- for each process a row, with what is left to look at and what is received behind the line, but before its place
-pub record AreCandidates (history : List Process) (line : List Choice) (ends places : List ℕ) (left : List MsgName) (rows : List (List ℕ)) : Type 0 where
+-- for each process a row, with what is left to look at and what is received after the line, but
+-- before its place
+pub record AreCandidates (history : List Process) (line : List Choice) (ends places : List ℕ)
+    (left : List MsgName) (rows : List (List ℕ)) : Type 0 where
   pub count : length rows ≡ length history
   pub before : AreIn left ends rows
-  pub behind : (q : ℕ) → q < length history → AreIn (names_received (events_between history line q (place_at places q))) ends rows
+  pub behind : (q : ℕ) → q < length history
+      → AreIn (names_received (events_between history line q (place_at places q))) ends rows
 
 -- the row has the numbers of process p's first `end` messages that aren't received before the line
 abbrev pub HasOpen : List Process → List Choice → ℕ → ℕ → List ℕ → Type 0
 HasOpen history line p end row =
-    (q : ℕ) (message : MsgName) → message.from ≡ p → message.number < end → IsSentTo history q message
+    (q : ℕ) (message : MsgName) → message.from ≡ p → message.number < end
+    → IsSentTo history q message
     → has_received (events_before history line q) message ≡ false → Contains row message.number
 
 -- what is in transit of the first k messages of process p
 abbrev pub open_first : List Process → List Choice → ℕ → ℕ → List MsgName
 open_first history line p k =
-    map (λ (letter : Letter). letter.message) (filter (is_open history line) (take k (letters p 0 (events_before history line p))))
+    map (λ (letter : Letter). letter.message)
+    (filter (is_open history line) (take k (letters p 0 (events_before history line p))))

@@ -1,5 +1,6 @@
 -- What is shown of the checks of a process.
-use Rattle.std.specs.Prelude.{◌≡◌, ℕ, ◌+◌, ◌<◌, ◌≤◌, ◌==◌, false, true, List, [], ◌∷◌, ◌++◌, length, take, slice_index_or, slice_set, Option, Some, None}
+use Rattle.std.specs.Prelude.{◌≡◌, ℕ, ◌+◌, ◌<◌, ◌≤◌, ◌==◌, false, true, List, [], ◌∷◌, ◌++◌, length}
+use Rattle.std.specs.Prelude.{take, slice_index_or, slice_set, Option, Some, None}
 use Rattle.std.specs.List.{list_any}
 use Rattle.line_names.specs.declared.choices.Choice.{Choice}
 use Rattle.line_names.specs.declared.choices.Choice.TheVariants.{Check as AtCheck, Now}
@@ -11,7 +12,8 @@ use Rattle.line_vectors.specs.Reach.{reach_of, nearest}
 use Rattle.line_vectors.specs.Vectors.{noted}
 use Rattle.line_catalogue.specs.declared.kept_rows.Row.{Row}
 
--- the row tells how many events and sends stand before check c, whether it is among the damaged ones, and its vector, of n lanes
+-- the row tells how many events and sends stand before check c, whether it is among the damaged
+-- ones, and its vector, of n lanes
 pub record IsRow (n : ℕ) (tape : List Event) (damaged : List ℕ) (c : ℕ) (row : Row) : Type 0 where
   pub place_is : row.place ≡ place tape (AtCheck c)
   pub sends_is : row.sends ≡ sends (front tape (AtCheck c))
@@ -35,7 +37,8 @@ no_row = new_row 0 0 []
 abbrev pub with_damage : List Row → ℕ → List Row
 with_damage rows c = slice_set rows c (record (slice_index_or rows c no_row) { damaged = true })
 
--- the row that an event adds to those of its tape: one where it is a check, with the vector of where the process stands
+-- the row that an event adds to those of its tape: one where it is a check, with the vector of
+-- where the process stands
 abbrev pub row_added : ℕ → ℕ → List ℕ → Event → Option Row
 row_added place sends present (Send to inc body) = None
 row_added place sends present (Recv message) = None
@@ -67,11 +70,17 @@ rows_kept Now rows = rows
 -- the rows with the places that their checks have on this tape, and otherwise as they were
 pub record WithPlaces (tape : List Event) (old new : List Row) : Type 0 where
   pub count : length new ≡ length old
-  pub places : (c : ℕ) (d : Row) → c < length old → (slice_index_or new c d).place ≡ place tape (AtCheck c)
-  pub sends_same : (c : ℕ) (d : Row) → (slice_index_or new c d).sends ≡ (slice_index_or old c d).sends
-  pub damaged_same : (c : ℕ) (d : Row) → (slice_index_or new c d).damaged ≡ (slice_index_or old c d).damaged
-  pub reach_same : (c : ℕ) (d : Row) → (slice_index_or new c d).reach ≡ (slice_index_or old c d).reach
+  pub places : (c : ℕ) (d : Row) → c < length old
+      → (slice_index_or new c d).place ≡ place tape (AtCheck c)
+  pub sends_same : (c : ℕ) (d : Row)
+      → (slice_index_or new c d).sends ≡ (slice_index_or old c d).sends
+  pub damaged_same : (c : ℕ) (d : Row)
+      → (slice_index_or new c d).damaged ≡ (slice_index_or old c d).damaged
+  pub reach_same : (c : ℕ) (d : Row)
+      → (slice_index_or new c d).reach ≡ (slice_index_or old c d).reach
 
 -- where a check stands on this tape as its row says, so does each one before it
 pub record AreInStep (tape : List Event) (rows : List Row) : Type 0 where
-  pub each : (k c : ℕ) (d : Row) → k ≤ c → c < length rows → (slice_index_or rows c d).place ≡ place tape (AtCheck c) → (slice_index_or rows k d).place ≡ place tape (AtCheck k)
+  pub each : (k c : ℕ) (d : Row) → k ≤ c → c < length rows
+      → (slice_index_or rows c d).place ≡ place tape (AtCheck c)
+      → (slice_index_or rows k d).place ≡ place tape (AtCheck k)

@@ -1,5 +1,6 @@
 //! Whether an event may come next, and the row that it adds.
-ghost use Rattle.std.specs.Prelude.{◌≡◌, ◌≢◌, ◌<◌, ◌≤◌, ◌↔◌, ◌⊎◌, Err, IsTrue, IsErrOf, OnOk, length};
+ghost use Rattle.std.specs.Prelude.{◌≡◌, ◌≢◌, ◌<◌, ◌≤◌, ◌↔◌, ◌⊎◌, Err, IsTrue, IsErrOf, OnOk};
+ghost use Rattle.std.specs.Prelude.{length};
 ghost use Rattle.line_tape.specs.Event.{HasLongState, NamesBelow};
 ghost use Rattle.line_tape.specs.History.{tape_at};
 ghost use Rattle.line_catalogue.specs.Agreement.{Agrees, AgreesNext};
@@ -43,9 +44,11 @@ fn agrees_next(history: &History, p: ProcId, event: &Event) -> bool
 pub fn test_event(history: &History, p: ProcId, event: &Event) -> Result<(), AddError>
     requires { Agrees history.now.processes }
     ensures process { IsErrOf result AddError.NoSuchProcess
-        ↔ ((length history.now.processes ≤ p) ⊎ (NamesBelow (length history.now.processes) event.now → ⊥)) }
+        ↔ ((length history.now.processes ≤ p)
+        ⊎ (NamesBelow (length history.now.processes) event.now → ⊥)) }
     ensures long { IsErrOf result AddError.StateTooLong
-        ↔ ((p < length history.now.processes) × NamesBelow (length history.now.processes) event.now × HasLongState event.now) }
+        ↔ ((p < length history.now.processes) × NamesBelow (length history.now.processes) event.now
+        × HasLongState event.now) }
     ensures full { IsErrOf result AddError.TapeFull
         ↔ ((p < length history.now.processes) × NamesBelow (length history.now.processes) event.now
         × (HasLongState event.now → ⊥) × (length (tape_at history.now.processes p) ≡ MOST_EVENTS)) }
@@ -54,7 +57,8 @@ pub fn test_event(history: &History, p: ProcId, event: &Event) -> Result<(), Add
         × (HasLongState event.now → ⊥) × (length (tape_at history.now.processes p) ≢ MOST_EVENTS)
         × (AgreesNext history.now.processes p event.now → ⊥)) }
     ensures memory { IsErrOf result AddError.OutOfMemory → ⊥ }
-    ensures ok { OnOk result ((p < length history.now.processes) × NamesBelow (length history.now.processes) event.now
+    ensures ok { OnOk result
+        ((p < length history.now.processes) × NamesBelow (length history.now.processes) event.now
         × (HasLongState event.now → ⊥) × (length (tape_at history.now.processes p) ≢ MOST_EVENTS)
         × AgreesNext history.now.processes p event.now) }
 {
@@ -85,12 +89,15 @@ impl Catalogue {
 
         // The refusals, in their order.
         ensures process { IsErrOf result AddError.NoSuchProcess
-            ↔ ((length self.now.processes ≤ p) ⊎ (NamesBelow (length self.now.processes) event.now → ⊥)) }
+            ↔ ((length self.now.processes ≤ p)
+            ⊎ (NamesBelow (length self.now.processes) event.now → ⊥)) }
         ensures long { IsErrOf result AddError.StateTooLong
-            ↔ ((p < length self.now.processes) × NamesBelow (length self.now.processes) event.now × HasLongState event.now) }
+            ↔ ((p < length self.now.processes) × NamesBelow (length self.now.processes) event.now
+            × HasLongState event.now) }
         ensures full { IsErrOf result AddError.TapeFull
             ↔ ((p < length self.now.processes) × NamesBelow (length self.now.processes) event.now
-            × (HasLongState event.now → ⊥) × (length (tape_at self.now.processes p) ≡ MOST_EVENTS)) }
+            × (HasLongState event.now → ⊥)
+            × (length (tape_at self.now.processes p) ≡ MOST_EVENTS)) }
         ensures names { IsErrOf result AddError.NamesDisagree
             ↔ ((p < length self.now.processes) × NamesBelow (length self.now.processes) event.now
             × (HasLongState event.now → ⊥) × (length (tape_at self.now.processes p) ≢ MOST_EVENTS)

@@ -40,7 +40,8 @@ pub fn event_agrees(history: &History, event: &EventRef<'_>) -> bool
 /// Whether all names that a process received agree with their senders.
 fn tape_agrees(history: &History, p: ProcId) -> bool
     requires { p < length history.now.processes }
-    ensures { IsTrue result ↔ All (EventAgrees history.now.processes) (tape_at history.now.processes p) }
+    ensures { IsTrue result
+        ↔ All (EventAgrees history.now.processes) (tape_at history.now.processes p) }
 {
     let events = history.tape(p).front(Choice::Now);
     for i in 0..events.len() {

@@ -9,7 +9,7 @@ use line_names::{Choice, Line, MsgName, ProcId};
 use line_tape::{Events, History};
 use std::alloc::{AllocError, Global};
 
-/// What a process did behind its choice, among its first `kept` events.
+/// What a process did after its choice, among its first `kept` events.
 fn events_between<'a>(history: &'a History, line: &Line, q: ProcId, kept: u32) -> Events<'a>
     requires line { IsLine history.now.processes line.now }
     requires process { q < length history.now.processes }
@@ -25,7 +25,7 @@ fn events_between<'a>(history: &'a History, line: &Line, q: ProcId, kept: u32) -
 }
 
 /// For each process the numbers of sends to look at among as many first ones as its end tells: of
-/// what was kept, and of what is received behind the line, but before what was kept. All others are
+/// what was kept, and of what is received after the line, but before what was kept. All others are
 /// looked at one by one.
 pub fn candidates(
     history: &History,

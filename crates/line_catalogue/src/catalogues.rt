@@ -1,5 +1,6 @@
 //! A history that agrees, with its marks of damage and its bars.
-ghost use Rattle.std.specs.Prelude.{◌≡◌, ◌≢◌, ◌<◌, ◌≤◌, ◌+◌, ◌↔◌, ◌⊎◌, ℕ, [], List, length, replicate, IfOk, IsOk, OnOk, OnErr, IsErrOf, IsTrue, IfSome};
+ghost use Rattle.std.specs.Prelude.{◌≡◌, ◌≢◌, ◌<◌, ◌≤◌, ◌+◌, ◌↔◌, ◌⊎◌, ℕ, [], List, length};
+ghost use Rattle.std.specs.Prelude.{replicate, IfOk, IsOk, OnOk, OnErr, IsErrOf, IsTrue, IfSome};
 ghost use Rattle.std.specs.Option.{SomeIff};
 ghost use Rattle.line_names.specs.declared.choices.Choice.{Choice};
 ghost use Rattle.line_names.specs.Order.{IsNoLater};
@@ -89,7 +90,8 @@ impl Catalogue {
         ensures marks { IfOk result (λ catalogue. catalogue.marks ≡ marks.now) }
 
         // The refusals, in their order.
-        ensures check { IsErrOf result CatalogueError.NoSuchCheck ↔ (AreOnChecks history.now.processes marks.now → ⊥) }
+        ensures check { IsErrOf result CatalogueError.NoSuchCheck
+            ↔ (AreOnChecks history.now.processes marks.now → ⊥) }
         ensures names { IsErrOf result CatalogueError.NamesDisagree
             ↔ (AreOnChecks history.now.processes marks.now × (Agrees history.now.processes → ⊥)) }
     {
@@ -138,7 +140,8 @@ impl Catalogue {
     /// order. It costs nothing.
     pub fn rows(&self, p: ProcId) -> Rows<'_>
         requires { p < length self.now.processes }
-        ensures { AreRows (length self.now.processes) (tape_at self.now.processes p) (damaged_at self.now.marks p) result }
+        ensures { AreRows (length self.now.processes) (tape_at self.now.processes p)
+            (damaged_at self.now.marks p) result }
     {
         self.rows.at(p)
     }
@@ -164,7 +167,8 @@ impl Catalogue {
     /// The latest surviving check up to check `last`; the initial state where none survives.
     fn latest_check(&self, p: ProcId, last: u32, failed: &ProcSet) -> Choice
         requires { p < length self.now.processes }
-        ensures { result ≡ latest_check (survives self.now.processes self.now.marks failed.now p) last }
+        ensures { result
+            ≡ latest_check (survives self.now.processes self.now.marks failed.now p) last }
     {
         let mut check = last;
         while check > 0 {
@@ -182,7 +186,8 @@ impl Catalogue {
         requires { p < length self.now.processes }
         ensures value { SomeIff result (choice ≢ Choice.Check 0)
             (next_lower self.now.processes self.now.marks failed.now p choice) }
-        ensures survives { IfSome result (λ lower. IsTrue (survives self.now.processes self.now.marks failed.now p lower)) }
+        ensures survives { IfSome result
+            (λ lower. IsTrue (survives self.now.processes self.now.marks failed.now p lower)) }
         ensures latest { IfSome result (λ lower. (other : Choice)
             → IsTrue (survives self.now.processes self.now.marks failed.now p other)
             → IsNoLater other choice → other ≢ choice → IsNoLater other lower) }
@@ -215,7 +220,7 @@ impl Catalogue {
     }
 
     /// Makes room for so many further events of a process: its next `k` additions take no memory.
-    /// Now and then it keeps what is in transit where each process stands, for `transit`, at a cost
+    /// Now and then it keeps the messages that are in transit now, for `transit`, at a cost
     /// that the events since have paid for; where memory for it is refused, nothing else differs.
     #[tactic(auto, using(crate::proofs::CatalogueLemmas::lesser_at))]
     pub fn reserve(&mut self, p: ProcId, k: u32) -> Result<(), AllocError>
@@ -231,7 +236,8 @@ impl Catalogue {
         self.rows.reserve(p, k)
     }
 
-    /// Adds an event at the end of the tape of a process. A check costs a vector where something was
+    /// Adds an event at the end of the tape of a process. A check costs a vector where something
+    /// was
     /// received since the last one; any other event costs the same however much was added before,
     /// but for what `reserve` does now and then.
     pub fn add(&mut self, p: ProcId, event: Event) -> Result<(), AddError>
@@ -242,9 +248,11 @@ impl Catalogue {
 
         // The refusals, in their order: p and the processes that the event names are asked first.
         ensures process { IsErrOf result AddError.NoSuchProcess
-            ↔ ((length self.old.processes ≤ p) ⊎ (NamesBelow (length self.old.processes) event → ⊥)) }
+            ↔ ((length self.old.processes ≤ p)
+            ⊎ (NamesBelow (length self.old.processes) event → ⊥)) }
         ensures long { IsErrOf result AddError.StateTooLong
-            ↔ ((p < length self.old.processes) × NamesBelow (length self.old.processes) event × HasLongState event) }
+            ↔ ((p < length self.old.processes) × NamesBelow (length self.old.processes) event
+            × HasLongState event) }
         ensures full { IsErrOf result AddError.TapeFull
             ↔ ((p < length self.old.processes) × NamesBelow (length self.old.processes) event
             × (HasLongState event → ⊥) × (length (tape_at self.old.processes p) ≡ MOST_EVENTS)) }
@@ -253,7 +261,7 @@ impl Catalogue {
             × (HasLongState event → ⊥) × (length (tape_at self.old.processes p) ≢ MOST_EVENTS)
             × (AgreesNext self.old.processes p event → ⊥)) }
 
-        // With room there is no want of memory, and one event takes room for one at most.
+        // With room memory is never refused, and one event takes room for one at most.
         ensures room { 0 < room_at self.old p → result ≢ Err AddError.OutOfMemory }
         ensures spent { room_at self.old p ≤ room_at self.new p + 1 }
         ensures others { (q : ℕ) → q ≢ p → room_at self.new q ≡ room_at self.old q }
@@ -273,10 +281,12 @@ impl Catalogue {
         ensures rooms { self.new.rooms ≡ self.old.rooms }
 
         // The refusals, in their order.
-        ensures check { IsErrOf result DamageError.NoSuchCheck ↔ (checks (tape_at self.old.processes p) < check) }
+        ensures check { IsErrOf result DamageError.NoSuchCheck
+            ↔ (checks (tape_at self.old.processes p) < check) }
         ensures initial { IsErrOf result DamageError.InitialDamage ↔ (check ≡ 0) }
         ensures already { IsErrOf result DamageError.AlreadyDamaged
-            ↔ ((check ≤ checks (tape_at self.old.processes p)) × (check ≢ 0) × IsTrue (is_damaged self.old.marks p check)) }
+            ↔ ((check ≤ checks (tape_at self.old.processes p)) × (check ≢ 0)
+            × IsTrue (is_damaged self.old.marks p check)) }
     {
         if check as usize >= self.rows.at(p).len() {
             return Err(DamageError::NoSuchCheck);
@@ -296,9 +306,11 @@ impl Catalogue {
         ensures rooms { self.new.rooms ≡ self.old.rooms }
 
         // The refusals, in their order.
-        ensures check { IsErrOf result BarError.NoSuchCheck ↔ (checks (tape_at self.old.processes p) < check) }
+        ensures check { IsErrOf result BarError.NoSuchCheck
+            ↔ (checks (tape_at self.old.processes p) < check) }
         ensures lower { IsErrOf result BarError.BarNotLower
-            ↔ ((check ≤ checks (tape_at self.old.processes p)) × IsTrue (is_barred self.old.marks p check)) }
+            ↔ ((check ≤ checks (tape_at self.old.processes p))
+            × IsTrue (is_barred self.old.marks p check)) }
     {
         if self.rows.at(p).len() <= check as usize {
             return Err(BarError::NoSuchCheck);
@@ -309,12 +321,13 @@ impl Catalogue {
     /// The messages in transit at a line, by sender, then number: those whose send stands before
     /// the line, and which the process that the send names has not received before its own choice.
     ///
-    /// It looks at what was in transit at a line that is kept, at each send behind that one, and at
+    /// It looks at what was in transit at a line that is kept, at each send after that one, and at
     /// each event between the two; it takes memory for these and for the result, and fails without.
     /// `keep_transit`, `restart_with` and now and then `reserve` keep a line, `restart` none.
     pub fn transit(&self, alloc: Global, line: &Line) -> Result<Vec<MsgName>, AllocError>
         requires { IsLine self.now.processes line.now }
-        ensures { IfOk result (λ messages. messages.items ≡ in_transit self.now.processes line.now) }
+        ensures { IfOk result
+            (λ messages. messages.items ≡ in_transit self.now.processes line.now) }
     {
         self.ledger.transit(alloc, line)
     }

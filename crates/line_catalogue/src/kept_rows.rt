@@ -6,7 +6,7 @@ use line_names::MOST_PROCESSES;
 use line_vectors::ReachRef;
 use std::marker::Model;
 
-/// What is kept of a check in sixteen bytes: its vector stands behind `start` other lanes.
+/// What is kept of a check in sixteen bytes: its vector stands after `start` other lanes.
 #[derive(Clone, Copy)]
 pub(crate) struct KeptRow {
     pub(crate) place: u32,

@@ -21,7 +21,7 @@ const EVENTS_FOR_A_SEND: u64 = 8;
 /// processes stand one after another, so that memory is not asked for process by process.
 #[derive(Drop)]
 pub struct Known {
-    // Where the marks of each process begin, and behind the last one where they end.
+    // Where the marks of each process begin, and after the last one where they end.
     starts: Vec<usize>,
     marks: Vec<bool>,
 }
@@ -48,7 +48,7 @@ impl Known {
     }
 }
 
-/// Whether the send behind `k` others is marked.
+/// Whether the send after `k` others is marked.
 pub fn is_marked(marks: &[bool], k: u32) -> bool
     ensures { result ≡ slice_index_or marks.now k false }
 {
@@ -58,7 +58,7 @@ pub fn is_marked(marks: &[bool], k: u32) -> bool
     }
 }
 
-/// Where the marks of each process begin: behind those of the processes before it.
+/// Where the marks of each process begin: after those of the processes before it.
 fn find_starts(
     history: &History,
     ends: &[u32],
@@ -194,7 +194,7 @@ fn mark_receipt(
     }
 }
 
-/// Marks what process `q` receives behind its first `kept` events and before the line.
+/// Marks what process `q` receives after its first `kept` events and before the line.
 fn mark_receipts(
     history: &History,
     line: &Line,
@@ -218,7 +218,7 @@ fn mark_receipts(
 }
 
 /// For each process marks at its sends from its end on: whatever is marked is received before the
-/// line. All is marked that the receipts behind the places and before the line tell. There are no
+/// line. All is marked that the receipts after the places and before the line tell. There are no
 /// marks where the events there are many beside the sends, or where there is no memory for marks.
 pub fn find_known(
     history: &History,

@@ -16,13 +16,15 @@ ghost use Rattle.line_catalogue.specs.Agreement.{Agrees, named};
 pub fn numbers_decide()
     ensures { (history : List Process) (line : List Choice) (q : ℕ) (message : MsgName)
         → Agrees history → Contains (tape_at history q) (Recv message)
-        → IsSentBefore history line message ↔ (message.number < sent_count history line message.from) }
+        → IsSentBefore history line message
+        ↔ (message.number < sent_count history line message.from) }
 {}
 
 /// In a history that agrees, the vector of a choice fits the sends before a line exactly where each
 /// message received before the choice is sent before the line.
 pub fn vectors_decide()
-    ensures { (history : List Process) (line : List Choice) (q : ℕ) (choice : Choice) → IsHistory history → Agrees history
+    ensures { (history : List Process) (line : List Choice) (q : ℕ) (choice : Choice)
+        → IsHistory history → Agrees history
         → Fits (reach_before history q choice) (sents_of history line)
         ↔ AreSentBefore history line (front (tape_at history q) choice) }
 {}
@@ -31,7 +33,9 @@ pub fn vectors_decide()
 /// longer among its sends before the line, the message of that number is an orphan of the line
 /// there, and its name is the one that its sender gave it or would give it.
 pub fn lanes_name_orphans()
-    ensures { (history : List Process) (line : List Choice) (q : ℕ) (choice : Choice) (p number : ℕ) → Agrees history
-        → reach_from (front (tape_at history q) choice) p ≡ number + 1 → sent_count history line p ≤ number
+    ensures { (history : List Process) (line : List Choice) (q : ℕ) (choice : Choice) (p number : ℕ)
+        → Agrees history
+        → reach_from (front (tape_at history q) choice) p ≡ number + 1
+        → sent_count history line p ≤ number
         → IsOrphanAmong history line (front (tape_at history q) choice) (named history p number) }
 {}

@@ -187,7 +187,7 @@ fn set_places(history: &History, places: &mut Vec<u32>)
 /// there.
 ///
 /// What was sent before that line and is not received before it is among these messages; so no
-/// other send before it has to be looked at again, and no receipt behind it. None of these changes
+/// other send before it has to be looked at again, and no receipt after it. None of these changes
 /// by an event. Now and then, as room is made, the ledger settles: it moves that line to where each
 /// process stands, so that what is to be looked at does not grow with the history.
 #[derive(Drop)]
@@ -210,7 +210,8 @@ impl Model for Ledger {
 
     ghost view = { λ l. l.history };
 
-    ghost invariant = { λ l. AreLeft l.history.processes l.starts.items l.places.items l.left.items };
+    ghost invariant = { λ l. AreLeft l.history.processes l.starts.items l.places.items
+        l.left.items };
 }
 
 impl Ledger {
@@ -237,12 +238,11 @@ impl Ledger {
         &self.history
     }
 
-    /// Keeps what is in transit where each process stands, so that no send before that is looked
-    /// at again. It is put off where memory for it is refused, or where more than an eighth of all
-    /// sends are in transit: who asks for these is answered as many anyway, and keeping them takes
-    /// memory.
+    /// Keeps the messages that are in transit now, so that no send before the present line is
+    /// looked at again. It is postponed where memory for it is refused, or where these messages are
+    /// more than an eighth of all sends.
     ///
-    /// It stands apart, since a line is a large value and events come far more often.
+    /// It is a function of its own, since a line is a large value and events come far more often.
     #[inline(never)]
     fn settle(&mut self)
         ensures { self.new ≡ self.old }
@@ -305,12 +305,13 @@ impl Ledger {
     /// The messages in transit at a line, by sender, then number.
     ///
     /// It looks at what was kept last, at each send since, and at each event that was kept and is
-    /// behind the line; and where they are not many beside these sends, at the events since that
+    /// after the line; and where they are not many beside these sends, at the events since that
     /// stand before the line, so that it need not search for their receipts.
     ///
     /// It takes a number for each process, for each of the first, and for each receipt between the
     /// two of a message that was sent before both, and room for the result; and where it gets them,
-    /// one number more for each process, and a flag for each send since that stands before the line.
+    /// one number more for each process, and a flag for each send since that stands before the
+    /// line.
     pub fn transit(&self, alloc: Global, line: &Line) -> Result<Vec<MsgName>, AllocError>
         requires { IsLine self.now.processes line.now }
         ensures { IfOk result (λ messages.
@@ -327,7 +328,7 @@ impl Ledger {
     }
 
     /// Keeps what is in transit at a line: what is so later is found from that and from what is
-    /// sent behind the line.
+    /// sent after the line.
     pub fn keep(&mut self, line: &Line, messages: Vec<MsgName>)
         requires line { IsLine self.old.processes line.now }
         requires transit { messages.items ≡ in_transit self.old.processes line.now }

@@ -9,8 +9,11 @@ use std::fmt;
 /// Why there is no catalogue of a history and its marks.
 #[derive(Clone, Copy, Debug, PartialEq, Eq, Hash)]
 pub enum CatalogueError {
+    /// Memory was refused.
     OutOfMemory,
+    /// The process has no such check.
     NoSuchCheck,
+    /// A message has a name that its sender did not give it.
     NamesDisagree,
 }
 
@@ -58,10 +61,15 @@ impl From<AllocError> for CatalogueError {
 /// Why an event was not added to a catalogue.
 #[derive(Clone, Copy, Debug, PartialEq, Eq, Hash)]
 pub enum AddError {
+    /// Memory was refused.
     OutOfMemory,
+    /// A process number is not below the number of processes.
     NoSuchProcess,
+    /// The state is longer than a check may store.
     StateTooLong,
+    /// The tape has as many events as a tape may have.
     TapeFull,
+    /// A message has a name that its sender did not give it.
     NamesDisagree,
 }
 
@@ -116,9 +124,13 @@ impl From<AllocError> for AddError {
 /// Why a check was not marked as damaged.
 #[derive(Clone, Copy, Debug, PartialEq, Eq, Hash)]
 pub enum DamageError {
+    /// Memory was refused.
     OutOfMemory,
+    /// The process has no such check.
     NoSuchCheck,
+    /// The check is the initial state, which is never damaged.
     InitialDamage,
+    /// The check is marked already.
     AlreadyDamaged,
 }
 

@@ -1,12 +1,15 @@
 //! What is known of the checks of one process, and of where it stands.
-ghost use Rattle.std.specs.Prelude.{◌≡◌, ◌<◌, ◌≤◌, ◌+◌, ◌-◌, ◌^◌, ℕ, Bool, false, List, [], ◌∷◌, ◌++◌, if◌then◌else◌, length, map, replicate, vec_len, vec_capacity, IfOk, IsOk, OnOk};
+ghost use Rattle.std.specs.Prelude.{◌≡◌, ◌<◌, ◌≤◌, ◌+◌, ◌-◌, ◌^◌, ℕ, Bool, false, List, [], ◌∷◌};
+ghost use Rattle.std.specs.Prelude.{◌++◌, if◌then◌else◌, length, map, replicate, vec_len};
+ghost use Rattle.std.specs.Prelude.{vec_capacity, IfOk, IsOk, OnOk};
 ghost use Rattle.line_names.specs.declared.choices.Choice.TheVariants.{Check as AtCheck};
 ghost use Rattle.line_tape.specs.Event.{checks, sends, NamesBelow};
 ghost use Rattle.line_tape.specs.Shown.{shown};
 ghost use Rattle.line_vectors.specs.Reach.{nearest};
 ghost use Rattle.line_vectors.specs.Vectors.{noted};
 ghost use Rattle.line_catalogue.specs.Laid.{AreLaid, EndWith, HaveRoom, row_of};
-ghost use Rattle.line_catalogue.specs.Rows.{AreInStep, WithPlaces, heard_more, new_row, row_added, rows_kept, vector_at, with_damage, with_row};
+ghost use Rattle.line_catalogue.specs.Rows.{AreInStep, WithPlaces, heard_more, new_row, row_added};
+ghost use Rattle.line_catalogue.specs.Rows.{rows_kept, vector_at, with_damage, with_row};
 
 use crate::kept_rows::{KeptRow, Rows};
 use line_names::{Choice, MOST_PROCESSES, MsgName};
@@ -19,7 +22,7 @@ use std::marker::Model;
 #[derive(Drop)]
 pub struct ProcessRows {
     rows: Vec<KeptRow>,
-    /// The vectors of the rows, one behind the other.
+    /// The vectors of the rows, one after the other.
     lanes: Vec<u32>,
     present: Reach,
     /// Whether something was received since the last vector among the lanes.
@@ -58,7 +61,7 @@ fn nearest(message: &MsgName) -> MsgName
     }
 }
 
-/// Puts the vector of where a process stands behind the others, unless it is the last of them
+/// Puts the vector of where a process stands after the others, unless it is the last of them
 /// already, in room that was made for it.
 fn lay(lanes: &mut Vec<u32>, present: &Reach, heard: bool)
     requires last { heard ≡ false → EndWith lanes.old.items present.now }
@@ -116,7 +119,7 @@ fn add_row(
     });
 }
 
-/// Lets go of the rows and vectors behind a choice, whose vector becomes that of where the process
+/// Lets go of the rows and vectors after a choice, whose vector becomes that of where the process
 /// stands.
 fn go_back(
     rows: &mut Vec<KeptRow>,
@@ -163,7 +166,8 @@ fn place_rows(rows: &mut Vec<KeptRow>, tape: &Tape)
         (map (row_of n lanes) rows.new.items) }
     ensures laid { (lanes : List ℕ) (heard : Bool) (present : List ℕ)
         → AreLaid lanes rows.old.items heard present → AreLaid lanes rows.new.items heard present }
-    ensures room { (vec_capacity rows.new ≡ vec_capacity rows.old) × (vec_len rows.new ≡ vec_len rows.old) }
+    ensures room { (vec_capacity rows.new ≡ vec_capacity rows.old)
+        × (vec_len rows.new ≡ vec_len rows.old) }
 {
     for c in (0..tape.checks() + 1).rev() {
         let place = tape.place(Choice::Check(c)).unwrap();
@@ -182,7 +186,8 @@ fn set_damaged(rows: &mut Vec<KeptRow>, check: u32)
         ≡ with_damage (map (row_of n lanes) rows.old.items) check }
     ensures laid { (lanes : List ℕ) (heard : Bool) (present : List ℕ)
         → AreLaid lanes rows.old.items heard present → AreLaid lanes rows.new.items heard present }
-    ensures room { (vec_capacity rows.new ≡ vec_capacity rows.old) × (vec_len rows.new ≡ vec_len rows.old) }
+    ensures room { (vec_capacity rows.new ≡ vec_capacity rows.old)
+        × (vec_len rows.new ≡ vec_len rows.old) }
 {
     rows[check as usize].damaged = true;
 }

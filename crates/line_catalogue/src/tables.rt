@@ -1,5 +1,6 @@
 //! The rows and vectors of all processes.
-ghost use Rattle.std.specs.Prelude.{◌≡◌, ◌≢◌, ◌<◌, ◌≤◌, ◌+◌, ℕ, [], ◌∷◌, ◌++◌, All, List, length, slice_set, slice_index_or, IfOk, IsOk, OnOk, if◌then◌else◌};
+ghost use Rattle.std.specs.Prelude.{◌≡◌, ◌≢◌, ◌<◌, ◌≤◌, ◌+◌, ℕ, [], ◌∷◌, ◌++◌, All, List, length};
+ghost use Rattle.std.specs.Prelude.{slice_set, slice_index_or, IfOk, IsOk, OnOk, if◌then◌else◌};
 ghost use Rattle.line_names.specs.declared.choices.Choice.TheVariants.{Check as AtCheck};
 ghost use Rattle.line_names.specs.Lines.{choice_at};
 ghost use Rattle.line_tape.specs.declared.events.Event.{Event};
@@ -11,7 +12,8 @@ ghost use Rattle.line_tape.specs.Views.{damaged_at};
 ghost use Rattle.line_vectors.specs.Reach.{reach_of};
 ghost use Rattle.line_catalogue.specs.Damage.{AreOnChecks};
 ghost use Rattle.line_catalogue.specs.Kept.{present_at, rows_at};
-ghost use Rattle.line_catalogue.specs.Rows.{AreInStep, AreRows, WithPlaces, heard_more, row_added, rows_kept, vector_at, with_damage, with_row};
+ghost use Rattle.line_catalogue.specs.Rows.{AreInStep, AreRows, WithPlaces, heard_more, row_added};
+ghost use Rattle.line_catalogue.specs.Rows.{rows_kept, vector_at, with_damage, with_row};
 
 use crate::kept_rows::Rows;
 use crate::rows::ProcessRows;
@@ -117,11 +119,14 @@ impl RowTable {
         requires marked { AreOnChecks history.now.processes marks.now }
         requires count { length marks.now.damaged ≡ length history.now.processes }
         ensures count { IfOk result (λ table. length table.rows ≡ length history.now.processes) }
-        ensures presents { IfOk result (λ table. length table.presents ≡ length history.now.processes) }
+        ensures presents { IfOk result
+            (λ table. length table.presents ≡ length history.now.processes) }
         ensures shown { IfOk result (λ table. (p : ℕ) → p < length history.now.processes
-            → AreRows (length history.now.processes) (tape_at history.now.processes p) (damaged_at marks.now p) (rows_at table.rows p)) }
+            → AreRows (length history.now.processes) (tape_at history.now.processes p)
+            (damaged_at marks.now p) (rows_at table.rows p)) }
         ensures heard { IfOk result (λ table. (p : ℕ) → p < length history.now.processes
-            → present_at table.presents p ≡ reach_of (length history.now.processes) (tape_at history.now.processes p)) }
+            → present_at table.presents p
+            ≡ reach_of (length history.now.processes) (tape_at history.now.processes p)) }
     {
         let n = history.n();
         let mut table = Vec::with_capacity(alloc, n as usize)?;
@@ -145,7 +150,8 @@ impl RowTable {
     pub fn reach(&self, p: ProcId, choice: Choice) -> ReachRef<'_>
         requires process { p < length self.now.rows }
         requires choice { (c : ℕ) → choice ≡ AtCheck c → c < length (rows_at self.now.rows p) }
-        ensures { result ≡ vector_at (rows_at self.now.rows p) (present_at self.now.presents p) choice }
+        ensures { result
+            ≡ vector_at (rows_at self.now.rows p) (present_at self.now.presents p) choice }
     {
         self.table[p.get() as usize].reach(choice)
     }
@@ -158,7 +164,8 @@ impl RowTable {
         ensures ok { OnOk result (k ≤ slice_index_or self.new.rooms p 0) }
         ensures succeeds { k ≤ slice_index_or self.old.rooms p 0 → IsOk result }
         ensures room { slice_index_or self.old.rooms p 0 ≤ slice_index_or self.new.rooms p 0 }
-        ensures others { (q : ℕ) → q ≢ p → slice_index_or self.new.rooms q 0 ≡ slice_index_or self.old.rooms q 0 }
+        ensures others { (q : ℕ) → q ≢ p
+            → slice_index_or self.new.rooms q 0 ≡ slice_index_or self.old.rooms q 0 }
     {
         self.table[p.get() as usize].reserve(k)
     }
@@ -179,7 +186,8 @@ impl RowTable {
             ≡ slice_set self.old.presents p
             (heard_more (present_at self.old.presents p) event.now) }
         ensures room { slice_index_or self.old.rooms p 0 ≤ slice_index_or self.new.rooms p 0 + 1 }
-        ensures others { (q : ℕ) → q ≢ p → slice_index_or self.new.rooms q 0 ≡ slice_index_or self.old.rooms q 0 }
+        ensures others { (q : ℕ) → q ≢ p
+            → slice_index_or self.new.rooms q 0 ≡ slice_index_or self.old.rooms q 0 }
     {
         self.table[p.get() as usize].append_next(event, tape);
     }
@@ -188,7 +196,8 @@ impl RowTable {
     pub fn damage(&mut self, p: ProcId, check: u32)
         requires process { p < length self.old.rows }
         requires check { check < length (rows_at self.old.rows p) }
-        ensures rows { self.new.rows ≡ slice_set self.old.rows p (with_damage (rows_at self.old.rows p) check) }
+        ensures rows { self.new.rows
+            ≡ slice_set self.old.rows p (with_damage (rows_at self.old.rows p) check) }
         ensures presents { self.new.presents ≡ self.old.presents }
         ensures rooms { self.new.rooms ≡ self.old.rooms }
     {
@@ -203,19 +212,27 @@ impl RowTable {
     /// where it did.
     pub fn restart(&mut self, history: &History, line: &Line)
         requires count { length self.old.rows ≡ length history.now.processes }
-        requires there { (p c : ℕ) → p < length history.now.processes → choice_at line.now p ≡ AtCheck c
+        requires there { (p c : ℕ) → p < length history.now.processes
+            → choice_at line.now p ≡ AtCheck c
             → c < length (rows_at self.old.rows p) }
         requires left { (p : ℕ) → p < length history.now.processes
-            → length (rows_kept (choice_at line.now p) (rows_at self.old.rows p)) ≡ checks (tape_at history.now.processes p) + 1 }
+            → length (rows_kept (choice_at line.now p) (rows_at self.old.rows p))
+            ≡ checks (tape_at history.now.processes p) + 1 }
         requires in_step { (p : ℕ) → p < length history.now.processes
-            → AreInStep (tape_at history.now.processes p) (rows_kept (choice_at line.now p) (rows_at self.old.rows p)) }
+            → AreInStep (tape_at history.now.processes p)
+            (rows_kept (choice_at line.now p) (rows_at self.old.rows p)) }
         ensures count { length self.new.rows ≡ length self.old.rows }
         ensures presents_count { length self.new.presents ≡ length self.old.rows }
         ensures rows { (p : ℕ) → p < length history.now.processes
-            → WithPlaces (tape_at history.now.processes p) (rows_kept (choice_at line.now p) (rows_at self.old.rows p)) (rows_at self.new.rows p) }
+            → WithPlaces (tape_at history.now.processes p)
+            (rows_kept (choice_at line.now p) (rows_at self.old.rows p))
+            (rows_at self.new.rows p) }
         ensures presents { (p : ℕ) → p < length history.now.processes
-            → present_at self.new.presents p ≡ vector_at (rows_at self.old.rows p) (present_at self.old.presents p) (choice_at line.now p) }
-        ensures rooms { (p : ℕ) → slice_index_or self.old.rooms p 0 ≤ slice_index_or self.new.rooms p 0 }
+            → present_at self.new.presents p
+            ≡ vector_at (rows_at self.old.rows p) (present_at self.old.presents p)
+            (choice_at line.now p) }
+        ensures rooms { (p : ℕ)
+            → slice_index_or self.old.rooms p 0 ≤ slice_index_or self.new.rooms p 0 }
     {
         let n = history.n();
         for q in 0..n {

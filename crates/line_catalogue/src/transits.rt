@@ -100,7 +100,8 @@ pub fn add_open(
     requires known { AreReceived history.now.processes line.now p end known.now }
     ensures { OnOk result (messages.new.items
         ≡ messages.old.items
-        ++ map (λ (letter : Letter). letter.message) (open_letters history.now.processes line.now p)) }
+        ++ map (λ (letter : Letter). letter.message)
+        (open_letters history.now.processes line.now p)) }
 {
     row.sort();
     let sends = history.tape(p).sends_before(line.at(p));

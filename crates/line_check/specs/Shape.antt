@@ -21,8 +21,10 @@ pub record IsCheckOf (history : List Process) (p c : ℕ) : Type 0 where
   pub process : p < length history
   pub check : c ≤ checks (tape_at history p)
 
--- the line has one choice for each process, and the claim that these entries show it to be the latest names only processes, choices and checks that the history has
-pub record HasShape (history : List Process) (marks : MarksView) (failed : List Bool) (entries : List Passed) (line : List Choice) : Type 0 where
+-- the line has one choice for each process, and the claim that these entries show it to be the
+-- latest names only processes, choices and checks that the history has
+pub record HasShape (history : List Process) (marks : MarksView) (failed : List Bool)
+    (entries : List Passed) (line : List Choice) : Type 0 where
   pub choices : IsLine history line
   pub passed : All (IsEntryOf history) entries
   pub damaged : (p c : ℕ) → IsTrue (is_damaged marks p c) → IsCheckOf history p c

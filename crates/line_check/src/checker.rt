@@ -18,12 +18,15 @@ use line_tape::{
 ///
 /// It looks once at each event before the line.
 pub fn check_consistent(history: &History, line: &Line) -> Result<(), LineFault>
-    ensures ok { IsOk result ↔ (IsLine history.now.processes line.now × IsConsistent history.now.processes line.now) }
+    ensures ok { IsOk result
+        ↔ (IsLine history.now.processes line.now × IsConsistent history.now.processes line.now) }
 
     // The refusals, in their order.
-    ensures shape { IsErrOf result LineFault.BadShape ↔ (IsLine history.now.processes line.now → ⊥) }
+    ensures shape { IsErrOf result LineFault.BadShape
+        ↔ (IsLine history.now.processes line.now → ⊥) }
     ensures consistent { IsErrOf result LineFault.NotConsistent
-        ↔ (IsLine history.now.processes line.now × (IsConsistent history.now.processes line.now → ⊥)) }
+        ↔ (IsLine history.now.processes line.now
+        × (IsConsistent history.now.processes line.now → ⊥)) }
 {
     if !is_line(history, line) {
         return Err(LineFault::BadShape);
@@ -68,7 +71,8 @@ fn follow(
     requires { All (IsEntryOf history.now.processes) entries.now }
     ensures led { IfOk result (IsLed history.now.processes marks.now failed.now entries.now) }
     ensures fault { IfErr result (λ fault.
-        IsFirstWrong history.now.processes marks.now failed.now entries.now fault.entry fault.code) }
+        IsFirstWrong history.now.processes marks.now failed.now entries.now fault.entry
+        fault.code) }
 {
     // Its limits bound the number of entries that are right.
     let _n = history.n();
@@ -96,7 +100,8 @@ fn is_same(a: &Line, b: &Line) -> bool
 /// Tests the line against the ceilings that all entries lead to.
 fn check_end(history: &History, ceilings: &Line, line: &Line) -> Result<(), FaultCode>
     requires { IsLine history.now.processes line.now }
-    ensures right { IsOk result ↔ ((ceilings.now ≡ line.now) × IsConsistent history.now.processes line.now) }
+    ensures right { IsOk result
+        ↔ ((ceilings.now ≡ line.now) × IsConsistent history.now.processes line.now) }
     ensures fault { IfErr result (IsEndFault history.now.processes ceilings.now line.now) }
 {
     if !is_same(ceilings, line) {
@@ -125,9 +130,9 @@ fn of_no_entry(code: FaultCode) -> CertFault
 /// against the final line. At the end the ceilings are the line, and it is consistent.
 ///
 /// Any claim may be asked about. That it names only what the history has is tested first, over the
-/// whole claim. An entry takes constant time (receipts: expected constant time), but for checks
-/// that do not survive, each of which is looked up among the marks of its process; consistency
-/// takes one look at each event before the line.
+/// whole claim. An entry takes constant time, but for two searches: its message is looked up in
+/// time logarithmic in the receipts of its process, and a check that does not survive among the
+/// marks of its process. Consistency takes one look at each event before the line.
 pub fn check_certificate(
     history: &History,
     marks: &Marks,
@@ -140,7 +145,8 @@ pub fn check_certificate(
         × IsChain history.now.processes marks.now failed.now certificate.now line.now) }
     ensures latest { IsOk result → IsLatest history.now.processes marks.now failed.now line.now }
     ensures fault { IfErr result (λ fault.
-        IsFirstFault history.now.processes marks.now failed.now certificate.now line.now fault.entry fault.code) }
+        IsFirstFault history.now.processes marks.now failed.now certificate.now line.now fault.entry
+        fault.code) }
 {
     if !has_shape(history, marks, failed, certificate, line) {
         return Err(of_no_entry(FaultCode::BadShape));

@@ -56,7 +56,8 @@ fn are_checks_of(history: &History, marks: &Marks, p: usize) -> bool
 
 /// Whether each mark of damage is on a check that there is.
 fn are_marks_of(history: &History, marks: &Marks) -> bool
-    ensures { IsTrue result ↔ ((p c : ℕ) → IsTrue (is_damaged marks.now p c) → IsCheckOf history.now.processes p c) }
+    ensures { IsTrue result
+        ↔ ((p c : ℕ) → IsTrue (is_damaged marks.now p c) → IsCheckOf history.now.processes p c) }
 {
     for p in 0..marks.processes() {
         if !are_checks_of(history, marks, p) {
@@ -99,7 +100,8 @@ pub(crate) fn has_shape(
     entries: &[Passed],
     line: &Line,
 ) -> bool
-    ensures { IsTrue result ↔ HasShape history.now.processes marks.now failed.now entries.now line.now }
+    ensures { IsTrue result
+        ↔ HasShape history.now.processes marks.now failed.now entries.now line.now }
 {
     is_line(history, line)
         && are_entries_of(history, entries)

@@ -1,5 +1,6 @@
 //! The colour of one process.
-ghost use Rattle.std.specs.Prelude.{◌≡◌, ◌<◌, ◌≤◌, ◌↔◌, List, ℕ, [], ◌∷◌, ◌++◌, OnOk, OnErr, IsErrOf};
+ghost use Rattle.std.specs.Prelude.{◌≡◌, ◌<◌, ◌≤◌, ◌↔◌, List, ℕ, [], ◌∷◌, ◌++◌, OnOk, OnErr};
+ghost use Rattle.std.specs.Prelude.{IsErrOf};
 ghost use Rattle.std.specs.Option.{SomeIff};
 ghost use Rattle.line_colour.specs.Colours.{colour_of};
 
@@ -79,6 +80,7 @@ impl Colour {
 /// Why a process did not turn to a round.
 #[derive(Clone, Copy, Debug, PartialEq, Eq, Hash)]
 pub enum ColourError {
+    /// The round is not greater than those known.
     RoundNotNew,
 }
 

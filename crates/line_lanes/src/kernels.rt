@@ -1,6 +1,7 @@
 //! The kernels.
 ghost use Rattle.std.specs.Prelude.{◌≡◌, ◌≤◌, ◌↔◌, IsTrue, MatchOption, length};
-ghost use Rattle.line_lanes.specs.Lanes.{greater_of, HasNoneOver, HasNoneOverBefore, IsFirstOver, over_count};
+ghost use Rattle.line_lanes.specs.Lanes.{greater_of, HasNoneOver, HasNoneOverBefore, IsFirstOver};
+ghost use Rattle.line_lanes.specs.Lanes.{over_count};
 
 use crate::blocks::{LANES, max_block, over_bits};
 

@@ -1,10 +1,13 @@
 -- What one process records of rounds by markers (Chandy and Lamport, ACM TOCS 3(1), 1985).
-use Rattle.std.specs.Prelude.{◌≡◌, ◌≢◌, ℕ, ◌<◌, Bool, true, false, IsTrue, List, [], ◌∷◌, ◌++◌, map, max, replicate, slice_index_or, slice_set, Option, Some, None, MatchOption, if◌then◌else◌, ◌==◌, nat_lt}
+use Rattle.std.specs.Prelude.{◌≡◌, ◌≢◌, ℕ, ◌<◌, Bool, true, false, IsTrue, List, [], ◌∷◌, ◌++◌, map}
+use Rattle.std.specs.Prelude.{max, replicate, slice_index_or, slice_set, Option, Some, None}
+use Rattle.std.specs.Prelude.{MatchOption, if◌then◌else◌, ◌==◌, nat_lt}
 use Rattle.line_names.specs.declared.messages.MsgName.{MsgName}
 use Rattle.line_marker.specs.declared.markers.Effect.{Effect}
 use Rattle.line_marker.specs.declared.markers.Effect.TheVariants.{Closed, Forced, Ignored}
 
--- the channel from one process in one round: what was noted on it before its marker, and whether that marker has come
+-- the channel from one process in one round: what was noted on it before its marker, and whether
+-- that marker has come
 pub record Channel : Type 0 where
   pub messages : List MsgName
   pub is_closed : Bool
@@ -14,7 +17,8 @@ pub record Recorded : Type 0 where
   pub number : ℕ
   pub channels : List Channel
 
--- what process `me` of `n` has recorded, rounds up to the floor being old; with room, the next call takes no memory,
+-- what process `me` of `n` has recorded, rounds up to the floor being old; with room, the next call
+-- takes no memory,
 -- and with room for a round, the next `begin` or `on_marker`
 pub record MarkerView : Type 0 where
   pub n : ℕ
@@ -39,7 +43,8 @@ with_channel round p channel = record round { channels = slice_set round.channel
 -- the recorded round of this number
 abbrev pub round_of : List Recorded → ℕ → Option Recorded
 round_of [] number = None
-round_of (round ∷ rounds) number = if round.number == number then Some round else round_of rounds number
+round_of (round ∷ rounds) number =
+    if round.number == number then Some round else round_of rounds number
 
 -- the greatest of the floor and the recorded rounds
 abbrev pub latest : ℕ → List Recorded → ℕ
@@ -48,22 +53,34 @@ latest floor (round ∷ rounds) = max round.number (latest floor rounds)
 
 -- one round more is recorded: the channels from n processes are open and empty
 abbrev pub with_round : List Recorded → ℕ → ℕ → List Recorded
-with_round rounds n number = rounds ++ record { number = number; channels = replicate n open_channel } ∷ []
+with_round rounds n number =
+    rounds ++ record { number = number; channels = replicate n open_channel } ∷ []
 
 -- the marker of a round has come from process p: its channel is closed in that round
 abbrev pub with_marker : List Recorded → ℕ → ℕ → List Recorded
 with_marker rounds p number =
-    map (λ round. if round.number == number then with_channel round p (record (channel_at round p) { is_closed = true }) else round) rounds
+    map
+    (λ round. if round.number == number
+    then with_channel round p (record (channel_at round p) { is_closed = true })
+    else round)
+    rounds
 
 -- a message more on a channel; a closed channel stays as it is
 abbrev pub heard : Channel → MsgName → Channel
-heard channel message = if channel.is_closed then channel else record channel { messages = channel.messages ++ message ∷ [] }
+heard channel message =
+    if channel.is_closed
+    then channel
+    else record channel { messages = channel.messages ++ message ∷ [] }
 
--- a message has come: each recorded round has it on the channel from its sender, where that is not closed
+-- a message has come: each recorded round has it on the channel from its sender, where that is not
+-- closed
 abbrev pub noted : List Recorded → MsgName → List Recorded
-noted rounds message = map (λ round. with_channel round message.from (heard (channel_at round message.from) message)) rounds
+noted rounds message =
+    map (λ round. with_channel round message.from (heard (channel_at round message.from) message))
+    rounds
 
--- what the marker of a round does: it closes a channel of a recorded round, has a new round recorded, or comes of an old round
+-- what the marker of a round does: it closes a channel of a recorded round, has a new round
+-- recorded, or comes of an old round
 abbrev pub effect_by : Option Recorded → Bool → Effect
 effect_by (Some round) is_new = Closed
 effect_by None true = Forced
@@ -71,17 +88,21 @@ effect_by None false = Ignored
 
 -- what the marker of that round does to what a process has recorded
 abbrev pub effect_of : MarkerView → ℕ → Effect
-effect_of marker number = effect_by (round_of marker.rounds number) (nat_lt (latest marker.floor marker.rounds) number)
+effect_of marker number =
+    effect_by (round_of marker.rounds number) (nat_lt (latest marker.floor marker.rounds) number)
 
--- the rounds recorded after a marker from a process had this effect; where it had the round recorded, the channel from that process is empty and closed
+-- the rounds recorded after a marker from a process had this effect; where it had the round
+-- recorded, the channel from that process is empty and closed
 abbrev pub rounds_after : Effect → MarkerView → ℕ → ℕ → List Recorded
 rounds_after Closed marker from number = with_marker marker.rounds from number
-rounds_after Forced marker from number = with_marker (with_round marker.rounds marker.n number) from number
+rounds_after Forced marker from number =
+    with_marker (with_round marker.rounds marker.n number) from number
 rounds_after Ignored marker from number = marker.rounds
 
 -- the marker of a recorded round has come from process p before
 abbrev pub IsRepeated : List Recorded → ℕ → ℕ → Type 0
-IsRepeated rounds p number = MatchOption (round_of rounds number) ⊥ (λ round. IsTrue (channel_at round p).is_closed)
+IsRepeated rounds p number =
+    MatchOption (round_of rounds number) ⊥ (λ round. IsTrue (channel_at round p).is_closed)
 
 -- the messages noted from process p in a recorded round
 abbrev pub messages_by : Option Recorded → ℕ → Option (List MsgName)
@@ -91,7 +112,8 @@ messages_by None p = None
 -- the round is recorded, and its marker has come from each other process
 abbrev pub IsOver : MarkerView → ℕ → Type 0
 IsOver marker number =
-    MatchOption (round_of marker.rounds number) ⊥ (λ round. (q : ℕ) → q < marker.n → q ≢ marker.me → IsTrue (channel_at round q).is_closed)
+    MatchOption (round_of marker.rounds number) ⊥
+    (λ round. (q : ℕ) → q < marker.n → q ≢ marker.me → IsTrue (channel_at round q).is_closed)
 
 -- it is still the same process of the same computation, with the same floor
 pub record IsSameProcess (old new : MarkerView) : Type 0 where

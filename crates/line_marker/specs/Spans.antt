@@ -1,5 +1,7 @@
--- How recorded rounds are kept: the messages from each process once, and for each round where its channels begin and end among them.
-use Rattle.std.specs.Prelude.{◌≡◌, ℕ, zero, suc, ◌-◌, ◌<◌, ◌≤◌, min, Bool, true, false, List, [], ◌∷◌, length, map, take, drop, slice_index_or}
+-- How recorded rounds are kept: the messages from each process once, and for each round where its
+-- channels begin and end among them.
+use Rattle.std.specs.Prelude.{◌≡◌, ℕ, zero, suc, ◌-◌, ◌<◌, ◌≤◌, min, Bool, true, false, List, []}
+use Rattle.std.specs.Prelude.{◌∷◌, length, map, take, drop, slice_index_or}
 use Rattle.line_names.specs.declared.messages.MsgName.{MsgName}
 use Rattle.line_marker.specs.declared.spans.Span.{Span}
 use Rattle.line_marker.specs.declared.spans.Span.TheVariants.{Open, Closed}
@@ -41,7 +43,8 @@ is_over (Closed start end) = true
 -- the channel that stands there
 abbrev pub channel_of : List MsgName → Span → Channel
 channel_of names (Open start) = record { messages = drop start names; is_closed = false }
-channel_of names (Closed start end) = record { messages = take (end - start) (drop start names); is_closed = true }
+channel_of names (Closed start end) =
+    record { messages = take (end - start) (drop start names); is_closed = true }
 
 -- the channels that stand there, one from each process
 abbrev pub channels_of : List (List MsgName) → List Span → List Channel
@@ -75,8 +78,10 @@ abbrev pub AllWithin : List (List MsgName) → List RoundView → Type 0
 AllWithin names [] = Unit {0}
 AllWithin names (round ∷ rounds) = AreWithin names round.spans × AllWithin names rounds
 
--- what holds of the rounds that are kept: their numbers ascend, above the floor, and their channels lie within the messages
-pub record AreKept (names : List (List MsgName)) (floor : ℕ) (rounds : List RoundView) : Type 0 where
+-- what holds of the rounds that are kept: their numbers ascend, above the floor, and their channels
+-- lie within the messages
+pub record AreKept (names : List (List MsgName)) (floor : ℕ)
+    (rounds : List RoundView) : Type 0 where
   pub ascending : IsAscending floor rounds
   pub within : AllWithin names rounds
 
@@ -84,7 +89,8 @@ pub record AreKept (names : List (List MsgName)) (floor : ℕ) (rounds : List Ro
 abbrev pub AreOver : ℕ → ℕ → List RoundView → Type 0
 AreOver p zero rounds = Unit {0}
 AreOver p (suc k) [] = ⊥
-AreOver p (suc k) (round ∷ rounds) = (is_over (slice_index_or round.spans p (Open 0)) ≡ true) × AreOver p k rounds
+AreOver p (suc k) (round ∷ rounds) =
+    (is_over (slice_index_or round.spans p (Open 0)) ≡ true) × AreOver p k rounds
 
 -- for each of n processes, in how many of the first rounds its channel is known to be closed
 pub record ArePassed (passed : List ℕ) (n : ℕ) (rounds : List RoundView) : Type 0 where

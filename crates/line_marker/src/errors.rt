@@ -8,7 +8,9 @@ use std::fmt;
 /// Why a round was not begun.
 #[derive(Clone, Copy, Debug, PartialEq, Eq, Hash)]
 pub enum BeginError {
+    /// Memory was refused.
     OutOfMemory,
+    /// The round is not greater than those known.
     RoundNotNew,
 }
 
@@ -50,7 +52,9 @@ impl From<AllocError> for BeginError {
 /// Why a marker was not taken.
 #[derive(Clone, Copy, Debug, PartialEq, Eq, Hash)]
 pub enum MarkerError {
+    /// Memory was refused.
     OutOfMemory,
+    /// A marker of this round came from this process before.
     MarkerRepeated,
 }
 

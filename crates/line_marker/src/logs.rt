@@ -1,5 +1,7 @@
 //! The messages noted from each process, which the recorded rounds share.
-ghost use Rattle.std.specs.Prelude.{◌≡◌, ◌<◌, ◌≤◌, ◌++◌, [], ◌∷◌, length, map, replicate, slice_index_or, slice_set, vec_len, vec_capacity, IfOk, OnOk, OnErr, IsOk};
+ghost use Rattle.std.specs.Prelude.{◌≡◌, ◌<◌, ◌≤◌, ◌++◌, [], ◌∷◌, length, map, replicate};
+ghost use Rattle.std.specs.Prelude.{slice_index_or, slice_set, vec_len, vec_capacity, IfOk, OnOk};
+ghost use Rattle.std.specs.Prelude.{OnErr, IsOk};
 ghost use Rattle.line_marker.specs.Spans.{names_of, room_of, opened};
 
 use crate::spans::Span;
@@ -19,7 +21,10 @@ impl Model for Log {
 
     ghost Value = { LogView };
 
-    ghost view = { λ l. record { names = l.names.items; room = vec_capacity l.names - vec_len l.names } };
+    ghost view = { λ l. record {
+      names = l.names.items;
+      room = vec_capacity l.names - vec_len l.names;
+    } };
 }
 
 /// The messages noted from each process.
@@ -69,7 +74,10 @@ impl Logs {
     /// Adds a message of its sender.
     pub fn push(&mut self, message: MsgName) -> Result<(), AllocError>
         requires { message.from < length self.old }
-        ensures ok { OnOk result (names_of self.new ≡ slice_set (names_of self.old) message.from (slice_index_or (names_of self.old) message.from [] ++ message ∷ [])) }
+        ensures ok { OnOk result
+            (names_of self.new
+            ≡ slice_set (names_of self.old) message.from
+            (slice_index_or (names_of self.old) message.from [] ++ message ∷ [])) }
         ensures err { OnErr result (names_of self.new ≡ names_of self.old) }
         ensures room { 0 < room_of self.old → IsOk result }
     {

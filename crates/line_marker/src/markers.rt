@@ -1,6 +1,10 @@
 //! What one process has recorded.
-ghost use Rattle.std.specs.Prelude.{◌≡◌, ◌≢◌, ℕ, ◌<◌, ◌≤◌, ◌↔◌, [], length, map, slice_index_or, Some, None, MatchOption, IfOk, OnOk, OnErr, IsErrOf, IsOk, IsTrue, false};
-ghost use Rattle.line_marker.specs.Recording.{channel_at, effect_of, latest, messages_by, noted, round_of, rounds_after, with_marker, with_round, IsOver, IsRepeated, IsSameProcess, Recorded};
+ghost use Rattle.std.specs.Prelude.{◌≡◌, ◌≢◌, ℕ, ◌<◌, ◌≤◌, ◌↔◌, [], length, map, slice_index_or};
+ghost use Rattle.std.specs.Prelude.{Some, None, MatchOption, IfOk, OnOk, OnErr, IsErrOf, IsOk};
+ghost use Rattle.std.specs.Prelude.{IsTrue, false};
+ghost use Rattle.line_marker.specs.Recording.{channel_at, effect_of, latest, messages_by, noted};
+ghost use Rattle.line_marker.specs.Recording.{round_of, rounds_after, with_marker, with_round};
+ghost use Rattle.line_marker.specs.Recording.{IsOver, IsRepeated, IsSameProcess, Recorded};
 ghost use Rattle.line_marker.specs.Spans.{is_over, AreOver, RoundView};
 ghost use Rattle.line_marker.specs.declared.spans.Span.{Span};
 
@@ -30,7 +34,7 @@ pub enum Effect {
 /// and is not kept where the channel from its sender is closed in each of them; recording a round
 /// costs its processes once; a marker, `channel` and `is_closed` look for their round from the
 /// newest on, and a marker passes over the rounds in which its channel is closed, over each once.
-/// What is kept stays, also behind rounds that are over: when they are not asked for any more, make
+/// What is kept stays, also after rounds that are over: when they are not asked for any more, make
 /// a new `Marker` with `latest()` as its floor.
 #[derive(Drop)]
 pub struct Marker {
@@ -57,16 +61,21 @@ impl Model for Marker {
       me = m.me;
       floor = m.floor;
       rounds = map (recorded_of (names_of m.logs)) m.rounds.items;
-      room = min (room_of m.logs) (min (vec_capacity m.rounds - vec_len m.rounds) (vec_capacity m.row + 1 - length m.logs));
-      round_room = min (vec_capacity m.rounds - vec_len m.rounds) (vec_capacity m.row + 1 - length m.logs);
+      room = min (room_of m.logs)
+          (min (vec_capacity m.rounds - vec_len m.rounds) (vec_capacity m.row + 1 - length m.logs));
+      round_room =
+          min (vec_capacity m.rounds - vec_len m.rounds) (vec_capacity m.row + 1 - length m.logs);
     } };
 
-    ghost invariant = { λ m. (m.row.items ≡ []) × AreKept (names_of m.logs) m.floor m.rounds.items × ArePassed m.passed.items (length m.logs) m.rounds.items };
+    ghost invariant = { λ m. (m.row.items ≡ []) × AreKept (names_of m.logs) m.floor m.rounds.items
+        × ArePassed m.passed.items (length m.logs) m.rounds.items };
 }
 
 /// Whether the marker has come on the channel from each process but this one.
 fn are_closed(spans: &[Span], me: ProcId) -> bool
-    ensures { IsTrue result ↔ ((q : ℕ) (d : Span) → q < length spans.now → q ≢ me → IsTrue (is_over (slice_index_or spans.now q d))) }
+    ensures { IsTrue result
+        ↔ ((q : ℕ) (d : Span) → q < length spans.now → q ≢ me
+        → IsTrue (is_over (slice_index_or spans.now q d))) }
 {
     let me = me.get() as usize;
     'each: for (q, span) in spans.iter().enumerate() {
@@ -81,7 +90,8 @@ fn are_closed(spans: &[Span], me: ProcId) -> bool
 /// first `known`. It looks at each further one.
 fn further(rounds: &[Round], p: usize, known: usize) -> usize
     requires over { AreOver p known rounds.now }
-    requires spans { (i : ℕ) (d : RoundView) → i < length rounds.now → p < length (slice_index_or rounds.now i d).spans }
+    requires spans { (i : ℕ) (d : RoundView) → i < length rounds.now
+        → p < length (slice_index_or rounds.now i d).spans }
     ensures { AreOver p result rounds.now }
 {
     let mut k = known;
@@ -141,7 +151,8 @@ impl Marker {
     fn place(&self, round: u32) -> Option<usize>
         ensures { MatchOption result (round_of self.now.rounds round ≡ None)
             (λ i. (i < length self.now.rounds)
-            × ((d : Recorded) → round_of self.now.rounds round ≡ Some (slice_index_or self.now.rounds i d))) }
+            × ((d : Recorded)
+            → round_of self.now.rounds round ≡ Some (slice_index_or self.now.rounds i d))) }
     {
         let mut i = self.rounds.len();
         'newest: while i > 0 {
@@ -161,7 +172,8 @@ impl Marker {
     fn has_marker(&self, i: usize, from: ProcId) -> bool
         requires round { i < length self.now.rounds }
         requires process { from < self.now.n }
-        ensures { (d : Recorded) → result ≡ (channel_at (slice_index_or self.now.rounds i d) from).is_closed }
+        ensures { (d : Recorded)
+            → result ≡ (channel_at (slice_index_or self.now.rounds i d) from).is_closed }
     {
         let round = &self.rounds[i];
         round.spans[from.get() as usize].is_closed()
@@ -171,7 +183,8 @@ impl Marker {
     fn close(&mut self, i: usize, from: ProcId)
         requires round { i < length self.old.rounds }
         requires process { from < self.old.n }
-        ensures rounds { (number : ℕ) → ((d : Recorded) → (slice_index_or self.old.rounds i d).number ≡ number)
+        ensures rounds { (number : ℕ)
+            → ((d : Recorded) → (slice_index_or self.old.rounds i d).number ≡ number)
             → self.new.rounds ≡ with_marker self.old.rounds from number }
         ensures same { IsSameProcess self.old self.new }
     {
@@ -216,7 +229,8 @@ impl Marker {
         ensures ok { OnOk result (self.new.rounds ≡ with_round self.old.rounds self.old.n round) }
         ensures err { OnErr result (self.new.rounds ≡ self.old.rounds) }
         ensures same { IsSameProcess self.old self.new }
-        ensures not_new { IsErrOf result BeginError.RoundNotNew ↔ (round ≤ latest self.old.floor self.old.rounds) }
+        ensures not_new { IsErrOf result BeginError.RoundNotNew
+            ↔ (round ≤ latest self.old.floor self.old.rounds) }
         ensures room { 0 < self.old.room → result ≢ Err BeginError.OutOfMemory }
         ensures round_room { 0 < self.old.round_room → result ≢ Err BeginError.OutOfMemory }
     {
@@ -235,10 +249,12 @@ impl Marker {
         requires process { from < self.old.n }
         requires other { from ≢ self.old.me }
         ensures ok { IfOk result (λ effect. effect ≡ effect_of self.old round) }
-        ensures rounds { IfOk result (λ effect. self.new.rounds ≡ rounds_after effect self.old from round) }
+        ensures rounds { IfOk result
+            (λ effect. self.new.rounds ≡ rounds_after effect self.old from round) }
         ensures err { OnErr result (self.new.rounds ≡ self.old.rounds) }
         ensures same { IsSameProcess self.old self.new }
-        ensures repeated { IsErrOf result MarkerError.MarkerRepeated ↔ IsRepeated self.old.rounds from round }
+        ensures repeated { IsErrOf result MarkerError.MarkerRepeated
+            ↔ IsRepeated self.old.rounds from round }
         ensures room { 0 < self.old.room → result ≢ Err MarkerError.OutOfMemory }
         ensures round_room { 0 < self.old.round_room → result ≢ Err MarkerError.OutOfMemory }
     {
@@ -268,7 +284,9 @@ impl Marker {
     /// It takes no memory, and so wants no room.
     pub fn close_channel(&mut self, from: ProcId, round: u32) -> bool
         requires { from < self.old.n }
-        ensures first { IsTrue result ↔ MatchOption (round_of self.old.rounds round) ⊥ (λ (recorded : Recorded). (channel_at recorded from).is_closed ≡ false) }
+        ensures first { IsTrue result
+            ↔ MatchOption (round_of self.old.rounds round) ⊥
+            (λ (recorded : Recorded). (channel_at recorded from).is_closed ≡ false) }
         ensures closed { IsTrue result → self.new.rounds ≡ with_marker self.old.rounds from round }
         ensures unchanged { result ≡ false → self.new.rounds ≡ self.old.rounds }
         ensures same { IsSameProcess self.old self.new }
@@ -347,7 +365,8 @@ impl Marker {
         ensures ok { OnOk result (0 < self.new.round_room) }
         ensures succeeds { 0 < self.old.round_room → IsOk result }
         ensures room { 0 < self.old.room → IsOk result }
-        ensures kept { (self.old.room ≤ self.new.room) × (self.old.round_room ≤ self.new.round_room) }
+        ensures kept { (self.old.room ≤ self.new.room)
+            × (self.old.round_room ≤ self.new.round_room) }
     {
         let processes = self.logs.len();
         self.row.reserve(processes)?;

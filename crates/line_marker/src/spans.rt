@@ -9,12 +9,14 @@ use std::marker::Model;
 /// when its marker came.
 #[derive(Clone, Copy)]
 pub enum Span {
+    /// Recorded, and its marker has not come.
     Open { start: usize },
+    /// Recorded, and its marker came when `end` messages were kept.
     Closed { start: usize, end: usize },
 }
 
 impl Span {
-    /// The channel after its marker, which has come behind so many messages.
+    /// The channel closed by its marker, which came after so many messages.
     pub fn closed(self, end: usize) -> Span
         ensures { result ≡ closed end self }
     {

@@ -1,5 +1,7 @@
--- How a set of processes is kept: one bit for each process, 64 to a word. The sets that contracts speak of are in Sets.
-use Rattle.std.specs.Prelude.{◌≡◌, ℕ, zero, suc, ◌+◌, ◌*◌, ◌/◌, ◌%◌, ◌^◌, ◌<◌, ◌==◌, Bool, if◌then◌else◌, List, [], ◌∷◌, drop, length, map, slice_index_or, take}
+-- How a set of processes is kept: one bit for each process, 64 to a word. The sets that contracts
+-- speak of are in Sets.
+use Rattle.std.specs.Prelude.{◌≡◌, ℕ, zero, suc, ◌+◌, ◌*◌, ◌/◌, ◌%◌, ◌^◌, ◌<◌, ◌==◌, Bool}
+use Rattle.std.specs.Prelude.{if◌then◌else◌, List, [], ◌∷◌, drop, length, map, slice_index_or, take}
 use Rattle.std.specs.List.{range_with_len}
 use Rattle.std.specs.Int.{bit_at}
 use Rattle.line_names.specs.declared.limits.TheConstants.{MOST_PROCESSES}

@@ -56,6 +56,7 @@ impl Body {
 /// Why bytes are no body.
 #[derive(Clone, Copy, Debug, PartialEq, Eq, Hash)]
 pub enum BodyError {
+    /// The body is longer than a message may have.
     BodyTooLong,
 }
 

@@ -8,7 +8,9 @@ ghost use Rattle.line_names.specs.Order.{IsNoLater};
 /// than every check, also where nothing happened since the last one.
 #[derive(Clone, Copy, Debug, PartialEq, Eq, PartialOrd, Ord, Hash)]
 pub enum Choice {
+    /// The check of this index; 0 is the initial state.
     Check(u32),
+    /// Where the process stands now, its volatile state.
     Now,
 }
 

@@ -55,6 +55,7 @@ impl ProcId {
 /// Why there is no such name of a process.
 #[derive(Clone, Copy, Debug, PartialEq, Eq, Hash)]
 pub enum ProcIdError {
+    /// A process number is not below the number of processes.
     NoSuchProcess,
 }
 

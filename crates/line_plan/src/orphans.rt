@@ -49,7 +49,8 @@ pub fn orphan_at(
     requires sent { sent.now ≡ sents_of catalogue.now.processes line.now }
     requires few { clear.old ≤ length catalogue.now.processes }
     requires clear { AreFirstSent catalogue.now.processes line.now at clear.old }
-    ensures found { IsFoundAmong catalogue.now.processes line.now (events_before catalogue.now.processes line.now at) result }
+    ensures found { IsFoundAmong catalogue.now.processes line.now
+        (events_before catalogue.now.processes line.now at) result }
     ensures few { clear.new ≤ length catalogue.now.processes }
     ensures clear { AreFirstSent catalogue.now.processes line.now at clear.new }
 {

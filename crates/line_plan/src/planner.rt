@@ -7,7 +7,8 @@ ghost use Rattle.line_tape.specs.Height.{height};
 ghost use Rattle.line_tape.specs.Line.{events_before, IsLine, IsOrphan, AreSentBefore};
 ghost use Rattle.line_tape.specs.Survival.{IsLatest};
 ghost use Rattle.line_tape.specs.Transit.{in_transit};
-ghost use Rattle.line_plan.specs.Search.{IsMoved, IsSameBut, AreSentBelow, AreClean, AreHearersDirty, AreStillDirty};
+ghost use Rattle.line_plan.specs.Search.{IsMoved, IsSameBut, AreSentBelow, AreClean};
+ghost use Rattle.line_plan.specs.Search.{AreHearersDirty, AreStillDirty};
 ghost use Rattle.line_vectors.specs.Reach.{sents_of};
 
 use crate::dirty::Dirty;
@@ -70,12 +71,16 @@ fn pass_over(
     certificate: &mut Vec<Passed>,
 ) -> Result<(), AllocError>
     requires process { at < length catalogue.now.processes }
-    requires led { IsLed catalogue.now.processes catalogue.now.marks failed.now certificate.old.items line.old }
+    requires led { IsLed catalogue.now.processes catalogue.now.marks failed.now
+        certificate.old.items line.old }
     requires orphan { IsOrphan catalogue.now.processes line.old at message }
     requires sent { sent.old ≡ sents_of catalogue.now.processes line.old }
-    ensures led { OnOk result (IsLed catalogue.now.processes catalogue.now.marks failed.now certificate.new.items line.new) }
+    ensures led { OnOk result
+        (IsLed catalogue.now.processes catalogue.now.marks failed.now certificate.new.items
+        line.new) }
     ensures longer { OnOk result (vec_len certificate.new ≡ vec_len certificate.old + 1) }
-    ensures lower { OnOk result (height catalogue.now.processes line.new < height catalogue.now.processes line.old) }
+    ensures lower { OnOk result
+        (height catalogue.now.processes line.new < height catalogue.now.processes line.old) }
     ensures alone { OnOk result (IsSameBut line.old line.new at) }
     ensures earlier { OnOk result (IsNoLater (choice_at line.new at) (choice_at line.old at)) }
     ensures sent { OnOk result (sent.new ≡ sents_of catalogue.now.processes line.new) }
@@ -107,14 +112,20 @@ fn visit(
     certificate: &mut Vec<Passed>,
 ) -> Result<bool, AllocError>
     requires process { at < length catalogue.now.processes }
-    requires led { IsLed catalogue.now.processes catalogue.now.marks failed.now certificate.old.items line.old }
+    requires led { IsLed catalogue.now.processes catalogue.now.marks failed.now
+        certificate.old.items line.old }
     requires sent { sent.old ≡ sents_of catalogue.now.processes line.old }
-    ensures led { OnOk result (IsLed catalogue.now.processes catalogue.now.marks failed.now certificate.new.items line.new) }
-    ensures none { OnOk result (AreSentBefore catalogue.now.processes line.new (events_before catalogue.now.processes line.new at)) }
+    ensures led { OnOk result
+        (IsLed catalogue.now.processes catalogue.now.marks failed.now certificate.new.items
+        line.new) }
+    ensures none { OnOk result
+        (AreSentBefore catalogue.now.processes line.new
+        (events_before catalogue.now.processes line.new at)) }
     ensures alone { OnOk result (IsSameBut line.old line.new at) }
     ensures sent { OnOk result (sent.new ≡ sents_of catalogue.now.processes line.new) }
     ensures moved { IfOk result (λ lowered.
-        IsMoved catalogue.now.processes line.old (vec_len certificate.old) lowered line.new (vec_len certificate.new)) }
+        IsMoved catalogue.now.processes line.old (vec_len certificate.old) lowered line.new
+        (vec_len certificate.new)) }
 {
     let mut lowered = false;
     let mut clear = 0;
@@ -145,15 +156,21 @@ fn visit_dirty(
     certificate: &mut Vec<Passed>,
 ) -> Result<bool, AllocError>
     requires process { at < length catalogue.now.processes }
-    requires led { IsLed catalogue.now.processes catalogue.now.marks failed.now certificate.old.items line.old }
+    requires led { IsLed catalogue.now.processes catalogue.now.marks failed.now
+        certificate.old.items line.old }
     requires sent { sent.old ≡ sents_of catalogue.now.processes line.old }
     requires clean { AreClean catalogue.now.processes line.old dirty.old }
-    ensures led { OnOk result (IsLed catalogue.now.processes catalogue.now.marks failed.now certificate.new.items line.new) }
-    ensures none { OnOk result (AreSentBefore catalogue.now.processes line.new (events_before catalogue.now.processes line.new at)) }
+    ensures led { OnOk result
+        (IsLed catalogue.now.processes catalogue.now.marks failed.now certificate.new.items
+        line.new) }
+    ensures none { OnOk result
+        (AreSentBefore catalogue.now.processes line.new
+        (events_before catalogue.now.processes line.new at)) }
     ensures sent { OnOk result (sent.new ≡ sents_of catalogue.now.processes line.new) }
     ensures clean { OnOk result (AreClean catalogue.now.processes line.new dirty.new) }
     ensures moved { IfOk result (λ lowered.
-        IsMoved catalogue.now.processes line.old (vec_len certificate.old) lowered line.new (vec_len certificate.new)) }
+        IsMoved catalogue.now.processes line.old (vec_len certificate.old) lowered line.new
+        (vec_len certificate.new)) }
 {
     if !dirty.has(at) {
         return Ok(false);
@@ -177,16 +194,20 @@ fn sweep(
     dirty: &mut Dirty,
     certificate: &mut Vec<Passed>,
 ) -> Result<bool, AllocError>
-    requires led { IsLed catalogue.now.processes catalogue.now.marks failed.now certificate.old.items line.old }
+    requires led { IsLed catalogue.now.processes catalogue.now.marks failed.now
+        certificate.old.items line.old }
     requires sent { sent.old ≡ sents_of catalogue.now.processes line.old }
     requires clean { AreClean catalogue.now.processes line.old dirty.old }
-    ensures led { OnOk result (IsLed catalogue.now.processes catalogue.now.marks failed.now certificate.new.items line.new) }
+    ensures led { OnOk result
+        (IsLed catalogue.now.processes catalogue.now.marks failed.now certificate.new.items
+        line.new) }
     ensures sent { OnOk result (sent.new ≡ sents_of catalogue.now.processes line.new) }
     ensures clean { OnOk result (AreClean catalogue.now.processes line.new dirty.new) }
     ensures none { IfOk result (λ lowered. lowered ≡ false
         → AreSentBelow catalogue.now.processes line.new (length catalogue.now.processes)) }
     ensures moved { IfOk result (λ lowered.
-        IsMoved catalogue.now.processes line.old (vec_len certificate.old) lowered line.new (vec_len certificate.new)) }
+        IsMoved catalogue.now.processes line.old (vec_len certificate.old) lowered line.new
+        (vec_len certificate.new)) }
 {
     let n = catalogue.n();
     let mut lowered = false;
@@ -229,12 +250,15 @@ fn sents_before(alloc: Global, catalogue: &Catalogue, line: &Line) -> Result<Sen
 /// `Catalogue::transit` tells what is in transit at the line. Where nobody failed that is all: one
 /// look at a vector for each process, and at what `transit` looks at.
 pub fn plan(alloc: Global, catalogue: &Catalogue, failed: &ProcSet) -> Result<Plan, PlanError>
-    ensures latest { IfOk result (λ plan. IsLatest catalogue.now.processes catalogue.now.marks failed.now plan.line) }
+    ensures latest { IfOk result
+        (λ plan. IsLatest catalogue.now.processes catalogue.now.marks failed.now plan.line) }
     ensures chain { IfOk result (λ plan.
-        IsChain catalogue.now.processes catalogue.now.marks failed.now plan.certificate.items plan.line) }
+        IsChain catalogue.now.processes catalogue.now.marks failed.now plan.certificate.items
+        plan.line) }
     ensures some_sweep { IfOk result (λ plan. 1 ≤ plan.sweeps) }
     ensures few_sweeps { IfOk result (λ plan. plan.sweeps ≤ vec_len plan.certificate + 1) }
-    ensures replays { IfOk result (λ plan. plan.replays.items ≡ in_transit catalogue.now.processes plan.line) }
+    ensures replays { IfOk result
+        (λ plan. plan.replays.items ≡ in_transit catalogue.now.processes plan.line) }
 {
     let _n = catalogue.n();
     let mut line = first_ceilings(catalogue, failed);

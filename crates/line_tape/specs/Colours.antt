@@ -1,5 +1,7 @@
--- Colours of processes and messages, and rounds without markers (Lai and Yang, Information Processing Letters 25(3), 1987), with round numbers for white and red.
-use Rattle.std.specs.Prelude.{◌≡◌, ℕ, zero, suc, ◌<◌, ◌≤◌, Bool, List, [], ◌∷◌, max, take, slice_get, Some, None}
+-- Colours of processes and messages, and rounds without markers (Lai and Yang, Information
+-- Processing Letters 25(3), 1987), with round numbers for white and red.
+use Rattle.std.specs.Prelude.{◌≡◌, ℕ, zero, suc, ◌<◌, ◌≤◌, Bool, List, [], ◌∷◌, max, take}
+use Rattle.std.specs.Prelude.{slice_get, Some, None}
 use Rattle.line_names.specs.declared.messages.MsgName.{MsgName}
 use Rattle.line_tape.specs.declared.events.Event.{Event}
 use Rattle.line_tape.specs.declared.events.Event.TheVariants.{Send, Recv, Check, Mark}
@@ -20,7 +22,8 @@ colour events = greatest (rounds_checked events)
 abbrev pub colour_at : List Event → ℕ → ℕ
 colour_at tape i = colour (take i tape)
 
--- how many events stand before the send of that number, the sends counted from 0; all where there is none
+-- how many events stand before the send of that number, the sends counted from 0; all where there
+-- is none
 abbrev pub send_place : List Event → ℕ → ℕ
 send_place [] number = 0
 send_place (Send to inc body ∷ rest) zero = 0
@@ -32,23 +35,29 @@ send_place (Mark from round ∷ rest) number = suc (send_place rest number)
 -- a message has the colour of its sender at its send
 abbrev pub message_colour : List Process → MsgName → ℕ
 message_colour history message =
-    colour_at (tape_at history message.from) (send_place (tape_at history message.from) message.number)
+    colour_at (tape_at history message.from)
+    (send_place (tape_at history message.from) message.number)
 
 -- each check of a round on the tape is of a greater round than the colour before it
 abbrev pub ColoursRise : List Event → Type 0
 ColoursRise tape =
-    (i : ℕ) (state : List ℕ) (round : ℕ) → slice_get tape i ≡ Some (Check state (Some round)) → colour_at tape i < round
+    (i : ℕ) (state : List ℕ) (round : ℕ) → slice_get tape i ≡ Some (Check state (Some round))
+    → colour_at tape i < round
 
--- the rounds of each tape rise, and no process received a message of a greater colour than it had itself
+-- the rounds of each tape rise, and no process received a message of a greater colour than it had
+-- itself
 pub record AreColoured (history : List Process) : Type 0 where
   pub rise : (p : ℕ) → ColoursRise (tape_at history p)
-  pub received : (q i : ℕ) (message : MsgName) → slice_get (tape_at history q) i ≡ Some (Recv message)
+  pub received : (q i : ℕ) (message : MsgName)
+      → slice_get (tape_at history q) i ≡ Some (Recv message)
       → message_colour history message ≤ colour_at (tape_at history q) i
 
--- the event may come next at process p: a round is greater than p's colour, and the colour of a message isn't
+-- the event may come next at process p: a round is greater than p's colour, and the colour of a
+-- message isn't
 abbrev pub IsNextColoured : List Process → ℕ → Event → Type 0
 IsNextColoured history p (Send to inc body) = Unit {0}
-IsNextColoured history p (Recv message) = message_colour history message ≤ colour (tape_at history p)
+IsNextColoured history p (Recv message) =
+    message_colour history message ≤ colour (tape_at history p)
 IsNextColoured history p (Check state None) = Unit {0}
 IsNextColoured history p (Check state (Some round)) = colour (tape_at history p) < round
 IsNextColoured history p (Mark from round) = Unit {0}

@@ -1,7 +1,9 @@
 -- The links to the last receipts of the senders, by blocks of sixteen.
-use Rattle.std.specs.Prelude.{◌≡◌, ◌≢◌, ℕ, zero, suc, ◌+◌, ◌*◌, ◌-◌, ◌/◌, ◌%◌, ◌≤◌, List, [], ◌∷◌, length, slice_index_or}
+use Rattle.std.specs.Prelude.{◌≡◌, ◌≢◌, ℕ, zero, suc, ◌+◌, ◌*◌, ◌-◌, ◌/◌, ◌%◌, ◌≤◌, List, [], ◌∷◌}
+use Rattle.std.specs.Prelude.{length, slice_index_or}
 
--- of each sixteen senders the number of their block, from 1, or 0 where they have none; the links, block by block; and for how many further senders there is room
+-- of each sixteen senders the number of their block, from 1, or 0 where they have none; the links,
+-- block by block; and for how many further senders there is room
 pub record EndsView : Type 0 where
   pub blocks : List ℕ
   pub links : List ℕ
@@ -39,4 +41,5 @@ room_in capacity len = (capacity - len) / 16 + capacity / 256 * 1844674407370955
 pub record AreBlocks (blocks links : List ℕ) : Type 0 where
   pub full : length links ≡ taken blocks * 16
   pub within : (group : ℕ) → slice_index_or blocks group 0 ≤ taken blocks
-  pub apart : (group other : ℕ) → slice_index_or blocks group 0 ≢ 0 → slice_index_or blocks group 0 ≡ slice_index_or blocks other 0 → group ≡ other
+  pub apart : (group other : ℕ) → slice_index_or blocks group 0 ≢ 0
+      → slice_index_or blocks group 0 ≡ slice_index_or blocks other 0 → group ≡ other

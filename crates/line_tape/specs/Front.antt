@@ -1,11 +1,13 @@
--- The front of a choice: the events of its tape that stand before it (Elnozahy, Alvisi, Wang and Johnson, ACM Computing Surveys 34(3), 2002).
+-- The front of a choice: the events of its tape that stand before it (Elnozahy, Alvisi, Wang and
+-- Johnson, ACM Computing Surveys 34(3), 2002).
 use Rattle.std.specs.Prelude.{ℕ, zero, suc, ◌≤◌, if◌then◌else◌, List, [], ◌∷◌, length, take}
 use Rattle.line_names.specs.declared.choices.Choice.{Choice}
 use Rattle.line_names.specs.declared.choices.Choice.TheVariants.{Check as AtCheck, Now}
 use Rattle.line_tape.specs.declared.events.Event.{Event}
 use Rattle.line_tape.specs.Event.{is_check, checks}
 
--- how many events stand up to and including check c; none for the initial state, all where the tape has no such check
+-- how many events stand up to and including check c; none for the initial state, all where the tape
+-- has no such check
 abbrev pub check_place : List Event → ℕ → ℕ
 check_place tape zero = 0
 check_place [] (suc c) = 0

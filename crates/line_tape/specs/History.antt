@@ -1,4 +1,5 @@
--- Histories: what each process did, and under which incarnation it goes on (Elnozahy, Alvisi, Wang and Johnson, ACM Computing Surveys 34(3), 2002).
+-- Histories: what each process did, and under which incarnation it goes on (Elnozahy, Alvisi, Wang
+-- and Johnson, ACM Computing Surveys 34(3), 2002).
 use Rattle.std.specs.Prelude.{ℕ, ◌≤◌, List, [], ◌∷◌, ◌++◌, length, All, slice_index_or, slice_set}
 use Rattle.line_names.specs.declared.limits.TheConstants.{MOST_PROCESSES}
 use Rattle.line_tape.specs.declared.events.Event.{Event}
@@ -33,7 +34,8 @@ with_event history p event =
 
 -- the history with another present incarnation of process p
 abbrev pub with_incarnation : List Process → ℕ → ℕ → List Process
-with_incarnation history p inc = slice_set history p (record (process_at history p) { incarnation = inc })
+with_incarnation history p inc =
+    slice_set history p (record (process_at history p) { incarnation = inc })
 
 -- what holds of the events of every tape: it keeps within the limits
 pub record IsTape (events : List Event) : Type 0 where

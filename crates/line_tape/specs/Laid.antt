@@ -1,10 +1,14 @@
 -- How a tape keeps its events: each in a few bytes, and beside them the bytes of bodies and states.
-use Rattle.std.specs.Prelude.{◌≡◌, ◌<◌, ◌≤◌, ◌+◌, ℕ, suc, List, [], ◌∷◌, Option, Some, None, drop, length, slice_index_or, take}
+use Rattle.std.specs.Prelude.{◌≡◌, ◌<◌, ◌≤◌, ◌+◌, ℕ, suc, List, [], ◌∷◌, Option, Some, None, drop}
+use Rattle.std.specs.Prelude.{length, slice_index_or, take}
 use Rattle.line_names.specs.declared.limits.TheConstants.{MOST_BODY}
 use Rattle.line_tape.specs.declared.events.Event.{Event}
 use Rattle.line_tape.specs.declared.events.Event.TheVariants.{Send, Recv, Check, Mark}
 use Rattle.line_tape.specs.declared.logs.KeptEvent.{KeptEvent}
-use Rattle.line_tape.specs.declared.logs.KeptEvent.TheVariants.{Send as KeptSend, Recv as KeptRecv, Check as KeptCheck, BareCheck as KeptBareCheck, Mark as KeptMark}
+use Rattle.line_tape.specs.declared.logs.KeptEvent.TheVariants.{Send as KeptSend, Recv as KeptRecv}
+use Rattle.line_tape.specs.declared.logs.KeptEvent.TheVariants.{Check as KeptCheck}
+use Rattle.line_tape.specs.declared.logs.KeptEvent.TheVariants.{BareCheck as KeptBareCheck}
+use Rattle.line_tape.specs.declared.logs.KeptEvent.TheVariants.{Mark as KeptMark}
 
 -- the event that is kept so, beside these bytes and states
 abbrev pub event_of : List ℕ → List (List ℕ) → KeptEvent → Event
@@ -14,7 +18,7 @@ event_of bodies states (KeptCheck before round) = Check (slice_index_or states b
 event_of bodies states (KeptBareCheck round) = Check [] round
 event_of bodies states (KeptMark from round) = Mark from round
 
--- how an event is kept behind so many bytes and states: a check without bytes by itself
+-- how an event is kept after so many bytes and states: a check without bytes by itself
 abbrev pub kept_as : ℕ → ℕ → Event → KeptEvent
 kept_as bytes states (Send to inc body) = KeptSend to bytes inc (length body)
 kept_as bytes states (Recv message) = KeptRecv message
@@ -45,7 +49,7 @@ Fits bytes states (KeptCheck before round) = before < states
 Fits bytes states (KeptBareCheck round) = Unit {0}
 Fits bytes states (KeptMark from round) = Unit {0}
 
--- behind so many bytes and states those of the events stand one after another, up to so many
+-- after so many bytes and states those of the events stand one after another, up to so many
 abbrev pub IsLaid : List KeptEvent → ℕ → ℕ → ℕ → ℕ → Type 0
 IsLaid [] byte state bytes states = (byte ≡ bytes) × (state ≡ states)
 IsLaid (KeptSend to start inc len ∷ rest) byte state bytes states =

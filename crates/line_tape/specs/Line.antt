@@ -1,4 +1,5 @@
--- Lines, and which of them are consistent (Elnozahy, Alvisi, Wang and Johnson, ACM Computing Surveys 34(3), 2002).
+-- Lines, and which of them are consistent (Elnozahy, Alvisi, Wang and Johnson, ACM Computing
+-- Surveys 34(3), 2002).
 use Rattle.std.specs.Prelude.{◌≡◌, ℕ, List, length, Contains, Option, Some, None}
 use Rattle.line_names.specs.declared.choices.Choice.{Choice}
 use Rattle.line_names.specs.declared.messages.MsgName.{MsgName}
@@ -20,18 +21,21 @@ pub record IsLine (history : List Process) (line : List Choice) : Type 0 where
 
 -- the message's send stands before the choice of its sender
 abbrev pub IsSentBefore : List Process → List Choice → MsgName → Type 0
-IsSentBefore history line message = Holds (events_before history line message.from) message.inc message.number
+IsSentBefore history line message =
+    Holds (events_before history line message.from) message.inc message.number
 
 -- a receipt of the message stands before the choice of process q
 abbrev pub IsReceivedBefore : List Process → List Choice → ℕ → MsgName → Type 0
 IsReceivedBefore history line q message = Contains (events_before history line q) (Recv message)
 
 -- an orphan among these events: a message received there that is not sent before the line
-pub record IsOrphanAmong (history : List Process) (line : List Choice) (events : List Event) (message : MsgName) : Type 0 where
+pub record IsOrphanAmong (history : List Process) (line : List Choice) (events : List Event)
+    (message : MsgName) : Type 0 where
   pub received : Contains events (Recv message)
   pub unsent : IsSentBefore history line message → ⊥
 
--- an orphan at process q: a message that q has received before the line and that is not sent before the line
+-- an orphan at process q: a message that q has received before the line and that is not sent before
+-- the line
 abbrev pub IsOrphan : List Process → List Choice → ℕ → MsgName → Type 0
 IsOrphan history line q message = IsOrphanAmong history line (events_before history line q) message
 

@@ -1,12 +1,14 @@
 -- How the receipts of a tape are kept, so that the first of each message is found.
-use Rattle.std.specs.Prelude.{◌≡◌, ◌≢◌, ℕ, zero, suc, ◌+◌, ◌*◌, ◌/◌, ◌%◌, ◌<◌, ◌≤◌, ◌⊎◌, ◌==◌, Bool, if◌then◌else◌, List, map, length, slice_index_or}
+use Rattle.std.specs.Prelude.{◌≡◌, ◌≢◌, ℕ, zero, suc, ◌+◌, ◌*◌, ◌/◌, ◌%◌, ◌<◌, ◌≤◌, ◌⊎◌, ◌==◌, Bool}
+use Rattle.std.specs.Prelude.{if◌then◌else◌, List, map, length, slice_index_or}
 use Rattle.line_names.specs.declared.limits.TheConstants.{MOST_PROCESSES}
 use Rattle.line_tape.specs.declared.limits.TheConstants.{MOST_EVENTS}
 use Rattle.line_names.specs.declared.messages.MsgName.{MsgName}
 use Rattle.line_tape.specs.declared.receipts.chains.Receipt.{Receipt}
 use Rattle.line_tape.specs.Ends.{EndsView, end_of}
 
--- the messages received, in order, and for how many further ones, and for how many further senders, there is room
+-- the messages received, in order, and for how many further ones, and for how many further senders,
+-- there is room
 pub record ReceiptsView : Type 0 where
   pub names : List MsgName
   pub room : ℕ
@@ -16,46 +18,57 @@ pub record ReceiptsView : Type 0 where
 abbrev pub message_of : Receipt → MsgName
 message_of receipt = record { from = receipt.from; inc = receipt.inc; number = receipt.number }
 
--- the receipt behind i others
+-- the receipt after i others
 abbrev pub receipt_at : List Receipt → ℕ → Receipt
-receipt_at receipts i = slice_index_or receipts i (record { number = 0; near = 0; far = 0; inc = 0; from = 0; height = 0 })
+receipt_at receipts i =
+    slice_index_or receipts i
+    (record { number = 0; near = 0; far = 0; inc = 0; from = 0; height = 0 })
 
--- the message that the receipt behind i others is of
+-- the message that the receipt after i others is of
 abbrev pub name_at : List Receipt → ℕ → MsgName
 name_at receipts i = message_of (receipt_at receipts i)
 
 -- the number of this receipt's message is above those of all receipts before it from its sender
 pub record IsAhead (receipts : List Receipt) (i : ℕ) : Type 0 where
-  pub above : (j : ℕ) → j < i → (name_at receipts j).from ≡ (name_at receipts i).from → (name_at receipts j).number < (name_at receipts i).number
+  pub above : (j : ℕ) → j < i → (name_at receipts j).from ≡ (name_at receipts i).from
+      → (name_at receipts j).number < (name_at receipts i).number
 
 -- this receipt is not ahead, and the first such one of its message
 pub record IsAside (receipts : List Receipt) (i : ℕ) : Type 0 where
   pub first : (j : ℕ) → j < i → (IsAhead receipts j → ⊥) → name_at receipts j ≢ name_at receipts i
   pub behind : IsAhead receipts i → ⊥
 
--- a link to one of the first n receipts that is ahead and from this sender; a link is 0 or one more than the number of a receipt
+-- a link to one of the first n receipts that is ahead and from this sender; a link is 0 or one more
+-- than the number of a receipt
 pub record IsBack (receipts : List Receipt) (n sender link : ℕ) : Type 0 where
-  pub each : (k : ℕ) → link ≡ suc k → (k < n) × IsAhead receipts k × ((name_at receipts k).from ≡ sender)
+  pub each : (k : ℕ) → link ≡ suc k
+      → (k < n) × IsAhead receipts k × ((name_at receipts k).from ≡ sender)
 
 -- the link to the last of them
 pub record IsLast (receipts : List Receipt) (n sender link : ℕ) : Type 0 where
   pub back : IsBack receipts n sender link
-  pub most : (i : ℕ) → i < n → (name_at receipts i).from ≡ sender → (k : ℕ) × (link ≡ suc k) × ((name_at receipts i).number ≤ (name_at receipts k).number)
+  pub most : (i : ℕ) → i < n → (name_at receipts i).from ≡ sender
+      → (k : ℕ) × (link ≡ suc k) × ((name_at receipts i).number ≤ (name_at receipts k).number)
 
--- each receipt that is ahead has the link to the last one before it of its sender, and one further back
+-- each receipt that is ahead has the link to the last one before it of its sender, and one further
+-- back
 pub record AreChained (receipts : List Receipt) : Type 0 where
-  pub near : (i : ℕ) → i < length receipts → IsAhead receipts i → IsLast receipts i (name_at receipts i).from (receipt_at receipts i).near
-  pub far : (i : ℕ) → i < length receipts → IsAhead receipts i → IsBack receipts i (name_at receipts i).from (receipt_at receipts i).far
+  pub near : (i : ℕ) → i < length receipts → IsAhead receipts i
+      → IsLast receipts i (name_at receipts i).from (receipt_at receipts i).near
+  pub far : (i : ℕ) → i < length receipts → IsAhead receipts i
+      → IsBack receipts i (name_at receipts i).from (receipt_at receipts i).far
   pub senders : (i : ℕ) → i < length receipts → (name_at receipts i).from < MOST_PROCESSES
 
 -- the links to the last of each sender
 pub record AreLast (receipts : List Receipt) (ends : EndsView) : Type 0 where
-  pub each : (sender : ℕ) → sender < MOST_PROCESSES → IsLast receipts (length receipts) sender (end_of ends sender)
+  pub each : (sender : ℕ) → sender < MOST_PROCESSES
+      → IsLast receipts (length receipts) sender (end_of ends sender)
 
 -- the link in a seat of the tree: the root, or one of the two links of the receipt above
 abbrev pub seated : List Receipt → ℕ → ℕ → Bool → ℕ
 seated receipts root zero far = root
-seated receipts root (suc i) far = if far then (receipt_at receipts i).far else (receipt_at receipts i).near
+seated receipts root (suc i) far =
+    if far then (receipt_at receipts i).far else (receipt_at receipts i).near
 
 -- the link from a receipt of the tree downwards, or from none
 abbrev pub next_down : List Receipt → ℕ → ℕ → Bool → ℕ
@@ -78,19 +91,25 @@ is_far key = (key % 2) == 1
 -- the link that d bits of the key lead to
 abbrev pub walked : List Receipt → ℕ → ℕ → ℕ → ℕ
 walked receipts root key zero = root
-walked receipts root key (suc d) = next_down receipts root (walked receipts root key d) (is_far (rest_of_key key d))
+walked receipts root key (suc d) =
+    next_down receipts root (walked receipts root key d) (is_far (rest_of_key key d))
 
 -- none, or a receipt of the tree
 pub record IsNode (receipts : List Receipt) (link : ℕ) : Type 0 where
   pub each : (i : ℕ) → link ≡ suc i → (i < length receipts) × IsAside receipts i
 
--- the tree has the receipts aside, each in one seat, below one that came before it, where the bits of its key lead
+-- the tree has the receipts aside, each in one seat, below one that came before it, where the bits
+-- of its key lead
 pub record AreInTree (receipts : List Receipt) (root : ℕ) : Type 0 where
-  pub nodes : (link : ℕ) (far : Bool) → IsNode receipts link → IsNode receipts (seated receipts root link far)
-  pub later : (link : ℕ) (far : Bool) → IsNode receipts link → seated receipts root link far ≢ 0 → link < seated receipts root link far
-  pub apart : (a b : ℕ) (x y : Bool) → IsNode receipts a → IsNode receipts b → seated receipts root a x ≢ 0
+  pub nodes : (link : ℕ) (far : Bool) → IsNode receipts link
+      → IsNode receipts (seated receipts root link far)
+  pub later : (link : ℕ) (far : Bool) → IsNode receipts link → seated receipts root link far ≢ 0
+      → link < seated receipts root link far
+  pub apart : (a b : ℕ) (x y : Bool) → IsNode receipts a → IsNode receipts b
+      → seated receipts root a x ≢ 0
       → seated receipts root a x ≡ seated receipts root b y → (a ≡ b) × (a ≢ 0 → x ≡ y)
-  pub reached : (i : ℕ) → i < length receipts → IsAside receipts i → (d : ℕ) × (walked receipts root (key_of (name_at receipts i)) d ≡ suc i)
+  pub reached : (i : ℕ) → i < length receipts → IsAside receipts i
+      → (d : ℕ) × (walked receipts root (key_of (name_at receipts i)) d ≡ suc i)
 
 -- the receipts with the links that lead to them
 pub record AreNoted (receipts : List Receipt) (last : EndsView) (root : ℕ) : Type 0 where
@@ -104,19 +123,25 @@ pub record AreAlike (receipts others : List Receipt) (n : ℕ) : Type 0 where
   pub each : (i : ℕ) → i < n → name_at receipts i ≡ name_at others i
 
 -- one seat of the tree has another link, and all else is as it was
-pub record IsPut (receipts : List Receipt) (root : ℕ) (others : List Receipt) (other_root : ℕ) (above : ℕ) (far : Bool) (link : ℕ) : Type 0 where
+pub record IsPut (receipts : List Receipt) (root : ℕ) (others : List Receipt) (other_root : ℕ)
+    (above : ℕ) (far : Bool) (link : ℕ) : Type 0 where
   pub there : seated others other_root above far ≡ link
-  pub elsewhere : (other : ℕ) (side : Bool) → (seated others other_root other side ≡ seated receipts root other side) ⊎ ((other ≡ above) × (other ≢ 0 → side ≡ far))
+  pub elsewhere : (other : ℕ) (side : Bool)
+      → (seated others other_root other side ≡ seated receipts root other side)
+      ⊎ ((other ≡ above) × (other ≢ 0 → side ≡ far))
   pub names : map message_of others ≡ map message_of receipts
 
 -- the walk by a key comes to a seat in d steps
 abbrev pub IsLed : List Receipt → ℕ → ℕ → ℕ → Bool → ℕ → Type 0
 IsLed receipts root key above far zero = above ≡ 0
-IsLed receipts root key above far (suc d) = (walked receipts root key d ≡ above) × (above ≢ 0) × (far ≡ is_far (rest_of_key key d))
+IsLed receipts root key above far (suc d) =
+    (walked receipts root key d ≡ above) × (above ≢ 0) × (far ≡ is_far (rest_of_key key d))
 
 -- where a walk for a message ends: at the receipt of it, or in the empty seat that would have it
-pub record IsSeatOf (receipts : List Receipt) (root : ℕ) (message : MsgName) (above : ℕ) (far : Bool) : Type 0 where
+pub record IsSeatOf (receipts : List Receipt) (root : ℕ) (message : MsgName) (above : ℕ)
+    (far : Bool) : Type 0 where
   pub node : IsNode receipts above
   pub led : (d : ℕ) × IsLed receipts root (key_of message) above far d
   pub named : (i : ℕ) → seated receipts root above far ≡ suc i → name_at receipts i ≡ message
-  pub found : (i : ℕ) → i < length receipts → IsAside receipts i → name_at receipts i ≡ message → seated receipts root above far ≡ suc i
+  pub found : (i : ℕ) → i < length receipts → IsAside receipts i → name_at receipts i ≡ message
+      → seated receipts root above far ≡ suc i

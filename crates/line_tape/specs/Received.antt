@@ -1,5 +1,6 @@
 -- Which sends before a line are received, as the events of the processes are gone through.
-use Rattle.std.specs.Prelude.{◌≡◌, ℕ, ◌<◌, ◌==◌, nat_lt, Bool, false, if◌then◌else◌, List, [], length, slice_get, slice_index_or, Some}
+use Rattle.std.specs.Prelude.{◌≡◌, ℕ, ◌<◌, ◌==◌, nat_lt, Bool, false, if◌then◌else◌, List, []}
+use Rattle.std.specs.Prelude.{length, slice_get, slice_index_or, Some}
 use Rattle.line_names.specs.declared.choices.Choice.{Choice}
 use Rattle.line_tape.specs.declared.events.Event.{Event}
 use Rattle.line_tape.specs.Event.{incarnations_sent, sends}
@@ -15,13 +16,20 @@ with_seen seen q events p = if p == q then events else seen p
 abbrev pub seen_below : List Process → List Choice → ℕ → ℕ → List Event
 seen_below history line q p = if nat_lt p q then events_before history line p else []
 
--- for each send of process p before the line it is told whether what is seen of its addressee receives it
-pub record IsTold (history : List Process) (line : List Choice) (seen : ℕ → List Event) (p : ℕ) (received : List Bool) : Type 0 where
+-- for each send of process p before the line it is told whether what is seen of its addressee
+-- receives it
+pub record IsTold (history : List Process) (line : List Choice) (seen : ℕ → List Event) (p : ℕ)
+    (received : List Bool) : Type 0 where
   pub count : length received ≡ sends (events_before history line p)
-  pub each : (k inc to : ℕ) → slice_get (incarnations_sent (events_before history line p)) k ≡ Some inc → slice_get (addressees (events_before history line p)) k ≡ Some to
-      → slice_index_or received k false ≡ has_received (seen to) (record { from = p; inc = inc; number = k })
+  pub each : (k inc to : ℕ)
+      → slice_get (incarnations_sent (events_before history line p)) k ≡ Some inc
+      → slice_get (addressees (events_before history line p)) k ≡ Some to
+      → slice_index_or received k false
+      ≡ has_received (seen to) (record { from = p; inc = inc; number = k })
 
 -- for each process
-pub record AreTold (history : List Process) (line : List Choice) (seen : ℕ → List Event) (received : List (List Bool)) : Type 0 where
+pub record AreTold (history : List Process) (line : List Choice) (seen : ℕ → List Event)
+    (received : List (List Bool)) : Type 0 where
   pub count : length received ≡ length history
-  pub each : (p : ℕ) → p < length history → IsTold history line seen p (slice_index_or received p [])
+  pub each : (p : ℕ) → p < length history
+      → IsTold history line seen p (slice_index_or received p [])

@@ -1,5 +1,6 @@
 -- What a restart at a line leaves of a history, of its damage marks and of its bars.
-use Rattle.std.specs.Prelude.{◌≢◌, ℕ, ◌+◌, ◌<◌, Bool, true, nat_le, List, [], ◌∷◌, length, filter, replicate, Option, Some, None}
+use Rattle.std.specs.Prelude.{◌≢◌, ℕ, ◌+◌, ◌<◌, Bool, true, nat_le, List, [], ◌∷◌, length, filter}
+use Rattle.std.specs.Prelude.{replicate, Option, Some, None}
 use Rattle.std.specs.List.{filter_map}
 use Rattle.line_names.specs.declared.choices.Choice.{Choice}
 use Rattle.line_names.specs.declared.choices.Choice.TheVariants.{Check as AtCheck, Now}
@@ -30,12 +31,16 @@ HasFurther process Now = Unit {0}
 
 -- each process that goes back has a further incarnation
 abbrev pub HaveFurther : List Process → List Choice → Type 0
-HaveFurther history line = (p : ℕ) → p < length history → HasFurther (process_at history p) (choice_at line p)
+HaveFurther history line =
+    (p : ℕ) → p < length history → HasFurther (process_at history p) (choice_at line p)
 
 -- a process that goes on from a choice: its tape is cut to the choice's front
 abbrev pub restarted_process : Process → Choice → Process
 restarted_process process choice =
-    record { incarnation = restarted_incarnation choice process.incarnation; tape = filter_map restarted_event (front process.tape choice) }
+    record {
+      incarnation = restarted_incarnation choice process.incarnation;
+      tape = filter_map restarted_event (front process.tape choice);
+    }
 
 -- each process goes on from its choice of the line
 abbrev pub restarted : List Process → List Choice → List Process
@@ -52,9 +57,13 @@ is_kept Now c = true
 abbrev pub restarted_damage : List (List ℕ) → List Choice → List (List ℕ)
 restarted_damage [] line = []
 restarted_damage (checks ∷ rest) [] = []
-restarted_damage (checks ∷ rest) (choice ∷ line) = filter (is_kept choice) checks ∷ restarted_damage rest line
+restarted_damage (checks ∷ rest) (choice ∷ line) =
+    filter (is_kept choice) checks ∷ restarted_damage rest line
 
 -- the marks of damage that are kept; all bars go
 abbrev pub restarted_marks : MarksView → List Choice → MarksView
 restarted_marks marks line =
-    record { damaged = restarted_damage marks.damaged line; bars = replicate (length marks.bars) None }
+    record {
+      damaged = restarted_damage marks.damaged line;
+      bars = replicate (length marks.bars) None;
+    }

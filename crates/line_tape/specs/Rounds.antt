@@ -1,6 +1,8 @@
 -- The rounds that the checks of a tape belong to (Chandy and Lamport, ACM TOCS 3(1), 1985).
-use Rattle.std.specs.Prelude.{◌≡◌, ◌≢◌, ℕ, suc, ◌<◌, Bool, false, ◌==◌, ◌&&◌, ◌||◌, List, length, map, filter, Option, Some, None}
-use Rattle.std.specs.List.{filter_map, list_any, list_all, range_with_len, before_first, after_first}
+use Rattle.std.specs.Prelude.{◌≡◌, ◌≢◌, ℕ, suc, ◌<◌, Bool, false, ◌==◌, ◌&&◌, ◌||◌, List, length}
+use Rattle.std.specs.Prelude.{map, filter, Option, Some, None}
+use Rattle.std.specs.List.{filter_map, list_any, list_all, range_with_len, before_first}
+use Rattle.std.specs.List.{after_first}
 use Rattle.line_names.specs.declared.choices.Choice.{Choice}
 use Rattle.line_names.specs.declared.choices.Choice.TheVariants.{Check as AtCheck}
 use Rattle.line_names.specs.declared.messages.MsgName.{MsgName}
@@ -51,7 +53,8 @@ after_check r tape = after_first (is_check_of r) tape
 
 -- every tape has a check of round r
 abbrev pub is_checked : List Process → ℕ → Bool
-is_checked history r = list_all (λ q. has_check_of r (tape_at history q)) (range_with_len 0 (length history))
+is_checked history r =
+    list_all (λ q. has_check_of r (tape_at history q)) (range_with_len 0 (length history))
 
 -- each process's check of round r
 abbrev pub checks_of : List Process → ℕ → List ℕ
@@ -69,11 +72,13 @@ round_line history r = check_line (checks_of history r)
 abbrev pub has_mark_of : ℕ → ℕ → List Event → Bool
 has_mark_of p r tape = list_any (is_mark_of p r) (after_check r tape)
 
--- the tape of process q has its check of round r and, after it, a marker of r from each other process
+-- the tape of process q has its check of round r and, after it, a marker of r from each other
+-- process
 abbrev pub is_closed_at : List Process → ℕ → ℕ → Bool
 is_closed_at history r q =
     has_check_of r (tape_at history q)
-    && list_all (λ p. (p == q) || has_mark_of p r (tape_at history q)) (range_with_len 0 (length history))
+    && list_all (λ p. (p == q) || has_mark_of p r (tape_at history q))
+    (range_with_len 0 (length history))
 
 -- round r of markers is completed: every tape has its check and all its markers
 abbrev pub is_completed_fifo : List Process → ℕ → Bool
@@ -83,16 +88,20 @@ is_completed_fifo history r = list_all (is_closed_at history r) (range_with_len 
 abbrev pub names_from : ℕ → List MsgName → List MsgName
 names_from p messages = filter (λ (message : MsgName). message.from == p) messages
 
--- the channel from process p on a tape, in round r of markers: what it received from p after its check and before p's marker
+-- the channel from process p on a tape, in round r of markers: what it received from p after its
+-- check and before p's marker
 abbrev pub channel_on : ℕ → ℕ → List Event → List MsgName
-channel_on p r tape = names_from p (names_received (before_first (is_mark_of p r) (after_check r tape)))
+channel_on p r tape =
+    names_from p (names_received (before_first (is_mark_of p r) (after_check r tape)))
 
 -- the channel from process p to q in round r of markers
 abbrev pub channel_fifo : List Process → ℕ → ℕ → ℕ → List MsgName
 channel_fifo history r p q = channel_on p r (tape_at history q)
 
--- a snapshot of the history: checks that make a consistent line, and for each two different processes the messages in transit there
-pub record IsSnapshot (history : List Process) (indices : List ℕ) (channels : ℕ → ℕ → List MsgName) : Type 0 where
+-- a snapshot of the history: checks that make a consistent line, and for each two different
+-- processes the messages in transit there
+pub record IsSnapshot (history : List Process) (indices : List ℕ)
+    (channels : ℕ → ℕ → List MsgName) : Type 0 where
   pub line : IsLine history (check_line indices)
   pub consistent : IsConsistent history (check_line indices)
   pub transit : (p q : ℕ) → p < length history → q < length history → p ≢ q

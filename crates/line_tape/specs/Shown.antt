@@ -2,7 +2,8 @@
 use Rattle.line_tape.specs.declared.events.Event.{Event}
 use Rattle.line_tape.specs.declared.events.Event.TheVariants.{Send, Recv, Check, Mark}
 use Rattle.line_tape.specs.declared.events.EventRef.{EventRef}
-use Rattle.line_tape.specs.declared.events.EventRef.TheVariants.{Send as SendRef, Recv as RecvRef, Check as CheckRef, Mark as MarkRef}
+use Rattle.line_tape.specs.declared.events.EventRef.TheVariants.{Send as SendRef, Recv as RecvRef}
+use Rattle.line_tape.specs.declared.events.EventRef.TheVariants.{Check as CheckRef, Mark as MarkRef}
 
 -- the event that is shown so, its bytes lent
 abbrev pub shown : EventRef → Event

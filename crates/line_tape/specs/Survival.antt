@@ -1,5 +1,7 @@
--- Surviving choices, and the latest line of them: the recovery line (Elnozahy, Alvisi, Wang and Johnson, ACM Computing Surveys 34(3), 2002).
-use Rattle.std.specs.Prelude.{◌≡◌, ℕ, zero, suc, ◌==◌, nat_le, Bool, true, false, not, ◌&&◌, IsTrue, List, [], length, slice_index_or, Option, Some, None}
+-- Surviving choices, and the latest line of them: the recovery line (Elnozahy, Alvisi, Wang and
+-- Johnson, ACM Computing Surveys 34(3), 2002).
+use Rattle.std.specs.Prelude.{◌≡◌, ℕ, zero, suc, ◌==◌, nat_le, Bool, true, false, not, ◌&&◌, IsTrue}
+use Rattle.std.specs.Prelude.{List, [], length, slice_index_or, Option, Some, None}
 use Rattle.std.specs.List.{list_any}
 use Rattle.line_names.specs.declared.choices.Choice.{Choice}
 use Rattle.line_names.specs.declared.choices.Choice.TheVariants.{Check as AtCheck, Now}
@@ -24,20 +26,26 @@ is_allowed (Some bar) Now = false
 abbrev pub is_barred : MarksView → ℕ → ℕ → Bool
 is_barred marks p c = not (is_allowed (bar_at marks p) (AtCheck (suc c)))
 
--- the initial state survives, and of what the process's bar allows each check without a mark, and `Now` where the process did not fail
+-- the initial state survives, and of what the process's bar allows each check without a mark, and
+-- `Now` where the process did not fail
 abbrev pub survives : List Process → MarksView → List Bool → ℕ → Choice → Bool
 survives history marks failed p (AtCheck zero) = true
 survives history marks failed p (AtCheck (suc c)) =
-    nat_le (suc c) (checks (tape_at history p)) && not (is_damaged marks p (suc c)) && is_allowed (bar_at marks p) (AtCheck (suc c))
+    nat_le (suc c) (checks (tape_at history p))
+    && not (is_damaged marks p (suc c))
+    && is_allowed (bar_at marks p) (AtCheck (suc c))
 survives history marks failed p Now = not (is_member failed p) && is_allowed (bar_at marks p) Now
 
 -- one surviving choice for each process, and no orphan
-pub record IsRecoverable (history : List Process) (marks : MarksView) (failed : List Bool) (line : List Choice) : Type 0 where
+pub record IsRecoverable (history : List Process) (marks : MarksView) (failed : List Bool)
+    (line : List Choice) : Type 0 where
   pub length_is : length line ≡ length history
   pub surviving : (p : ℕ) → IsTrue (survives history marks failed p (choice_at line p))
   pub consistent : IsConsistent history line
 
 -- a recoverable line that is, at every process, at least as late as every recoverable line
-pub record IsLatest (history : List Process) (marks : MarksView) (failed : List Bool) (line : List Choice) : Type 0 where
+pub record IsLatest (history : List Process) (marks : MarksView) (failed : List Bool)
+    (line : List Choice) : Type 0 where
   pub recoverable : IsRecoverable history marks failed line
-  pub latest : (other : List Choice) → IsRecoverable history marks failed other → IsNowhereLater other line
+  pub latest : (other : List Choice) → IsRecoverable history marks failed other
+      → IsNowhereLater other line

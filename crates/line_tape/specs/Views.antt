@@ -1,5 +1,6 @@
 -- What callers see of tapes, histories and marks.
-use Rattle.std.specs.Prelude.{ℕ, List, replicate, slice_index_or, slice_set, ◌++◌, ◌∷◌, [], Option, Some, None}
+use Rattle.std.specs.Prelude.{ℕ, List, replicate, slice_index_or, slice_set, ◌++◌, ◌∷◌, [], Option}
+use Rattle.std.specs.Prelude.{Some, None}
 use Rattle.line_tape.specs.declared.events.Event.{Event}
 use Rattle.line_tape.specs.History.{Process}
 
@@ -8,7 +9,8 @@ pub record TapeView : Type 0 where
   pub events : List Event
   pub room : ℕ
 
--- the events of a log, for how many further ones there is room beside their bodies and states, and for how many further bodies and states
+-- the events of a log, for how many further ones there is room beside their bodies and states, and
+-- for how many further bodies and states
 pub record LogView : Type 0 where
   pub events : List Event
   pub room : ℕ

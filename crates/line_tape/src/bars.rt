@@ -1,5 +1,6 @@
-//! Bars: checks that processes must not go on behind.
-ghost use Rattle.std.specs.Prelude.{◌≡◌, ◌<◌, ℕ, length, map, replicate, slice_index_or, slice_set, IfOk, None, Some};
+//! Bars: checks after which a process must not resume.
+ghost use Rattle.std.specs.Prelude.{◌≡◌, ◌<◌, ℕ, length, map, replicate, slice_index_or, slice_set};
+ghost use Rattle.std.specs.Prelude.{IfOk, None, Some};
 
 use std::alloc::{AllocError, Global};
 use std::error::Error;

@@ -162,7 +162,8 @@ impl<'a> EventRef<'a> {
 
     /// The bytes that it stores, where it is a check.
     pub fn state(&self) -> Option<&'a [u8]>
-        ensures { MatchOption result (state_of (shown self.now) ≡ None) (λ bytes. state_of (shown self.now) ≡ Some bytes.now) }
+        ensures { MatchOption result (state_of (shown self.now) ≡ None)
+            (λ bytes. state_of (shown self.now) ≡ Some bytes.now) }
     {
         match self {
             EventRef::Send { .. } => None,

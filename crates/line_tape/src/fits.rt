@@ -10,8 +10,11 @@ ghost use Rattle.line_tape.specs.History.{Process, with_event};
 ///
 /// The call does nothing: its contract is the law.
 pub fn event_fits()
-    ensures fit { (history : List Process) (at : ℕ) (event : Event) → IsFitFifo history → at < length history → IsNextFifo history at event
+    ensures fit { (history : List Process) (at : ℕ) (event : Event) → IsFitFifo history
+        → at < length history → IsNextFifo history at event
         → IsFitFifo (with_event history at event) }
-    ensures links { (history : List Process) (at : ℕ) (event : Event) → IsFitFifo history → at < length history → (p q : ℕ) (rest : List Item)
-        → link history p q ≡ items_got at event p q ++ rest → link (with_event history at event) p q ≡ rest ++ items_put history at event p q }
+    ensures links { (history : List Process) (at : ℕ) (event : Event) → IsFitFifo history
+        → at < length history → (p q : ℕ) (rest : List Item)
+        → link history p q ≡ items_got at event p q ++ rest
+        → link (with_event history at event) p q ≡ rest ++ items_put history at event p q }
 {}

@@ -1,7 +1,9 @@
 //! The tapes of all processes.
-ghost use Rattle.std.specs.Prelude.{◌≡◌, ◌≢◌, ◌<◌, ◌≤◌, ◌+◌, ◌↔◌, ◌⊎◌, ℕ, length, map, replicate, OnOk, OnErr, IfOk, IsOk, IsErrOf};
+ghost use Rattle.std.specs.Prelude.{◌≡◌, ◌≢◌, ◌<◌, ◌≤◌, ◌+◌, ◌↔◌, ◌⊎◌, ℕ, length, map, replicate};
+ghost use Rattle.std.specs.Prelude.{OnOk, OnErr, IfOk, IsOk, IsErrOf};
 ghost use Rattle.line_tape.specs.Event.{HasLongState, NamesBelow};
-ghost use Rattle.line_tape.specs.History.{fresh, process_at, tape_at, incarnation_at, with_event, with_incarnation, IsProcess, IsHistory};
+ghost use Rattle.line_tape.specs.History.{fresh, process_at, tape_at, incarnation_at, with_event};
+ghost use Rattle.line_tape.specs.History.{with_incarnation, IsProcess, IsHistory};
 ghost use Rattle.line_tape.specs.Plain.{plain};
 ghost use Rattle.line_tape.specs.Transit.{addressee};
 ghost use Rattle.line_tape.specs.Views.{room_at};
@@ -43,7 +45,10 @@ impl Model for History {
     ghost use Rattle.line_tape.specs.History.{IsHistory};
     ghost use Rattle.line_tape.specs.Plain.{plain, room_of};
 
-    ghost view = { λ h. record { processes = map plain h.processes.items; rooms = map room_of h.processes.items } };
+    ghost view = { λ h. record {
+      processes = map plain h.processes.items;
+      rooms = map room_of h.processes.items;
+    } };
 
     ghost invariant = { λ h. IsHistory (map plain h.processes.items) };
 }
@@ -158,14 +163,16 @@ impl History {
 
         // The refusals, in their order: p and the processes that the event names are asked first.
         ensures process { IsErrOf result HistoryError.NoSuchProcess
-            ↔ ((length self.old.processes ≤ p) ⊎ (NamesBelow (length self.old.processes) event → ⊥)) }
+            ↔ ((length self.old.processes ≤ p)
+            ⊎ (NamesBelow (length self.old.processes) event → ⊥)) }
         ensures long { IsErrOf result HistoryError.StateTooLong
-            ↔ ((p < length self.old.processes) × NamesBelow (length self.old.processes) event × HasLongState event) }
+            ↔ ((p < length self.old.processes) × NamesBelow (length self.old.processes) event
+            × HasLongState event) }
         ensures full { IsErrOf result HistoryError.TapeFull
             ↔ ((p < length self.old.processes) × NamesBelow (length self.old.processes) event
             × (HasLongState event → ⊥) × (length (tape_at self.old.processes p) ≡ MOST_EVENTS)) }
 
-        // With room there is no want of memory, and one event takes room for one at most.
+        // With room memory is never refused, and one event takes room for one at most.
         ensures room { 0 < room_at self.old p → result ≢ Err HistoryError.OutOfMemory }
         ensures spent { room_at self.old p ≤ room_at self.new p + 1 }
         ensures others { (q : ℕ) → q ≢ p → room_at self.new q ≡ room_at self.old q }
@@ -196,7 +203,9 @@ impl History {
 /// Why there is no history of so many processes.
 #[derive(Clone, Copy, Debug, PartialEq, Eq, Hash)]
 pub enum CountError {
+    /// Memory was refused.
     OutOfMemory,
+    /// The number of processes is not one that a history may have.
     BadCount,
 }
 
@@ -243,9 +252,13 @@ impl From<AllocError> for CountError {
 /// Why an event was not added to a history.
 #[derive(Clone, Copy, Debug, PartialEq, Eq, Hash)]
 pub enum HistoryError {
+    /// Memory was refused.
     OutOfMemory,
+    /// A process number is not below the number of processes.
     NoSuchProcess,
+    /// The state is longer than a check may store.
     StateTooLong,
+    /// The tape has as many events as a tape may have.
     TapeFull,
 }
 

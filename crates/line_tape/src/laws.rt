@@ -15,7 +15,8 @@ ghost use Rattle.line_tape.specs.Views.{MarksView, bar_at};
 /// So whoever has tested a chain need not trust the planner that wrote it. The call does nothing:
 /// its contract is the law.
 pub fn chain_makes_latest()
-    ensures { (history : List Process) (marks : MarksView) (failed : List Bool) (entries : List Passed) (line : List Choice)
+    ensures { (history : List Process) (marks : MarksView) (failed : List Bool)
+        (entries : List Passed) (line : List Choice)
         → IsChain history marks failed entries line → IsLatest history marks failed line }
 {}
 
@@ -24,7 +25,8 @@ pub fn chain_makes_latest()
 ///
 /// The call does nothing: its contract is the law.
 pub fn latest_is_unique()
-    ensures { (history : List Process) (marks : MarksView) (failed : List Bool) (line other : List Choice)
+    ensures { (history : List Process) (marks : MarksView) (failed : List Bool)
+        (line other : List Choice)
         → IsLatest history marks failed line → IsLatest history marks failed other → line ≡ other }
 {}
 
@@ -34,11 +36,15 @@ pub fn latest_is_unique()
 ///
 /// The call does nothing: its contract is the law.
 pub fn now_is_latest()
-    ensures ordered { (history : List Process) (marks : MarksView) (failed : List Bool) (line : List Choice) → IsFitFifo history
+    ensures ordered { (history : List Process) (marks : MarksView) (failed : List Bool)
+        (line : List Choice)
+        → IsFitFifo history
         → ((p : ℕ) → p < length history → is_member failed p ≡ false)
         → ((p : ℕ) → bar_at marks p ≡ None)
         → IsLatest history marks failed line ↔ (line ≡ replicate (length history) Now) }
-    ensures unordered { (history : List Process) (marks : MarksView) (failed : List Bool) (line : List Choice) → IsFitUnordered history
+    ensures unordered { (history : List Process) (marks : MarksView) (failed : List Bool)
+        (line : List Choice)
+        → IsFitUnordered history
         → ((p : ℕ) → p < length history → is_member failed p ≡ false)
         → ((p : ℕ) → bar_at marks p ≡ None)
         → IsLatest history marks failed line ↔ (line ≡ replicate (length history) Now) }
@@ -50,8 +56,12 @@ pub fn now_is_latest()
 ///
 /// The call does nothing: its contract is the law.
 pub fn chain_passes_each()
-    ensures each { (history : List Process) (marks : MarksView) (failed : List Bool) (entries : List Passed) (line : List Choice) (p : ℕ) (choice : Choice)
-        → IsChain history marks failed entries line → IsAbove history marks failed line p choice → IsPassedOnce entries p choice }
-    ensures only { (history : List Process) (marks : MarksView) (failed : List Bool) (entries : List Passed) (line : List Choice) (k p : ℕ) (choice : Choice)
-        → IsChain history marks failed entries line → PassesOver entries k p choice → IsAbove history marks failed line p choice }
+    ensures each { (history : List Process) (marks : MarksView) (failed : List Bool)
+        (entries : List Passed) (line : List Choice) (p : ℕ) (choice : Choice)
+        → IsChain history marks failed entries line → IsAbove history marks failed line p choice
+        → IsPassedOnce entries p choice }
+    ensures only { (history : List Process) (marks : MarksView) (failed : List Bool)
+        (entries : List Passed) (line : List Choice) (k p : ℕ) (choice : Choice)
+        → IsChain history marks failed entries line → PassesOver entries k p choice
+        → IsAbove history marks failed line p choice }
 {}

@@ -1,7 +1,8 @@
 //! What is sent before a line, what is an orphan of it, and whether it is consistent.
 ghost use Rattle.std.specs.Prelude.{◌≡◌, ◌⊎◌, ◌<◌, ◌++◌, ◌↔◌, [], ◌∷◌, List, IsTrue, Some, length};
 ghost use Rattle.line_tape.specs.declared.events.Event.{Event};
-ghost use Rattle.line_tape.specs.Line.{events_before, IsLine, IsSentBefore, IsFoundAmong, IsConsistent};
+ghost use Rattle.line_tape.specs.Line.{events_before, IsLine, IsSentBefore, IsFoundAmong};
+ghost use Rattle.line_tape.specs.Line.{IsConsistent};
 ghost use Rattle.line_tape.specs.Shown.{shown};
 
 use crate::events::EventRef;
@@ -103,7 +104,8 @@ pub fn orphan_among(history: &History, line: &Line, events: &Events<'_>) -> Opti
 pub fn orphan_at(history: &History, line: &Line, q: ProcId) -> Option<MsgName>
     requires line { IsLine history.now.processes line.now }
     requires process { q < length history.now.processes }
-    ensures { IsFoundAmong history.now.processes line.now (events_before history.now.processes line.now q) result }
+    ensures { IsFoundAmong history.now.processes line.now
+        (events_before history.now.processes line.now q) result }
 {
     orphan_among(history, line, &history.tape(q).front(line.at(q)))
 }

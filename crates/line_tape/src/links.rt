@@ -1,5 +1,6 @@
 //! Laws of links that keep their order, and of what is in transit on them.
-ghost use Rattle.std.specs.Prelude.{IsTrue, slice_index_or, ◌≡◌, ◌≢◌, ◌<◌, ℕ, List, false, map, filter, length, Contains, Some};
+ghost use Rattle.std.specs.Prelude.{IsTrue, slice_index_or, ◌≡◌, ◌≢◌, ◌<◌, ℕ, List, false, map};
+ghost use Rattle.std.specs.Prelude.{filter, length, Contains, Some};
 ghost use Rattle.line_names.specs.declared.choices.Choice.{Choice};
 ghost use Rattle.line_names.specs.declared.choices.Choice.TheVariants.{Check, Now};
 ghost use Rattle.line_names.specs.declared.messages.MsgName.{MsgName};
@@ -27,21 +28,28 @@ pub fn ordered_fits()
 ///
 /// The call does nothing: its contract is the law.
 pub fn restart_fits()
-    ensures fit { (history : List Process) (line : List Choice) → IsFitFifo history → IsConsistent history line → length line ≡ length history
+    ensures fit { (history : List Process) (line : List Choice) → IsFitFifo history
+        → IsConsistent history line → length line ≡ length history
         → IsFitFifo (restarted history line) }
-    ensures links { (history : List Process) (line : List Choice) → IsFitFifo history → IsConsistent history line → length line ≡ length history → (p q : ℕ)
-        → link (restarted history line) p q ≡ map (λ m. Message m) (in_transit_between history line p q) }
-    ensures agrees { (history : List Process) (line : List Choice) → IsConsistent history line → length line ≡ length history → (q : ℕ) (message : MsgName)
-        → Contains (tape_at (restarted history line) q) (Recv message) → Holds (tape_at (restarted history line) message.from) message.inc message.number }
+    ensures links { (history : List Process) (line : List Choice) → IsFitFifo history
+        → IsConsistent history line → length line ≡ length history → (p q : ℕ)
+        → link (restarted history line) p q
+        ≡ map (λ m. Message m) (in_transit_between history line p q) }
+    ensures agrees { (history : List Process) (line : List Choice) → IsConsistent history line
+        → length line ≡ length history → (q : ℕ) (message : MsgName)
+        → Contains (tape_at (restarted history line) q) (Recv message)
+        → Holds (tape_at (restarted history line) message.from) message.inc message.number }
 {}
 
 /// What is in transit at checks that a restart keeps is the same after it.
 ///
 /// The call does nothing: its contract is the law.
 pub fn kept_checks()
-    ensures { (history : List Process) (line : List Choice) (checks : List ℕ) → length line ≡ length history
+    ensures { (history : List Process) (line : List Choice) (checks : List ℕ)
+        → length line ≡ length history
         → ((p : ℕ) → IsTrue (is_kept (choice_at line p) (slice_index_or checks p 0))) → (p q : ℕ)
-        → in_transit_between (restarted history line) (map (λ c. Check c) checks) p q ≡ in_transit_between history (map (λ c. Check c) checks) p q }
+        → in_transit_between (restarted history line) (map (λ c. Check c) checks) p q
+        ≡ in_transit_between history (map (λ c. Check c) checks) p q }
 {}
 
 /// What is in transit at a line, taken apart by sender and addressee, is what is in transit on each
@@ -51,10 +59,14 @@ pub fn kept_checks()
 /// names, gives each link its own in their order. The call does nothing: its contract is the law.
 pub fn transit_parts()
     ensures before { (history : List Process) (line : List Choice) (p q : ℕ)
-        → filter (goes_between history p q) (in_transit history line) ≡ in_transit_between history line p q }
-    ensures after { (history : List Process) (line : List Choice) → length line ≡ length history → (p q : ℕ)
-        → filter (goes_between (restarted history line) p q) (in_transit history line) ≡ in_transit_between history line p q }
-    ensures held { (history : List Process) (line : List Choice) → length line ≡ length history → (message : MsgName) → Contains (in_transit history line) message
+        → filter (goes_between history p q) (in_transit history line)
+        ≡ in_transit_between history line p q }
+    ensures after { (history : List Process) (line : List Choice) → length line ≡ length history
+        → (p q : ℕ)
+        → filter (goes_between (restarted history line) p q) (in_transit history line)
+        ≡ in_transit_between history line p q }
+    ensures held { (history : List Process) (line : List Choice) → length line ≡ length history
+        → (message : MsgName) → Contains (in_transit history line) message
         → (q : ℕ) × IsSentTo (restarted history line) q message }
 {}
 
@@ -65,11 +77,17 @@ pub fn transit_parts()
 ///
 /// The call does nothing: its contract is the law.
 pub fn fronts_decide_transit()
-    ensures fronts { (a b : List Process) (line other : List Choice) (p q : ℕ) → events_before a line p ≡ events_before b other p
-        → events_before a line q ≡ events_before b other q → in_transit_between a line p q ≡ in_transit_between b other p q }
-    ensures check { (history : List Process) (at : ℕ) (state : List ℕ) (r : ℕ) (line : List Choice) → at < length history
+    ensures fronts { (a b : List Process) (line other : List Choice) (p q : ℕ)
+        → events_before a line p ≡ events_before b other p
+        → events_before a line q ≡ events_before b other q
+        → in_transit_between a line p q ≡ in_transit_between b other p q }
+    ensures check { (history : List Process) (at : ℕ) (state : List ℕ) (r : ℕ) (line : List Choice)
+        → at < length history
         → has_check_of r (tape_at history at) ≡ false → choice_at line at ≡ Now
-        → ((q : ℕ) → q < length history → q ≢ at → choice_at line q ≡ Check (check_of r (tape_at history q)))
+        → ((q : ℕ) → q < length history → q ≢ at
+        → choice_at line q ≡ Check (check_of r (tape_at history q)))
         → (p q : ℕ) → p < length history → q < length history
-        → in_transit_between (with_event history at (CheckEvent state (Some r))) (round_line (with_event history at (CheckEvent state (Some r))) r) p q ≡ in_transit_between history line p q }
+        → in_transit_between (with_event history at (CheckEvent state (Some r)))
+        (round_line (with_event history at (CheckEvent state (Some r))) r) p q
+        ≡ in_transit_between history line p q }
 {}

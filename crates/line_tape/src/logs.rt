@@ -1,5 +1,7 @@
 //! The events of a tape, as it keeps and shows them.
-ghost use Rattle.std.specs.Prelude.{◌≡◌, ◌<◌, ◌≤◌, ◌+◌, ◌-◌, ◌^◌, ◌↔◌, ℕ, Option, [], ◌∷◌, ◌++◌, All, IsOk, IsTrue, OnOk, Some, drop, length, slice_get, take, vec_capacity, vec_len};
+ghost use Rattle.std.specs.Prelude.{◌≡◌, ◌<◌, ◌≤◌, ◌+◌, ◌-◌, ◌^◌, ◌↔◌, ℕ, Option, [], ◌∷◌, ◌++◌};
+ghost use Rattle.std.specs.Prelude.{All, IsOk, IsTrue, OnOk, Some, drop, length, slice_get, take};
+ghost use Rattle.std.specs.Prelude.{vec_capacity, vec_len};
 ghost use Rattle.std.specs.List.{filter_map};
 ghost use Rattle.line_tape.specs.declared.events.Event.TheVariants.{Check, Mark, Recv, Send};
 ghost use Rattle.line_tape.specs.Kept.{IsSettled};
@@ -22,7 +24,7 @@ use std::marker::Model;
 /// An event in sixteen bytes: those of a body or a state are kept beside it.
 #[derive(Clone, Copy)]
 pub(crate) enum KeptEvent {
-    /// A message of `len` bytes, which stand behind `start` others.
+    /// A message of `len` bytes, which stand after `start` others.
     Send {
         to: ProcId,
         start: u32,
@@ -33,7 +35,7 @@ pub(crate) enum KeptEvent {
     Recv {
         message: MsgName,
     },
-    /// A check, whose state stands behind so many others.
+    /// A check, whose state stands after so many others.
     Check {
         before: u32,
         round: Option<u32>,
@@ -52,7 +54,7 @@ pub(crate) enum KeptEvent {
 // What an event takes on a tape, beside its bytes.
 const _: () = prove!(size_of::<KeptEvent>() == 16);
 
-/// A check as it is kept behind so many states: one that stores no bytes by itself.
+/// A check as it is kept after so many states: one that stores no bytes by itself.
 fn keep_check(before: u32, state: &State, round: Option<u32>) -> KeptEvent
     ensures { (bytes : ℕ) → result ≡ kept_as bytes before (Check state.now round) }
 {
@@ -63,11 +65,12 @@ fn keep_check(before: u32, state: &State, round: Option<u32>) -> KeptEvent
     }
 }
 
-/// Keeps the state of a check behind the others, in room that was made for it; one without bytes
+/// Keeps the state of a check after the others, in room that was made for it; one without bytes
 /// takes no place.
 fn keep_state(states: &mut Vec<State>, state: State)
     requires room { vec_len states.old < vec_capacity states.old }
-    ensures states { (round : Option ℕ) → states.new.items ≡ states.old.items ++ states_of (Check state round) }
+    ensures states { (round : Option ℕ)
+        → states.new.items ≡ states.old.items ++ states_of (Check state round) }
     ensures len { vec_len states.new ≤ vec_len states.old + 1 }
     ensures capacity { vec_capacity states.old ≤ vec_capacity states.new }
 {
@@ -173,7 +176,7 @@ impl Log {
         self.states.capacity() - self.states.len()
     }
 
-    /// Adds a send at the end, in room that was made for it: its body goes behind the others.
+    /// Adds a send at the end, in room that was made for it: its body goes after the others.
     pub(crate) fn append_send(&mut self, to: ProcId, inc: u16, body: &[u8])
         requires room { 0 < self.old.room }
         requires bodies { 0 < self.old.bodies }
@@ -206,7 +209,7 @@ impl Log {
             .push_reserved(KeptEvent::Recv { message: *message });
     }
 
-    /// Adds a check at the end, in room that was made for it: its state goes behind the others.
+    /// Adds a check at the end, in room that was made for it: its state goes after the others.
     pub(crate) fn append_check(&mut self, state: State, round: Option<u32>)
         requires room { 0 < self.old.room }
         requires states { 0 < self.old.states }
@@ -300,7 +303,7 @@ impl<'a> Events<'a> {
         self.events.is_empty()
     }
 
-    /// The one behind `i` others.
+    /// The one after `i` others.
     pub fn at(&self, i: usize) -> EventRef<'a>
         requires { i < length self.now }
         ensures { slice_get self.now i ≡ Some (shown result) }
@@ -353,7 +356,7 @@ impl<'a> Events<'a> {
     }
 
     #[tactic(auto, using(crate::proofs::LaidLemmas::events_behind))]
-    /// Those behind the first so many.
+    /// Those after the first so many.
     pub fn behind(&self, start: usize) -> Events<'a>
         requires { start ≤ length self.now }
         ensures { result ≡ drop start self.now }

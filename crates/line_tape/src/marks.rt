@@ -1,5 +1,7 @@
 //! Marks of damage, and bars.
-ghost use Rattle.std.specs.Prelude.{◌≡◌, ◌≢◌, ◌<◌, ◌≤◌, ◌↔◌, ◌-◌, ◌==◌, ℕ, false, [], ◌∷◌, ◌++◌, All, IsTrue, length, filter, slice_get, IfOk, IfSome, None, OnOk, OnErr, IsErrOf, Some};
+ghost use Rattle.std.specs.Prelude.{◌≡◌, ◌≢◌, ◌<◌, ◌≤◌, ◌↔◌, ◌-◌, ◌==◌, ℕ, false, [], ◌∷◌, ◌++◌};
+ghost use Rattle.std.specs.Prelude.{All, IsTrue, length, filter, slice_get, IfOk, IfSome, None};
+ghost use Rattle.std.specs.Prelude.{OnOk, OnErr, IsErrOf, Some};
 ghost use Rattle.std.specs.List.{list_any};
 ghost use Rattle.line_names.specs.declared.choices.Choice.TheVariants.{Check as AtCheck};
 ghost use Rattle.line_tape.specs.Marked.{checks_marked, AreNumbered};
@@ -289,8 +291,11 @@ impl Marks {
 /// Why a check was not marked.
 #[derive(Clone, Copy, Debug, PartialEq, Eq, Hash)]
 pub enum MarkError {
+    /// Memory was refused.
     OutOfMemory,
+    /// The check is the initial state, which is never damaged.
     InitialDamage,
+    /// The check is marked already.
     AlreadyDamaged,
 }
 

@@ -1,7 +1,10 @@
 //! An index of the receipts of one tape.
-ghost use Rattle.std.specs.Prelude.{◌≡◌, ◌≢◌, ◌<◌, ◌≤◌, ◌+◌, ◌-◌, ◌↔◌, ℕ, suc, [], ◌∷◌, ◌++◌, Contains, IfOk, IsOk, IsTrue, List, OnOk, length, map, take, vec_capacity, vec_len};
+ghost use Rattle.std.specs.Prelude.{◌≡◌, ◌≢◌, ◌<◌, ◌≤◌, ◌+◌, ◌-◌, ◌↔◌, ℕ, suc, [], ◌∷◌, ◌++◌};
+ghost use Rattle.std.specs.Prelude.{Contains, IfOk, IsOk, IsTrue, List, OnOk, length, map, take};
+ghost use Rattle.std.specs.Prelude.{vec_capacity, vec_len};
 ghost use Rattle.line_names.specs.declared.limits.TheConstants.{MOST_PROCESSES};
-ghost use Rattle.line_tape.specs.Noted.{AreChained, AreInTree, AreNoted, IsLast, message_of, name_at};
+ghost use Rattle.line_tape.specs.Noted.{AreChained, AreInTree, AreNoted, IsLast, message_of};
+ghost use Rattle.line_tape.specs.Noted.{name_at};
 
 mod chains;
 mod ends;
@@ -51,9 +54,11 @@ fn find(receipts: &[Receipt], last: u32, root: u32, wanted: &Receipt) -> u32
     requires chained { AreChained receipts.now }
     requires last { IsLast receipts.now (length receipts.now) wanted.now.from last }
     requires tree { AreInTree receipts.now root }
-    ensures found { (i : ℕ) → result ≡ suc i → (i < length receipts.now) × (name_at receipts.now i ≡ message_of wanted.now)
+    ensures found { (i : ℕ) → result ≡ suc i
+        → (i < length receipts.now) × (name_at receipts.now i ≡ message_of wanted.now)
         × ((j : ℕ) → j < i → name_at receipts.now j ≢ message_of wanted.now) }
-    ensures none { result ≡ 0 → (i : ℕ) → i < length receipts.now → name_at receipts.now i ≢ message_of wanted.now }
+    ensures none { result ≡ 0 → (i : ℕ) → i < length receipts.now
+        → name_at receipts.now i ≢ message_of wanted.now }
 {
     if is_ahead(receipts, last, wanted) {
         return 0;
@@ -78,7 +83,8 @@ fn add(receipts: &mut Vec<Receipt>, last: &mut LastLinks, root: &mut u32, receip
     requires room { vec_len receipts.old < vec_capacity receipts.old }
     requires last_room { 0 < last.old.room }
     ensures noted { AreNoted receipts.new.items last.new root.new }
-    ensures names { map message_of receipts.new.items ≡ map message_of receipts.old.items ++ message_of receipt ∷ [] }
+    ensures names { map message_of receipts.new.items
+        ≡ map message_of receipts.old.items ++ message_of receipt ∷ [] }
     ensures len { vec_len receipts.new ≡ vec_len receipts.old + 1 }
     ensures capacity { vec_capacity receipts.old ≤ vec_capacity receipts.new }
     ensures last_room { last.old.room ≤ last.new.room + 1 }
@@ -106,7 +112,8 @@ fn add(receipts: &mut Vec<Receipt>, last: &mut LastLinks, root: &mut u32, receip
 fn unlink_last(receipts: &mut Vec<Receipt>, last: &mut LastLinks, root: &mut u32)
     requires noted { AreNoted receipts.old.items last.old root.old }
     requires some { 0 < vec_len receipts.old }
-    ensures noted { AreNoted (take (vec_len receipts.old - 1) receipts.new.items) last.new root.new }
+    ensures noted { AreNoted (take (vec_len receipts.old - 1) receipts.new.items) last.new
+        root.new }
     ensures names { map message_of receipts.new.items ≡ map message_of receipts.old.items }
     ensures len { vec_len receipts.new ≡ vec_len receipts.old }
     ensures capacity { vec_capacity receipts.old ≤ vec_capacity receipts.new }

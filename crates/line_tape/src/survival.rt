@@ -50,7 +50,8 @@ pub fn latest_choice(history: &History, marks: &Marks, failed: &ProcSet, p: Proc
     requires { p < length history.now.processes }
     ensures value { result ≡ latest_choice history.now.processes marks.now failed.now p }
     ensures survives { IsTrue (survives history.now.processes marks.now failed.now p result) }
-    ensures latest { (other : Choice) → IsTrue (survives history.now.processes marks.now failed.now p other)
+    ensures latest { (other : Choice)
+        → IsTrue (survives history.now.processes marks.now failed.now p other)
         → IsNoLater other result }
 {
     if survives(history, marks, failed, p, Choice::Now) {
@@ -71,7 +72,8 @@ pub fn next_lower(
     requires { p < length history.now.processes }
     ensures value { result ≡ next_lower history.now.processes marks.now failed.now p choice }
     ensures survives { IsTrue (survives history.now.processes marks.now failed.now p result) }
-    ensures latest { (other : Choice) → IsTrue (survives history.now.processes marks.now failed.now p other)
+    ensures latest { (other : Choice)
+        → IsTrue (survives history.now.processes marks.now failed.now p other)
         → IsNoLater other choice → other ≢ choice → IsNoLater other result }
 {
     match choice {

@@ -1,9 +1,13 @@
 //! The tape of one process.
-ghost use Rattle.std.specs.Prelude.{◌≡◌, ◌≢◌, ◌<◌, ◌≤◌, ◌+◌, ◌↔◌, [], ◌∷◌, ◌++◌, length, OnOk, OnErr, IfOk, IsErrOf, IsOk, IsTrue, Contains, slice_get, Some, false};
+ghost use Rattle.std.specs.Prelude.{◌≡◌, ◌≢◌, ◌<◌, ◌≤◌, ◌+◌, ◌↔◌, [], ◌∷◌, ◌++◌, length, OnOk};
+ghost use Rattle.std.specs.Prelude.{OnErr, IfOk, IsErrOf, IsOk, IsTrue, Contains, slice_get, Some};
+ghost use Rattle.std.specs.Prelude.{false};
 ghost use Rattle.std.specs.Option.{SomeIff};
 ghost use Rattle.line_tape.specs.declared.events.Event.TheVariants.{Recv};
-ghost use Rattle.line_tape.specs.declared.tapes.TapeError.TheVariants.{StateTooLong, TapeFull, OutOfMemory};
-ghost use Rattle.line_tape.specs.Event.{incarnations_sent, checks, sends, stored_state, Holds, HasLongState, IsShort};
+ghost use Rattle.line_tape.specs.declared.tapes.TapeError.TheVariants.{StateTooLong, TapeFull};
+ghost use Rattle.line_tape.specs.declared.tapes.TapeError.TheVariants.{OutOfMemory};
+ghost use Rattle.line_tape.specs.Event.{incarnations_sent, checks, sends, stored_state, Holds};
+ghost use Rattle.line_tape.specs.Event.{HasLongState, IsShort};
 ghost use Rattle.line_tape.specs.Front.{place, front, HasChoice};
 ghost use Rattle.line_tape.specs.History.{IsTape};
 ghost use Rattle.line_tape.specs.Shown.{shown};
@@ -38,10 +42,9 @@ pub struct CheckRow {
 /// and which receipt of each message was its first, so that no question scans the events; and how
 /// many of its first events a restart would leave as they are, so that none looks at these again.
 ///
-/// `spare` counts further events that have room in the lists to which many events add, so that
-/// these are seldom asked. Lists that have room for one further element as a rule and seldom take
-/// it are not in the count, which would be one again and again: the bodies, the links by sender,
-/// and the rows and the states of checks. Where the count is not 0, they have room for one.
+/// `spare` counts events that surely fit, so that the lists are seldom asked for their room. The
+/// bodies, the links by sender, and the rows and the states of checks are not counted: they often
+/// have room for just one. Where the count is not 0, each of them has room for one.
 #[derive(Drop)]
 pub struct Tape {
     log: Log,
@@ -67,9 +70,11 @@ impl Model for Tape {
           (min t.log.bodies (min (vec_capacity t.checks - vec_len t.checks) t.log.states));
     } };
 
-    ghost invariant = { λ t. IsIndexed t.log.events t.checks.items t.incarnations.items t.addressees.items t.receipts t.settled t.spare
+    ghost invariant = { λ t. IsIndexed t.log.events t.checks.items t.incarnations.items
+        t.addressees.items t.receipts t.settled t.spare
         (min (min t.log.room t.receipts.room)
-        (min (vec_capacity t.incarnations - vec_len t.incarnations) (vec_capacity t.addressees - vec_len t.addressees)))
+        (min (vec_capacity t.incarnations - vec_len t.incarnations)
+        (vec_capacity t.addressees - vec_len t.addressees)))
         (min (min t.log.bodies t.receipts.senders)
         (min (vec_capacity t.checks - vec_len t.checks) t.log.states)) };
 }
@@ -118,7 +123,7 @@ impl Tape {
         self.log.len() == 0
     }
 
-    /// The event behind `i` others.
+    /// The event after `i` others.
     pub fn event(&self, i: u32) -> EventRef<'_>
         requires { i < length self.now.events }
         ensures { slice_get self.now.events i ≡ Some (shown result) }
@@ -187,7 +192,8 @@ impl Tape {
         requires { HasChoice self.now.events choice }
         ensures place { result.place ≡ place self.now.events choice }
         ensures sends { result.sends ≡ sends (front self.now.events choice) }
-        ensures receipts { result.receipts ≡ length (names_received (front self.now.events choice)) }
+        ensures receipts { result.receipts
+            ≡ length (names_received (front self.now.events choice)) }
     {
         match choice {
             Choice::Check(0) => CheckRow {
@@ -256,9 +262,9 @@ impl Tape {
 
     /// Makes room for so many further events: the next `k` pushes take no memory.
     ///
-    /// It asks the lists that are counted only where it is not known that they have room. The count
-    /// is then the room of the fullest one, so the asking is spread over as many events, or over
-    /// fewer where a list that one kind of event alone takes room in is full before.
+    /// It asks the lists for their room only when `spare` is used up, which then becomes the room of
+    /// the fullest list. So the questions are spread over that many events, or over fewer where a
+    /// list that only one kind of event uses is full before.
     pub fn reserve(&mut self, k: u32) -> Result<(), AllocError>
         ensures same { self.new.events ≡ self.old.events }
         ensures ok { OnOk result (k ≤ self.new.room) }
@@ -301,7 +307,7 @@ impl Tape {
         ensures full { IsErrOf result TapeError.TapeFull
             ↔ ((HasLongState event → ⊥) × (length self.old.events ≡ MOST_EVENTS)) }
 
-        // With room there is no want of memory, and one event takes room for one at most.
+        // With room memory is never refused, and one event takes room for one at most.
         ensures room { 0 < self.old.room → result ≢ Err TapeError.OutOfMemory }
         ensures spent { self.old.room ≤ self.new.room + 1 }
 
@@ -340,8 +346,11 @@ impl Tape {
 /// Why an event was not added to a tape.
 #[derive(Clone, Copy, Debug, PartialEq, Eq, Hash)]
 pub enum TapeError {
+    /// Memory was refused.
     OutOfMemory,
+    /// The state is longer than a check may store.
     StateTooLong,
+    /// The tape has as many events as a tape may have.
     TapeFull,
 }
 

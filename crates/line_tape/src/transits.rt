@@ -1,5 +1,6 @@
 //! What is in transit at a line.
-ghost use Rattle.std.specs.Prelude.{◌≡◌, ◌<◌, ◌++◌, ◌∷◌, ◌↔◌, [], ℕ, List, false, true, map, length, replicate, slice_set, IfOk, IsTrue, OnOk};
+ghost use Rattle.std.specs.Prelude.{◌≡◌, ◌<◌, ◌++◌, ◌∷◌, ◌↔◌, [], ℕ, List, false, true, map};
+ghost use Rattle.std.specs.Prelude.{length, replicate, slice_set, IfOk, IsTrue, OnOk};
 ghost use Rattle.line_names.specs.declared.choices.Choice.{Choice};
 ghost use Rattle.line_tape.specs.declared.events.Event.{Event};
 ghost use Rattle.line_tape.specs.Fit.{IsSentTo};
@@ -50,7 +51,9 @@ impl Received {
 /// None of the sends before the line.
 fn none_received(history: &History, alloc: Global, line: &Line) -> Result<Vec<Received>, AllocError>
     requires { IsLine history.now.processes line.now }
-    ensures { IfOk result (λ received. AreTold history.now.processes line.now (seen_below history.now.processes line.now 0) received.items) }
+    ensures { IfOk result
+        (λ received. AreTold history.now.processes line.now
+        (seen_below history.now.processes line.now 0) received.items) }
 {
     let n = history.n();
     let mut received = Vec::with_capacity(alloc, n as usize)?;
@@ -83,8 +86,10 @@ fn is_sent_to(history: &History, message: &MsgName, q: ProcId) -> bool
 fn add_receipt(history: &History, q: ProcId, event: &EventRef<'_>, received: &mut Vec<Received>)
     requires { length received.old.items ≡ length history.now.processes }
     ensures count { length received.new.items ≡ length received.old.items }
-    ensures told { (line : List Choice) (seen : ℕ → List Event) → AreTold history.now.processes line seen received.old.items
-        → AreTold history.now.processes line (with_seen seen q (seen q ++ shown event.now ∷ [])) received.new.items }
+    ensures told { (line : List Choice) (seen : ℕ → List Event)
+        → AreTold history.now.processes line seen received.old.items
+        → AreTold history.now.processes line (with_seen seen q (seen q ++ shown event.now ∷ []))
+        received.new.items }
 {
     match event {
         EventRef::Recv { message } => {
@@ -104,8 +109,11 @@ fn add_receipts(history: &History, line: &Line, q: ProcId, received: &mut Vec<Re
     requires process { q < length history.now.processes }
     requires count { length received.old.items ≡ length history.now.processes }
     ensures count { length received.new.items ≡ length received.old.items }
-    ensures told { (seen : ℕ → List Event) → AreTold history.now.processes line.now seen received.old.items
-        → AreTold history.now.processes line.now (with_seen seen q (seen q ++ events_before history.now.processes line.now q)) received.new.items }
+    ensures told { (seen : ℕ → List Event)
+        → AreTold history.now.processes line.now seen received.old.items
+        → AreTold history.now.processes line.now
+        (with_seen seen q (seen q ++ events_before history.now.processes line.now q))
+        received.new.items }
 {
     let choice = line.at(q);
     let events = history.tape(q).front(choice);
@@ -123,9 +131,12 @@ fn add_open(
     messages: &mut Vec<MsgName>,
 ) -> Result<(), AllocError>
     requires process { p < length history.now.processes }
-    requires told { IsTold history.now.processes line.now (events_before history.now.processes line.now) p received.now }
+    requires told { IsTold history.now.processes line.now
+        (events_before history.now.processes line.now) p received.now }
     ensures { OnOk result (messages.new.items
-        ≡ messages.old.items ++ map (λ (letter : Letter). letter.message) (open_letters history.now.processes line.now p)) }
+        ≡ messages.old.items
+        ++ map (λ (letter : Letter). letter.message)
+        (open_letters history.now.processes line.now p)) }
 {
     let incarnations = history.tape(p).incarnations();
     for number in 0..received.sends.len() {
@@ -149,7 +160,8 @@ impl History {
     /// is.
     pub fn transit(&self, alloc: Global, line: &Line) -> Result<Vec<MsgName>, AllocError>
         requires { IsLine self.now.processes line.now }
-        ensures { IfOk result (λ messages. messages.items ≡ in_transit self.now.processes line.now) }
+        ensures { IfOk result
+            (λ messages. messages.items ≡ in_transit self.now.processes line.now) }
     {
         let n = self.n();
         let mut received = none_received(self, alloc, line)?;

@@ -1,5 +1,7 @@
--- How much was received from each process before a choice, and how much was sent before a line, as vectors.
-use Rattle.std.specs.Prelude.{◌≡◌, ℕ, ◌+◌, ◌-◌, ◌<◌, ◌==◌, max, min, if◌then◌else◌, List, [], ◌∷◌, length, map, Contains}
+-- How much was received from each process before a choice, and how much was sent before a line, as
+-- vectors.
+use Rattle.std.specs.Prelude.{◌≡◌, ℕ, ◌+◌, ◌-◌, ◌<◌, ◌==◌, max, min, if◌then◌else◌, List, [], ◌∷◌}
+use Rattle.std.specs.Prelude.{length, map, Contains}
 use Rattle.std.specs.List.{range_with_len}
 use Rattle.line_names.specs.declared.choices.Choice.{Choice}
 use Rattle.line_names.specs.declared.messages.MsgName.{MsgName}
@@ -15,14 +17,16 @@ use Rattle.line_vectors.specs.declared.limits.TheConstants.{LAST_NUMBER}
 abbrev pub number_past : ℕ → MsgName → ℕ
 number_past p message = if message.from == p then message.number + 1 else 0
 
--- one more than the number of the message that the event receives from process p; 0 where it receives none
+-- one more than the number of the message that the event receives from process p; 0 where it
+-- receives none
 abbrev pub heard : ℕ → Event → ℕ
 heard p (Send to inc body) = 0
 heard p (Recv message) = number_past p message
 heard p (Check state round) = 0
 heard p (Mark from round) = 0
 
--- one more than the greatest number that the events receive from process p; 0 where they receive none
+-- one more than the greatest number that the events receive from process p; 0 where they receive
+-- none
 abbrev pub reach_from : List Event → ℕ → ℕ
 reach_from [] p = 0
 reach_from (event ∷ rest) p = max (heard p event) (reach_from rest p)
@@ -34,9 +38,11 @@ pub record IsReceivedFrom (events : List Event) (p number : ℕ) : Type 0 where
   pub from_is : message.from ≡ p
   pub number_is : message.number ≡ number
 
--- the lane is one more than the greatest number that the events receive from process p, or 0 where they receive none
+-- the lane is one more than the greatest number that the events receive from process p, or 0 where
+-- they receive none
 pub record IsReach (events : List Event) (p lane : ℕ) : Type 0 where
-  pub all_below : (message : MsgName) → Contains events (Recv message) → message.from ≡ p → message.number < lane
+  pub all_below : (message : MsgName) → Contains events (Recv message) → message.from ≡ p
+      → message.number < lane
   pub greatest : (number : ℕ) → lane ≡ number + 1 → IsReceivedFrom events p number
 
 -- the name under which a vector notes a message: the last number counts as the one before it

@@ -4,7 +4,8 @@ use Rattle.line_names.specs.declared.messages.MsgName.{MsgName}
 
 -- the lanes once a message is noted: the lane of its sender is past its number
 abbrev pub noted : List ℕ → MsgName → List ℕ
-noted lanes message = slice_set lanes message.from (max (slice_index lanes message.from) (message.number + 1))
+noted lanes message =
+    slice_set lanes message.from (max (slice_index lanes message.from) (message.number + 1))
 
 -- no lane is over its process's count
 abbrev pub Fits : List ℕ → List ℕ → Type 0

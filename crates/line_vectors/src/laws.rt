@@ -25,7 +25,8 @@ pub fn receipts_note()
 
 /// A restart, at any line, leaves the vectors of the checks that it keeps as they were.
 pub fn kept_vectors_stay()
-    ensures { (history : List Process) (line : List Choice) → length line ≡ length history → (q c : ℕ)
+    ensures { (history : List Process) (line : List Choice) → length line ≡ length history
+        → (q c : ℕ)
         → IsTrue (is_kept (choice_at line q) c)
         → reach_before (restarted history line) q (AtCheck c) ≡ reach_before history q (AtCheck c) }
 {}

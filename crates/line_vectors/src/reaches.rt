@@ -1,5 +1,6 @@
 //! How much a process has heard of the others.
-ghost use Rattle.std.specs.Prelude.{◌≡◌, ◌<◌, ◌≤◌, ◌↔◌, IsTrue, IfOk, MatchOption, length, replicate, slice_index};
+ghost use Rattle.std.specs.Prelude.{◌≡◌, ◌<◌, ◌≤◌, ◌↔◌, IsTrue, IfOk, MatchOption, length};
+ghost use Rattle.std.specs.Prelude.{replicate, slice_index};
 ghost use Rattle.line_lanes.specs.Lanes.{greater_of, over_count};
 ghost use Rattle.line_vectors.specs.Vectors.{noted, Fits, FitsBefore, IsFirstBeyond};
 

@@ -1,7 +1,9 @@
 //! How events come to a catalogue, in room that was made for them.
 ghost use Rattle.std.specs.Prelude.{◌≡◌, ◌≢◌, ◌<◌, ◌≤◌, ◌+◌, ℕ, length};
 ghost use Rattle.line_names.specs.declared.limits.TheConstants.{MOST_BODY};
-ghost use Rattle.line_tape.specs.declared.events.Event.TheVariants.{Send as SendEvent, Recv as RecvEvent, Mark as MarkEvent};
+ghost use Rattle.line_tape.specs.declared.events.Event.TheVariants.{Send as SendEvent};
+ghost use Rattle.line_tape.specs.declared.events.Event.TheVariants.{Recv as RecvEvent};
+ghost use Rattle.line_tape.specs.declared.events.Event.TheVariants.{Mark as MarkEvent};
 ghost use Rattle.line_tape.specs.Event.{HasLongState, NamesBelow};
 ghost use Rattle.line_tape.specs.History.{tape_at, with_event};
 ghost use Rattle.line_catalogue.specs.Agreement.{AgreesNext};
@@ -40,7 +42,8 @@ impl Catalogue {
         requires few { length (tape_at self.old.processes p) < MOST_EVENTS }
         requires agrees { AgreesNext self.old.processes p (SendEvent to inc body.now) }
         requires room { 0 < room_at self.old p }
-        ensures processes { self.new.processes ≡ with_event self.old.processes p (SendEvent to inc body.now) }
+        ensures processes { self.new.processes
+            ≡ with_event self.old.processes p (SendEvent to inc body.now) }
         ensures marks { self.new.marks ≡ self.old.marks }
         ensures spent { room_at self.old p ≤ room_at self.new p + 1 }
         ensures others { (q : ℕ) → q ≢ p → room_at self.new q ≡ room_at self.old q }
@@ -56,7 +59,8 @@ impl Catalogue {
         requires few { length (tape_at self.old.processes p) < MOST_EVENTS }
         requires agrees { AgreesNext self.old.processes p (RecvEvent message.now) }
         requires room { 0 < room_at self.old p }
-        ensures processes { self.new.processes ≡ with_event self.old.processes p (RecvEvent message.now) }
+        ensures processes { self.new.processes
+            ≡ with_event self.old.processes p (RecvEvent message.now) }
         ensures marks { self.new.marks ≡ self.old.marks }
         ensures spent { room_at self.old p ≤ room_at self.new p + 1 }
         ensures others { (q : ℕ) → q ≢ p → room_at self.new q ≡ room_at self.old q }
@@ -74,7 +78,8 @@ impl Catalogue {
         requires few { length (tape_at self.old.processes p) < MOST_EVENTS }
         requires agrees { AgreesNext self.old.processes p (MarkEvent from round) }
         requires room { 0 < room_at self.old p }
-        ensures processes { self.new.processes ≡ with_event self.old.processes p (MarkEvent from round) }
+        ensures processes { self.new.processes
+            ≡ with_event self.old.processes p (MarkEvent from round) }
         ensures marks { self.new.marks ≡ self.old.marks }
         ensures spent { room_at self.old p ≤ room_at self.new p + 1 }
         ensures others { (q : ℕ) → q ≢ p → room_at self.new q ≡ room_at self.old q }

@@ -1,7 +1,9 @@
 //! What each kind of event adds to the tape of a process, in room that was made for it.
 ghost use Rattle.std.specs.Prelude.{◌≡◌, ◌≢◌, ◌<◌, ◌≤◌, ◌+◌, ℕ, length};
 ghost use Rattle.line_names.specs.declared.limits.TheConstants.{MOST_BODY};
-ghost use Rattle.line_tape.specs.declared.events.Event.TheVariants.{Send as SendEvent, Recv as RecvEvent, Mark as MarkEvent};
+ghost use Rattle.line_tape.specs.declared.events.Event.TheVariants.{Send as SendEvent};
+ghost use Rattle.line_tape.specs.declared.events.Event.TheVariants.{Recv as RecvEvent};
+ghost use Rattle.line_tape.specs.declared.events.Event.TheVariants.{Mark as MarkEvent};
 ghost use Rattle.line_tape.specs.History.{tape_at, with_event};
 ghost use Rattle.line_tape.specs.Views.{room_at};
 
@@ -17,7 +19,8 @@ impl History {
         requires short { length body.now ≤ MOST_BODY }
         requires few { length (tape_at self.old.processes p) < MOST_EVENTS }
         requires room { 0 < room_at self.old p }
-        ensures processes { self.new.processes ≡ with_event self.old.processes p (SendEvent to inc body.now) }
+        ensures processes { self.new.processes
+            ≡ with_event self.old.processes p (SendEvent to inc body.now) }
         ensures spent { room_at self.old p ≤ room_at self.new p + 1 }
         ensures others { (q : ℕ) → q ≢ p → room_at self.new q ≡ room_at self.old q }
     {
@@ -32,7 +35,8 @@ impl History {
         requires from { message.now.from < length self.old.processes }
         requires few { length (tape_at self.old.processes p) < MOST_EVENTS }
         requires room { 0 < room_at self.old p }
-        ensures processes { self.new.processes ≡ with_event self.old.processes p (RecvEvent message.now) }
+        ensures processes { self.new.processes
+            ≡ with_event self.old.processes p (RecvEvent message.now) }
         ensures spent { room_at self.old p ≤ room_at self.new p + 1 }
         ensures others { (q : ℕ) → q ≢ p → room_at self.new q ≡ room_at self.old q }
     {
@@ -47,7 +51,8 @@ impl History {
         requires from { from < length self.old.processes }
         requires few { length (tape_at self.old.processes p) < MOST_EVENTS }
         requires room { 0 < room_at self.old p }
-        ensures processes { self.new.processes ≡ with_event self.old.processes p (MarkEvent from round) }
+        ensures processes { self.new.processes
+            ≡ with_event self.old.processes p (MarkEvent from round) }
         ensures spent { room_at self.old p ≤ room_at self.new p + 1 }
         ensures others { (q : ℕ) → q ≢ p → room_at self.new q ≡ room_at self.old q }
     {

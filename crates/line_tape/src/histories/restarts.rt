@@ -27,7 +27,8 @@ fn restart_process(process: &mut ProcessTape, choice: Choice)
 
 /// Whether a process with this incarnation can go on from a choice.
 fn has_further(incarnation: u16, choice: Choice) -> bool
-    ensures { (process : Process) → process.incarnation ≡ incarnation → IsTrue result ↔ HasFurther process choice }
+    ensures { (process : Process) → process.incarnation ≡ incarnation
+        → IsTrue result ↔ HasFurther process choice }
 {
     match choice {
         Choice::Check(_) => incarnation != LAST_INCARNATION,

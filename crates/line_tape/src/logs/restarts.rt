@@ -1,5 +1,6 @@
 //! What a restart leaves of the events that are kept.
-ghost use Rattle.std.specs.Prelude.{◌≡◌, ◌≤◌, if◌then◌else◌, All, None, Some, take, vec_capacity, vec_len};
+ghost use Rattle.std.specs.Prelude.{◌≡◌, ◌≤◌, if◌then◌else◌, All, None, Some, take, vec_capacity};
+ghost use Rattle.std.specs.Prelude.{vec_len};
 ghost use Rattle.std.specs.List.{filter_map};
 ghost use Rattle.line_tape.specs.Laid.{restarted_kept};
 

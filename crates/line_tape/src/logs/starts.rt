@@ -4,8 +4,7 @@ ghost use Rattle.line_tape.specs.Laid.{first_byte, first_state};
 
 use super::KeptEvent;
 
-/// How many bytes of bodies stand before those of these events, of `all` that there are up to their
-/// end.
+/// Offset of the first body byte among these events, or `all` where they have none.
 pub(super) fn bytes_before(events: &[KeptEvent], all: usize) -> usize
     ensures { result ≡ first_byte events.now all }
 {

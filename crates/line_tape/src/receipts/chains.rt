@@ -2,7 +2,8 @@
 ghost use Rattle.std.specs.Prelude.{◌≡◌, ◌≢◌, ◌<◌, ◌≤◌, ◌-◌, ℕ, suc, false, length, IsTrue};
 ghost use Rattle.line_names.specs.declared.limits.TheConstants.{MOST_PROCESSES};
 ghost use Rattle.line_names.specs.Names.{is_name};
-ghost use Rattle.line_tape.specs.Noted.{AreChained, IsAhead, IsBack, IsLast, key_of, message_of, name_at};
+ghost use Rattle.line_tape.specs.Noted.{AreChained, IsAhead, IsBack, IsLast, key_of, message_of};
+ghost use Rattle.line_tape.specs.Noted.{name_at};
 
 use line_names::MsgName;
 
@@ -63,8 +64,10 @@ fn back_from(receipts: &[Receipt], link: u32, number: u32) -> u32
     requires within { link ≤ length receipts.now }
     requires ahead { IsAhead receipts.now (link - 1) }
     ensures back { IsBack receipts.now (link - 1) (name_at receipts.now (link - 1)).from result }
-    ensures passed { number < (name_at receipts.now (link - 1)).number → (j : ℕ) → j < link - 1 → IsAhead receipts.now j
-        → (name_at receipts.now j).from ≡ (name_at receipts.now (link - 1)).from → (name_at receipts.now j).number ≡ number → j < result }
+    ensures passed { number < (name_at receipts.now (link - 1)).number → (j : ℕ) → j < link - 1
+        → IsAhead receipts.now j
+        → (name_at receipts.now j).from ≡ (name_at receipts.now (link - 1)).from
+        → (name_at receipts.now j).number ≡ number → j < result }
 {
     let at = receipts[link as usize - 1];
     if at.far == 0 {
@@ -81,8 +84,11 @@ fn back_from(receipts: &[Receipt], link: u32, number: u32) -> u32
 pub fn find_ahead(receipts: &[Receipt], last: u32, wanted: &Receipt) -> u32
     requires chained { AreChained receipts.now }
     requires last { IsLast receipts.now (length receipts.now) wanted.now.from last }
-    ensures found { (i : ℕ) → result ≡ suc i → (i < length receipts.now) × IsAhead receipts.now i × (name_at receipts.now i ≡ message_of wanted.now) }
-    ensures none { (i : ℕ) → result ≡ 0 → i < length receipts.now → IsAhead receipts.now i → name_at receipts.now i ≢ message_of wanted.now }
+    ensures found { (i : ℕ) → result ≡ suc i
+        → (i < length receipts.now) × IsAhead receipts.now i
+        × (name_at receipts.now i ≡ message_of wanted.now) }
+    ensures none { (i : ℕ) → result ≡ 0 → i < length receipts.now → IsAhead receipts.now i
+        → name_at receipts.now i ≢ message_of wanted.now }
 {
     let mut link = last;
     while link != 0 {
@@ -101,9 +107,11 @@ pub fn find_ahead(receipts: &[Receipt], last: u32, wanted: &Receipt) -> u32
 /// Whether a receipt that comes next is ahead, by the last one of its sender that is.
 pub fn is_ahead(receipts: &[Receipt], last: u32, receipt: &Receipt) -> bool
     requires last { IsLast receipts.now (length receipts.now) receipt.now.from last }
-    ensures yes { IsTrue result → (i : ℕ) → i < length receipts.now → (name_at receipts.now i).from ≡ receipt.now.from
+    ensures yes { IsTrue result → (i : ℕ) → i < length receipts.now
+        → (name_at receipts.now i).from ≡ receipt.now.from
         → (name_at receipts.now i).number < receipt.now.number }
-    ensures no { result ≡ false → (i : ℕ) × (i < length receipts.now) × ((name_at receipts.now i).from ≡ receipt.now.from)
+    ensures no { result ≡ false
+        → (i : ℕ) × (i < length receipts.now) × ((name_at receipts.now i).from ≡ receipt.now.from)
         × (receipt.now.number ≤ (name_at receipts.now i).number) }
 {
     last == 0 || receipts[last as usize - 1].number < receipt.number

@@ -1,5 +1,6 @@
 //! The link to the last receipt of each sender that is ahead.
-ghost use Rattle.std.specs.Prelude.{◌≡◌, ◌≢◌, ◌<◌, ◌≤◌, ◌+◌, ◌↔◌, ℕ, IfOk, IsOk, IsTrue, OnOk, slice_index_or, vec_capacity, vec_len};
+ghost use Rattle.std.specs.Prelude.{◌≡◌, ◌≢◌, ◌<◌, ◌≤◌, ◌+◌, ◌↔◌, ℕ, IfOk, IsOk, IsTrue, OnOk};
+ghost use Rattle.std.specs.Prelude.{slice_index_or, vec_capacity, vec_len};
 ghost use Rattle.line_tape.specs.Ends.{IsEndPut, block_of, end_of};
 
 use std::alloc::{AllocError, Global};
@@ -34,7 +35,8 @@ impl Model for LastLinks {
 /// Adds a block of links that are 0, in room that was made for it.
 fn lengthen(links: &mut Vec<u32>)
     requires room { vec_len links.old + 16 ≤ vec_capacity links.old }
-    ensures same { (place : ℕ) → slice_index_or links.new.items place 0 ≡ slice_index_or links.old.items place 0 }
+    ensures same { (place : ℕ)
+        → slice_index_or links.new.items place 0 ≡ slice_index_or links.old.items place 0 }
     ensures len { vec_len links.new ≡ vec_len links.old + 16 }
     ensures capacity { vec_capacity links.new ≡ vec_capacity links.old }
 {

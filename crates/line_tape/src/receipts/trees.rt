@@ -1,5 +1,6 @@
 //! The tree of the receipts that come out of order.
-ghost use Rattle.std.specs.Prelude.{◌≡◌, ◌≢◌, ◌<◌, ◌≤◌, Bool, ℕ, suc, List, length, map, vec_len, vec_capacity};
+ghost use Rattle.std.specs.Prelude.{◌≡◌, ◌≢◌, ◌<◌, ◌≤◌, Bool, ℕ, suc, List, length, map, vec_len};
+ghost use Rattle.std.specs.Prelude.{vec_capacity};
 ghost use Rattle.line_tape.specs.Noted.{AreInTree, IsNode, IsPut, IsSeatOf, message_of, seated};
 
 use super::chains::Receipt;
@@ -58,7 +59,8 @@ pub fn seat_of(receipts: &[Receipt], root: u32, wanted: &Receipt) -> Seat
 /// Puts another link into a seat.
 pub fn put(receipts: &mut Vec<Receipt>, root: &mut u32, seat: Seat, link: u32)
     requires node { IsNode receipts.old.items seat.above }
-    ensures put { IsPut receipts.old.items root.old receipts.new.items root.new seat.above seat.far link }
+    ensures put { IsPut receipts.old.items root.old receipts.new.items root.new seat.above seat.far
+        link }
     ensures len { vec_len receipts.new ≡ vec_len receipts.old }
     ensures capacity { vec_capacity receipts.old ≤ vec_capacity receipts.new }
 {

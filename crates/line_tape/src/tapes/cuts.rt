@@ -1,5 +1,6 @@
 //! What a restart leaves of the tape of one process.
-ghost use Rattle.std.specs.Prelude.{◌≡◌, ◌<◌, ◌≤◌, if◌then◌else◌, ℕ, All, length, slice_index_or, suc, take, vec_len, vec_capacity, Some, None};
+ghost use Rattle.std.specs.Prelude.{◌≡◌, ◌<◌, ◌≤◌, if◌then◌else◌, ℕ, All, length, slice_index_or};
+ghost use Rattle.std.specs.Prelude.{suc, take, vec_len, vec_capacity, Some, None};
 ghost use Rattle.std.specs.List.{filter_map};
 ghost use Rattle.line_tape.specs.declared.tapes.CheckRow.{CheckRow};
 ghost use Rattle.line_tape.specs.Event.{checks};
@@ -13,7 +14,7 @@ use crate::limits::MOST_EVENTS;
 use crate::logs::Events;
 use line_names::Choice;
 
-/// Notes anew where the checks behind the first `settled` events stand.
+/// Notes anew where the checks after the first `settled` events stand.
 fn place_checks(events: &Events<'_>, settled: usize, rows: &mut Vec<CheckRow>)
     requires few { length events.now ≤ MOST_EVENTS }
     requires within { settled ≤ length events.now }
@@ -45,7 +46,7 @@ impl Tape {
         }
     }
 
-    /// Lets go of what stands behind a choice. It looks at that alone.
+    /// Lets go of what stands after a choice. It looks at that alone.
     fn cut(&mut self, choice: Choice)
         requires { HasChoice self.old.events choice }
         ensures events { self.new.events ≡ front self.old.events choice }
@@ -83,7 +84,8 @@ impl Tape {
     /// most, however many restarts there are.
     pub fn restart(&mut self, choice: Choice)
         requires { HasChoice self.old.events choice }
-        ensures events { self.new.events ≡ filter_map restarted_event (front self.old.events choice) }
+        ensures events { self.new.events
+            ≡ filter_map restarted_event (front self.old.events choice) }
         ensures room { self.old.room ≤ self.new.room }
         ensures limits { IsTape self.new.events }
     {

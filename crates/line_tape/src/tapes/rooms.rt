@@ -1,5 +1,6 @@
 //! For how much a tape has room.
-ghost use Rattle.std.specs.Prelude.{◌≡◌, ◌≤◌, ◌<◌, ◌-◌, ◌^◌, min, vec_len, vec_capacity, ◌↔◌, OnOk, IsOk, IsTrue};
+ghost use Rattle.std.specs.Prelude.{◌≡◌, ◌≤◌, ◌<◌, ◌-◌, ◌^◌, min, vec_len, vec_capacity, ◌↔◌, OnOk};
+ghost use Rattle.std.specs.Prelude.{IsOk, IsTrue};
 
 use super::{CheckRow, Tape};
 use crate::logs::Log;
@@ -16,7 +17,8 @@ fn least_room(
     addressees: &Vec<ProcId>,
 ) -> u32
     ensures { result ≡ min (2 ^ 32 - 1) (min (min log.now.room receipts.now.room)
-        (min (vec_capacity incarnations.now - vec_len incarnations.now) (vec_capacity addressees.now - vec_len addressees.now))) }
+        (min (vec_capacity incarnations.now - vec_len incarnations.now)
+        (vec_capacity addressees.now - vec_len addressees.now))) }
 {
     let seen = log.room().min(receipts.room());
     let sent = incarnations.capacity() - incarnations.len();
@@ -41,7 +43,7 @@ pub(super) fn has_room_beside(
         && receipts.has_room_for_senders(k)
 }
 
-/// The count of further events that have room, behind a receipt: none where no further sender has
+/// The count of further events that have room, after a receipt: none where no further sender has
 /// it.
 pub(super) fn count_behind_receipt(spare: u32, receipts: &Receipts) -> u32
     requires { 0 < spare }
@@ -56,7 +58,7 @@ pub(super) fn count_behind_receipt(spare: u32, receipts: &Receipts) -> u32
     }
 }
 
-/// The count of further events that have room, behind a send: none where no further body has it.
+/// The count of further events that have room, after a send: none where no further body has it.
 pub(super) fn count_behind_send(spare: u32, log: &Log) -> u32
     requires { 0 < spare }
     ensures less { result ≤ spare - 1 }
@@ -70,12 +72,15 @@ pub(super) fn count_behind_send(spare: u32, log: &Log) -> u32
     }
 }
 
-/// The count of further events that have room, behind a check: none where no further check has it.
+/// The count of further events that have room, after a check: none where no further check has it.
 pub(super) fn count_behind_check(spare: u32, log: &Log, checks: &Vec<CheckRow>) -> u32
     requires { 0 < spare }
     ensures less { result ≤ spare - 1 }
-    ensures least { min (spare - 1) (min (vec_capacity checks.now - vec_len checks.now) log.now.states) ≤ result }
-    ensures one_check { min 1 result ≤ min (vec_capacity checks.now - vec_len checks.now) log.now.states }
+    ensures least { min (spare - 1)
+        (min (vec_capacity checks.now - vec_len checks.now) log.now.states)
+        ≤ result }
+    ensures one_check { min 1 result
+        ≤ min (vec_capacity checks.now - vec_len checks.now) log.now.states }
 {
     if checks.len() < checks.capacity() && log.room_for_states() > 0 {
         spare - 1
