@@ -77,7 +77,7 @@ class Claim:
 
 
 class Reading:
-    """What was read of a check text among n processes, and the part that its last record stands in."""
+    """What was read of a check text among n processes, and the part that its last record is in."""
 
     def __init__(self, version: int, n: int) -> None:
         self.version, self.n, self.part = version, n, "tapes"

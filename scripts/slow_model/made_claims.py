@@ -19,7 +19,8 @@ def some_check_text(chance: Random) -> bytes:
     failed = {p for p in player.processes(0, 1, 1, 2, 3) if p < player.n}
     claim = Claim(player.world.history, player.world.marks, failed)
     if one_in(chance, 2):
-        claim.marks.damaged |= {(p, claim.history.checks(p)) for p in failed if claim.history.checks(p)}
+        checks = claim.history.checks
+        claim.marks.damaged |= {(p, checks(p)) for p in failed if checks(p)}
     if one_in(chance, 4):
         other_bar(chance, claim)
     if one_in(chance, 4):
@@ -47,7 +48,9 @@ def some_chain(chance: Random, claim: Claim) -> None:
     claim.line = history.latest_choices(claim.marks, claim.failed)
     most = chance.randrange(6) if one_in(chance, 4) else NOW
     while len(claim.entries) < most:
-        orphans = [(p, name) for p in history.processes() for name in history.orphans(claim.line, p)]
+        orphans = [
+            (p, name) for p in history.processes() for name in history.orphans(claim.line, p)
+        ]
         if not orphans:
             break
         p, name = chance.choice(orphans)
@@ -138,7 +141,7 @@ def moved_line(chance: Random, claim: Claim) -> None:
 
 
 def one_too_low(chance: Random, claim: Claim) -> None:
-    """One check lower than needed, with an entry for it that names something received about there."""
+    """One check lower than needed, with an entry for it that names a receipt about there."""
     p = some_process(chance, claim)
     received = claim.history.received(p)
     if p >= len(claim.line) or not claim.history.has_choice(p, claim.line[p]) or not received:
@@ -156,7 +159,8 @@ def other_failed(chance: Random, claim: Claim) -> None:
 def other_marks(chance: Random, claim: Claim) -> None:
     p = some_process(chance, claim)
     checks = claim.history.checks(p)
-    claim.marks.damaged ^= {(p, chance.choice([checks, chance.randint(1, checks + 1), chance.randint(0, checks)]))}
+    which = [checks, chance.randint(1, checks + 1), chance.randint(0, checks)]
+    claim.marks.damaged ^= {(p, chance.choice(which))}
 
 
 def other_bar(chance: Random, claim: Claim) -> None:
@@ -175,7 +179,8 @@ def other_event(chance: Random, claim: Claim) -> None:
         tape.append(Recv(some_name(chance, claim)))
         return
     i = chance.randrange(len(tape))
-    how = chance.choice(["other", "other", "drop", "double", "move", "receive", "mark", "incarnation"])
+    how = chance.choice(
+        ["other", "other", "drop", "double", "move", "receive", "mark", "incarnation"])
     event = tape[i]
     if how == "other" and isinstance(event, Recv):
         tape[i] = Recv(near_name(chance, claim, event.message))
@@ -197,8 +202,8 @@ def other_event(chance: Random, claim: Claim) -> None:
 
 
 CHANGES = [
-    drop_entry, double_entry, exchange_entries, other_entry, other_entry, moved_line, moved_line, one_too_low,
-    one_too_low, other_failed, other_marks, other_bar, other_event,
+    drop_entry, double_entry, exchange_entries, other_entry, other_entry, moved_line, moved_line,
+    one_too_low, one_too_low, other_failed, other_marks, other_bar, other_event,
 ]
 
 
@@ -219,7 +224,8 @@ def past_limits(chance: Random, claim: Claim) -> None:
         i = chance.randrange(len(claim.entries))
         entry, message = claim.entries[i], claim.entries[i].message
         claim.entries[i] = chance.choice([
-            entry._replace(at=n), entry._replace(choice=2**32), entry._replace(message=message._replace(sender=n)),
+            entry._replace(at=n), entry._replace(choice=2**32),
+            entry._replace(message=message._replace(sender=n)),
             entry._replace(message=message._replace(incarnation=65_536)),
             entry._replace(message=message._replace(number=2**32)),
         ])
@@ -231,5 +237,6 @@ def odd_event(chance: Random, n: int, event: Event) -> Event:
     if isinstance(event, Recv):
         return Recv(event.message._replace(sender=n))
     if isinstance(event, Check):
-        return Check(b"e" * chance.choice([4096, 4097]), chance.choice([event.round, 0, 1, 65_535, 65_536]))
+        state = b"e" * chance.choice([4096, 4097])
+        return Check(state, chance.choice([event.round, 0, 1, 65_535, 65_536]))
     return Mark(chance.choice([event.sender, n]), chance.choice([event.round, 0, 65_536]))

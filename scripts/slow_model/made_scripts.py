@@ -1,4 +1,4 @@
-"""Random scripts. The machine runs a script while it is made, so that most commands are sensible."""
+"""Random scripts. The machine runs a script as it is made, so that most commands are sensible."""
 
 from collections.abc import Sequence
 from random import Random
@@ -12,14 +12,16 @@ from .texts import Record, earliest_version, shown
 
 # How often each kind of command comes. A relay is a message, its receipt, and a check after it.
 TALK = {
-    "send": 30, "deliver": 40, "check": 14, "damage": 3, "bar": 2, "recover": 2, "begin": 4, "turn": 3, "rounds": 2, "history": 1,
-    "bundle": 1,
+    "send": 30, "deliver": 40, "check": 14, "damage": 3, "bar": 2, "recover": 2, "begin": 4,
+    "turn": 3, "rounds": 2, "history": 1, "bundle": 1,
 }
 ROUNDS = {
-    "send": 16, "deliver": 56, "check": 5, "damage": 2, "bar": 1, "recover": 2, "begin": 8, "turn": 6, "rounds": 3, "bundle": 1,
+    "send": 16, "deliver": 56, "check": 5, "damage": 2, "bar": 1, "recover": 2, "begin": 8,
+    "turn": 6, "rounds": 3, "bundle": 1,
 }
 DOMINOES = {
-    "relay": 40, "send": 18, "deliver": 22, "check": 8, "damage": 4, "bar": 2, "recover": 1, "begin": 3, "turn": 2, "bundle": 1,
+    "relay": 40, "send": 18, "deliver": 22, "check": 8, "damage": 4, "bar": 2, "recover": 1,
+    "begin": 3, "turn": 2, "bundle": 1,
 }
 LENGTHS = [0, 3, 10, 30, 30, 60, 60, 90]
 PROCESSES = [1, *[2] * 6, *[3] * 6, 4, 4, 5]
@@ -80,12 +82,14 @@ class Player:
 
     def busy_pair(self) -> tuple[int, int] | None:
         """Two processes with something that waits on their link, where some are found."""
-        return next((pair for pair in (self.pair() for _ in range(12)) if self.waiting(*pair)), None)
+        pairs = (self.pair() for _ in range(12))
+        return next((pair for pair in pairs if self.waiting(*pair)), None)
 
     def state(self) -> bytes:
         if self.is_odd():
             return b"c" * self.chance.choice([64, 65, 65, 4096, 4097, 4097])
-        return self.chance.choice([b"", b"a", b"\x00\xff", b"\xa0\xb1", b"b" * self.chance.randrange(4)])
+        some = b"b" * self.chance.randrange(4)
+        return self.chance.choice([b"", b"a", b"\x00\xff", b"\xa0\xb1", some])
 
     def known_check(self) -> tuple[int, int]:
         """A process and a check of it, most often the last one."""

@@ -7,15 +7,16 @@ from typing import Any
 from .texts import NOW, Record, shown
 
 ODD_NUMBERS = [
-    "0", "1", "2", "3", "64", "65", "256", "257", "65535", "65536", "4294967295", "4294967296", "18446744073709551615",
-    "18446744073709551616", "99999999999999999999999",
+    "0", "1", "2", "3", "64", "65", "256", "257", "65535", "65536", "4294967295", "4294967296",
+    "18446744073709551615", "18446744073709551616", "99999999999999999999999",
 ]
 ODD_FIELDS = [
     ODD_NUMBERS,
-    ["", "-", "now", "00", "007", "+1", "-1", " 1", "1 ", "1.", "0x61", "0" * 5000 + "1", "fifo", "unordered", "lifo"],
+    ["", "-", "now", "00", "007", "+1", "-1", " 1", "1 ", "1.", "0x61", "0" * 5000 + "1", "fifo",
+     "unordered", "lifo"],
     ["6", "61", "6g", "AB", "61" * 64, "61" * 65, "61" * 4096, "61" * 4097],
-    ["world", "history", "tape", "send", "recv", "deliver", "check", "mark", "begin", "turn", "damage", "bar", "recover",
-     "rounds", "bundle", "failed", "line", "pass", "end", "Send"],
+    ["world", "history", "tape", "send", "recv", "deliver", "check", "mark", "begin", "turn",
+     "damage", "bar", "recover", "rounds", "bundle", "failed", "line", "pass", "end", "Send"],
 ]
 ODD_BYTES = b",\n\r\"0x-9 ~\x7f\xff\x00now"
 ODD_TEXTS = [
@@ -41,7 +42,8 @@ def loosely(chance: Random, field: Any) -> str:
 def odd_first(chance: Random, kind: str, n: int, *mode: str) -> Record:
     """A first record that may have another version, number of processes or mode."""
     other_mode = [chance.choice([field, "lifo", ""]) for field in mode]
-    version, many = chance.choice([1, 1, 2, 2, 0, 3]), chance.choice([n, n + 1, 0, 64, 65, 256, 257, 2**32])
+    version = chance.choice([1, 1, 2, 2, 0, 3])
+    many = chance.choice([n, n + 1, 0, 64, 65, 256, 257, 2**32])
     return kind, version, many, *other_mode
 
 
@@ -57,16 +59,18 @@ def text_of(chance: Random, values: Iterable[Record], is_changed: bool) -> bytes
         for _ in range(chance.choice([1, 1, 2])):
             change_records(chance, records)
     end = chance.choice(["\n", "\n", "\n", "\r\n", "\n\n"])
-    text = (end.join(",".join(record) for record in records) + chance.choice([end, end, ""])).encode()
-    return with_other_bytes(chance, text) if changes_bytes else text
+    text = end.join(",".join(record) for record in records) + chance.choice([end, end, ""])
+    return with_other_bytes(chance, text.encode()) if changes_bytes else text.encode()
 
 
 def change_records(chance: Random, records: list[list[str]]) -> None:
     """Drops, doubles, exchanges or moves a record, or changes fields of one."""
-    kind = chance.choice(sorted({record[0] for record in records}))  # also those of which there are few
+    # Each kind alike, also one of which there are few.
+    kind = chance.choice(sorted({record[0] for record in records}))
     i = chance.choice([i for i, record in enumerate(records) if record[0] == kind])
     j = chance.randrange(len(records))
-    how = chance.choice(["drop", "double", "double", "exchange", "move", "field", "field", "fewer", "more", "fields"])
+    how = chance.choice(["drop", "double", "double", "exchange", "move", "field", "field", "fewer",
+                         "more", "fields"])
     record = records[i]
     if how == "drop" and len(records) > 1:
         del records[i]
@@ -82,12 +86,13 @@ def change_records(chance: Random, records: list[list[str]]) -> None:
         record.insert(chance.randint(0, len(record)), other_field(chance, "", records[j]))
     else:
         places = range(len(record))
-        for at in [chance.choice(places)] if how == "field" else [at for at in places if one_in(chance, 2)]:
+        one = [chance.choice(places)] if how == "field" else None
+        for at in one or [at for at in places if one_in(chance, 2)]:
             record[at] = other_field(chance, record[at], records[j])
 
 
 def other_field(chance: Random, field: str, record: Sequence[str]) -> str:
-    """Another field: for a number most often a number, else any odd one or one of another record."""
+    """Another field: for a number mostly a number, else any odd one or one of another record."""
     if field.isdigit() and one_in(chance, 2):
         return chance.choice(ODD_NUMBERS)
     return chance.choice(chance.choice(ODD_FIELDS) if one_in(chance, 2) else record)

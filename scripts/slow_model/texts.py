@@ -23,7 +23,8 @@ Record = Sequence[Any]
 # What the program writes and says, and its status.
 Answer = tuple[bytes, bytes, int]
 Value = TypeVar("Value")
-TEXT = re.compile(rb"([ !#-~\n]|\r\n)*")  # blanks to tildes but the double quote; a return only before a line feed
+# Blanks to tildes but the double quote; a carriage return only before a line feed.
+TEXT = re.compile(rb"([ !#-~\n]|\r\n)*")
 
 
 class Fault(Exception):

@@ -126,8 +126,8 @@ impl Log {
         self.events.len()
     }
 
-    #[tactic(auto, using(crate::proofs::LaidLemmas::laid_fit))]
     /// The events, as they are shown.
+    #[tactic(auto, using(crate::proofs::LaidLemmas::laid_fit))]
     pub(crate) fn events(&self) -> Events<'_>
         ensures { result ≡ self.now.events }
     {
@@ -341,8 +341,8 @@ impl<'a> Events<'a> {
         }
     }
 
-    #[tactic(auto, using(crate::proofs::LaidLemmas::events_of_first))]
     /// The first so many.
+    #[tactic(auto, using(crate::proofs::LaidLemmas::events_of_first))]
     pub fn first(&self, end: usize) -> Events<'a>
         requires { end ≤ length self.now }
         ensures { result ≡ take end self.now }
@@ -355,8 +355,8 @@ impl<'a> Events<'a> {
         }
     }
 
-    #[tactic(auto, using(crate::proofs::LaidLemmas::events_behind))]
     /// Those after the first so many.
+    #[tactic(auto, using(crate::proofs::LaidLemmas::events_behind))]
     pub fn behind(&self, start: usize) -> Events<'a>
         requires { start ≤ length self.now }
         ensures { result ≡ drop start self.now }
