@@ -39,7 +39,7 @@ use std::marker::Model;
 /// check, and grows with its history event by event. A row has the vector of its check, and each
 /// process one of where it stands: how much was received from each other process before. So a check
 /// takes sixteen bytes more, and 4n among n processes where its process received something since
-/// the check before; and no question looks at events.
+/// the check before; and no question about a choice looks at events, as only `transit` does.
 #[derive(Drop)]
 pub struct Catalogue {
     ledger: Ledger,
@@ -83,7 +83,7 @@ impl Catalogue {
 
     /// The catalogue of a history and its marks, in memory of its own.
     ///
-    /// It looks once at each event, and asks once for a mark of each check.
+    /// It copies the history, looks twice at each event, and asks once for a mark of each check.
     pub fn of(alloc: Global, history: &History, marks: &Marks) -> Result<Catalogue, CatalogueError>
         requires { length marks.now.damaged ≡ length history.now.processes }
         ensures processes { IfOk result (λ catalogue. catalogue.processes ≡ history.now.processes) }
@@ -220,8 +220,8 @@ impl Catalogue {
     }
 
     /// Makes room for so many further events of a process: its next `k` additions take no memory.
-    /// Now and then it keeps the messages that are in transit now, for `transit`, at a cost
-    /// that the events since have paid for; where memory for it is refused, nothing else differs.
+    /// Now and then it keeps the messages that are in transit now, for `transit`, at a cost that
+    /// the events since have paid for; where memory for it is refused, nothing else differs.
     #[tactic(auto, using(crate::proofs::CatalogueLemmas::lesser_at))]
     pub fn reserve(&mut self, p: ProcId, k: u32) -> Result<(), AllocError>
         requires { p < length self.old.processes }
@@ -237,9 +237,8 @@ impl Catalogue {
     }
 
     /// Adds an event at the end of the tape of a process. A check costs a vector where something
-    /// was
-    /// received since the last one; any other event costs the same however much was added before,
-    /// but for what `reserve` does now and then.
+    /// was received since the last one; any other event costs the same however much was added
+    /// before, but for a receipt out of order and for what `reserve` does now and then.
     pub fn add(&mut self, p: ProcId, event: Event) -> Result<(), AddError>
         ensures ok { OnOk result (self.new.processes ≡ with_event self.old.processes p event) }
         ensures err { OnErr result (self.new.processes ≡ self.old.processes) }

@@ -270,8 +270,9 @@ impl Ledger {
 
     /// Makes room for so many further events of a process.
     ///
-    /// Now and then it settles. That looks at no more than twice as much as events have come since
-    /// the wait for it began, or at what a history that was handed in has.
+    /// Now and then it settles. That looks at what is kept, which is at most the wait; at the sends
+    /// since then, at most twice the wait; and at the events since then, where they are few beside
+    /// these sends. The first time it looks at a history that was handed in.
     pub fn reserve(&mut self, p: ProcId, k: u32) -> Result<(), AllocError>
         requires { p < length self.old.processes }
         ensures same { self.new.processes ≡ self.old.processes }

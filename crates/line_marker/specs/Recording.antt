@@ -18,8 +18,7 @@ pub record Recorded : Type 0 where
   pub channels : List Channel
 
 -- what process `me` of `n` has recorded, rounds up to the floor being old; with room, the next call
--- takes no memory,
--- and with room for a round, the next `begin` or `on_marker`
+-- takes no memory, and with room for a round, the next `begin` or `on_marker`
 pub record MarkerView : Type 0 where
   pub n : ℕ
   pub me : ℕ

@@ -141,7 +141,7 @@ impl History {
 
     /// Adds an event at the end of the tape of a process, in room that was made for it: what `push`
     /// does where it is not refused, for a caller that has made those tests. It takes no memory and
-    /// costs a constant.
+    /// costs what `Tape::append` does.
     pub fn append(&mut self, p: ProcId, event: Event)
         requires process { p < length self.old.processes }
         requires named { NamesBelow (length self.old.processes) event }

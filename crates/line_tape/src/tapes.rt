@@ -262,9 +262,9 @@ impl Tape {
 
     /// Makes room for so many further events: the next `k` pushes take no memory.
     ///
-    /// It asks the lists for their room only when `spare` is used up, which then becomes the room of
-    /// the fullest list. So the questions are spread over that many events, or over fewer where a
-    /// list that only one kind of event uses is full before.
+    /// It asks the lists for their room only when `spare` is used up, which then becomes the room
+    /// of the fullest list. So the questions are spread over that many events, or over fewer where
+    /// a list that only one kind of event uses is full before.
     pub fn reserve(&mut self, k: u32) -> Result<(), AllocError>
         ensures same { self.new.events ≡ self.old.events }
         ensures ok { OnOk result (k ≤ self.new.room) }
@@ -280,7 +280,8 @@ impl Tape {
     }
 
     /// Adds an event at the end, in room that was made for it: what `push` does where it is not
-    /// refused, for a caller that has made those tests. It takes no memory and costs a constant.
+    /// refused, for a caller that has made those tests. It takes no memory and costs a constant,
+    /// but for a receipt out of order, which goes down a search tree by the bits of its name.
     pub fn append(&mut self, event: Event)
         requires room { 0 < self.old.room }
         requires few { length self.old.events < MOST_EVENTS }

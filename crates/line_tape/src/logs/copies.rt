@@ -18,8 +18,7 @@ fn copy_states(alloc: Global, states: &[State]) -> Result<Vec<State>, AllocError
 
 impl Log {
     /// The same events in memory of their own. The parts are copied as they are: what an event
-    /// names
-    /// by its place stands in that place of the copy.
+    /// names by its place stands in that place of the copy.
     pub(crate) fn copy(&self, alloc: Global) -> Result<Log, AllocError>
         ensures { IfOk result (λ log. log.events ≡ self.now.events) }
     {
