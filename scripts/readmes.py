@@ -3,26 +3,40 @@
 Its promises stand in a table with the four columns of `COLUMNS`. The last two name the crate's
 edits by their files, without `.edit`: those of must-fail/ and those of further-edits/.
 
-What a caller sees is quoted in blocks of three backticks and `text`, as it stands in the code, but
-for `pub` and with the type before the name of a method: `fn Tape::push(`. How lines are broken is
-not compared.
+What a caller sees is quoted in blocks of three backticks and `text`: signatures and some of their
+clauses as they stand in the code, but for `pub`, and with the type before the name of a method, as
+`fn Tape::push(`. How lines are broken is not compared.
 """
 
 import pathlib
 import re
 from collections.abc import Iterator
+from functools import cache
+from typing import NamedTuple
 
 import definitions
 from definitions import ROOT
 
 FOLDERS = ("must-fail", "further-edits")
 COLUMNS = ["Promise", "Contract", "`must-fail/`", "`further-edits/`"]
-HEADINGS = [
-    "What a caller sees", "What is proved", "What is only tested", "Cost", "Uses",
-]
-BLOCK = re.compile(r"^```text\n(.*?)^```$", re.M | re.S)
-FUNCTION = re.compile(r"^(?=fn )", re.M)
-CLAUSE = re.compile(r"^    (?=(?:requires|ensures)\b)", re.M)
+HEADINGS = ["What a caller sees", "What is proved", "What is only tested", "Cost", "Uses"]
+WIDTH = 100
+# Where a long line of a quote is broken, the best places first.
+BREAKS = [(" -> ", " × ", " → ", " ↔ ", " ⊎ "), (" ++ ", " ≡ "), (" (",), (" ",)]
+
+BLOCK = re.compile(r"(?<=^```text\n).*?(?=^```$)", re.M | re.S)
+OWNER = re.compile(r"(?:impl|pub trait)(?:<[^>]*>)? (?:\w+(?:<[^>]*>)? for )?(\w+)")
+BEGIN = re.compile(r"( *)(?:pub(?:\(crate\))? )?(?:const )?fn (\w+)")
+QUOTED = re.compile(r"fn ((?:\w+::)?\w+)")
+CLAUSE = re.compile(r" +(requires|ensures)(?: (\w+))? \{")
+
+
+class Function(NamedTuple):
+    """A function with the lines of its signature, and those of its clauses by their names."""
+
+    name: str
+    signature: list[str]
+    clauses: dict[str, list[str]]
 
 
 def path_of(crate: str) -> pathlib.Path:
@@ -62,38 +76,98 @@ def faults_of_edits(crate: str, text: str) -> list[str]:
     return found
 
 
-def squeezed(text: str) -> str:
-    """Code without comments, blanks and line feeds, and without commas before a bracket closes."""
-    text = re.sub(r"\s+", "", re.sub(r"//[^\n]*", "", text))
-    return re.sub(r",(?=[)}\]>])", "", text)
+def parted(name: str, lines: list[str]) -> Function:
+    """The function of these lines: its signature, and its clauses."""
+    function = Function(name, [], {})
+    last = function.signature
+    for line in lines:
+        clause = CLAUSE.match(line)
+        if clause:
+            last = function.clauses[" ".join(filter(None, clause.groups()))] = []
+        last.append(line)
+    return function
 
 
-def code_of(crate: str) -> str:
-    """The code of a crate, squeezed."""
-    paths = sorted((ROOT / "crates" / crate / "src").rglob("*.rt"))
-    return "\n".join(squeezed(path.read_text(encoding="utf-8")) for path in paths)
+def lines_of(code: list[str], at: int, indent: int) -> list[str]:
+    """The lines of the function that begins there, up to its body, without its indentation."""
+    found = [code[at][indent:]]
+    while not re.search(r"[;{]$|\{\}$", code[at]) and at + 1 < len(code):
+        at += 1
+        if code[at].strip() in ("{", "{}"):
+            break
+        if code[at].strip() and not code[at].strip().startswith("//"):
+            found.append(code[at][indent:])
+    found[-1] = re.sub(r"(?: \{|;| \{\})$", "", found[-1])
+    return found
 
 
-def is_quoted(code: str, signature: str, clauses: list[str]) -> bool:
-    """Whether squeezed code has a function of that signature with those clauses."""
-    for start in re.finditer(re.escape(signature), code):
-        after = re.search(r"[;}](?:pub)?fn\w", code[start.end():])
-        own = code[start.end():start.end() + after.start() + 1] if after else code[start.end():]
-        if all(clause in own for clause in clauses):
-            return True
-    return False
+@cache
+def functions(crate: str) -> dict[str, Function]:
+    """The functions of a crate, by the names under which they are quoted."""
+    found: dict[str, Function] = {}
+    for path in sorted((ROOT / "crates" / crate / "src").rglob("*.rt")):
+        owner, code = "", path.read_text(encoding="utf-8").split("\n")
+        for at, line in enumerate(code):
+            head, begun = OWNER.match(line), BEGIN.match(line)
+            owner = head[1] if head else "" if line == "}" else owner
+            if begun and "tests" not in path.parts:
+                name = f"{owner}::{begun[2]}" if owner else begun[2]
+                lines = lines_of(code, at, len(begun[1]))
+                lines[0] = re.sub(r"^.*?\bfn \w+", f"fn {name}", lines[0])
+                found.setdefault(name, parted(name, lines))
+    return found
+
+
+def quotes(block: str) -> Iterator[Function]:
+    """The functions that a block quotes."""
+    for call in re.split(r"^(?=fn )", block, flags=re.M):
+        name = QUOTED.match(call)
+        if name:
+            yield parted(name[1], call.rstrip("\n").split("\n"))
+
+
+def squeezed(lines: list[str]) -> str:
+    """Lines without blanks, and without commas before a bracket closes."""
+    return re.sub(r",(?=[)}\]>])", "", re.sub(r"\s+", "", "".join(lines)))
 
 
 def faults_of_quotes(crate: str, text: str) -> list[str]:
     """Each function that a README quotes and the code has not so."""
-    code, found = code_of(crate), []
-    for block in BLOCK.findall(text):
-        for call in FUNCTION.split(block):
-            signature, *clauses = CLAUSE.split(re.sub(r"^fn \w+::", "fn ", call))
-            if signature.strip() and not is_quoted(
-                    code, squeezed(signature), [squeezed(it) for it in clauses]):
-                found.append(f"the code has no {call.split('(')[0].strip()} with these clauses")
+    found = []
+    for quote in (it for block in BLOCK.findall(text) for it in quotes(block)):
+        real = functions(crate).get(quote.name)
+        if real is None:
+            found.append(f"the code has no function {quote.name}")
+            continue
+        if squeezed(quote.signature) != squeezed(real.signature):
+            found.append(f"{quote.name} has another signature")
+        found += [f"{quote.name} has no such clause {name}" for name, lines in quote.clauses.items()
+                  if squeezed(lines) != squeezed(real.clauses.get(name, []))]
     return found
+
+
+def broken(line: str) -> list[str]:
+    """A line of a quote, broken where it is too long."""
+    found, indent = [], len(line) - len(line.lstrip())
+    while len(line) > WIDTH:
+        places = (max(line.rfind(it, indent + 24, WIDTH + 1) for it in signs) for signs in BREAKS)
+        at = next((it for it in places if 0 < it < len(line) - 4), 0)
+        if not at:
+            break
+        found.append(line[:at])
+        line = " " * max(8, indent) + line[at + 1:]
+    return [*found, line]
+
+
+def anew(crate: str, block: str) -> str:
+    """A block of quotes as the code has them now; what the code has not stays as it is."""
+    lines: list[str] = []
+    for quote in quotes(block):
+        real = functions(crate).get(quote.name, quote)
+        lines += real.signature
+        for name, own in quote.clauses.items():
+            lines += real.clauses.get(name, own)
+    return "".join(f"{part}\n" for line in lines for part in broken(line))
 
 
 def faults_of(crate: str) -> list[str]:
@@ -110,3 +184,14 @@ def faults_of(crate: str) -> list[str]:
 def faults() -> list[str]:
     """What is wrong in the README.md of the crates."""
     return [it for crate in definitions.crates() for it in faults_of(crate)]
+
+
+def write() -> None:
+    """Quotes anew, in the README.md of each crate, what it quotes."""
+    for crate in definitions.crates():
+        path = path_of(crate)
+        if path.is_file():
+            parts = re.split(f"({BLOCK.pattern})", path.read_text(encoding="utf-8"),
+                             flags=BLOCK.flags)
+            parts[1::2] = [anew(crate, block) for block in parts[1::2]]
+            path.write_text("".join(parts), encoding="utf-8")
