@@ -171,7 +171,7 @@ class Conversation:
 
     def grown(self, base: int, most: int) -> None:
         """Asks that it has taken no more memory than so many bytes above a base."""
-        # What it did with its last answer behind it is not known at once.
+        # Whether it is done with its last answer is not known at once.
         time.sleep(0.01)
         more = self.memory() - base
         if more > most:

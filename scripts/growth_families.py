@@ -230,7 +230,7 @@ undelivered = repeated("world,1,2,unordered", ["send,0,1,"], ["recover"])
 undelivered_in_order = repeated("world,1,2,fifo", ["send,0,1,"], ["recover"])
 # Rounds of colours between two processes, and as many recoveries of nobody.
 rounds = repeated("world,1,2,unordered", ["begin,0,", "turn,1,"], ["recover"])
-# Rounds of colours, and as many recoveries of a process, each behind a check of it.
+# Rounds of colours, and as many recoveries of a process, each after a check of it.
 rounds_cut = repeated("world,1,2,unordered", ["begin,0,", "turn,1,"], ["check,0,", "recover,0"])
 # Checks of one process, and as many recoveries of nobody.
 checks = repeated("world,1,2,fifo", ["check,0,"], ["recover"])

@@ -33,7 +33,7 @@ def long_line(chance: Random, record: bytes) -> bytes:
         return padded(record, width) + b"\r" * one_in(chance, 3)
     if how == "filled":
         return filler * width
-    # What stands behind the most bytes that a line may have looks like a record by itself.
+    # What stands after the most bytes that a line may have looks like a record by itself.
     return filler * (MOST_LINE + chance.choice([0, 0, 1])) + record
 
 
