@@ -1,5 +1,5 @@
-//! What is in transit where a round of colours is completed (Lai and Yang, Information Processing
-//! Letters 25(3), 1987).
+//! What is in transit at the checks of a completed round of colours (Lai and Yang, Information
+//! Processing Letters 25(3), 1987).
 ghost use Rattle.std.specs.Prelude.{◌≡◌, ◌≢◌, ◌<◌, ◌≤◌, ℕ, List, All, true, false, length, IfOk, Some};
 ghost use Rattle.line_names.specs.declared.choices.Choice.TheVariants.{Check as AtCheck};
 ghost use Rattle.line_tape.specs.declared.events.Event.TheVariants.{Check};
@@ -66,8 +66,8 @@ fn is_still_at(history: &History, round: &Round, line: &Line) -> bool
     true
 }
 
-/// The channels of the last of the rounds, where nothing was sent or received between its checks
-/// and the line. It takes one step for each process, and no memory.
+/// The channels of the last round, if nothing was sent or received between its checks and the line.
+/// It takes one step for each process, and no memory.
 fn channels_still(
     history: &History,
     rounds: &[Round],
@@ -85,9 +85,9 @@ fn channels_still(
     Ok(None)
 }
 
-/// These channels, in one place with those of the last of the rounds where that has the same.
+/// These channels; if the last round has the same, both rounds share them.
 ///
-/// It looks at no more messages than the one holds that holds fewer.
+/// It looks at no more messages than the smaller of the two holds.
 fn shared(alloc: Global, rounds: &[Round], channels: Channels) -> Result<SharedChannels, AllocError>
     ensures { IfOk result (λ shared. shared ≡ channels) }
 {
@@ -103,8 +103,8 @@ fn shared(alloc: Global, rounds: &[Round], channels: Channels) -> Result<SharedC
 
 /// What is in transit at a line.
 ///
-/// Where the last of the rounds has the same in transit, both hold it in one place. The catalogue
-/// keeps it, so that the next count looks at no other message that was sent before this line.
+/// If the last round has the same in transit, both rounds share it. The catalogue keeps it too, so
+/// that the next count looks at no other message that was sent before this line.
 fn count_anew(
     alloc: Global,
     catalogue: &mut Catalogue,
@@ -124,12 +124,12 @@ fn count_anew(
     Ok(channels)
 }
 
-/// What is in transit where this process stands now and each other is at its check of the open
-/// round.
+/// What is in transit at the line where this process stands now, and each other one at its check of
+/// the open round.
 ///
-/// Where nothing was sent or received since the checks of the last of the rounds, that is what it
-/// has in transit, and costs a step for each process. The line is too large for the function that
-/// each check calls.
+/// If nothing was sent or received since the checks of the last round, these are that round's
+/// channels, and finding them takes one step for each process. A line is a large value, so this
+/// stands apart from the function that each check calls.
 #[inline(never)]
 fn count_at_last(
     alloc: Global,
@@ -155,7 +155,7 @@ fn count_at_last(
     count_anew(alloc, catalogue, rounds, &line)
 }
 
-/// What is in transit at the checks of the open round, if a check of this process completes it now.
+/// What is in transit at the checks of the open round, if a check of this process now completes it.
 pub fn count_channels(
     alloc: Global,
     catalogue: &mut Catalogue,

@@ -1,10 +1,14 @@
 //! What each kind of step does to the tapes, the links and the rounds: the lower half of the core
 //! machine.
 //!
-//! A move is done on its own parts: a catalogue of the tapes, the `Links`, the round of markers or
-//! of colours that is open, and the listed ones. It takes all the memory that it wants before it
-//! changes a tape. What refuses a step, what it is told, and that what a move leaves are again the
-//! tapes, links and rounds of a machine, is asked and proved above.
+//! A move changes the parts that it is given: a catalogue of the tapes, the `Links`, the open round
+//! of markers or of colours, and the listed rounds. It asks for all its memory before it changes a
+//! tape. The crate above decides whether a step is refused and what it is answered, and proves that
+//! a move leaves the tapes, links and rounds of a machine.
+//!
+//! Room on a tape is made by `Catalogue::reserve`. That takes constant time, except that after some
+//! thousands of events it looks at the messages sent and received since it last did so. On average
+//! that is a constant for each event.
 #![tactic(auto)]
 
 mod counts;
@@ -19,16 +23,14 @@ mod restarts;
 mod restores;
 mod round_moves;
 mod rounds;
-mod state_moves;
 
-pub use fates::{Fate, fate_of};
+pub use fates::Fate;
 pub use links::Links;
 pub use listings::Listing;
 pub use modes::Mode;
-pub use moves::{add_check, add_receipt, put_message, put_message_lent, take_message};
-pub use openings::{OpenRound, is_forced, list_completed, still_open};
+pub use moves::{add_check, add_receipt, put_message, take_message};
+pub use openings::{OpenRound, is_forced, list_completed};
 pub use restarts::restart_links;
 pub use restores::{restarted_incarnations, restored_states};
-pub use round_moves::{begin_round_lent, take_marker_lent, turn_round_lent};
+pub use round_moves::{begin_round, take_marker, turn_round};
 pub use rounds::Round;
-pub use state_moves::{begin_round, take_marker, turn_round};

@@ -15,7 +15,7 @@ use std::marker::Model;
 #[derive(Drop)]
 struct Queue {
     items: VecDeque<LinkItem>,
-    /// How many messages were counted that a restart is going to put at its end.
+    /// How many of the messages that a restart will put at its end are counted.
     counted: usize,
 }
 
@@ -33,7 +33,7 @@ impl Model for Queue {
 #[derive(Drop)]
 pub(crate) struct Row {
     queues: Vec<Queue>,
-    /// False only where nothing was put on one of them since all were emptied.
+    /// False only if nothing was put on any of them since all were last emptied.
     used: bool,
 }
 
@@ -78,7 +78,7 @@ impl Row {
         Ok(())
     }
 
-    /// Makes room for an item more on each link.
+    /// Makes room for one more item on each link.
     fn reserve(&mut self) -> Result<(), AllocError>
         ensures same { items_of self.new ≡ items_of self.old }
         ensures ok { OnOk result (All (λ (queue : QueueView). 0 < queue.room) self.new) }
@@ -91,7 +91,7 @@ impl Row {
         Ok(())
     }
 
-    /// Puts an item at the end of each link but that to the process itself, in room made for it.
+    /// Puts an item at the end of each link but the one to the process itself, in room made for it.
     fn push_to_others(&mut self, own: ProcId, item: LinkItem)
         requires { All (λ (queue : QueueView). 0 < queue.room) self.old }
         ensures { items_of self.new ≡ with_on_others (items_of self.old) own item }
@@ -114,7 +114,7 @@ impl Row {
         let _first = queue.items.pop_front();
     }
 
-    /// Has no message counted on the link to a process.
+    /// Sets the count of messages for the link to a process to 0.
     pub(crate) fn count_none(&mut self, to: ProcId)
         requires { to < length self.old }
         ensures same { items_of self.new ≡ items_of self.old }
@@ -126,8 +126,8 @@ impl Row {
         queue.counted = 0;
     }
 
-    /// Counts a message more on the link to a process, and makes room for all that were counted
-    /// there.
+    /// Counts one more message for the link to a process, and makes room there for all that are
+    /// counted.
     pub(crate) fn count(&mut self, to: ProcId, most: usize) -> Result<(), AllocError>
         requires to { to < length self.old }
         requires fewer { (queue_to self.old to).counted < most }
@@ -155,7 +155,7 @@ impl Row {
         queue.items.push_back_reserved(LinkItem::of(item));
     }
 
-    /// Takes all items off each link. It looks at none where nothing was put on one.
+    /// Takes all items off each link. It looks at no link if nothing was put on any.
     pub(crate) fn clear(&mut self)
         ensures empty { AreEmpty self.new }
         ensures count { length self.new ≡ length self.old }
@@ -209,7 +209,7 @@ impl Links {
         &self.rows[from.get() as usize].queues[to.get() as usize].items
     }
 
-    /// How many items a link holds, at once.
+    /// How many items a link holds. It takes constant time.
     pub fn len(&self, from: ProcId, to: ProcId) -> usize
         requires from { from < length self.now }
         requires to { to < length (slice_index_or self.now from []) }
@@ -218,7 +218,7 @@ impl Links {
         self.items(from, to).len()
     }
 
-    /// The item of a link behind `i` others, the oldest being first; none where it holds no more.
+    /// The item at place `i` of a link, where the oldest has place 0; none if there is none.
     pub fn item(&self, from: ProcId, to: ProcId, i: usize) -> Option<Item>
         requires from { from < length self.now }
         requires to { to < length (slice_index_or self.now from []) }
@@ -241,10 +241,10 @@ impl Links {
         row.push(to, LinkItem::of(item))
     }
 
-    /// Puts an item at the end of each link from a process to another, or on none where memory
-    /// doesn't suffice.
+    /// Puts an item at the end of each link from a process to another, or on none if memory runs
+    /// out.
     ///
-    /// It makes room on each of them first, and then pushes once on each: no link is copied.
+    /// It makes room on each of them first, and then pushes once on each. No link is copied.
     pub(crate) fn push_each(&mut self, from: ProcId, item: Item) -> Result<(), AllocError>
         requires { from < length self.old }
         ensures ok { OnOk result (self.new ≡ with_on_each self.old from item) }

@@ -8,8 +8,8 @@ use line_names::Line;
 use std::alloc::{AllocError, Global};
 use std::marker::Model;
 
-/// How many rounds there are up to the last one of which a restart at the line cuts no check. It
-/// looks at that one, and at those behind it.
+/// How many rounds there are up to the last one none of whose checks a restart at the line cuts. It
+/// looks at that one and at those after it.
 fn staying(rounds: &[Round], line: &Line) -> usize
     ensures within { result ≤ length rounds.now }
     ensures last { (d : Listed) → 0 < result
@@ -27,7 +27,7 @@ fn staying(rounds: &[Round], line: &Line) -> usize
     0
 }
 
-/// Whether the rounds climb with a further one, where it is known whether they climb without it.
+/// Whether the rounds climb with one more; `climbs` says whether they do without it.
 fn climb_on(rounds: &[Round], climbs: bool, round: &Round) -> bool
     requires { climbs ≡ true → Climb rounds.now }
     ensures { result ≡ true → Climb (rounds.now ++ round.now ∷ []) }
@@ -44,8 +44,8 @@ fn climb_on(rounds: &[Round], climbs: bool, round: &Round) -> bool
 
 /// The completed rounds whose checks no restart has cut, by number.
 ///
-/// Where the checks of each process climb from round to round, as they do in a machine, a restart
-/// cuts checks of the last rounds alone, and looks at no earlier one.
+/// In a machine the checks of each process climb from round to round. So a restart cuts checks of
+/// the last rounds alone, and looks at no earlier round.
 #[derive(Drop)]
 pub struct Listing {
     rounds: Vec<Round>,
@@ -84,7 +84,7 @@ impl Listing {
         self.rounds.as_slice()
     }
 
-    /// Makes room for a round more.
+    /// Makes room for one more round.
     pub fn reserve(&mut self) -> Result<(), AllocError>
         ensures items { self.new.items ≡ self.old.items }
         ensures ok { OnOk result (0 < self.new.room) }
@@ -102,8 +102,8 @@ impl Listing {
         self.climbs = climbs;
     }
 
-    /// Leaves the rounds of which a restart at the line cuts no check. It takes no memory, and
-    /// looks at those that go and at one more, where checks climb, and else at each.
+    /// Keeps the rounds none of whose checks a restart at the line cuts. It takes no memory. Where
+    /// checks climb it looks at the rounds that go and at one more, and else at each.
     pub fn keep(&mut self, line: &Line)
         ensures { self.new.items ≡ filter (stays line.now) self.old.items }
     {

@@ -1,8 +1,8 @@
 //! What steps with messages, and checks without a round, do to the tapes, the links and the open
 //! round.
 //!
-//! All room is made first, so that where memory does not suffice the tapes and the marks are as
-//! they were, and the links hold what they held.
+//! All room is made first: if memory runs out, the tapes and the marks are as they were, and the
+//! links hold what they held.
 ghost use Rattle.std.specs.Prelude.{◌≡◌, ◌≢◌, ◌<◌, ◌≤◌, ◌+◌, ◌++◌, ◌∷◌, [], length, slice_index_or, IfOk, OnOk, OnErr, Option, None};
 ghost use Rattle.line_tape.specs.declared.events.Event.TheVariants.{Send as SendEvent, Recv as RecvEvent, Check as CheckEvent};
 ghost use Rattle.line_tape.specs.declared.items.Item.TheVariants.{Message};
@@ -22,7 +22,7 @@ use crate::links::Links;
 use crate::modes::Mode;
 use crate::openings::{OpenRound, note};
 use line_catalogue::Catalogue;
-use line_names::{Body, MOST_BODY, MsgName, ProcId};
+use line_names::{MOST_BODY, MsgName, ProcId};
 use line_tape::{Event, History, Item, MOST_EVENTS, MOST_STATE, State};
 use std::alloc::AllocError;
 
@@ -41,35 +41,12 @@ pub(crate) fn add_event(catalogue: &mut Catalogue, p: ProcId, event: Event)
     catalogue.append(p, event);
 }
 
-/// Sends a message, and tells its name: the event on the sender's tape, and the item at the end of
-/// the link.
+/// Sends a message and returns its name: the event goes on the sender's tape, and the item to the
+/// end of the link.
 ///
-/// It costs a push on each, and a copy of the body.
+/// It costs a push on each and a copy of the body, and what `Catalogue::reserve` costs: constant
+/// time, except that now and then it looks at the messages sent and received since it last did.
 pub fn put_message(
-    catalogue: &mut Catalogue,
-    links: &mut Links,
-    from: ProcId,
-    to: ProcId,
-    body: &Body,
-) -> Result<MsgName, AllocError>
-    requires shape { IsTable (length catalogue.old.processes) links.old }
-    requires from { from < length catalogue.old.processes }
-    requires to { to < length catalogue.old.processes }
-    requires few { length (tape_at catalogue.old.processes from) < MOST_EVENTS }
-    ensures name { IfOk result (λ message. message ≡ next_name catalogue.old.processes from) }
-    ensures sent { OnOk result (catalogue.new.processes
-        ≡ with_event catalogue.old.processes from (SendEvent to (incarnation_at catalogue.old.processes from) body.now)) }
-    ensures put { OnOk result (links.new
-        ≡ with_list links.old from to (between links.old from to ++ Message (next_name catalogue.old.processes from) ∷ [])) }
-    ensures err { OnErr result (catalogue.new.processes ≡ catalogue.old.processes) }
-    ensures marks { catalogue.new.marks ≡ catalogue.old.marks }
-    ensures kept { OnErr result (links.new ≡ links.old) }
-{
-    put_message_lent(catalogue, links, from, to, body.bytes())
-}
-
-/// Sends a message as `put_message` does, with a body whose bytes are lent.
-pub fn put_message_lent(
     catalogue: &mut Catalogue,
     links: &mut Links,
     from: ProcId,
@@ -110,7 +87,7 @@ fn take_off(mode: Mode, links: &mut Links, from: ProcId, to: ProcId)
     }
 }
 
-/// Has the open round note a message, where there are markers.
+/// Has the open round of markers note a message. Where links keep no order there is none.
 fn note_message(
     mode: Mode,
     running: &mut Option<OpenRound>,
@@ -134,10 +111,10 @@ fn note_message(
     }
 }
 
-/// Takes a message that forces no check: the event on the receiver's tape, the item off the link
-/// where it keeps its order, and a note of it for the open round.
+/// Takes a message that forces no check: the event goes on the receiver's tape, the item comes off
+/// a link that keeps its order, and the open round of markers notes the message.
 ///
-/// It costs a push on each.
+/// It costs a push for each, and what `Catalogue::reserve` costs.
 pub fn take_message(
     mode: Mode,
     catalogue: &mut Catalogue,
@@ -185,7 +162,7 @@ pub fn add_receipt(catalogue: &mut Catalogue, to: ProcId, message: &MsgName)
     catalogue.append_receipt(to, message);
 }
 
-/// Adds a check without a round, and tells its index. No link changes.
+/// Adds a check without a round, and returns its index. No link changes.
 pub fn add_check(catalogue: &mut Catalogue, at: ProcId, state: State) -> Result<u32, AllocError>
     requires at { at < length catalogue.old.processes }
     requires short { length state ≤ MOST_STATE }

@@ -19,14 +19,14 @@ use line_turns::{SharedChannels, Turning};
 use std::alloc::{AllocError, Global};
 use std::marker::Model;
 
-/// A round of markers that was begun and isn't completed yet: its checks so far, and what each
+/// A round of markers that was begun and is not completed yet: its checks so far, and what each
 /// process has recorded.
 #[derive(Drop)]
 pub struct OpenRound {
     turning: Turning,
     markers: Vec<Marker>,
-    /// How many markers of the round have not come yet, at least: while there are some, it is not
-    /// completed. The invariant bounds it from above alone, so that it is lowered as far as it goes.
+    /// At most as many markers of the round as have not come yet. While it is not 0, the round is
+    /// not completed.
     to_come: u32,
 }
 
@@ -42,7 +42,7 @@ impl Model for OpenRound {
         × AreToCome r.to_come (length r.turning.checks) r.turning.number r.markers.items };
 }
 
-/// What each of `n` processes has recorded before it has done anything; rounds up to `floor` are
+/// What each of `n` processes has recorded before it has done anything. Rounds up to `floor` are
 /// old.
 fn fresh_markers(alloc: Global, n: u32, floor: u32) -> Result<Vec<Marker>, AllocError>
     requires { n ≤ MOST_PROCESSES }
@@ -92,7 +92,7 @@ impl OpenRound {
         self.turning.has_check(p)
     }
 
-    /// Makes room: what process `p` records next takes no memory.
+    /// Makes room, so that what process `p` records next takes no memory.
     pub(crate) fn reserve(&mut self, p: ProcId) -> Result<(), AllocError>
         requires { p < length self.old.checks }
         ensures number { self.new.number ≡ self.old.number }
@@ -153,7 +153,7 @@ impl OpenRound {
         }
     }
 
-    /// A message has come to process `p`. Its cost is one push.
+    /// A message has come to process `p`. It costs one push.
     pub(crate) fn note(
         &mut self,
         history: &History,
@@ -173,8 +173,8 @@ impl OpenRound {
 
     /// Whether each process has its check of the round, and a marker of it from each other process.
     ///
-    /// It takes constant time while markers are to come, and else looks at each channel of the
-    /// processes up to the first for which that isn't so.
+    /// It takes constant time while markers are to come. After that it looks at the channels of the
+    /// processes, up to the first process that waits for a marker.
     pub(crate) fn is_completed(&self, history: &History) -> bool
         requires { IsRecording history.now.processes self.now }
         ensures { result ≡ is_completed_fifo history.now.processes self.now.number }
@@ -192,7 +192,7 @@ impl OpenRound {
         true
     }
 
-    /// The round as it is listed once it is completed. It takes no memory, and looks at each
+    /// The round, which is completed, as it is listed. It takes no memory, and looks at each
     /// channel.
     pub(crate) fn completed(self, alloc: Global, history: &History) -> Round
         requires recording { IsRecording history.now.processes self }
@@ -271,27 +271,7 @@ pub(crate) fn hear(
     }
 }
 
-/// Lists the round of markers if it is completed, and else gives it back.
-///
-/// It takes no memory, and constant time while markers are to come; then it looks at each channel.
-pub fn still_open(
-    alloc: Global,
-    running: Option<OpenRound>,
-    history: &History,
-    rounds: &mut Listing,
-) -> Option<OpenRound>
-    requires opening { IsOpening Fifo history.now.processes running }
-    requires room { 0 < rounds.old.room }
-    ensures listed { rounds.new.items ≡ rounds.old.items ++ newly_closed Fifo history.now.processes running }
-    ensures left { result ≡ left_open Fifo history.now.processes running }
-{
-    let mut running = running;
-    list_completed(alloc, &mut running, history, rounds);
-    running
-}
-
-/// Lists the round of markers if it is completed, and no round is open then: what `still_open`
-/// does, where the round stands.
+/// Lists the round of markers if it is completed; no round is open then.
 ///
 /// It takes no memory, and constant time while markers are to come; then it looks at each channel.
 pub fn list_completed(
@@ -337,8 +317,8 @@ fn list_round(
     }
 }
 
-/// Lists the round of colours if it is completed, and what is in transit at its checks is therefore
-/// given; and else gives it back.
+/// Lists the round of colours if what is in transit at its checks is given, which is so exactly
+/// where it is completed. Else it gives the round back.
 pub(crate) fn still_turning(
     alloc: Global,
     turning: Turning,

@@ -14,7 +14,7 @@ use line_names::{Line, MsgName};
 use line_tape::{History, Item};
 use std::alloc::AllocError;
 
-/// Has no message counted on the links that these go to.
+/// Sets the count of messages to 0 on the links that these go to.
 fn count_none(history: &History, messages: &[MsgName], rows: &mut Vec<Row>)
     requires { AreQueues history.now.processes (map items_of rows.old.items) }
     ensures same { map items_of rows.new.items ≡ map items_of rows.old.items }
@@ -63,8 +63,8 @@ fn clear_rows(rows: &mut Vec<Row>)
     }
 }
 
-/// Leaves on the links what stays there through a restart: the copies, and nothing where links keep
-/// their order.
+/// Leaves on the links what stays there through a restart: nothing where links keep their order,
+/// and else the copies.
 fn keep_copies(mode: Mode, rows: &mut Vec<Row>)
     ensures kept { (p q : ℕ) → between (map items_of rows.new.items) p q ≡ between (copies_in mode (map items_of rows.old.items)) p q }
     ensures queued { (history : List Process) → AreQueues history (map items_of rows.old.items) → AreQueues history (map items_of rows.new.items) }
@@ -94,12 +94,11 @@ fn put_messages(history: &History, messages: &[MsgName], rows: &mut Vec<Row>)
     }
 }
 
-/// Has the links hold what is in transit at a line, beside the copies that they held before; or
-/// nothing else than before, where memory doesn't suffice.
+/// Has the links hold what is in transit at a line, after the copies that they held before. If
+/// memory runs out, they hold what they held.
 ///
-/// Given what is in transit, it looks three times at each message there, and no copy is moved.
-/// Links in order are emptied: those from the processes on whose links something was put since they
-/// were emptied before.
+/// It looks three times at each message in transit, and moves no copy. Of the links in order it
+/// empties those from each process that put something on one since they were last emptied.
 pub fn restart_links(
     mode: Mode,
     history: &History,

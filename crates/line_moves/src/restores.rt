@@ -1,4 +1,4 @@
-//! What a restart at a line tells.
+//! What each process goes on from after a restart at a line.
 ghost use Rattle.std.specs.Prelude.{◌≡◌, ◌<◌, length, map, IfOk};
 ghost use Rattle.line_tape.specs.History.{Process, process_at, tape_at, incarnation_at};
 ghost use Rattle.line_tape.specs.Line.{IsLine};
@@ -30,8 +30,8 @@ fn restored(
     }
 }
 
-/// The bytes that each process goes on from: a copy of the state of its check, and none where it
-/// stays where it stands.
+/// The bytes that each process goes on from: a copy of the state of its check, or none if it stays
+/// where it stands.
 pub fn restored_states(
     alloc: Global,
     history: &History,
@@ -63,7 +63,7 @@ fn restarted_incarnation(history: &History, line: &Line, p: ProcId) -> u16
     }
 }
 
-/// The incarnation of each process after a restart at a line: one higher where it goes back.
+/// The incarnation of each process after a restart at a line: one higher if it goes back.
 pub fn restarted_incarnations(
     alloc: Global,
     history: &History,

@@ -1,7 +1,6 @@
 //! What the steps of a round do to the tapes, the links, the colours and the rounds.
 //!
-//! All room is made first, so that where memory does not suffice the tapes and the marks are as
-//! they were.
+//! All room is made first: if memory runs out, the tapes and the marks are as they were.
 ghost use Rattle.std.specs.Prelude.{◌≡◌, ◌≢◌, ◌<◌, ◌≤◌, ◌+◌, ℕ, ◌∷◌, [], length, true, false, slice_get, All, IfOk, OnOk, OnErr, Option, Some, None};
 ghost use Rattle.line_tape.specs.declared.events.Event.TheVariants.{Check as CheckEvent, Mark as MarkEvent};
 ghost use Rattle.line_tape.specs.declared.items.Item.TheVariants.{Marker};
@@ -31,8 +30,12 @@ use line_tape::{Event, Item, LAST_ROUND, MOST_EVENTS, MOST_STATE, State};
 use line_turns::{Colours, SharedChannels, Turning};
 use std::alloc::{AllocError, Global};
 
-/// Begins a round as `begin_round` does, with a state whose bytes are lent.
-pub fn begin_round_lent(
+/// Begins the round of markers after the last one (Chandy and Lamport, ACM TOCS 3(1), 1985): the
+/// check goes on the tape of the process, and a marker on each link from it to another. The round,
+/// which is open now, and the index of the check are returned.
+///
+/// It takes memory for what each process will record of the round, and for the state.
+pub fn begin_round(
     alloc: Global,
     catalogue: &mut Catalogue,
     links: &mut Links,
@@ -67,8 +70,8 @@ pub fn begin_round_lent(
     Ok((running, check))
 }
 
-/// The marker of the open round has a process take its check: the check and the mark on its tape, a
-/// marker on each link from it to another, and the marker that came off its link.
+/// The marker of the open round has a process take its check. The check and the mark go on its
+/// tape, a marker goes on each link from it to another, and the marker that came goes off its link.
 fn force_round(
     alloc: Global,
     catalogue: &mut Catalogue,
@@ -108,8 +111,8 @@ fn force_round(
     Ok(())
 }
 
-/// The marker of a round has come to a process that has its check of it: the mark on its tape, and
-/// the marker off its link.
+/// The marker of a round has come to a process that has its check of it. The mark goes on its tape,
+/// and the marker off its link.
 fn hear_round(
     catalogue: &mut Catalogue,
     links: &mut Links,
@@ -140,8 +143,12 @@ fn hear_round(
     Ok(())
 }
 
-/// Takes a marker as `take_marker` does, with a state whose bytes are lent.
-pub fn take_marker_lent(
+/// Takes the marker that is first on a link. If the process has no check of its round yet, it takes
+/// that first: `forced` is what `is_forced` says.
+///
+/// A forced check puts a marker on each link from the process to another. Else it costs a look at
+/// the channels of the process.
+pub fn take_marker(
     alloc: Global,
     catalogue: &mut Catalogue,
     links: &mut Links,
@@ -179,9 +186,9 @@ pub fn take_marker_lent(
     }
 }
 
-/// A process takes its check of the round of colours that is open: the check on its tape, its new
-/// colour, and what is in transit at the round's checks if this was the last of them. There is room
-/// for some further events of the process then.
+/// A process takes its check of the open round of colours, and has its new colour. The index of the
+/// check is returned, and what is in transit at the round's checks if this was the last of them. It
+/// leaves room for `further` more events of the process.
 fn take_turn(
     alloc: Global,
     catalogue: &mut Catalogue,
@@ -227,8 +234,15 @@ fn take_turn(
     Ok((check, channels))
 }
 
-/// Takes a check as `turn_round` does, with a state whose bytes are lent.
-pub fn turn_round_lent(
+/// A process takes its check of the open round of colours, which has number `_round` (Lai and Yang,
+/// Information Processing Letters 25(3), 1987), and the index of the check is returned. The round
+/// is listed if this was the last of its checks. It leaves room for `further` more events of the
+/// process.
+///
+/// The last check of a round costs one step for each process if nothing was sent or received since
+/// the checks of the round before. Else it looks at what was sent and received since channels were
+/// last counted, and at each message in transit at its checks. Any other check costs a push.
+pub fn turn_round(
     alloc: Global,
     catalogue: &mut Catalogue,
     colours: &mut Colours,

@@ -20,13 +20,13 @@ use line_turns::{SharedChannels, Turning};
 use std::alloc::{AllocError, Global};
 use std::marker::Model;
 
-/// A completed round: a check of each process, which make a consistent line, and what was on its
-/// way between each two of them.
+/// A completed round: a check of each process, which make a consistent line, and what was in
+/// transit between each two processes there.
 #[derive(Drop)]
 pub struct Round {
     number: u32,
     checks: Vec<u32>,
-    /// What processes recorded until their last marker came: those that recorded something, by
+    /// What processes recorded until their last marker came, for those that recorded something, by
     /// process; none where links keep no order.
     markers: Vec<Marker>,
     /// What was in transit, where links keep no order.
@@ -65,11 +65,11 @@ impl Round {
         self.checks[p.get() as usize]
     }
 
-    /// What was on its way from one process to another at these checks, by number.
+    /// What was in transit from one process to another at these checks, by number.
     ///
-    /// By markers it is what was received behind the receiver's check and before the sender's
-    /// marker; by colours, what was sent before the sender's check and not received before the
-    /// receiver's.
+    /// In a round of markers it is what was received after the receiver's check and before the
+    /// sender's marker; in a round of colours, what was sent before the sender's check and not
+    /// received before the receiver's.
     pub fn channel(&self, from: ProcId, to: ProcId) -> &[MsgName]
         requires from { from < length self.now.checks }
         requires to { to < length self.now.checks }
@@ -82,8 +82,8 @@ impl Round {
         }
     }
 
-    /// A round of markers that is completed, with what each process recorded of it. It takes no
-    /// memory, and looks at each channel.
+    /// A completed round of markers, with what each process recorded of it. It takes no memory, and
+    /// looks at each channel.
     pub(crate) fn of_markers(
         alloc: Global,
         turning: Turning,
@@ -106,7 +106,7 @@ impl Round {
         }
     }
 
-    /// A round of colours that is completed, with what is in transit at its checks.
+    /// A completed round of colours, with what is in transit at its checks.
     pub(crate) fn of_turning(
         alloc: Global,
         turning: Turning,
@@ -127,7 +127,7 @@ impl Round {
         }
     }
 
-    /// Its channels, which one more holds then, where links keep no order.
+    /// Its channels, shared with one more holder; none where links keep their order.
     pub(crate) fn share(&self) -> Result<Option<SharedChannels>, AllocError>
         ensures { (history : List Process) → IsSnapshotOf history self.now
             → IfOk result (AreFoundAt history (check_line self.now.checks)) }
@@ -138,7 +138,7 @@ impl Round {
         }
     }
 
-    /// What was in transit, where links keep no order.
+    /// What was in transit; none where links keep their order.
     pub(crate) fn counted(&self) -> Option<&SharedChannels> {
         self.counted.as_ref()
     }
@@ -184,8 +184,8 @@ impl Round {
     }
 }
 
-/// What process `to` recorded of the channel from process `from` in a round; nothing where it is
-/// not among these. It looks for it from the first.
+/// What process `to` recorded of the channel from process `from` in a round; nothing if it is not
+/// among these. It looks for it from the first on.
 fn recorded(markers: &[Marker], round: u32, from: ProcId, to: ProcId) -> &[MsgName]
     requires { All (λ (marker : MarkerView). from < marker.n) markers.now }
     ensures { result.now ≡ kept_channel markers.now round from to }
@@ -221,8 +221,8 @@ fn is_silent(marker: &Marker, n: u32, round: u32) -> bool
     true
 }
 
-/// What was recorded of a round, by the processes that something is on a channel to. It takes no
-/// memory, and looks at each channel.
+/// What was recorded of a round, without the processes that nothing was on a channel to. It takes
+/// no memory, and looks at each channel.
 fn without_silence(alloc: Global, n: u32, markers: Vec<Marker>, round: u32) -> Vec<Marker>
     requires few { n ≤ MOST_PROCESSES }
     requires markers { AreMarkers n markers.items }
@@ -244,7 +244,7 @@ fn without_silence(alloc: Global, n: u32, markers: Vec<Marker>, round: u32) -> V
     kept
 }
 
-/// Whether a restart at the choice keeps a check.
+/// Whether a restart at a choice keeps a check.
 fn is_kept(choice: Choice, check: u32) -> bool
     ensures { result ≡ is_kept choice check }
 {

@@ -28,7 +28,7 @@ impl Model for Row {
     ghost view = { λ r. r.messages.items };
 }
 
-/// So many rows with nothing in them.
+/// `n` rows with nothing in them.
 fn empty_rows(alloc: Global, n: u32) -> Result<Vec<Row>, AllocError>
     ensures { IfOk result (λ rows. rows.items ≡ replicate n []) }
 {
@@ -54,7 +54,7 @@ fn gather(alloc: Global, history: &History, messages: &[MsgName]) -> Result<Vec<
     Ok(rows)
 }
 
-/// What process `from` sent among what is in the inbox of process `to`.
+/// What process `from` sent of what is in the inbox of process `to`.
 fn held(inboxes: &[Inbox], from: ProcId, to: ProcId) -> &[MsgName]
     requires { AllPairs (λ (a b : InboxView). a.to < b.to) inboxes.now }
     ensures { result.now ≡ sent_by from (held_for inboxes.now to) }
@@ -72,7 +72,7 @@ fn held(inboxes: &[Inbox], from: ProcId, to: ProcId) -> &[MsgName]
     }
 }
 
-/// Whether the inboxes are the same. It looks at no more than the shorter list has.
+/// Whether the inboxes are the same. It looks at no more inboxes than the shorter list has.
 fn are_same(one: &[Inbox], other: &[Inbox]) -> bool
     ensures { IsTrue result ↔ (one.now ≡ other.now) }
 {
@@ -87,11 +87,11 @@ fn are_same(one: &[Inbox], other: &[Inbox]) -> bool
     true
 }
 
-/// What is in transit at a line, from each process to each, by number: what the channels of a round
-/// of colours hold at its line.
+/// What is in transit at a line, from each process to each other, by number: what the channels of a
+/// round of colours hold at its line.
 ///
-/// It takes 12 bytes for each message, and some 32 to 64 and a block for each process that one goes
-/// to. A channel that holds nothing takes no memory.
+/// It takes 12 bytes for each message, and for each process that a message goes to a block of
+/// memory and some 32 to 64 bytes. A channel that holds nothing takes no memory.
 #[derive(Drop)]
 pub struct Channels {
     n: u32,
@@ -132,11 +132,11 @@ impl Channels {
         Ok(Channels { n, inboxes })
     }
 
-    /// The channels that messages are on which are in transit at a line of a history: each on the
-    /// one to the process that its send names.
+    /// The channels at a line of a history at which these messages are in transit: each message is
+    /// on the channel to the process that its send names.
     ///
-    /// It looks a few times at each of them and once at each process. It takes memory for each
-    /// message, and until it ends for each process too; it fails without.
+    /// It looks a few times at each message and once at each process. It takes memory for each
+    /// message, and for each process until it ends, and fails if memory runs out.
     pub fn of(
         alloc: Global,
         history: &History,
@@ -153,7 +153,7 @@ impl Channels {
     /// The channel from one process to another, by number.
     ///
     /// It searches by halves: for the receiver among the processes that something is in transit
-    /// to, and for the sender among the messages to it.
+    /// to, and for the sender among the messages to that process.
     pub fn between(&self, from: ProcId, to: ProcId) -> &[MsgName]
         requires from { from < length self.now }
         requires to { to < length (slice_index_or self.now from []) }
@@ -164,7 +164,7 @@ impl Channels {
 
     /// Whether these hold the same.
     ///
-    /// It looks at no more messages than the one holds that holds fewer.
+    /// It looks at no more messages than the smaller of the two holds.
     pub fn is_same(&self, other: &Channels) -> bool
         ensures { IsTrue result ↔ (self.now ≡ other.now) }
     {

@@ -32,7 +32,7 @@ impl Model for RoundTurn {
     ghost inverse = { λ t. record { round = t.round; sends = t.sends } };
 }
 
-/// What is kept of one process: its colour, and the turns of its tape in their order.
+/// One process: its colour, and the turns of its tape in their order.
 #[derive(Drop)]
 struct ProcessColour {
     colour: Colour,
@@ -64,7 +64,7 @@ impl ProcessColour {
         }
     }
 
-    /// It takes its check of a round that is greater than its colour.
+    /// It takes its check of a round, whose number is greater than its colour.
     fn turn(&mut self, round: u32, sends: u32) -> Result<(), AllocError>
         requires { self.old.colour < round }
         ensures ok { OnOk result (self.new ≡ (record { colour = round; turns = self.old.turns ++ record { round = round; sends = sends } ∷ [] })) }
@@ -75,7 +75,7 @@ impl ProcessColour {
         Ok(())
     }
 
-    /// None of its checks has a round any longer.
+    /// None of its checks is of a round any longer.
     fn clear(&mut self)
         ensures { self.new ≡ unturned }
     {
@@ -86,8 +86,8 @@ impl ProcessColour {
 
 /// The colour of each process, and the turns by which each message that it sent has its own.
 ///
-/// It follows the tapes of any history: whoever adds a check of a round to a tape calls `turn`, and
-/// whoever restarts them calls `clear`. No other event changes it.
+/// It follows the tapes of a history: whoever adds a check of a round to a tape calls `turn`, and
+/// whoever restarts the tapes calls `clear`. No other event changes it.
 #[derive(Drop)]
 pub struct Colours {
     processes: Vec<ProcessColour>,
@@ -104,7 +104,7 @@ impl Model for Colours {
 
 impl Colours {
     /// The colours of `n` processes that have done nothing yet. It takes memory for each, and fails
-    /// without.
+    /// if memory runs out.
     pub fn new(alloc: Global, n: u32) -> Result<Colours, AllocError>
         ensures value { IfOk result (λ colours. colours ≡ replicate n unturned) }
         ensures turned { IfOk result (λ colours. AreTurned (replicate n fresh) colours) }
@@ -129,11 +129,11 @@ impl Colours {
         process.colour.now()
     }
 
-    /// The round of the check that process `to` takes before it receives the message; none where
-    /// the message's colour is no greater than its own.
+    /// The round of the check that process `to` takes before it receives the message; none if the
+    /// message's colour is no greater than its own.
     ///
-    /// The turns of the sender are searched by halves, so that it takes the logarithm of the rounds
-    /// since the last restart.
+    /// It searches the sender's turns by halves, which takes time in the logarithm of the number of
+    /// rounds since the last restart.
     pub fn before_receive(&self, to: ProcId, message: &MsgName) -> Option<u32>
         requires from { message.now.from < length self.now }
         requires to { to < length self.now }
@@ -146,10 +146,10 @@ impl Colours {
         receiver.colour.before_receive(colour)
     }
 
-    /// A process takes its check of a round, so many sends of its tape standing before it.
+    /// A process takes its check of a round, with `sends` sends on its tape before it.
     ///
-    /// It takes constant time, but where the list of turns has to grow. Without memory all stays as
-    /// it is.
+    /// It takes constant time, unless the list of turns has to grow. If memory runs out, nothing
+    /// changes.
     pub fn turn(&mut self, p: ProcId, round: u32, sends: u32) -> Result<(), AllocError>
         requires p { p < length self.old }
         requires greater { (turned_at self.old p).colour < round }
@@ -161,8 +161,8 @@ impl Colours {
         self.processes[p.get() as usize].turn(round, sends)
     }
 
-    /// After a restart no check has a round, and all colours are 0. It takes constant time for each
-    /// process, and no memory.
+    /// The processes are restarted: no check is of a round any longer, and all colours are 0. It
+    /// takes constant time for each process, and no memory.
     pub fn clear(&mut self)
         ensures restart { (history : List Process) (line : List Choice) → length line ≡ length history → AreTurned history self.old
             → AreTurned (restarted history line) self.new }

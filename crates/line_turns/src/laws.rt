@@ -16,9 +16,9 @@ ghost use Rattle.line_turns.specs.Kept.{Turned, AreTurned};
 ghost use Rattle.line_turns.specs.Tables.{between, IsTable};
 ghost use Rattle.line_turns.specs.Turning.{TurningView, IsLastLine, IsTurning};
 
-/// What is kept goes on following the tapes: colours by each event that is no check of a round, what
-/// is kept of one round by each that is no check of it, and which sends are received by each that
-/// neither sends nor receives.
+/// What goes on following the tapes though it is not changed: colours, after each event that is no
+/// check of a round; an open round, after each that is no check of it; and which sends are
+/// received, after each that neither sends nor receives.
 ///
 /// The call does nothing: its contract is the law.
 pub fn other_events_keep()
@@ -30,10 +30,10 @@ pub fn other_events_keep()
         → received_name event ≡ None → incarnation_of event ≡ None → AreFlagged history flags → AreFlagged (with_event history at event) flags }
 {}
 
-/// How a round of colours is completed (Lai and Yang, Information Processing Letters 25(3), 1987):
-/// before the last process takes its check, the others stand at theirs and make a line with it;
-/// what is in transit there are the channels of the round once the check is taken; and where every
-/// tape has its check, these are the checks that are kept.
+/// How a round of colours is completed (Lai and Yang, Information Processing Letters 25(3), 1987).
+/// Before the last process takes its check, the checks of the others make a line with where it
+/// stands. What is in transit at that line is what the channels of the round hold once the check is
+/// taken. And when every tape has its check, these are the checks that `Turning` keeps.
 ///
 /// The call does nothing: its contract is the law.
 pub fn last_check_completes()

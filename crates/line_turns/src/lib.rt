@@ -1,16 +1,18 @@
 //! What a machine keeps of rounds of colours on links without an order (Lai and Yang, Information
 //! Processing Letters 25(3), 1987), so that no step looks through a tape.
 //!
-//! `Colours` keeps the colour of each process and the turns by which each message that it sent has
-//! its own: from them the check is known that a process has to take before it receives a message.
-//! `Turning` keeps the round that is open: which processes have their check of it, and the line
-//! that it makes. (An open round of markers keeps its number and its checks by it too.) `Channels`
-//! keeps what is in transit at a line from each process to each, which are the channels of a
-//! completed round; by `SharedChannels` several rounds hold the same ones. `ReceivedSends` keeps of
-//! each send whether it is received, by which a copy that comes again is known.
+//! - `Colours` keeps the colour of each process, and the turns, from which the colour of each
+//!   message that it sent is known. The two tell which check a process has to take before it
+//!   receives a message.
+//! - `Turning` keeps the round that is open: which processes have their check of it, and the line
+//!   that these make. An open round of markers keeps its number and its checks by it too.
+//! - `Channels` keeps what is in transit at a line from each process to each other: the channels of
+//!   a completed round. By `SharedChannels` several rounds share them.
+//! - `ReceivedSends` keeps of each send whether it is received, which tells whether a copy comes
+//!   again.
 //!
-//! The tapes are kept elsewhere: each clause speaks of any history that what is kept follows, and
-//! says how it goes on following it by each event and by a restart.
+//! The tapes are kept elsewhere. Each clause speaks of any history that the value follows, and says
+//! how it goes on following it after an event and after a restart.
 #![tactic(auto)]
 
 mod channels;

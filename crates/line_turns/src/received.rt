@@ -47,7 +47,7 @@ impl Flags {
         }
     }
 
-    /// Has a flag for one more than so many sends, which have theirs.
+    /// Makes room for the flag of the next send.
     fn reserve(&mut self, sends: u32) -> Result<(), AllocError>
         ensures same { (number : ℕ)
             → slice_index_or self.new number false ≡ slice_index_or self.old number false }
@@ -61,7 +61,7 @@ impl Flags {
         Ok(())
     }
 
-    /// Leaves the flags of so many sends.
+    /// Keeps the flags of the first `sends` sends.
     fn cut(&mut self, sends: u32)
         ensures { self.new ≡ take sends self.old }
     {
@@ -71,8 +71,8 @@ impl Flags {
 
 /// Of each message that the tapes hold, whether the process that it is for has received it.
 ///
-/// It follows the tapes of any history that links without an order can lead to: whoever adds a send
-/// to a tape calls `reserve` before, whoever adds a receipt calls `receive`, and whoever restarts
+/// It follows the tapes of a history that links without an order can lead to: whoever adds a send
+/// to a tape calls `reserve` first, whoever adds a receipt calls `receive`, and whoever restarts
 /// the tapes calls `restart`. No other event changes it. It takes a byte for each send.
 #[derive(Drop)]
 pub struct ReceivedSends {
@@ -88,7 +88,8 @@ impl Model for ReceivedSends {
 }
 
 impl ReceivedSends {
-    /// Of `n` processes that have done nothing yet. It takes memory for each, and fails without.
+    /// For `n` processes that have done nothing yet. It takes memory for each, and fails if memory
+    /// runs out.
     pub fn new(alloc: Global, n: u32) -> Result<ReceivedSends, AllocError>
         ensures value { IfOk result (λ received. received ≡ replicate n []) }
         ensures flagged { IfOk result (λ received. AreFlagged (replicate n fresh) received) }
@@ -112,11 +113,11 @@ impl ReceivedSends {
         self.processes[message.from.get() as usize].is_set(message.number)
     }
 
-    /// Has a flag for the next send of a process, of whose sends so many stand on its tape: a send
-    /// changes nothing here then.
+    /// Makes room for the flag of the next send of a process, which has `sends` sends on its tape.
+    /// The send itself then changes nothing here.
     ///
-    /// It takes constant time, but where the list of flags has to grow. Without memory all stays as
-    /// it is.
+    /// It takes constant time, unless the list of flags has to grow. If memory runs out, nothing
+    /// changes.
     pub fn reserve(&mut self, p: ProcId, sends: u32) -> Result<(), AllocError>
         requires { p < length self.old }
         ensures same { (history : List Process)
@@ -142,7 +143,7 @@ impl ReceivedSends {
         self.processes[message.from.get() as usize].write(message.number, true);
     }
 
-    /// Cuts the flags of the sends behind a line.
+    /// Cuts the flags of the sends after a line.
     fn cut(&mut self, history: &History, line: &Line)
         requires line { IsLine history.now.processes line.now }
         requires count { length self.old ≡ length history.now.processes }

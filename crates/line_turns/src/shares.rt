@@ -8,7 +8,8 @@ use std::alloc::{AllocError, Global};
 use std::marker::Model;
 use std::rc::Rc;
 
-/// What is in transit at a line, from each process to each, in one place for all that hold it.
+/// What is in transit at a line, from each process to each other, in one place for all that share
+/// it.
 #[derive(Drop)]
 pub struct SharedChannels {
     channels: Rc<Channels>,
@@ -24,9 +25,9 @@ impl Model for SharedChannels {
 }
 
 impl SharedChannels {
-    /// The channels, which one holds for now.
+    /// The channels, with one holder.
     ///
-    /// It takes memory for two counts beside them, and fails without.
+    /// It takes memory for them and two counts, and fails if memory runs out.
     pub fn new(alloc: Global, channels: Channels) -> Result<SharedChannels, AllocError>
         ensures { IfOk result (λ shared. shared ≡ channels) }
     {
@@ -36,16 +37,16 @@ impl SharedChannels {
 
     /// Whether these hold the same.
     ///
-    /// It looks at no more messages than the one holds that holds fewer.
+    /// It looks at no more messages than the smaller of the two holds.
     pub fn is_same(&self, channels: &Channels) -> bool
         ensures { IsTrue result ↔ (self.now ≡ channels.now) }
     {
         self.channels.is_same(channels)
     }
 
-    /// The same channels, which one more holds.
+    /// The same channels, with one more holder.
     ///
-    /// It takes constant time and no memory. It fails only where 2^64 - 1 hold them already.
+    /// It takes constant time and no memory. It fails only if they have 2^64 - 1 holders already.
     pub fn share(&self) -> Result<SharedChannels, AllocError>
         ensures { IfOk result (λ shared. shared ≡ self.now) }
     {
@@ -56,7 +57,7 @@ impl SharedChannels {
     /// The channel from one process to another, by number.
     ///
     /// It searches by halves: for the receiver among the processes that something is in transit
-    /// to, and for the sender among the messages to it.
+    /// to, and for the sender among the messages to that process.
     pub fn between(&self, from: ProcId, to: ProcId) -> &[MsgName]
         requires from { from < length self.now }
         requires to { to < length (slice_index_or self.now from []) }

@@ -13,8 +13,8 @@ use std::marker::Model;
 /// A round that was begun, and of which not every process has its check yet: its number, and the
 /// checks that there are.
 ///
-/// It follows the tapes of any history: whoever adds a check of the round to a tape calls `check`.
-/// No other event changes it.
+/// It follows the tapes of a history: whoever adds a check of the round to a tape calls `check`. No
+/// other event changes it.
 #[derive(Drop)]
 pub struct Turning {
     number: u32,
@@ -47,7 +47,7 @@ fn no_checks(alloc: Global, n: u32) -> Result<Vec<u32>, AllocError>
 
 impl Turning {
     /// The round of that number, of which none of `n` processes has its check yet. It takes memory
-    /// for each, and fails without.
+    /// for each process, and fails if memory runs out.
     pub fn new(alloc: Global, n: u32, number: u32) -> Result<Turning, AllocError>
         requires { n ≤ MOST_PROCESSES }
         ensures number { IfOk result (λ turning. turning.number ≡ number) }
@@ -74,8 +74,8 @@ impl Turning {
         self.checks[p.get() as usize] != 0
     }
 
-    /// Whether every process but this one has its check of the round, so that by its own the round
-    /// is completed. It looks once at each process.
+    /// Whether every process but this one has its check of the round, so that its own completes the
+    /// round. It looks once at each process.
     pub fn is_last(&self, p: ProcId) -> bool
         ensures { (history : List Process) → IsTurning history self.now
             → (IsTrue result ↔ ((q : ℕ) → q < length history → q ≢ p → IsTrue (has_check_of self.now.number (tape_at history q)))) }
@@ -88,8 +88,8 @@ impl Turning {
         true
     }
 
-    /// The line where this process stands now, and each other at its check of the round; one that
-    /// has none yet, at its initial state. It takes one step for each process, and no memory.
+    /// The line where this process stands now, and each other one at its check of the round, or at
+    /// its initial state if it has none yet. It takes one step for each process, and no memory.
     pub fn line(&self, p: ProcId) -> Line
         requires { p < length self.now.checks }
         ensures { IsLastLine self.now p result }

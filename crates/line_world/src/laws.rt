@@ -17,14 +17,14 @@ pub fn runs_name_apart()
         → Run (start n mode) steps answers machine → AreNamedApart answers }
 {}
 
-/// What every run from the empty state keeps of its rounds, in each state that it comes through:
-/// the history is one that its links can lead to, and each listed round is a snapshot of it (Chandy
-/// and Lamport, ACM TOCS 3(1), 1985). At most the last round begun is open, and it is the greatest
-/// on the tapes; no step completes another. And no recovery takes a process behind its check of a
-/// listed round whose checks survive.
+/// What holds of the rounds in each state that a run from the empty state comes through. The
+/// history is one that its links can lead to, and each listed round is a snapshot of it (Chandy and
+/// Lamport, ACM TOCS 3(1), 1985). At most the last round begun is open, and its number is the
+/// greatest on the tapes; no step completes another. No recovery takes a process to before its
+/// check of a listed round whose checks survive.
 ///
-/// A run of more steps parts into runs of fewer, so each state inside it is one that a run leads
-/// to. The call does nothing: its contract is the law.
+/// A run can be parted after any of its steps into two runs, so each state inside it is one that a
+/// run leads to. The call does nothing: its contract is the law.
 pub fn runs_keep_rounds()
     ensures sound { (n : ℕ) (mode : Mode) (steps : List Step) (answers : List Answer) (machine : Machine)
         → Run (start n mode) steps answers machine → IsSound machine }

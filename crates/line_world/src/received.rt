@@ -1,4 +1,4 @@
-//! Which messages are received, where links keep no order. Elsewhere nothing is kept of it.
+//! Which messages are received, where links keep no order. Where they keep it, this is not kept.
 ghost use Rattle.std.specs.Prelude.{◌≡◌, ◌<◌, ℕ, List, length, OnOk};
 ghost use Rattle.line_tape.specs.declared.events.Event.TheVariants.{Send, Recv};
 ghost use Rattle.line_tape.specs.Event.{Holds};
@@ -18,7 +18,7 @@ use line_tape::History;
 use line_turns::ReceivedSends;
 use std::alloc::AllocError;
 
-/// Has a flag ready for what a process sends next.
+/// Makes room for the flag of what a process sends next.
 pub(crate) fn reserve_flag(
     mode: Mode,
     history: &History,
@@ -71,7 +71,7 @@ pub(crate) fn restart_flags(
 }
 
 /// What becomes of a message that a delivery picks. Its sender's tape tells whether it is held, and
-/// its flag whether it is received; no event is looked at, and no receipt.
+/// its flag whether it is received. It looks at no event and at no receipt.
 pub(crate) fn fate_of(
     mode: Mode,
     history: &History,

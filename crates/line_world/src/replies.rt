@@ -10,64 +10,84 @@ use std::alloc::AllocError;
 use std::error::Error;
 use std::fmt;
 
-/// What a step tells that was done.
+/// What a step that was done is answered.
 #[derive(Debug, Drop)]
 pub enum Reply {
-    /// The name of the message sent.
+    /// A message was sent.
     Sent {
+        /// Its name.
         message: MsgName,
     },
-    /// The message taken, and the round of the check that was taken before it, if one was.
+    /// A message was taken.
     Took {
+        /// Its name.
         message: MsgName,
+        /// The round of the check that the process took before it, if it took one.
         forced: Option<u32>,
     },
-    /// The round of the marker taken, and whether the process had to take its check of that round
-    /// first.
+    /// A marker was taken.
     Marked {
+        /// Its round.
         round: u32,
+        /// Whether the process had to take its check of that round first.
         forced: bool,
     },
-    /// The message of a copy whose send is on the sender's tape no more.
+    /// A copy was looked at whose send is no longer on the sender's tape.
     Stale {
+        /// Its name.
         message: MsgName,
     },
-    /// The message of a copy that the process has received before.
+    /// A copy was looked at that the process has received before.
     Repeated {
+        /// Its name.
         message: MsgName,
     },
-    /// The index of the check taken.
+    /// A process took a check.
     Checked {
+        /// The process.
         at: ProcId,
+        /// The index of the check.
         check: u32,
     },
-    /// The index of the check taken, and the round that it began.
+    /// A process took a check and began a round by it.
     Begun {
+        /// The process.
         at: ProcId,
+        /// The index of the check.
         check: u32,
+        /// The round.
         round: u32,
     },
-    /// The index of the check taken, and the round that was open.
+    /// A process took its check of the open round.
     Turned {
+        /// The process.
         at: ProcId,
+        /// The index of the check.
         check: u32,
+        /// The round.
         round: u32,
     },
-    /// The check that is marked now.
+    /// A check is marked as damaged now.
     Damaged {
+        /// The process.
         at: ProcId,
+        /// The index of the check.
         check: u32,
     },
-    /// The check that the process is barred at now.
+    /// A process is barred now.
     Barred {
+        /// The process.
         at: ProcId,
+        /// The index of the check that it is barred at.
         check: u32,
     },
-    /// The plan; of each process the bytes that it goes on from, none where it stays where it
-    /// stands; and its incarnation after the restart.
+    /// All processes go on from the planned line.
     Recovered {
+        /// The line, its certificate, and the messages that are sent again.
         plan: Box<Plan>,
+        /// For each process the state that it goes on from; none if it stays where it stands.
         states: Vec<Option<State>>,
+        /// For each process its incarnation after the restart.
         incarnations: Vec<u16>,
     },
 }
@@ -75,13 +95,16 @@ pub enum Reply {
 /// The reply of a step, or its refusal.
 #[derive(Debug, Drop)]
 pub enum Answer {
+    /// The step was done.
     Done(Reply),
+    /// The step was refused, and changed nothing.
     Refused(StepError),
 }
 
-/// A run that memory did not suffice for: the answers of the steps that were done.
+/// A run that stopped because memory ran out.
 #[derive(Debug, Drop)]
 pub struct RunStopped {
+    /// The answers of the steps before the one that it stopped at.
     pub done: Vec<Answer>,
 }
 
@@ -96,26 +119,42 @@ impl Error for RunStopped {}
 /// Why a step was not done.
 #[derive(Clone, Copy, Debug, PartialEq, Eq, Hash)]
 pub enum StepError {
+    /// Memory ran out.
     OutOfMemory,
+    /// A process number is not below the number of processes.
     NoSuchProcess,
+    /// The tape has no room under `MOST_EVENTS` for what the step adds.
     TapeFull,
+    /// The tape has no such check.
     NoSuchCheck,
+    /// The state is longer than `MOST_STATE` bytes.
     StateTooLong,
+    /// The initial state of a process cannot be damaged.
     InitialDamage,
+    /// The check is marked already.
     AlreadyDamaged,
+    /// A process has no link to itself.
     ToSelf,
+    /// The link holds nothing.
     LinkEmpty,
+    /// The link has nothing to take at that place.
     BadPick,
+    /// The last round begun is not completed.
     RoundOpen,
+    /// No round is open of which the process has no check yet.
     NothingToTurn,
+    /// Links of this kind have no such step.
     WrongMode,
+    /// The last round begun has number `LAST_ROUND`.
     NoMoreRounds,
+    /// A process that goes back has incarnation `LAST_INCARNATION`.
     NoMoreIncarnations,
+    /// The process is barred at that check or an earlier one already.
     BarNotLower,
 }
 
 impl StepError {
-    /// Whether memory was wanted, so that the step may be done once there is some.
+    /// Whether memory ran out, so that the step may be done once there is more.
     pub fn is_out_of_memory(self) -> bool
         ensures { IsTrue result ↔ (self ≡ StepError.OutOfMemory) }
     {

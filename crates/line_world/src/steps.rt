@@ -12,9 +12,9 @@ pub enum Step {
         to: ProcId,
         body: Body,
     },
-    /// A process takes the item that stands at place `pick` of the link from another, or looks at
-    /// it where it is the copy of a message. The state is tested in any case, and stored where the
-    /// item has the process take a check.
+    /// A process takes the item at place `pick` of the link from another, or looks at it if it is
+    /// the copy of a message that the process does not take. The state may not be too long in any
+    /// case, and is stored if the item has the process take a check.
     Deliver {
         from: ProcId,
         to: ProcId,
@@ -26,8 +26,8 @@ pub enum Step {
         at: ProcId,
         state: State,
     },
-    /// A process begins the next round: it takes its check of it, and where links keep their order
-    /// it puts a marker on each.
+    /// A process begins the next round: it takes its check of it, and if links keep their order it
+    /// puts a marker on each of its own.
     Begin {
         at: ProcId,
         state: State,
@@ -43,8 +43,8 @@ pub enum Step {
         at: ProcId,
         check: u32,
     },
-    /// An operator bars a process: none of its choices later than this check survives, until the
-    /// next recovery, for instance because its results are known to be wrong from there on. Check 0
+    /// An operator bars a process, for instance because its results are known to be wrong from this
+    /// check on: until the next recovery none of its choices later than the check survives. Check 0
     /// is the initial state.
     Bar {
         at: ProcId,
@@ -56,8 +56,8 @@ pub enum Step {
     },
 }
 
-/// A step that is asked for with its message, state or set lent, so that the caller keeps it. It is
-/// the step that `shown` says.
+/// A step whose message, state or set is lent, so that the caller keeps it. It stands for the step
+/// that `shown` says.
 #[derive(Clone, Copy, Debug)]
 pub enum StepRef<'a> {
     /// A process sends a message of at most `MOST_BODY` bytes to another.
@@ -66,8 +66,7 @@ pub enum StepRef<'a> {
         to: ProcId,
         body: &'a [u8],
     },
-    /// A process takes the item that stands at place `pick` of the link from another, or looks at
-    /// it.
+    /// A process takes the item at place `pick` of the link from another, or looks at it.
     Deliver {
         from: ProcId,
         to: ProcId,

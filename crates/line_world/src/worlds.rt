@@ -19,7 +19,7 @@ use crate::received::reserve_flag;
 use crate::replies::{Answer, Reply, RunStopped, StepError};
 use crate::steps::{Step, StepRef};
 use line_catalogue::Catalogue;
-use line_moves::{Links, Listing, Mode, OpenRound, Round, add_check, put_message_lent};
+use line_moves::{Links, Listing, Mode, OpenRound, Round, add_check, put_message};
 use line_names::{MOST_BODY, MOST_PROCESSES, ProcId, ProcSet};
 use line_plan::Plan;
 use line_tape::{CountError, History, Item, Marks, State};
@@ -27,12 +27,12 @@ use line_turns::{Colours, ReceivedSends, Turning};
 use std::alloc::Global;
 use std::marker::Model;
 
-/// Processes with a link from each to each.
+/// Processes with a link from each to each other.
 ///
-/// It keeps a queue for each link beside a catalogue of the tapes, so that sending, delivering and
-/// taking a check cost the same however much was done before, but for a look of the catalogue now
-/// and then at what came since the last one. A step that is refused, or that memory does not
-/// suffice for, changes nothing.
+/// It keeps a queue for each link beside a catalogue of the tapes. So sending, delivering and
+/// taking a check cost the same however much was done before, except that now and then the
+/// catalogue looks at the messages sent and received since it last did. A step that is refused, or
+/// for which memory runs out, changes nothing.
 #[derive(Drop)]
 pub struct World {
     mode: Mode,
@@ -42,7 +42,7 @@ pub struct World {
     last_round: u32,
     /// The open round of markers, where links keep their order.
     running: Option<OpenRound>,
-    /// The open round of colours, where they don't.
+    /// The open round of colours, where links keep no order.
     turning: Option<Turning>,
     /// The colours of the processes, where links keep no order.
     colours: Colours,
@@ -147,7 +147,8 @@ impl World {
         self.links.len(from, to)
     }
 
-    /// The item behind `i` others on the link from a process to another, the oldest being first.
+    /// The item at place `i` of the link from a process to another, where the oldest has place 0;
+    /// none if there is none.
     pub fn link_item(&self, from: ProcId, to: ProcId, i: usize) -> Option<Item>
         requires from { from < length self.now.history }
         requires to { to < length self.now.history }
@@ -170,7 +171,7 @@ impl World {
         }
         let history = self.catalogue.history();
         reserve_flag(self.mode, history, &mut self.received, from)?;
-        let message = put_message_lent(&mut self.catalogue, &mut self.links, from, to, body)?;
+        let message = put_message(&mut self.catalogue, &mut self.links, from, to, body)?;
         Ok(Reply::Sent { message })
     }
 
@@ -220,8 +221,8 @@ impl World {
         Ok(Reply::Barred { at, check })
     }
 
-    /// The latest line that the processes could go on from, if those of the set failed. Where the
-    /// checks of a listed round survive, no process falls behind its own.
+    /// The latest line that the processes could go on from, if those of the set failed. It is at no
+    /// process earlier than the check of a listed round whose checks survive.
     ///
     /// It costs what `line_plan::plan` does.
     pub fn plan_for(&self, alloc: Global, failed: &ProcSet) -> Result<Plan, StepError>
@@ -239,22 +240,23 @@ impl World {
 
     /// Takes one step.
     ///
-    /// Sending, delivering a message and taking a check cost the same however much was done
-    /// before, but for what `Catalogue::reserve` does now and then; a message that forces a check
-    /// searches its sender's checks of rounds by halves. A marker looks at its receiver's
-    /// channels, and the last one of a process at all channels of the round. A check of a round,
-    /// begun or forced by a marker, puts a marker on the link to each other process; the last one
-    /// of a round of colours looks at what was in transit at the checks of the round or the line
-    /// before, and at each send and receipt since. Recovering costs what a plan does; it looks at
-    /// each event that it cuts or that came since the last recovery, and at each message in
-    /// transit.
+    /// - Sending, delivering a message and taking a check cost the same however much was done
+    ///   before, except for what `Catalogue::reserve` does now and then. To know whether a message
+    ///   forces a check, its sender's checks of rounds are searched by halves.
+    /// - A marker costs a look at its receiver's channels, and the last marker of a round one at
+    ///   all channels of the round. A check that begins a round of markers, or that a marker
+    ///   forces, puts a marker on the link to each other process.
+    /// - The last check of a round of colours looks at what was in transit when channels were last
+    ///   counted, and at each send and receipt since.
+    /// - Recovering costs what a plan does, and a look at each event that it cuts or that came
+    ///   since the last recovery, and at each message in transit.
     pub fn step(&mut self, alloc: Global, step: &Step) -> Result<Reply, StepError>
         ensures done { IfOk result (λ reply. Takes self.old step.now (Done reply) self.new) }
         ensures refused { IfErr result (λ e. e ≢ StepError.OutOfMemory → Takes self.old step.now (Refused e) self.new) }
         ensures memory { IsErrOf result StepError.OutOfMemory → self.new ≡ self.old }
         ensures unrefused { IsErrOf result StepError.OutOfMemory → refusal_of self.old step.now ≡ None }
     {
-        // Each arm lends its bytes at once: put into a `StepRef` first, a step took some 80
+        // Each arm lends its bytes at once: made into a `StepRef` first, a step takes some 80
         // instructions more.
         match step {
             Step::Send { from, to, body } => self.send(*from, *to, body.bytes()),
@@ -273,9 +275,7 @@ impl World {
         }
     }
 
-    /// Takes one step as `step` does, what it carries lent.
-    ///
-    /// It costs what `step` does.
+    /// Takes one step as `step` does, and at its cost. What the step carries is lent.
     pub fn step_lent(&mut self, alloc: Global, step: &StepRef<'_>) -> Result<Reply, StepError>
         requires short { HasShortBody step.now }
         ensures done { IfOk result (λ reply. Takes self.old (shown step.now) (Done reply) self.new) }
@@ -302,8 +302,8 @@ impl World {
 
     /// Takes steps, one after another, and answers each.
     ///
-    /// A refused step is answered and passed. The run stops at the first step that memory does not
-    /// suffice for, and the world is then as the steps before it leave it.
+    /// A refused step is answered, and the run goes on. It stops at the first step for which memory
+    /// runs out, and the world is then as the steps before that one leave it.
     pub fn run(&mut self, alloc: Global, steps: &[Step]) -> Result<Vec<Answer>, RunStopped>
         ensures done { IfOk result (λ answers. Run self.old steps.now answers.items self.new) }
         ensures stopped { IfErr result (λ stopped. Run self.old (take (length stopped.done.items) steps.now) stopped.done.items self.new) }

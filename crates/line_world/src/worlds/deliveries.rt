@@ -14,8 +14,7 @@ use super::World;
 use crate::received::{fate_of, set_flag};
 use crate::replies::{Reply, StepError};
 use line_moves::{
-    Fate, Mode, add_receipt, is_forced, list_completed, take_marker_lent, take_message,
-    turn_round_lent,
+    Fate, Mode, add_receipt, is_forced, list_completed, take_marker, take_message, turn_round,
 };
 use line_names::{MsgName, ProcId};
 use line_tape::Item;
@@ -36,7 +35,7 @@ impl World {
         }
     }
 
-    /// The round of the check that a message has its receiver take first.
+    /// The round of the check that a message has its receiver take first, if it has it take one.
     fn forced_round(&self, to: ProcId, message: &MsgName) -> Option<u32>
         requires from { message.now.from < length self.now.history }
         requires to { to < length self.now.history }
@@ -114,7 +113,7 @@ impl World {
         if self.is_full(to, 2) {
             return Err(StepError::TapeFull);
         }
-        turn_round_lent(
+        turn_round(
             alloc,
             &mut self.catalogue,
             &mut self.colours,
@@ -163,8 +162,8 @@ impl World {
         }
     }
 
-    /// Takes the marker that is first on a link, after the check of its round where the process has
-    /// none.
+    /// Takes the marker that is first on a link. If the process has no check of its round yet, it
+    /// takes that first.
     fn deliver_marker(
         &mut self,
         alloc: Global,
@@ -189,7 +188,7 @@ impl World {
             return Err(StepError::TapeFull);
         }
         self.rounds.reserve()?;
-        take_marker_lent(
+        take_marker(
             alloc,
             &mut self.catalogue,
             &mut self.links,

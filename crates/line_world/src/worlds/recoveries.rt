@@ -16,8 +16,8 @@ use line_tape::State;
 use std::alloc::{AllocError, Global};
 
 impl World {
-    /// The plan for those of the set, in memory of its own: a plan has the room of a whole line,
-    /// and what a step answers is moved often.
+    /// The plan for those of the set, in memory of its own: a plan is as large as a whole line, and
+    /// what a step is answered is moved often.
     #[inline(never)]
     fn boxed_plan_for(&self, alloc: Global, failed: &ProcSet) -> Result<Box<Plan>, StepError>
         ensures plan { IfOk result (λ plan. IsPlan self.now failed.now plan.value) }
@@ -29,8 +29,7 @@ impl World {
         Ok(plan)
     }
 
-    /// Has all go on from the line of the plan for those of the set, and tells of each process the
-    /// bytes that it goes on from, and its incarnation then.
+    /// Restarts every process at the planned line; returns each one's state and new incarnation.
     fn go_back(
         &mut self,
         alloc: Global,
@@ -60,7 +59,7 @@ impl World {
         Ok((states, incarnations))
     }
 
-    /// Plans, and has all go on from the plan's line.
+    /// Plans for those of the set, and restarts every process at the planned line.
     pub(super) fn recover(&mut self, alloc: Global, failed: &ProcSet) -> Result<Reply, StepError>
         ensures done { IfOk result (λ reply. Takes self.old (Recover failed.now) (Done reply) self.new) }
         ensures refused { IfErr result (λ e. e ≢ StepError.OutOfMemory → Takes self.old (Recover failed.now) (Refused e) self.new) }

@@ -8,7 +8,7 @@ ghost use Rattle.line_world.specs.Runs.{Takes};
 
 use super::World;
 use crate::replies::{Reply, StepError};
-use line_moves::{Mode, begin_round_lent, still_open, turn_round_lent};
+use line_moves::{Mode, begin_round, list_completed, turn_round};
 use line_names::ProcId;
 use line_turns::Turning;
 use std::alloc::Global;
@@ -24,7 +24,7 @@ impl World {
         ensures unrefused { IsErrOf result StepError.OutOfMemory → refusal_of self.old (Begin at state.now) ≡ None }
     {
         self.rounds.reserve()?;
-        let (begun, check) = begin_round_lent(
+        let (begun, check) = begin_round(
             alloc,
             &mut self.catalogue,
             &mut self.links,
@@ -33,12 +33,9 @@ impl World {
             self.last_round,
         )?;
         self.last_round += 1;
-        self.running = still_open(
-            alloc,
-            Some(begun),
-            self.catalogue.history(),
-            &mut self.rounds,
-        );
+        self.running = Some(begun);
+        let history = self.catalogue.history();
+        list_completed(alloc, &mut self.running, history, &mut self.rounds);
         Ok(Reply::Begun {
             at,
             check,
@@ -58,7 +55,7 @@ impl World {
         let n = self.catalogue.n();
         let round = self.last_round + 1;
         let mut turning = Some(Turning::new(alloc, n, round)?);
-        let check = turn_round_lent(
+        let check = turn_round(
             alloc,
             &mut self.catalogue,
             &mut self.colours,
@@ -110,7 +107,7 @@ impl World {
         if let Some(e) = self.turn_refusal(at, state) {
             return Err(e);
         }
-        let check = turn_round_lent(
+        let check = turn_round(
             alloc,
             &mut self.catalogue,
             &mut self.colours,

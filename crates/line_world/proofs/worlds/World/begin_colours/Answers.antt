@@ -20,24 +20,24 @@ use Rattle.line_world.proofs.SeenLemmas.{seen}
 use Rattle.line_world.proofs.TurnedFacts.{begun_newly, begun_painted, begun_rounds, begun_world, less_than_next, no_later}
 use Rattle.line_world.proofs.worlds.World.begin_colours.Goals as goal
 
-pub turn_round_lent-requires-clause-first : goal.turn_round_lent-requires-clause-first
-turn_round_lent-requires-clause-first c =
+pub turn_round-requires-clause-first : goal.turn_round-requires-clause-first
+turn_round-requires-clause-first c =
     let w : Inside = c.self.inside in
     let is : IsColoured w = is_coloured w c.args.self.now c.self.view_is c.self.invariant c.requires.mode in
     no_later w.catalogue.processes w.links w.colours w.last_round is.world is.painted w.turning w.rounds.items is.are c.args.at
 
-pub turn_round_lent-requires-clause-greater : goal.turn_round_lent-requires-clause-greater
-turn_round_lent-requires-clause-greater c =
+pub turn_round-requires-clause-greater : goal.turn_round-requires-clause-greater
+turn_round-requires-clause-greater c =
     let w : Inside = c.self.inside in
     let is : IsColoured w = is_coloured w c.args.self.now c.self.view_is c.self.invariant c.requires.mode in
     less_than_next w.catalogue.processes w.links w.colours w.last_round is.world is.painted w.turning w.rounds.items is.are c.args.at
 
-pub turn_round_lent-requires-clause-rounds : goal.turn_round_lent-requires-clause-rounds
-turn_round_lent-requires-clause-rounds c =
+pub turn_round-requires-clause-rounds : goal.turn_round-requires-clause-rounds
+turn_round-requires-clause-rounds c =
     (is_coloured c.self.inside c.args.self.now c.self.view_is c.self.invariant c.requires.mode).are.snapshots
 
-pub turn_round_lent-requires-clause-kept : goal.turn_round_lent-requires-clause-kept
-turn_round_lent-requires-clause-kept c =
+pub turn_round-requires-clause-kept : goal.turn_round-requires-clause-kept
+turn_round-requires-clause-kept c =
     let w : Inside = c.self.inside in
     let is : IsColoured w = is_coloured w c.args.self.now c.self.view_is c.self.invariant c.requires.mode in
     record {
@@ -58,14 +58,14 @@ invariant_of-self-2 c =
     let may : MayStart w at = may_start w c.args.self.now c.self.view_is c.self.invariant at state c.requires.passed in
     let closed = may.closed Unordered is.mode_is in
     let after : List Process = with_event history at (CheckEvent state (Some (last + 1))) in
-    let done : c.turn_round_lent.new.catalogue.processes ≡ after = c.in_ok-check.ensures.checked in
-    let turned : AreTurned after c.turn_round_lent.new.colours = subst (λ (h : List Process). AreTurned h c.turn_round_lent.new.colours) done c.in_ok-check.ensures.turned in
-    let settled : IsSettled after (last + 1) w.rounds.items c.turn_round_lent.new.turning c.turn_round_lent.new.rounds.items =
-    subst (λ (h : List Process). IsSettled h (last + 1) w.rounds.items c.turn_round_lent.new.turning c.turn_round_lent.new.rounds.items) done c.in_ok-check.ensures.settled in
-    coloured_kept w is.mode_is c.turn_round_lent.new.catalogue.processes after after done (last + 1) c.turn_round_lent.new.colours c.turn_round_lent.new.turning c.turn_round_lent.new.rounds.items settled
+    let done : c.turn_round.new.catalogue.processes ≡ after = c.in_ok-check.ensures.checked in
+    let turned : AreTurned after c.turn_round.new.colours = subst (λ (h : List Process). AreTurned h c.turn_round.new.colours) done c.in_ok-check.ensures.turned in
+    let settled : IsSettled after (last + 1) w.rounds.items c.turn_round.new.turning c.turn_round.new.rounds.items =
+    subst (λ (h : List Process). IsSettled h (last + 1) w.rounds.items c.turn_round.new.turning c.turn_round.new.rounds.items) done c.in_ok-check.ensures.settled in
+    coloured_kept w is.mode_is c.turn_round.new.catalogue.processes after after done (last + 1) c.turn_round.new.colours c.turn_round.new.turning c.turn_round.new.rounds.items settled
     (begun_world history w.links w.colours last is.world is.painted w.turning w.rounds.items is.are closed at state may.within settled.round settled.number_is)
-    (begun_rounds history w.links w.colours last is.world is.painted w.turning w.rounds.items is.are closed at state may.within settled.round settled.number_is c.turn_round_lent.new.colours turned settled.follows)
-    (begun_painted history w.links w.colours last is.world is.painted w.turning w.rounds.items is.are closed at state may.within settled.round settled.number_is c.turn_round_lent.new.colours turned)
+    (begun_rounds history w.links w.colours last is.world is.painted w.turning w.rounds.items is.are closed at state may.within settled.round settled.number_is c.turn_round.new.colours turned settled.follows)
+    (begun_painted history w.links w.colours last is.world is.painted w.turning w.rounds.items is.are closed at state may.within settled.round settled.number_is c.turn_round.new.colours turned)
     w.received (AreFlagged-other history at (CheckEvent state (Some (last + 1))) w.received may.within is.world.linked.fit refl refl is.flagged)
 
 pub returns-clause-done : goal.returns-clause-done
@@ -80,18 +80,18 @@ returns-clause-done c =
     let closed = may.closed Unordered is.mode_is in
     let e : Event = CheckEvent state (Some (last + 1)) in
     let after : List Process = with_event history at e in
-    let done : c.turn_round_lent.new.catalogue.processes ≡ after = c.in_ok-check.ensures.checked in
-    let settled : IsSettled after (last + 1) w.rounds.items c.turn_round_lent.new.turning c.turn_round_lent.new.rounds.items =
-    subst (λ (h : List Process). IsSettled h (last + 1) w.rounds.items c.turn_round_lent.new.turning c.turn_round_lent.new.rounds.items) done c.in_ok-check.ensures.settled in
+    let done : c.turn_round.new.catalogue.processes ≡ after = c.in_ok-check.ensures.checked in
+    let settled : IsSettled after (last + 1) w.rounds.items c.turn_round.new.turning c.turn_round.new.rounds.items =
+    subst (λ (h : List Process). IsSettled h (last + 1) w.rounds.items c.turn_round.new.turning c.turn_round.new.rounds.items) done c.in_ok-check.ensures.settled in
     let fresh : List Listed = newly_closed Unordered after (Some (opened_by settled.round)) in
     let newly : fresh ≡ newly_listed w.mode history after (last + 1) =
     begun_newly history w.links w.colours last is.world is.painted w.turning w.rounds.items is.are closed at state may.within settled.round settled.number_is
     ∙ ap (λ (m : Mode). newly_listed m history after (last + 1)) (sym is.mode_is) in
-    let next : Machine = seen w.mode c.turn_round_lent.new.catalogue.processes c.turn_round_lent.new.catalogue.marks (last + 1) c.turn_round_lent.new.rounds.items w.links in (
+    let next : Machine = seen w.mode c.turn_round.new.catalogue.processes c.turn_round.new.catalogue.marks (last + 1) c.turn_round.new.rounds.items w.links in (
       c.requires.passed,
       subst (λ (v : Machine). Does v (Begin at state) (Begun at c.in_ok-check.check (last + 1)) next) c.self.view_is (
         ap (λ (k : ℕ). Begun at k (last + 1)) c.in_ok-check.ensures.check,
-        ap (λ (ls : List Listed). seen w.mode c.turn_round_lent.new.catalogue.processes c.turn_round_lent.new.catalogue.marks (last + 1) ls w.links) settled.listed
-            ∙ step_seen w.mode history c.turn_round_lent.new.catalogue.processes w.catalogue.marks c.turn_round_lent.new.catalogue.marks last (last + 1) w.rounds.items fresh w.links w.links at (e ∷ []) done c.in_ok-check.ensures.marks refl newly,
+        ap (λ (ls : List Listed). seen w.mode c.turn_round.new.catalogue.processes c.turn_round.new.catalogue.marks (last + 1) ls w.links) settled.listed
+            ∙ step_seen w.mode history c.turn_round.new.catalogue.processes w.catalogue.marks c.turn_round.new.catalogue.marks last (last + 1) w.rounds.items fresh w.links w.links at (e ∷ []) done c.in_ok-check.ensures.marks refl newly,
       ),
     )

@@ -23,14 +23,14 @@ use Rattle.line_world.proofs.MarkerFacts.{begun_listed, begun_running, begun_set
 use Rattle.line_world.proofs.SeenLemmas.{seen}
 use Rattle.line_world.proofs.worlds.World.begin_markers.Goals as goal
 
-pub begin_round_lent-requires-clause-fresh : goal.begin_round_lent-requires-clause-fresh
-begin_round_lent-requires-clause-fresh c = λ q.
+pub begin_round-requires-clause-fresh : goal.begin_round-requires-clause-fresh
+begin_round-requires-clause-fresh c = λ q.
     let w : Inside = c.self.inside in
     let is : IsInOrder w = is_in_order w c.args.self.now c.self.view_is c.self.invariant c.requires.mode in
     false_from_ne_true (has_check_of (w.last_round + 1) (tape_at w.catalogue.processes q)) (λ t. let wrong = is.are.numbers q (w.last_round + 1) t in omega (arith, wrong))
 
-pub still_open-requires-clause-opening : goal.still_open-requires-clause-opening
-still_open-requires-clause-opening c =
+pub list_completed-requires-clause-opening : goal.list_completed-requires-clause-opening
+list_completed-requires-clause-opening c =
     let w : Inside = c.self.inside in
     let at : ℕ = c.args.at in
     let state : List ℕ = c.args.state.now in
@@ -38,7 +38,7 @@ still_open-requires-clause-opening c =
     let may : MayStart w at = may_start w c.args.self.now c.self.view_is c.self.invariant at state c.requires.passed in
     let round : OpenView = c.in_ok-begun.begun in
     let recording : IsRecording (with_event w.catalogue.processes at (CheckEvent state (Some (w.last_round + 1)))) round = subst (λ (h : List Process). IsRecording h round) c.in_ok-begun.ensures.checked c.in_ok-begun.ensures.recording in
-    subst (λ (h : List Process). IsRunning Fifo h round) (sym (c.history.ensures.processes ∙ c.in_ok-begun.ensures.checked))
+    subst (λ (h : List Process). IsRunning Fifo h round) (sym (c.history-history.ensures.processes ∙ c.in_ok-begun.ensures.checked))
     (begun_running Fifo w.catalogue.processes w.last_round w.running w.rounds.items is.are (may.closed Fifo is.mode_is) at state may.within round c.in_ok-begun.ensures.number recording)
 
 pub invariant_of-self-2 : goal.invariant_of-self-2
@@ -52,16 +52,16 @@ invariant_of-self-2 c =
     let may : MayStart w at = may_start w c.args.self.now c.self.view_is c.self.invariant at state c.requires.passed in
     let round : OpenView = c.in_ok-begun.begun in
     let after : List Process = with_event history at (CheckEvent state (Some (last + 1))) in
-    let done : c.begin_round_lent.new.catalogue.processes ≡ after = c.in_ok-begun.ensures.checked in
+    let done : c.begin_round.new.catalogue.processes ≡ after = c.in_ok-begun.ensures.checked in
     let recording : IsRecording after round = subst (λ (h : List Process). IsRecording h round) done c.in_ok-begun.ensures.recording in
-    let told : c.history.result.now.processes ≡ after = c.history.ensures.processes ∙ done in
-    let listed : c.still_open.new.rounds.items ≡ w.rounds.items ++ newly_closed Fifo after (Some round) =
-    c.still_open.ensures.listed ∙ ap (λ (ls : List Listed). ls ++ newly_closed Fifo c.history.result.now.processes (Some round)) c.reserve.ensures.items
+    let told : c.history-history.result.now.processes ≡ after = c.history-history.ensures.processes ∙ done in
+    let listed : c.list_completed.new.rounds.items ≡ w.rounds.items ++ newly_closed Fifo after (Some round) =
+    c.list_completed.ensures.listed ∙ ap (λ (ls : List Listed). ls ++ newly_closed Fifo c.history-history.result.now.processes (Some round)) c.reserve.ensures.items
     ∙ ap (λ (h : List Process). w.rounds.items ++ newly_closed Fifo h (Some round)) told in
-    let world_after : IsWorld Fifo after c.begin_round_lent.new.links = subst (λ (h : List Process). IsWorld Fifo h c.begin_round_lent.new.links) done c.in_ok-begun.ensures.world in
-    let left : c.still_open.result ≡ left_open Fifo after (Some round) = c.still_open.ensures.left ∙ ap (λ (h : List Process). left_open Fifo h (Some round)) told in
-    ordered_kept w is.mode_is c.begin_round_lent.new.catalogue.processes after done c.begin_round_lent.new.links (last + 1) c.still_open.result c.still_open.new.rounds.items c.in_ok-begun.ensures.world
-    (subst (λ (o : Option OpenView). AreRounds Fifo after (last + 1) o c.still_open.new.rounds.items) (sym left)
+    let world_after : IsWorld Fifo after c.begin_round.new.links = subst (λ (h : List Process). IsWorld Fifo h c.begin_round.new.links) done c.in_ok-begun.ensures.world in
+    let left : c.list_completed.new.running ≡ left_open Fifo after (Some round) = c.list_completed.ensures.left ∙ ap (λ (h : List Process). left_open Fifo h (Some round)) told in
+    ordered_kept w is.mode_is c.begin_round.new.catalogue.processes after done c.begin_round.new.links (last + 1) c.list_completed.new.running c.list_completed.new.rounds.items c.in_ok-begun.ensures.world
+    (subst (λ (o : Option OpenView). AreRounds Fifo after (last + 1) o c.list_completed.new.rounds.items) (sym left)
     (subst (λ (ls : List Listed). AreRounds Fifo after (last + 1) (left_open Fifo after (Some round)) ls) (sym listed)
     (begun_settled Fifo history last w.running w.rounds.items is.are (may.closed Fifo is.mode_is) at state may.within round c.in_ok-begun.ensures.number (λ r completed. listed_snapshot after r world_after.linked.fit completed) recording)))
 
@@ -77,22 +77,22 @@ returns-clause-done c =
     let round : OpenView = c.in_ok-begun.begun in
     let e : Event = CheckEvent state (Some (last + 1)) in
     let after : List Process = with_event history at e in
-    let done : c.begin_round_lent.new.catalogue.processes ≡ after = c.in_ok-begun.ensures.checked in
-    let told : c.history.result.now.processes ≡ after = c.history.ensures.processes ∙ done in
+    let done : c.begin_round.new.catalogue.processes ≡ after = c.in_ok-begun.ensures.checked in
+    let told : c.history-history.result.now.processes ≡ after = c.history-history.ensures.processes ∙ done in
     let fresh : List Listed = newly_closed Fifo after (Some round) in
-    let listed : c.still_open.new.rounds.items ≡ w.rounds.items ++ fresh =
-    c.still_open.ensures.listed ∙ ap (λ (ls : List Listed). ls ++ newly_closed Fifo c.history.result.now.processes (Some round)) c.reserve.ensures.items
+    let listed : c.list_completed.new.rounds.items ≡ w.rounds.items ++ fresh =
+    c.list_completed.ensures.listed ∙ ap (λ (ls : List Listed). ls ++ newly_closed Fifo c.history-history.result.now.processes (Some round)) c.reserve.ensures.items
     ∙ ap (λ (h : List Process). w.rounds.items ++ newly_closed Fifo h (Some round)) told in
-    let new : Machine = seen w.mode c.begin_round_lent.new.catalogue.processes c.begin_round_lent.new.catalogue.marks (last + 1) c.still_open.new.rounds.items c.begin_round_lent.new.links in
-    let kept : copies_in w.mode c.begin_round_lent.new.links ≡ copies_in w.mode w.links = subst (λ (m : Mode). copies_in m c.begin_round_lent.new.links ≡ copies_in m w.links) (sym is.mode_is) refl in
+    let new : Machine = seen w.mode c.begin_round.new.catalogue.processes c.begin_round.new.catalogue.marks (last + 1) c.list_completed.new.rounds.items c.begin_round.new.links in
+    let kept : copies_in w.mode c.begin_round.new.links ≡ copies_in w.mode w.links = subst (λ (m : Mode). copies_in m c.begin_round.new.links ≡ copies_in m w.links) (sym is.mode_is) refl in
     let newly : fresh ≡ newly_listed w.mode history after (last + 1) =
     begun_listed Fifo history last w.running w.rounds.items is.are (may.closed Fifo is.mode_is) at state may.within round c.in_ok-begun.ensures.number
     ∙ ap (λ (m : Mode). newly_listed m history after (last + 1)) (sym is.mode_is) in (
       c.requires.passed,
       subst (λ (v : Machine). Does v (Begin at state) (Begun at c.in_ok-begun.check (last + 1)) new) c.self.view_is (
         ap (λ (k : ℕ). Begun at k (last + 1)) c.in_ok-begun.ensures.check,
-        ap (λ (ls : List Listed). seen w.mode c.begin_round_lent.new.catalogue.processes c.begin_round_lent.new.catalogue.marks (last + 1) ls c.begin_round_lent.new.links) listed
-            ∙ step_seen w.mode history c.begin_round_lent.new.catalogue.processes w.catalogue.marks c.begin_round_lent.new.catalogue.marks last (last + 1) w.rounds.items fresh w.links c.begin_round_lent.new.links at (e ∷ []) done
+        ap (λ (ls : List Listed). seen w.mode c.begin_round.new.catalogue.processes c.begin_round.new.catalogue.marks (last + 1) ls c.begin_round.new.links) listed
+            ∙ step_seen w.mode history c.begin_round.new.catalogue.processes w.catalogue.marks c.begin_round.new.catalogue.marks last (last + 1) w.rounds.items fresh w.links c.begin_round.new.links at (e ∷ []) done
             c.in_ok-begun.ensures.marks kept newly,
       ),
     )

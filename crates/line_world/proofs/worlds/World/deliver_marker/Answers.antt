@@ -40,17 +40,17 @@ is_forced-forced-requires-clause-sent c =
     let p : IsPicked w from to 0 (Marker round) = is_picked w c.args.self.now c.self.view_is c.self.invariant from to 0 c.args.state.now c.requires.passed (Marker round) c.requires.picked in
     ap (λ (h : List Process). has_check_of round (tape_at h from)) c.history.ensures.processes ∙ marker_sent w.catalogue.processes w.links is.world from to round p.from_in p.to_in p.apart p.at
 
-pub invariant_of-self-in_err-take_marker_lent : goal.invariant_of-self-in_err-take_marker_lent
-invariant_of-self-in_err-take_marker_lent c =
+pub invariant_of-self-in_err-take_marker : goal.invariant_of-self-in_err-take_marker
+invariant_of-self-in_err-take_marker c =
     let w : Inside = c.self.inside in
     let history : List Process = w.catalogue.processes in
     let last : ℕ = w.last_round in
     let is : IsInOrder w = is_in_order w c.args.self.now c.self.view_is c.self.invariant c.requires.mode in
-    let same : c.take_marker_lent.new.catalogue.processes ≡ history = c.in_err-take_marker_lent.ensures.err in
-    let opening : IsOpening Fifo history c.take_marker_lent.new.running = subst (λ (h : List Process). IsOpening Fifo h c.take_marker_lent.new.running) same c.in_err-take_marker_lent.ensures.opening in
-    ordered_kept w is.mode_is c.take_marker_lent.new.catalogue.processes history same c.take_marker_lent.new.links last c.take_marker_lent.new.running c.reserve.new.self.items c.in_err-take_marker_lent.ensures.world
-    (subst (λ (ls : List Listed). AreRounds Fifo history last c.take_marker_lent.new.running ls) (sym c.reserve.ensures.items)
-    (AreRounds-renewed Fifo history last w.running c.take_marker_lent.new.running w.rounds.items c.in_err-take_marker_lent.ensures.number opening is.are))
+    let same : c.take_marker.new.catalogue.processes ≡ history = c.in_err-take_marker.ensures.err in
+    let opening : IsOpening Fifo history c.take_marker.new.running = subst (λ (h : List Process). IsOpening Fifo h c.take_marker.new.running) same c.in_err-take_marker.ensures.opening in
+    ordered_kept w is.mode_is c.take_marker.new.catalogue.processes history same c.take_marker.new.links last c.take_marker.new.running c.reserve.new.self.items c.in_err-take_marker.ensures.world
+    (subst (λ (ls : List Listed). AreRounds Fifo history last c.take_marker.new.running ls) (sym c.reserve.ensures.items)
+    (AreRounds-renewed Fifo history last w.running c.take_marker.new.running w.rounds.items c.in_err-take_marker.ensures.number opening is.are))
 
 pub invariant_of-self-2 : goal.invariant_of-self-2
 invariant_of-self-2 c =
@@ -68,21 +68,21 @@ invariant_of-self-2 c =
     let forced : Bool = c.is_forced-forced.result in
     let forced_is : forced ≡ is_forced history to round = c.is_forced-forced.ensures ∙ ap (λ (h : List Process). is_forced h to round) c.history.ensures.processes in
     let after : List Process = with_events history to (marker_events forced from state round) in
-    let running : Option OpenView = c.take_marker_lent.new.running in
-    let taken : c.take_marker_lent.new.catalogue.processes ≡ after =
-    c.in_ok-take_marker_lent.ensures.taken ∙ ap (λ b. with_events history to (marker_events b from state round)) (sym forced_is) in
+    let running : Option OpenView = c.take_marker.new.running in
+    let taken : c.take_marker.new.catalogue.processes ≡ after =
+    c.in_ok-take_marker.ensures.taken ∙ ap (λ b. with_events history to (marker_events b from state round)) (sym forced_is) in
     let told : c.history-history.result.now.processes ≡ after = c.history-history.ensures.processes ∙ taken in
     let listed : c.list_completed.new.rounds.items ≡ rounds ++ newly_closed Fifo after running =
     c.list_completed.ensures.listed ∙ ap (λ (ls : List Listed). ls ++ newly_closed Fifo c.history-history.result.now.processes running) c.reserve.ensures.items
     ∙ ap (λ (h : List Process). rounds ++ newly_closed Fifo h running) told in
-    let world_after : IsWorld Fifo after c.take_marker_lent.new.links = subst (λ (h : List Process). IsWorld Fifo h c.take_marker_lent.new.links) taken c.in_ok-take_marker_lent.ensures.world in
-    let opening : IsOpening Fifo after running = subst (λ (h : List Process). IsOpening Fifo h running) taken c.in_ok-take_marker_lent.ensures.opening in
+    let world_after : IsWorld Fifo after c.take_marker.new.links = subst (λ (h : List Process). IsWorld Fifo h c.take_marker.new.links) taken c.in_ok-take_marker.ensures.world in
+    let opening : IsOpening Fifo after running = subst (λ (h : List Process). IsOpening Fifo h running) taken c.in_ok-take_marker.ensures.opening in
     let left : c.list_completed.new.running ≡ left_open Fifo after running =
     c.list_completed.ensures.left ∙ ap (λ (h : List Process). left_open Fifo h running) told in
-    ordered_kept w is.mode_is c.take_marker_lent.new.catalogue.processes after taken c.take_marker_lent.new.links last c.list_completed.new.running c.list_completed.new.rounds.items c.in_ok-take_marker_lent.ensures.world
+    ordered_kept w is.mode_is c.take_marker.new.catalogue.processes after taken c.take_marker.new.links last c.list_completed.new.running c.list_completed.new.rounds.items c.in_ok-take_marker.ensures.world
     (subst (λ (o : Option OpenView). AreRounds Fifo after last o c.list_completed.new.rounds.items) (sym left)
     (subst (λ (ls : List Listed). AreRounds Fifo after last (left_open Fifo after running) ls) (sym listed)
-    (marker_settled history last w.running rounds is.are from to round state p.to_in sent forced running world_after.linked.fit c.in_ok-take_marker_lent.ensures.number opening)))
+    (marker_settled history last w.running rounds is.are from to round state p.to_in sent forced running world_after.linked.fit c.in_ok-take_marker.ensures.number opening)))
 
 pub returns-clause-done : goal.returns-clause-done
 returns-clause-done c =
@@ -101,14 +101,14 @@ returns-clause-done c =
     let forced : Bool = c.is_forced-forced.result in
     let forced_is : forced ≡ is_forced history to round = c.is_forced-forced.ensures ∙ ap (λ (h : List Process). is_forced h to round) c.history.ensures.processes in
     let after : List Process = with_events history to (marker_events forced from state round) in
-    let running : Option OpenView = c.take_marker_lent.new.running in
-    let taken : c.take_marker_lent.new.catalogue.processes ≡ after =
-    c.in_ok-take_marker_lent.ensures.taken ∙ ap (λ b. with_events history to (marker_events b from state round)) (sym forced_is) in
+    let running : Option OpenView = c.take_marker.new.running in
+    let taken : c.take_marker.new.catalogue.processes ≡ after =
+    c.in_ok-take_marker.ensures.taken ∙ ap (λ b. with_events history to (marker_events b from state round)) (sym forced_is) in
     let told : c.history-history.result.now.processes ≡ after = c.history-history.ensures.processes ∙ taken in
     let listed : c.list_completed.new.rounds.items ≡ rounds ++ newly_closed Fifo after running =
     c.list_completed.ensures.listed ∙ ap (λ (ls : List Listed). ls ++ newly_closed Fifo c.history-history.result.now.processes running) c.reserve.ensures.items
     ∙ ap (λ (h : List Process). rounds ++ newly_closed Fifo h running) told in
-    let new : Machine = seen w.mode c.take_marker_lent.new.catalogue.processes c.take_marker_lent.new.catalogue.marks last c.list_completed.new.rounds.items c.take_marker_lent.new.links in
+    let new : Machine = seen w.mode c.take_marker.new.catalogue.processes c.take_marker.new.catalogue.marks last c.list_completed.new.rounds.items c.take_marker.new.links in
     let now : is_forced machine.history to round ≡ forced = ap (λ (v : Machine). is_forced v.history to round) (sym c.self.view_is) ∙ sym forced_is in
     let events : events_taken machine.mode machine.history from to state (Marker round) ≡ marker_events forced from state round =
     ap (λ (v : Mode). events_taken v machine.history from to state (Marker round)) c.requires.mode ∙ ap (λ b. marker_events b from state round) now in
@@ -116,14 +116,14 @@ returns-clause-done c =
       | then-forced t ↦ ap (λ b. length (marker_events b from state round)) t.if-forced.true ∙ sym t.events-is
       | else-forced t ↦ ap (λ b. length (marker_events b from state round)) t.if-forced.false ∙ sym t.events-is
     ] in
-    let kept : copies_in w.mode c.take_marker_lent.new.links ≡ copies_in w.mode w.links = subst (λ (v : Mode). copies_in v c.take_marker_lent.new.links ≡ copies_in v w.links) (sym is.mode_is) refl in
+    let kept : copies_in w.mode c.take_marker.new.links ≡ copies_in w.mode w.links = subst (λ (v : Mode). copies_in v c.take_marker.new.links ≡ copies_in v w.links) (sym is.mode_is) refl in
     let newly : newly_closed Fifo after running ≡ newly_listed w.mode history after last =
-    marker_listed history last w.running rounds is.are from to round state p.to_in sent forced forced_is running c.in_ok-take_marker_lent.ensures.number
+    marker_listed history last w.running rounds is.are from to round state p.to_in sent forced forced_is running c.in_ok-take_marker.ensures.number
     ∙ ap (λ (v : Mode). newly_listed v history after last) (sym is.mode_is) in
     let steps : new ≡ with_step machine to (events_taken machine.mode machine.history from to state (Marker round)) machine.last_round =
-    ap (λ (ls : List Listed). seen w.mode c.take_marker_lent.new.catalogue.processes c.take_marker_lent.new.catalogue.marks last ls c.take_marker_lent.new.links) listed
-    ∙ step_seen w.mode history c.take_marker_lent.new.catalogue.processes w.catalogue.marks c.take_marker_lent.new.catalogue.marks last last rounds (newly_closed Fifo after running) w.links c.take_marker_lent.new.links to
-    (marker_events forced from state round) taken c.in_ok-take_marker_lent.ensures.marks kept newly
+    ap (λ (ls : List Listed). seen w.mode c.take_marker.new.catalogue.processes c.take_marker.new.catalogue.marks last ls c.take_marker.new.links) listed
+    ∙ step_seen w.mode history c.take_marker.new.catalogue.processes w.catalogue.marks c.take_marker.new.catalogue.marks last last rounds (newly_closed Fifo after running) w.links c.take_marker.new.links to
+    (marker_events forced from state round) taken c.in_ok-take_marker.ensures.marks kept newly
     ∙ ap (λ (v : Machine). with_step v to (marker_events forced from state round) v.last_round) c.self.view_is
     ∙ ap (λ (es : List Event). with_step machine to es machine.last_round) (sym events) in
     subst (λ (r : Reply). Takes machine (Deliver from to 0 state) (Done r) new) (ap (λ (v : Mode). reply_taken v machine.history to (Marker round)) c.requires.mode ∙ ap (λ b. Marked round b) now)

@@ -35,18 +35,18 @@ returns-in-Some-clause-unrefused c = λ wanted.
 pub returns-in_err-message-clause-unrefused : goal.returns-in_err-message-clause-unrefused
 returns-in_err-message-clause-unrefused c = λ wanted. sym (c.send_refusal.ensures c.args.body.now) ∙ c.in_default.is
 
-pub put_message_lent-requires-clause-from : goal.put_message_lent-requires-clause-from
-put_message_lent-requires-clause-from c =
+pub put_message-requires-clause-from : goal.put_message-requires-clause-from
+put_message-requires-clause-from c =
     let may = may_send c.args.self.now c.args.from c.args.to [] (sym (c.send_refusal.ensures []) ∙ c.in_default.is) in
     omega (arith, may.named.from_within, ap (λ (m : Machine). length m.history) c.self.view_is)
 
-pub put_message_lent-requires-clause-to : goal.put_message_lent-requires-clause-to
-put_message_lent-requires-clause-to c =
+pub put_message-requires-clause-to : goal.put_message-requires-clause-to
+put_message-requires-clause-to c =
     let may = may_send c.args.self.now c.args.from c.args.to [] (sym (c.send_refusal.ensures []) ∙ c.in_default.is) in
     omega (arith, may.named.to_within, ap (λ (m : Machine). length m.history) c.self.view_is)
 
-pub put_message_lent-requires-clause-few : goal.put_message_lent-requires-clause-few
-put_message_lent-requires-clause-few c =
+pub put_message-requires-clause-few : goal.put_message-requires-clause-few
+put_message-requires-clause-few c =
     let may = may_send c.args.self.now c.args.from c.args.to [] (sym (c.send_refusal.ensures []) ∙ c.in_default.is) in
     omega (arith, may.few, ap (λ (m : Machine). length (tape_at m.history c.args.from)) c.self.view_is)
 
@@ -79,8 +79,8 @@ invariant_of-self-in_err-message c =
     let running : Option OpenView = opened c.self.inside.mode c.self.inside.running c.self.inside.turning in
     let mode : Mode = c.self.inside.mode in
     let history : List Process = c.self.inside.catalogue.processes in
-    let same : c.put_message_lent.new.catalogue.processes ≡ history = c.in_err-message.ensures.err in (
-      subst (λ (h : List Process). IsWorld mode h c.put_message_lent.new.links) (sym same)
+    let same : c.put_message.new.catalogue.processes ≡ history = c.in_err-message.ensures.err in (
+      subst (λ (h : List Process). IsWorld mode h c.put_message.new.links) (sym same)
           (subst (λ (q : List (List (List Item))). IsWorld mode history q) (sym c.in_err-message.ensures.kept) c.self.invariant.0),
       subst (λ (h : List Process). AreRounds mode h c.self.inside.last_round running c.self.inside.rounds.items) (sym same) c.self.invariant.1,
       subst (λ (h : List Process). ArePainted mode h c.self.inside.colours) (sym same) c.self.invariant.2,
@@ -96,7 +96,7 @@ invariant_of-self-2 c =
     let e : Event = SendEvent c.args.to (incarnation_at history c.args.from) c.args.body.now in
     let from_within : c.args.from < length history = omega (arith, may.named.from_within, ap (λ (m : Machine). length m.history) c.self.view_is) in
     let to_within : c.args.to < length history = omega (arith, may.named.to_within, ap (λ (m : Machine). length m.history) c.self.view_is) in (
-      subst (λ (h : List Process). IsWorld mode h c.put_message_lent.new.links) (sym c.in_ok-message.ensures.sent)
+      subst (λ (h : List Process). IsWorld mode h c.put_message.new.links) (sym c.in_ok-message.ensures.sent)
           (subst (λ (q : List (List (List Item))). IsWorld mode (with_event history c.args.from e) q) (sym c.in_ok-message.ensures.put)
           (IsWorld-send history c.self.inside.links c.args.from c.args.to from_within to_within mode c.self.invariant.0 c.args.body.now)),
       subst (λ (h : List Process). AreRounds mode h c.self.inside.last_round running c.self.inside.rounds.items) (sym c.in_ok-message.ensures.sent)
@@ -119,10 +119,10 @@ returns-clause-done c =
     let rounds : List Listed = c.self.inside.rounds.items in
     let e : Event = SendEvent c.args.to (incarnation_at history c.args.from) c.args.body.now in
     let from_within : c.args.from < length history = omega (arith, may.named.from_within, ap (λ (m : Machine). length m.history) c.self.view_is) in
-    let after : Machine = seen mode c.put_message_lent.new.catalogue.processes c.put_message_lent.new.catalogue.marks last rounds c.put_message_lent.new.links in (
+    let after : Machine = seen mode c.put_message.new.catalogue.processes c.put_message.new.catalogue.marks last rounds c.put_message.new.links in (
       none,
       subst (λ (m : Machine). Does m (Send c.args.from c.args.to c.args.body.now) (Sent c.in_ok-message.message) after) c.self.view_is
-          (Sends-seen mode history c.self.inside.catalogue.marks last rounds c.self.inside.links c.args.from c.args.to c.args.body.now c.in_ok-message.message c.put_message_lent.new.catalogue.processes
-          c.put_message_lent.new.catalogue.marks c.put_message_lent.new.links c.in_ok-message.ensures.name c.in_ok-message.ensures.sent c.in_ok-message.ensures.marks c.in_ok-message.ensures.put
+          (Sends-seen mode history c.self.inside.catalogue.marks last rounds c.self.inside.links c.args.from c.args.to c.args.body.now c.in_ok-message.message c.put_message.new.catalogue.processes
+          c.put_message.new.catalogue.marks c.put_message.new.links c.in_ok-message.ensures.name c.in_ok-message.ensures.sent c.in_ok-message.ensures.marks c.in_ok-message.ensures.put
           (none_listed history c.args.from e from_within (λ r. refl) (λ r p. refl) mode last)),
     )

@@ -29,12 +29,12 @@ use Rattle.line_world.proofs.SeenLemmas.{seen}
 use Rattle.line_world.proofs.TurnedFacts.{caught_newly, caught_painted, caught_rounds, caught_world, held_still, less_than_last, middle_within, round_is, sent_still}
 use Rattle.line_world.proofs.worlds.World.take_forced.Goals as goal
 
-pub turn_round_lent-requires-clause-first : goal.turn_round_lent-requires-clause-first
-turn_round_lent-requires-clause-first c =
+pub turn_round-requires-clause-first : goal.turn_round-requires-clause-first
+turn_round-requires-clause-first c =
     (is_catch c.self.inside c.args.self.now c.self.view_is c.self.invariant c.args.from c.args.to c.args.pick c.args.state.now c.requires.passed c.args.message.now c.args.round c.requires.picked c.requires.mode c.requires.taken c.requires.forced).catch.lacks
 
-pub turn_round_lent-requires-clause-greater : goal.turn_round_lent-requires-clause-greater
-turn_round_lent-requires-clause-greater c =
+pub turn_round-requires-clause-greater : goal.turn_round-requires-clause-greater
+turn_round-requires-clause-greater c =
     let w : Inside = c.self.inside in
     let to : ℕ = c.args.to in
     let is : IsCatch w c.args.from to c.args.pick c.args.message.now c.args.round =
@@ -42,12 +42,12 @@ turn_round_lent-requires-clause-greater c =
     let may : MayCatch w to = is.catch in
     less_than_last w.catalogue.processes w.links w.colours w.last_round may.coloured.world may.coloured.painted may.kept.round w.rounds.items may.are to may.within may.lacks
 
-pub turn_round_lent-requires-clause-rounds : goal.turn_round_lent-requires-clause-rounds
-turn_round_lent-requires-clause-rounds c =
+pub turn_round-requires-clause-rounds : goal.turn_round-requires-clause-rounds
+turn_round-requires-clause-rounds c =
     (is_catch c.self.inside c.args.self.now c.self.view_is c.self.invariant c.args.from c.args.to c.args.pick c.args.state.now c.requires.passed c.args.message.now c.args.round c.requires.picked c.requires.mode c.requires.taken c.requires.forced).catch.coloured.are.snapshots
 
-pub turn_round_lent-requires-clause-kept : goal.turn_round_lent-requires-clause-kept
-turn_round_lent-requires-clause-kept c =
+pub turn_round-requires-clause-kept : goal.turn_round-requires-clause-kept
+turn_round-requires-clause-kept c =
     (is_catch c.self.inside c.args.self.now c.self.view_is c.self.invariant c.args.from c.args.to c.args.pick c.args.state.now c.requires.passed c.args.message.now c.args.round c.requires.picked c.requires.mode c.requires.taken c.requires.forced).catch.kept
 
 pub add_receipt-requires-clause-held : goal.add_receipt-requires-clause-held
@@ -60,10 +60,10 @@ add_receipt-requires-clause-held c =
     is_catch w c.args.self.now c.self.view_is c.self.invariant from to c.args.pick c.args.state.now c.requires.passed m c.args.round c.requires.picked c.requires.mode c.requires.taken c.requires.forced in
     let p : IsPicked w from to c.args.pick (Message m) = is.picked in
     let may : MayCatch w to = is.catch in
-    let settled = c.in_ok-turn_round_lent.ensures.settled in
-    subst (λ (h : List Process). Holds (tape_at h m.from) m.inc m.number) (sym c.in_ok-turn_round_lent.ensures.checked)
+    let settled = c.in_ok-turn_round.ensures.settled in
+    subst (λ (h : List Process). Holds (tape_at h m.from) m.inc m.number) (sym c.in_ok-turn_round.ensures.checked)
     (held_still w.catalogue.processes w.links w.colours w.last_round may.coloured.world may.coloured.painted from to p.from_in p.to_in m p.of_sender c.args.pick p.at is.taken c.args.round is.forced may.kept.round w.rounds.items may.are
-    c.args.state.now settled.round settled.number_is c.turn_round_lent.new.colours)
+    c.args.state.now settled.round settled.number_is c.turn_round.new.colours)
 
 pub receive-requires : goal.receive-requires
 receive-requires c =
@@ -86,25 +86,25 @@ invariant_of-self-2 c =
     let p : IsPicked w from to c.args.pick (Message m) = is.picked in
     let may : MayCatch w to = is.catch in
     let after : List Process = with_event history to (CheckEvent state (Some last)) in
-    let done : c.turn_round_lent.new.catalogue.processes ≡ after = c.in_ok-turn_round_lent.ensures.checked in
-    let turned : AreTurned after c.turn_round_lent.new.colours = subst (λ (h : List Process). AreTurned h c.turn_round_lent.new.colours) done c.in_ok-turn_round_lent.ensures.turned in
-    let settled : IsSettled after last w.rounds.items c.turn_round_lent.new.turning c.turn_round_lent.new.rounds.items =
-    subst (λ (h : List Process). IsSettled h last w.rounds.items c.turn_round_lent.new.turning c.turn_round_lent.new.rounds.items) done c.in_ok-turn_round_lent.ensures.settled in
+    let done : c.turn_round.new.catalogue.processes ≡ after = c.in_ok-turn_round.ensures.checked in
+    let turned : AreTurned after c.turn_round.new.colours = subst (λ (h : List Process). AreTurned h c.turn_round.new.colours) done c.in_ok-turn_round.ensures.turned in
+    let settled : IsSettled after last w.rounds.items c.turn_round.new.turning c.turn_round.new.rounds.items =
+    subst (λ (h : List Process). IsSettled h last w.rounds.items c.turn_round.new.turning c.turn_round.new.rounds.items) done c.in_ok-turn_round.ensures.settled in
     let final : List Process = with_event after to (RecvEvent m) in
     let ended : c.add_receipt.new.catalogue.processes ≡ final = c.add_receipt.ensures.taken ∙ ap (λ (h : List Process). with_event h to (RecvEvent m)) done in
-    coloured_kept w may.coloured.mode_is c.add_receipt.new.catalogue.processes after final ended last c.turn_round_lent.new.colours c.turn_round_lent.new.turning c.turn_round_lent.new.rounds.items settled
+    coloured_kept w may.coloured.mode_is c.add_receipt.new.catalogue.processes after final ended last c.turn_round.new.colours c.turn_round.new.turning c.turn_round.new.rounds.items settled
     (caught_world history w.links w.colours last may.coloured.world may.coloured.painted from to p.from_in p.to_in m p.of_sender c.args.pick p.at is.taken c.args.round is.forced may.kept.round w.rounds.items may.are
-    state settled.round settled.number_is c.turn_round_lent.new.colours)
+    state settled.round settled.number_is c.turn_round.new.colours)
     (caught_rounds history w.links w.colours last may.coloured.world may.coloured.painted from to p.from_in p.to_in m p.of_sender c.args.pick p.at is.taken c.args.round is.forced may.kept.round w.rounds.items may.are
-    state settled.round settled.number_is c.turn_round_lent.new.colours turned settled.follows)
+    state settled.round settled.number_is c.turn_round.new.colours turned settled.follows)
     (caught_painted history w.links w.colours last may.coloured.world may.coloured.painted from to p.from_in p.to_in m p.of_sender c.args.pick p.at is.taken c.args.round is.forced may.kept.round w.rounds.items may.are
-    state settled.round settled.number_is c.turn_round_lent.new.colours turned)
+    state settled.round settled.number_is c.turn_round.new.colours turned)
     c.receive.new.self (c.receive.ensures.received after to
     (AreFlagged-other history to (CheckEvent state (Some last)) w.received p.to_in may.coloured.world.linked.fit refl refl may.coloured.flagged)
     (middle_within history w.links w.colours last may.coloured.world may.coloured.painted from to p.from_in p.to_in m p.of_sender c.args.pick p.at is.taken c.args.round is.forced may.kept.round w.rounds.items may.are
-    state settled.round settled.number_is c.turn_round_lent.new.colours)
+    state settled.round settled.number_is c.turn_round.new.colours)
     (sent_still history w.links w.colours last may.coloured.world may.coloured.painted from to p.from_in p.to_in m p.of_sender c.args.pick p.at is.taken c.args.round is.forced may.kept.round w.rounds.items may.are
-    state settled.round settled.number_is c.turn_round_lent.new.colours))
+    state settled.round settled.number_is c.turn_round.new.colours))
 
 pub returns-clause-done : goal.returns-clause-done
 returns-clause-done c =
@@ -123,15 +123,15 @@ returns-clause-done c =
     let e : Event = CheckEvent state (Some last) in
     let f : Event = RecvEvent m in
     let after : List Process = with_event history to e in
-    let done : c.turn_round_lent.new.catalogue.processes ≡ after = c.in_ok-turn_round_lent.ensures.checked in
-    let settled : IsSettled after last w.rounds.items c.turn_round_lent.new.turning c.turn_round_lent.new.rounds.items =
-    subst (λ (h : List Process). IsSettled h last w.rounds.items c.turn_round_lent.new.turning c.turn_round_lent.new.rounds.items) done c.in_ok-turn_round_lent.ensures.settled in
+    let done : c.turn_round.new.catalogue.processes ≡ after = c.in_ok-turn_round.ensures.checked in
+    let settled : IsSettled after last w.rounds.items c.turn_round.new.turning c.turn_round.new.rounds.items =
+    subst (λ (h : List Process). IsSettled h last w.rounds.items c.turn_round.new.turning c.turn_round.new.rounds.items) done c.in_ok-turn_round.ensures.settled in
     let final : List Process = with_event after to f in
     let ended : c.add_receipt.new.catalogue.processes ≡ final = c.add_receipt.ensures.taken ∙ ap (λ (h : List Process). with_event h to f) done in
     let fresh : List Listed = newly_closed Unordered after (Some (opened_by settled.round)) in
     let newly : fresh ≡ newly_listed w.mode history final last =
     caught_newly history w.links w.colours last may.coloured.world may.coloured.painted from to p.from_in p.to_in m p.of_sender c.args.pick p.at is.taken c.args.round is.forced may.kept.round w.rounds.items may.are
-    state settled.round settled.number_is c.turn_round_lent.new.colours
+    state settled.round settled.number_is c.turn_round.new.colours
     ∙ ap (λ (v : Mode). newly_listed v history final last) (sym may.coloured.mode_is) in
     let forced_now : Option ℕ = forced_round machine.mode machine.history to m in
     let fate_now : Fate = fate_of machine.mode machine.history to m in
@@ -139,11 +139,11 @@ returns-clause-done c =
     round_is history w.links w.colours last may.coloured.world may.coloured.painted from to p.from_in p.to_in m p.of_sender c.args.pick p.at is.taken c.args.round is.forced may.kept.round w.rounds.items may.are in
     let events : events_of fate_now forced_now state m ≡ e ∷ f ∷ [] =
     ap (λ (v : Fate). events_of v forced_now state m) c.requires.taken ∙ ap (λ (o : Option ℕ). events_of Taken o state m) c.requires.forced ∙ ap (λ (v : ℕ). events_of Taken (Some v) state m) same in
-    let next : Machine = seen w.mode c.add_receipt.new.catalogue.processes c.add_receipt.new.catalogue.marks last c.turn_round_lent.new.rounds.items w.links in
+    let next : Machine = seen w.mode c.add_receipt.new.catalogue.processes c.add_receipt.new.catalogue.marks last c.turn_round.new.rounds.items w.links in
     let steps : next ≡ with_step machine to (events_of fate_now forced_now state m) machine.last_round =
     ap (λ (ls : List Listed). seen w.mode c.add_receipt.new.catalogue.processes c.add_receipt.new.catalogue.marks last ls w.links) settled.listed
     ∙ step_seen w.mode history c.add_receipt.new.catalogue.processes w.catalogue.marks c.add_receipt.new.catalogue.marks last last w.rounds.items fresh w.links w.links to (e ∷ f ∷ []) ended
-    (c.add_receipt.ensures.marks ∙ c.in_ok-turn_round_lent.ensures.marks) refl newly
+    (c.add_receipt.ensures.marks ∙ c.in_ok-turn_round.ensures.marks) refl newly
     ∙ ap (λ (v : Machine). with_step v to (e ∷ f ∷ []) v.last_round) c.self.view_is
     ∙ ap (λ (es : List Event). with_step machine to es machine.last_round) (sym events) in
     subst (λ (r : Reply). Takes machine (Deliver from to c.args.pick state) (Done r) next) (ap (λ (v : Fate). reply_of v forced_now m) c.requires.taken ∙ ap (λ (o : Option ℕ). reply_of Taken o m) c.requires.forced)

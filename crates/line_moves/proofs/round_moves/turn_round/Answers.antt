@@ -7,7 +7,7 @@ use Rattle.line_moves.specs.declared.modes.Mode.TheVariants.{Unordered}
 use Rattle.line_moves.specs.Listed.{Listed}
 use Rattle.line_moves.specs.Openings.{left_open, newly_closed, opened_by, IsCounted}
 use Rattle.line_moves.proofs.TurnFacts.{open_round, same_round}
-use Rattle.line_moves.proofs.round_moves.turn_round_lent.Goals as goal
+use Rattle.line_moves.proofs.round_moves.turn_round.Goals as goal
 
 pub take_turn-requires-clause-first : goal.take_turn-requires-clause-first
 take_turn-requires-clause-first c =

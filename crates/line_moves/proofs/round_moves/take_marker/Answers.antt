@@ -12,7 +12,7 @@ use Rattle.line_moves.specs.Openings.{OpenView, IsOpening, IsRecording, IsRunnin
 use Rattle.line_moves.proofs.OpenFacts.{either_way}
 use Rattle.line_moves.proofs.OpeningLemmas.{forced_none, forced_number, forced_open, IsRunning-forced, IsRunning-renewed}
 use Rattle.line_moves.proofs.WorldLemmas.{marker_sent}
-use Rattle.line_moves.proofs.round_moves.take_marker_lent.Goals as goal
+use Rattle.line_moves.proofs.round_moves.take_marker.Goals as goal
 
 pub force_round-requires-clause-first : goal.force_round-requires-clause-first
 force_round-requires-clause-first c =

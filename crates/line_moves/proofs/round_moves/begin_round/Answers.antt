@@ -8,7 +8,7 @@ use Rattle.line_moves.specs.declared.modes.Mode.TheVariants.{Fifo}
 use Rattle.line_moves.specs.Worlds.{IsWorld}
 use Rattle.line_moves.proofs.AgreeLemmas.{AgreesNext-check}
 use Rattle.line_moves.proofs.WorldLemmas.{IsWorld-round}
-use Rattle.line_moves.proofs.round_moves.begin_round_lent.Goals as goal
+use Rattle.line_moves.proofs.round_moves.begin_round.Goals as goal
 
 pub add_event-requires-clause-agrees : goal.add_event-requires-clause-agrees
 add_event-requires-clause-agrees c =

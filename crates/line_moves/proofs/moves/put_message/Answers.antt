@@ -4,7 +4,7 @@ use Rattle.line_tape.specs.declared.events.Event.TheVariants.{Send}
 use Rattle.line_tape.specs.History.{Process, incarnation_at}
 use Rattle.line_catalogue.specs.Agreement.{AgreesNext}
 use Rattle.line_moves.proofs.AgreeLemmas.{AgreesNext-send}
-use Rattle.line_moves.proofs.moves.put_message_lent.Goals as goal
+use Rattle.line_moves.proofs.moves.put_message.Goals as goal
 
 pub append_send-requires-clause-agrees : goal.append_send-requires-clause-agrees
 append_send-requires-clause-agrees c =
