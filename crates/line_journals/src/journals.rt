@@ -1,5 +1,6 @@
 //! A tape, and what its process has recorded of rounds beside it.
-ghost use Rattle.std.specs.Prelude.{◌≡◌, ◌≢◌, ◌<◌, ◌≤◌, ◌+◌, ◌↔◌, ◌++◌, ◌∷◌, [], ℕ, IfOk, IsOk, OnOk, OnErr, IsTrue, Some, None, true, false, length};
+ghost use Rattle.std.specs.Prelude.{◌≡◌, ◌≢◌, ◌<◌, ◌≤◌, ◌+◌, ◌↔◌, ◌++◌, ◌∷◌, [], ℕ, IfOk, IsOk};
+ghost use Rattle.std.specs.Prelude.{OnOk, OnErr, IsTrue, Some, None, true, false, length};
 ghost use Rattle.line_marker.specs.Recording.{latest, noted, with_marker, with_round};
 ghost use Rattle.line_tape.specs.declared.events.Event.TheVariants.{Send, Recv, Check, Mark};
 ghost use Rattle.line_tape.specs.History.{IsTape};

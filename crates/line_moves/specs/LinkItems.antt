@@ -6,7 +6,10 @@ use Rattle.line_moves.specs.declared.link_items.LinkItem.TheInside.{Inside}
 
 -- the item that is kept: a message, or the marker of a round
 abbrev pub item_kept : Inside → Item
-item_kept kept = if kept.is_marker then Marker kept.value else Message (record { from = kept.from; inc = kept.inc; number = kept.value })
+item_kept kept =
+    if kept.is_marker
+    then Marker kept.value
+    else Message (record { from = kept.from; inc = kept.inc; number = kept.value })
 
 -- the form in which an item is kept
 abbrev pub kept_form : Item → Inside

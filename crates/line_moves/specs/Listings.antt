@@ -11,6 +11,6 @@ pub record ListingView : Type 0 where
 abbrev pub IsBelow : Listed → Listed → Type 0
 IsBelow a b = (p : ℕ) → check_in a p ≤ check_in b p
 
--- no round has a check that is later than one of the same process in a round behind it
+-- no round has a check that is later than one of the same process in a round after it
 abbrev pub Climb : List Listed → Type 0
 Climb rounds = AllPairs IsBelow rounds

@@ -1,8 +1,11 @@
 -- What is kept of the round that is open, and how it follows the tapes.
 use Rattle.std.specs.Option.{unwrap_or}
 use Rattle.std.specs.List.{count_by, sum_by}
-use Rattle.std.specs.Prelude.{◌≡◌, ◌≢◌, ◌==◌, ℕ, suc, ◌<◌, ◌≤◌, ◌+◌, ◌-◌, ◌*◌, Bool, true, false, if◌then◌else◌, List, [], ◌∷◌, ◌++◌, length, slice_index_or, Option, Some, None, All}
-use Rattle.line_marker.specs.Recording.{Channel, MarkerView, Recorded, channel_at, messages_by, round_of}
+use Rattle.std.specs.Prelude.{◌≡◌, ◌≢◌, ◌==◌, ℕ, suc, ◌<◌, ◌≤◌, ◌+◌, ◌-◌, ◌*◌, Bool, true, false}
+use Rattle.std.specs.Prelude.{if◌then◌else◌, List, [], ◌∷◌, ◌++◌, length, slice_index_or, Option}
+use Rattle.std.specs.Prelude.{Some, None, All}
+use Rattle.line_marker.specs.Recording.{Channel, MarkerView, Recorded, channel_at, messages_by}
+use Rattle.line_marker.specs.Recording.{round_of}
 use Rattle.line_names.specs.declared.choices.Choice.{Choice}
 use Rattle.line_names.specs.declared.messages.MsgName.{MsgName}
 use Rattle.line_tape.specs.declared.events.Event.{Event}
@@ -16,7 +19,8 @@ use Rattle.line_moves.specs.declared.modes.Mode.{Mode}
 use Rattle.line_moves.specs.declared.modes.Mode.TheVariants.{Fifo, Unordered}
 use Rattle.line_moves.specs.Listed.{Listed, channel_table, is_begun, is_completed, listed}
 
--- a round that is open: its number, the check of each process or 0, and what each process has recorded by markers
+-- a round that is open: its number, the check of each process or 0, and what each process has
+-- recorded by markers
 pub record OpenView : Type 0 where
   pub number : ℕ
   pub checks : List ℕ
@@ -43,7 +47,8 @@ pub record IsFresh (floor : ℕ) (marker : MarkerView) : Type 0 where
 
 -- what the markers recorded of the channel from process p to q in round r
 abbrev pub recorded_channel : List MarkerView → ℕ → ℕ → ℕ → List MsgName
-recorded_channel markers r p q = unwrap_or (messages_by (round_of (marker_at markers q).rounds r) p) []
+recorded_channel markers r p q =
+    unwrap_or (messages_by (round_of (marker_at markers q).rounds r) p) []
 
 -- the channels of a recorded round
 abbrev pub channels_in : Option Recorded → List Channel
@@ -52,11 +57,14 @@ channels_in (Some round) = round.channels
 
 -- how many markers of round r have come to a process
 abbrev pub markers_heard : ℕ → MarkerView → ℕ
-markers_heard r marker = count_by (λ (channel : Channel). channel.is_closed) (channels_in (round_of marker.rounds r))
+markers_heard r marker =
+    count_by (λ (channel : Channel). channel.is_closed) (channels_in (round_of marker.rounds r))
 
--- so many markers of round r at least are still to come to n processes: there is one on each channel
+-- so many markers of round r at least are still to come to n processes: there is one on each
+-- channel
 abbrev pub AreToCome : ℕ → ℕ → ℕ → List MarkerView → Type 0
-AreToCome to_come n r markers = 0 < to_come → sum_by (markers_heard r) markers + to_come ≤ n * (n - 1)
+AreToCome to_come n r markers =
+    0 < to_come → sum_by (markers_heard r) markers + to_come ≤ n * (n - 1)
 
 -- what process q has recorded, where some processes have: nothing if it is none of them
 abbrev pub marker_of : List MarkerView → ℕ → MarkerView
@@ -75,7 +83,8 @@ recorded_table n markers r = channel_table n (kept_channel markers r)
 abbrev pub channel_of : ℕ → ℕ → List Event → Channel
 channel_of p r tape = record { messages = channel_on p r tape; is_closed = has_mark_of p r tape }
 
--- what process q of n has recorded by its check of round r: its channel from each other process, as its tape has it
+-- what process q of n has recorded by its check of round r: its channel from each other process, as
+-- its tape has it
 pub record IsRound (n q r : ℕ) (tape : List Event) (rounds : List Recorded) : Type 0 where
   pub round : Recorded
   pub alone : rounds ≡ round ∷ []
@@ -99,30 +108,36 @@ turning_of round = record { number = round.number; checks = round.checks }
 
 -- and back: the open round, of what is kept of it
 abbrev pub recording_of : TurningView → List MarkerView → OpenView
-recording_of turning markers = record { number = turning.number; checks = turning.checks; markers = markers }
+recording_of turning markers =
+    record { number = turning.number; checks = turning.checks; markers = markers }
 
 -- what is kept of the open round follows the tapes: its checks, and what each process has recorded
 pub record IsRecording (history : List Process) (round : OpenView) : Type 0 where
   pub turning : IsTurning history (turning_of round)
-  pub markers : (q : ℕ) → q < length history → IsMarkerOf (length history) q round.number (tape_at history q) (marker_at round.markers q)
+  pub markers : (q : ℕ) → q < length history
+      → IsMarkerOf (length history) q round.number (tape_at history q) (marker_at round.markers q)
 
--- what is kept of the open round follows the tapes, in each mode: there are markers only on links in order
+-- what is kept of the open round follows the tapes, in each mode: there are markers only on links
+-- in order
 abbrev pub IsRecorded : Mode → List Process → OpenView → Type 0
 IsRecorded Fifo history round = IsRecording history round
 IsRecorded Unordered history round = IsTurning history (turning_of round)
 
 -- each round on a tape but one is completed, and what is kept of that one follows the tapes
 pub record IsRunning (mode : Mode) (history : List Process) (round : OpenView) : Type 0 where
-  pub others : (p r : ℕ) → has_check_of r (tape_at history p) ≡ true → r ≢ round.number → is_completed mode history r ≡ true
+  pub others : (p r : ℕ) → has_check_of r (tape_at history p) ≡ true → r ≢ round.number
+      → is_completed mode history r ≡ true
   pub recording : IsRecorded mode history round
 
 -- each round on a tape is completed, but for the one that is kept as open
 abbrev pub IsOpening : Mode → List Process → Option OpenView → Type 0
-IsOpening mode history None = (p r : ℕ) → has_check_of r (tape_at history p) ≡ true → is_completed mode history r ≡ true
+IsOpening mode history None =
+    (p r : ℕ) → has_check_of r (tape_at history p) ≡ true → is_completed mode history r ≡ true
 IsOpening mode history (Some round) = IsRunning mode history round
 
 -- the round is the last one begun, it stands on a tape, and it isn't completed
-pub record IsUnfinished (mode : Mode) (history : List Process) (last : ℕ) (round : OpenView) : Type 0 where
+pub record IsUnfinished (mode : Mode) (history : List Process) (last : ℕ)
+    (round : OpenView) : Type 0 where
   pub number_is : round.number ≡ last
   pub begun : is_begun history last ≡ true
   pub unfinished : is_completed mode history last ≡ false
@@ -145,12 +160,14 @@ first_unlisted (Some round) last = last
 -- it is listed if it is completed
 abbrev pub newly_closed : Mode → List Process → Option OpenView → List Listed
 newly_closed mode history None = []
-newly_closed mode history (Some round) = if is_completed mode history round.number then listed mode history round.number ∷ [] else []
+newly_closed mode history (Some round) =
+    if is_completed mode history round.number then listed mode history round.number ∷ [] else []
 
 -- and else stays open
 abbrev pub left_open : Mode → List Process → Option OpenView → Option OpenView
 left_open mode history None = None
-left_open mode history (Some round) = if is_completed mode history round.number then None else Some round
+left_open mode history (Some round) =
+    if is_completed mode history round.number then None else Some round
 
 -- a round of colours as it is kept beside rounds of markers
 abbrev pub opened_by : TurningView → OpenView
@@ -162,14 +179,17 @@ opened_turning None = None
 opened_turning (Some turning) = Some (opened_by turning)
 
 -- round r of colours is kept as open, and its checks follow the tapes
-pub record IsOpenTurning (history : List Process) (r : ℕ) (turning : Option TurningView) : Type 0 where
+pub record IsOpenTurning (history : List Process) (r : ℕ)
+    (turning : Option TurningView) : Type 0 where
   pub round : TurningView
   pub is : turning ≡ Some round
   pub number_is : round.number ≡ r
   pub follows : IsTurning history round
 
--- round r of colours once a process took its check of it: listed behind those before if it is completed, and else still open
-pub record IsSettled (history : List Process) (r : ℕ) (before : List Listed) (turning : Option TurningView) (rounds : List Listed) : Type 0 where
+-- round r of colours once a process took its check of it: listed after those before if it is
+-- completed, and else still open
+pub record IsSettled (history : List Process) (r : ℕ) (before : List Listed)
+    (turning : Option TurningView) (rounds : List Listed) : Type 0 where
   pub round : TurningView
   pub number_is : round.number ≡ r
   pub follows : IsTurning history round
@@ -181,33 +201,42 @@ abbrev pub opened : Mode → Option OpenView → Option TurningView → Option O
 opened Fifo running turning = running
 opened Unordered running turning = opened_turning turning
 
--- the channels of a round that is completed, between n processes: by the markers, or as they were counted
-abbrev pub channels_kept : Option (List (List (List MsgName))) → ℕ → List MarkerView → ℕ → List (List (List MsgName))
+-- the channels of a round that is completed, between n processes: by the markers, or as they were
+-- counted
+abbrev pub channels_kept : Option (List (List (List MsgName))) → ℕ → List MarkerView → ℕ
+    → List (List (List MsgName))
 channels_kept None n markers r = recorded_table n markers r
 channels_kept (Some table) n markers r = channel_table n (between table)
 
--- they are there for each two of n processes; what was recorded is of n processes, and may be left out where nothing was
+-- they are there for each two of n processes; what was recorded is of n processes, and may be left
+-- out where nothing was
 abbrev pub AreChannels : Option (List (List (List MsgName))) → ℕ → List MarkerView → Type 0
 AreChannels None n markers = All (λ (marker : MarkerView). marker.n ≡ n) markers
 AreChannels (Some table) n markers = IsTable n table
 
 -- a table of channels has, from each process to each other, what is in transit at a line
-pub record AreInTransit (history : List Process) (line : List Choice) (table : List (List (List MsgName))) : Type 0 where
+pub record AreInTransit (history : List Process) (line : List Choice)
+    (table : List (List (List MsgName))) : Type 0 where
   pub shape : IsTable (length history) table
-  pub each : (p q : ℕ) → p < length history → q < length history → p ≢ q → between table p q ≡ in_transit_between history line p q
+  pub each : (p q : ℕ) → p < length history → q < length history → p ≢ q
+      → between table p q ≡ in_transit_between history line p q
 
 -- where there are channels, they have what is in transit at a line
 abbrev pub AreFoundAt : List Process → List Choice → Option (List (List (List MsgName))) → Type 0
 AreFoundAt history line None = Unit {0}
 AreFoundAt history line (Some table) = AreInTransit history line table
 
--- a table of channels has what is in transit where process p stands now and each other is at its check
-pub record AreCountedAtLast (history : List Process) (turning : TurningView) (p : ℕ) (table : List (List (List MsgName))) : Type 0 where
+-- a table of channels has what is in transit where process p stands now and each other is at its
+-- check
+pub record AreCountedAtLast (history : List Process) (turning : TurningView) (p : ℕ)
+    (table : List (List (List MsgName))) : Type 0 where
   pub line : List Choice
   pub last : IsLastLine turning p line
   pub counted : AreInTransit history line table
 
--- what was counted for round r of colours: where it is completed what is in transit at its checks, and else nothing
+-- what was counted for round r of colours: where it is completed what is in transit at its checks,
+-- and else nothing
 abbrev pub IsCounted : List Process → ℕ → Option (List (List (List MsgName))) → Type 0
 IsCounted history r None = is_completed_unordered history r ≡ false
-IsCounted history r (Some table) = (is_completed_unordered history r ≡ true) × AreInTransit history (round_line history r) table
+IsCounted history r (Some table) =
+    (is_completed_unordered history r ≡ true) × AreInTransit history (round_line history r) table

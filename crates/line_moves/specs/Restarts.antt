@@ -20,9 +20,13 @@ restored tape Now = None
 
 -- what each process goes on from, on a line
 abbrev pub restored_states : List Process → List Choice → List (Option (List ℕ))
-restored_states history line = map (λ p. restored (tape_at history p) (choice_at line p)) (range_with_len 0 (length history))
+restored_states history line =
+    map (λ p. restored (tape_at history p) (choice_at line p)) (range_with_len 0 (length history))
 
--- what the links hold after a restart at a line: each has one more copy of what is in transit on it; none are kept in `Fifo`
-abbrev pub restarted_copies : Mode → List Process → List Choice → List (List (List MsgName)) → List (List (List MsgName))
+-- what the links hold after a restart at a line: each has one more copy of what is in transit on
+-- it; none are kept in `Fifo`
+abbrev pub restarted_copies : Mode → List Process → List Choice → List (List (List MsgName))
+    → List (List (List MsgName))
 restarted_copies mode history line copies =
-    copies_in mode (table_of (length history) (λ p q. between copies p q ++ in_transit_between history line p q))
+    copies_in mode
+    (table_of (length history) (λ p q. between copies p q ++ in_transit_between history line p q))

@@ -1,5 +1,6 @@
 -- What a world keeps true of its queues and of its rounds.
-use Rattle.std.specs.Prelude.{◌≡◌, ◌≢◌, ℕ, ◌<◌, ◌≤◌, true, List, length, map, All, AllPairs, Option, Some, None}
+use Rattle.std.specs.Prelude.{◌≡◌, ◌≢◌, ℕ, ◌<◌, ◌≤◌, true, List, length, map, All, AllPairs, Option}
+use Rattle.std.specs.Prelude.{Some, None}
 use Rattle.std.specs.List.{filter_map}
 use Rattle.line_names.specs.declared.messages.MsgName.{MsgName}
 use Rattle.line_tape.specs.declared.items.Item.{Item}
@@ -52,7 +53,8 @@ pub record AreQueues (history : List Process) (queues : List (List (List Item)))
 -- in order: the history fits, and the queue from each process to another is what its link holds
 pub record IsOrderedWorld (history : List Process) (queues : List (List (List Item))) : Type 0 where
   pub fit : IsFitFifo history
-  pub links : (p q : ℕ) → p < length history → q < length history → p ≢ q → between queues p q ≡ link history p q
+  pub links : (p q : ℕ) → p < length history → q < length history → p ≢ q
+      → between queues p q ≡ link history p q
 
 -- what a world keeps true in each mode of its history and its queues
 abbrev pub IsLinked : Mode → List Process → List (List (List Item)) → Type 0
@@ -60,7 +62,8 @@ IsLinked Fifo history queues = IsOrderedWorld history queues
 IsLinked Unordered history queues = IsUnordered history (messages_at queues)
 
 -- what a world keeps true
-pub record IsWorld (mode : Mode) (history : List Process) (queues : List (List (List Item))) : Type 0 where
+pub record IsWorld (mode : Mode) (history : List Process)
+    (queues : List (List (List Item))) : Type 0 where
   pub queued : AreQueues history queues
   pub linked : IsLinked mode history queues
   pub only : HoldMessages mode queues
@@ -70,15 +73,19 @@ pub record AreNumbered (first : ℕ) (rounds : List Listed) : Type 0 where
   pub earlier : All (λ (round : Listed). round.number < first) rounds
   pub ascending : AllPairs (λ (a b : Listed). a.number < b.number) rounds
 
--- what a world keeps true of its rounds: none on a tape is later than the last one begun; each on a tape is completed but the one that is kept as open, which is that last one, and what is kept of it follows the tapes; and the listed ones are snapshots, by number
-pub record AreRounds (mode : Mode) (history : List Process) (last : ℕ) (open_round : Option OpenView) (rounds : List Listed) : Type 0 where
+-- what a world keeps true of its rounds: none on a tape is later than the last one begun; each on a
+-- tape is completed but the one that is kept as open, which is that last one, and what is kept of
+-- it follows the tapes; and the listed ones are snapshots, by number
+pub record AreRounds (mode : Mode) (history : List Process) (last : ℕ)
+    (open_round : Option OpenView) (rounds : List Listed) : Type 0 where
   pub numbers : (p r : ℕ) → has_check_of r (tape_at history p) ≡ true → r ≤ last
   pub opening : IsOpening mode history open_round
   pub unfinished : IsLast mode history last open_round
   pub snapshots : All (IsSnapshotOf history) rounds
   pub numbered : AreNumbered (first_unlisted open_round last) rounds
 
--- what is kept of colours follows the tapes, and no process received a message of a greater colour than its own
+-- what is kept of colours follows the tapes, and no process received a message of a greater colour
+-- than its own
 pub record IsPainted (history : List Process) (colours : List Turned) : Type 0 where
   pub turned : AreTurned history colours
   pub coloured : AreColoured history

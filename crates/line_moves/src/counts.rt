@@ -1,6 +1,7 @@
 //! What is in transit at the checks of a completed round of colours (Lai and Yang, Information
 //! Processing Letters 25(3), 1987).
-ghost use Rattle.std.specs.Prelude.{◌≡◌, ◌≢◌, ◌<◌, ◌≤◌, ℕ, List, All, true, false, length, IfOk, Some};
+ghost use Rattle.std.specs.Prelude.{◌≡◌, ◌≢◌, ◌<◌, ◌≤◌, ℕ, List, All, true, false, length, IfOk};
+ghost use Rattle.std.specs.Prelude.{Some};
 ghost use Rattle.line_names.specs.declared.choices.Choice.TheVariants.{Check as AtCheck};
 ghost use Rattle.line_tape.specs.declared.events.Event.TheVariants.{Check};
 ghost use Rattle.line_tape.specs.Event.{checks};

@@ -1,5 +1,7 @@
 //! The queues of all links.
-ghost use Rattle.std.specs.Prelude.{◌≡◌, ◌≢◌, ℕ, ◌+◌, ◌<◌, ◌≤◌, ◌++◌, ◌∷◌, [], All, length, map, replicate, drop, slice_index_or, slice_set, slice_get, IfOk, OnOk, OnErr};
+ghost use Rattle.std.specs.Prelude.{◌≡◌, ◌≢◌, ℕ, ◌+◌, ◌<◌, ◌≤◌, ◌++◌, ◌∷◌, [], All, length, map};
+ghost use Rattle.std.specs.Prelude.{replicate, drop, slice_index_or, slice_set, slice_get, IfOk};
+ghost use Rattle.std.specs.Prelude.{OnOk, OnErr};
 ghost use Rattle.line_moves.specs.Queues.{with_on_each, with_on_others};
 ghost use Rattle.line_turns.specs.Tables.{between, with_list};
 ghost use Rattle.line_moves.specs.Rooms.{queue_to, items_of, AreEmpty, IsCounted, QueueView};
@@ -26,7 +28,11 @@ impl Model for Queue {
 
     ghost Value = { QueueView };
 
-    ghost view = { λ q. record { held = q.items.items; room = deque_capacity q.items - deque_len q.items; counted = q.counted } };
+    ghost view = { λ q. record {
+      held = q.items.items;
+      room = deque_capacity q.items - deque_len q.items;
+      counted = q.counted;
+    } };
 }
 
 /// The links from one process.
@@ -69,7 +75,10 @@ impl Row {
     /// Puts an item at the end of the link to a process.
     fn push(&mut self, to: ProcId, item: LinkItem) -> Result<(), AllocError>
         requires { to < length self.old }
-        ensures ok { OnOk result (items_of self.new ≡ slice_set (items_of self.old) to (slice_index_or (items_of self.old) to [] ++ item ∷ [])) }
+        ensures ok { OnOk result
+            (items_of self.new
+            ≡ slice_set (items_of self.old) to
+            (slice_index_or (items_of self.old) to [] ++ item ∷ [])) }
         ensures err { OnErr result (items_of self.new ≡ items_of self.old) }
     {
         self.used = true;
@@ -108,7 +117,8 @@ impl Row {
     /// Takes the first item off the link to a process, if it holds one.
     fn drop_first(&mut self, to: ProcId)
         requires { to < length self.old }
-        ensures { items_of self.new ≡ slice_set (items_of self.old) to (drop 1 (slice_index_or (items_of self.old) to [])) }
+        ensures { items_of self.new
+            ≡ slice_set (items_of self.old) to (drop 1 (slice_index_or (items_of self.old) to [])) }
     {
         let queue = &mut self.queues[to.get() as usize];
         let _first = queue.items.pop_front();
@@ -146,7 +156,9 @@ impl Row {
     pub(crate) fn push_reserved(&mut self, to: ProcId, item: Item)
         requires to { to < length self.old }
         requires room { 0 < (queue_to self.old to).room }
-        ensures items { items_of self.new ≡ slice_set (items_of self.old) to (slice_index_or (items_of self.old) to [] ++ item ∷ []) }
+        ensures items { items_of self.new
+            ≡ slice_set (items_of self.old) to
+            (slice_index_or (items_of self.old) to [] ++ item ∷ []) }
         ensures others { (q : ℕ) → q ≢ to → queue_to self.new q ≡ queue_to self.old q }
         ensures room { (queue_to self.new to).room + 1 ≡ (queue_to self.old to).room }
     {
@@ -234,7 +246,8 @@ impl Links {
     pub(crate) fn push(&mut self, from: ProcId, to: ProcId, item: Item) -> Result<(), AllocError>
         requires from { from < length self.old }
         requires to { to < length (slice_index_or self.old from []) }
-        ensures ok { OnOk result (self.new ≡ with_list self.old from to (between self.old from to ++ item ∷ [])) }
+        ensures ok { OnOk result
+            (self.new ≡ with_list self.old from to (between self.old from to ++ item ∷ [])) }
         ensures err { OnErr result (self.new ≡ self.old) }
     {
         let row = &mut self.rows[from.get() as usize];

@@ -1,5 +1,6 @@
 //! The list of the rounds that are completed.
-ghost use Rattle.std.specs.Prelude.{◌≡◌, ◌<◌, ◌≤◌, ◌-◌, ◌++◌, ◌∷◌, ℕ, [], true, false, filter, length, slice_index_or, OnOk};
+ghost use Rattle.std.specs.Prelude.{◌≡◌, ◌<◌, ◌≤◌, ◌-◌, ◌++◌, ◌∷◌, ℕ, [], true, false, filter};
+ghost use Rattle.std.specs.Prelude.{length, slice_index_or, OnOk};
 ghost use Rattle.line_moves.specs.Listed.{Listed, stays};
 ghost use Rattle.line_moves.specs.Listings.{Climb};
 

@@ -3,8 +3,11 @@
 //!
 //! All room is made first: if memory runs out, the tapes and the marks are as they were, and the
 //! links hold what they held.
-ghost use Rattle.std.specs.Prelude.{◌≡◌, ◌≢◌, ◌<◌, ◌≤◌, ◌+◌, ◌++◌, ◌∷◌, [], length, slice_index_or, IfOk, OnOk, OnErr, Option, None};
-ghost use Rattle.line_tape.specs.declared.events.Event.TheVariants.{Send as SendEvent, Recv as RecvEvent, Check as CheckEvent};
+ghost use Rattle.std.specs.Prelude.{◌≡◌, ◌≢◌, ◌<◌, ◌≤◌, ◌+◌, ◌++◌, ◌∷◌, [], length, slice_index_or};
+ghost use Rattle.std.specs.Prelude.{IfOk, OnOk, OnErr, Option, None};
+ghost use Rattle.line_tape.specs.declared.events.Event.TheVariants.{Send as SendEvent};
+ghost use Rattle.line_tape.specs.declared.events.Event.TheVariants.{Recv as RecvEvent};
+ghost use Rattle.line_tape.specs.declared.events.Event.TheVariants.{Check as CheckEvent};
 ghost use Rattle.line_tape.specs.declared.items.Item.TheVariants.{Message};
 ghost use Rattle.line_tape.specs.Event.{NamesBelow, HasLongState, Holds};
 ghost use Rattle.line_tape.specs.History.{tape_at, incarnation_at, with_event};
@@ -60,9 +63,11 @@ pub fn put_message(
     requires few { length (tape_at catalogue.old.processes from) < MOST_EVENTS }
     ensures name { IfOk result (λ message. message ≡ next_name catalogue.old.processes from) }
     ensures sent { OnOk result (catalogue.new.processes
-        ≡ with_event catalogue.old.processes from (SendEvent to (incarnation_at catalogue.old.processes from) body.now)) }
+        ≡ with_event catalogue.old.processes from
+        (SendEvent to (incarnation_at catalogue.old.processes from) body.now)) }
     ensures put { OnOk result (links.new
-        ≡ with_list links.old from to (between links.old from to ++ Message (next_name catalogue.old.processes from) ∷ [])) }
+        ≡ with_list links.old from to
+        (between links.old from to ++ Message (next_name catalogue.old.processes from) ∷ [])) }
     ensures err { OnErr result (catalogue.new.processes ≡ catalogue.old.processes) }
     ensures marks { catalogue.new.marks ≡ catalogue.old.marks }
     ensures kept { OnErr result (links.new ≡ links.old) }
@@ -99,10 +104,17 @@ fn note_message(
     requires to { to < length history.now.processes }
     requires other { message.now.from ≢ to }
     requires opening { mode ≡ Fifo → IsOpening Fifo history.now.processes running.old }
-    ensures number { (turning : Option TurningView) → open_number (opened mode running.new turning) ≡ open_number (opened mode running.old turning) }
-    ensures ok { OnOk result ((turning : Option TurningView) → IsOpening mode history.now.processes (opened mode running.old turning)
-        → IsOpening mode (with_event history.now.processes to (RecvEvent message.now)) (opened mode running.new turning)) }
-    ensures err { OnErr result ((turning : Option TurningView) → IsOpening mode history.now.processes (opened mode running.old turning)
+    ensures number { (turning : Option TurningView)
+        → open_number (opened mode running.new turning)
+        ≡ open_number (opened mode running.old turning) }
+    ensures ok { OnOk result
+        ((turning : Option TurningView)
+        → IsOpening mode history.now.processes (opened mode running.old turning)
+        → IsOpening mode (with_event history.now.processes to (RecvEvent message.now))
+        (opened mode running.new turning)) }
+    ensures err { OnErr result
+        ((turning : Option TurningView)
+        → IsOpening mode history.now.processes (opened mode running.old turning)
         → IsOpening mode history.now.processes (opened mode running.new turning)) }
 {
     match mode {
@@ -129,17 +141,22 @@ pub fn take_message(
     requires to { to < length catalogue.old.processes }
     requires other { from ≢ to }
     requires named { message.now.from ≡ from }
-    requires held { Holds (tape_at catalogue.old.processes message.now.from) message.now.inc message.now.number }
+    requires held { Holds (tape_at catalogue.old.processes message.now.from) message.now.inc
+        message.now.number }
     requires few { length (tape_at catalogue.old.processes to) < MOST_EVENTS }
     requires opening { mode ≡ Fifo → IsOpening Fifo catalogue.old.processes running.old }
-    ensures taken { OnOk result (catalogue.new.processes ≡ with_event catalogue.old.processes to (RecvEvent message.now)) }
+    ensures taken { OnOk result
+        (catalogue.new.processes ≡ with_event catalogue.old.processes to (RecvEvent message.now)) }
     ensures off { OnOk result (links.new ≡ taken_off mode links.old from to) }
     ensures err { OnErr result (catalogue.new.processes ≡ catalogue.old.processes) }
     ensures marks { catalogue.new.marks ≡ catalogue.old.marks }
     ensures kept { OnErr result (links.new ≡ links.old) }
-    ensures opening { (turning : Option TurningView) → IsOpening mode catalogue.old.processes (opened mode running.old turning)
+    ensures opening { (turning : Option TurningView)
+        → IsOpening mode catalogue.old.processes (opened mode running.old turning)
         → IsOpening mode catalogue.new.processes (opened mode running.new turning) }
-    ensures number { (turning : Option TurningView) → open_number (opened mode running.new turning) ≡ open_number (opened mode running.old turning) }
+    ensures number { (turning : Option TurningView)
+        → open_number (opened mode running.new turning)
+        ≡ open_number (opened mode running.old turning) }
 {
     catalogue.reserve(to, 1)?;
     note_message(mode, running, catalogue.history(), to, message)?;
@@ -152,10 +169,12 @@ pub fn take_message(
 pub fn add_receipt(catalogue: &mut Catalogue, to: ProcId, message: &MsgName)
     requires to { to < length catalogue.old.processes }
     requires from { message.now.from < length catalogue.old.processes }
-    requires held { Holds (tape_at catalogue.old.processes message.now.from) message.now.inc message.now.number }
+    requires held { Holds (tape_at catalogue.old.processes message.now.from) message.now.inc
+        message.now.number }
     requires few { length (tape_at catalogue.old.processes to) < MOST_EVENTS }
     requires room { 0 < room_at catalogue.old to }
-    ensures taken { catalogue.new.processes ≡ with_event catalogue.old.processes to (RecvEvent message.now) }
+    ensures taken { catalogue.new.processes
+        ≡ with_event catalogue.old.processes to (RecvEvent message.now) }
     ensures marks { catalogue.new.marks ≡ catalogue.old.marks }
 {
     let _history = catalogue.history();
@@ -168,7 +187,8 @@ pub fn add_check(catalogue: &mut Catalogue, at: ProcId, state: State) -> Result<
     requires short { length state ≤ MOST_STATE }
     requires few { length (tape_at catalogue.old.processes at) < MOST_EVENTS }
     ensures check { IfOk result (λ check. check ≡ next_check catalogue.old.processes at) }
-    ensures checked { OnOk result (catalogue.new.processes ≡ with_event catalogue.old.processes at (CheckEvent state None)) }
+    ensures checked { OnOk result
+        (catalogue.new.processes ≡ with_event catalogue.old.processes at (CheckEvent state None)) }
     ensures err { OnErr result (catalogue.new.processes ≡ catalogue.old.processes) }
     ensures marks { catalogue.new.marks ≡ catalogue.old.marks }
 {

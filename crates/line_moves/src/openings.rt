@@ -1,13 +1,18 @@
 //! The round that is open, and what closes it: of markers (Chandy and Lamport, ACM TOCS 3(1), 1985)
 //! or of colours (Lai and Yang, Information Processing Letters 25(3), 1987).
-ghost use Rattle.std.specs.Prelude.{◌≡◌, ◌≢◌, ◌<◌, ◌≤◌, ◌+◌, ◌++◌, ℕ, List, length, true, false, IfOk, OnOk, OnErr, Some, None, MatchOption};
-ghost use Rattle.line_tape.specs.declared.events.Event.TheVariants.{Recv as RecvEvent, Check as CheckEvent, Mark as MarkEvent};
+ghost use Rattle.std.specs.Prelude.{◌≡◌, ◌≢◌, ◌<◌, ◌≤◌, ◌+◌, ◌++◌, ℕ, List, length, true, false};
+ghost use Rattle.std.specs.Prelude.{IfOk, OnOk, OnErr, Some, None, MatchOption};
+ghost use Rattle.line_tape.specs.declared.events.Event.TheVariants.{Recv as RecvEvent};
+ghost use Rattle.line_tape.specs.declared.events.Event.TheVariants.{Check as CheckEvent};
+ghost use Rattle.line_tape.specs.declared.events.Event.TheVariants.{Mark as MarkEvent};
 ghost use Rattle.line_tape.specs.History.{Process, tape_at, with_event};
 ghost use Rattle.line_tape.specs.Rounds.{has_check_of, is_completed_fifo};
 ghost use Rattle.line_turns.specs.Turning.{IsTurning};
 ghost use Rattle.line_moves.specs.declared.modes.Mode.TheVariants.{Fifo, Unordered};
 ghost use Rattle.line_moves.specs.Listed.{listed};
-ghost use Rattle.line_moves.specs.Openings.{left_open, marker_at, newly_closed, open_number, opened_by, opened_turning, AreMarkers, IsCounted, IsFresh, IsOpening, IsRecording, OpenView};
+ghost use Rattle.line_moves.specs.Openings.{left_open, marker_at, newly_closed, open_number};
+ghost use Rattle.line_moves.specs.Openings.{opened_by, opened_turning, AreMarkers, IsCounted};
+ghost use Rattle.line_moves.specs.Openings.{IsFresh, IsOpening, IsRecording, OpenView};
 ghost use Rattle.line_moves.specs.Fates.{is_forced};
 
 use crate::listings::Listing;
@@ -36,7 +41,11 @@ impl Model for OpenRound {
 
     ghost Value = { OpenView };
 
-    ghost view = { λ r. record { number = r.turning.number; checks = r.turning.checks; markers = r.markers.items } };
+    ghost view = { λ r. record {
+      number = r.turning.number;
+      checks = r.turning.checks;
+      markers = r.markers.items;
+    } };
 
     ghost invariant = { λ r. AreMarkers (length r.turning.checks) r.markers.items
         × AreToCome r.to_come (length r.turning.checks) r.turning.number r.markers.items };
@@ -47,7 +56,8 @@ impl Model for OpenRound {
 fn fresh_markers(alloc: Global, n: u32, floor: u32) -> Result<Vec<Marker>, AllocError>
     requires { n ≤ MOST_PROCESSES }
     ensures markers { IfOk result (λ markers. AreMarkers n markers.items) }
-    ensures fresh { IfOk result (λ markers. (q : ℕ) → q < n → IsFresh floor (marker_at markers.items q)) }
+    ensures fresh { IfOk result
+        (λ markers. (q : ℕ) → q < n → IsFresh floor (marker_at markers.items q)) }
 {
     let mut markers = Vec::with_capacity(alloc, n as usize)?;
     for q in 0..n {
@@ -61,7 +71,8 @@ impl OpenRound {
     /// The next round after the last one, of which no process has its check yet.
     pub(crate) fn new(alloc: Global, history: &History, last: u32) -> Result<OpenRound, AllocError>
         requires numbers { last < LAST_ROUND }
-        requires fresh { (q : ℕ) → has_check_of (last + 1) (tape_at history.now.processes q) ≡ false }
+        requires fresh { (q : ℕ)
+            → has_check_of (last + 1) (tape_at history.now.processes q) ≡ false }
         ensures number { IfOk result (λ round. round.number ≡ last + 1) }
         ensures recording { IfOk result (λ round. IsRecording history.now.processes round) }
     {
@@ -96,7 +107,8 @@ impl OpenRound {
     pub(crate) fn reserve(&mut self, p: ProcId) -> Result<(), AllocError>
         requires { p < length self.old.checks }
         ensures number { self.new.number ≡ self.old.number }
-        ensures recording { (history : List Process) → IsRecording history self.old → IsRecording history self.new }
+        ensures recording { (history : List Process) → IsRecording history self.old
+            → IsRecording history self.new }
         ensures ok { OnOk result (0 < (marker_at self.new.markers p).round_room) }
     {
         self.markers[p.get() as usize].reserve_round()
@@ -109,7 +121,10 @@ impl OpenRound {
         requires first { has_check_of self.old.number (tape_at history.now.processes p) ≡ false }
         requires room { 0 < (marker_at self.old.markers p).round_room }
         ensures number { self.new.number ≡ self.old.number }
-        ensures recording { (state : List ℕ) → IsRecording (with_event history.now.processes p (CheckEvent state (Some self.old.number))) self.new }
+        ensures recording { (state : List ℕ)
+            → IsRecording
+            (with_event history.now.processes p (CheckEvent state (Some self.old.number)))
+            self.new }
     {
         self.turning.check(p, history.tape(p).checks() + 1);
         let number = self.turning.number();
@@ -126,7 +141,11 @@ impl OpenRound {
         requires room { 0 < (marker_at self.old.markers p).round_room }
         ensures number { self.new.number ≡ self.old.number }
         ensures recording { (state : List ℕ)
-            → IsRecording (with_event (with_event history.now.processes p (CheckEvent state (Some self.old.number))) p (MarkEvent from self.old.number)) self.new }
+            → IsRecording
+            (with_event
+            (with_event history.now.processes p (CheckEvent state (Some self.old.number))) p
+            (MarkEvent from self.old.number))
+            self.new }
     {
         self.turning.check(p, history.tape(p).checks() + 1);
         let number = self.turning.number();
@@ -144,7 +163,8 @@ impl OpenRound {
         requires recording { IsRecording history.now.processes self.old }
         requires begun { has_check_of self.old.number (tape_at history.now.processes p) ≡ true }
         ensures number { self.new.number ≡ self.old.number }
-        ensures recording { IsRecording (with_event history.now.processes p (MarkEvent from self.old.number)) self.new }
+        ensures recording { IsRecording
+            (with_event history.now.processes p (MarkEvent from self.old.number)) self.new }
     {
         let number = self.turning.number();
         if self.markers[p.get() as usize].close_channel(from, number) {
@@ -165,7 +185,8 @@ impl OpenRound {
         requires other { message.now.from ≢ p }
         requires recording { IsRecording history.now.processes self.old }
         ensures number { self.new.number ≡ self.old.number }
-        ensures ok { OnOk result (IsRecording (with_event history.now.processes p (RecvEvent message.now)) self.new) }
+        ensures ok { OnOk result
+            (IsRecording (with_event history.now.processes p (RecvEvent message.now)) self.new) }
         ensures err { OnErr result (IsRecording history.now.processes self.new) }
     {
         self.markers[p.get() as usize].note(*message)
@@ -235,7 +256,8 @@ pub(crate) fn note(
     requires other { message.now.from ≢ to }
     requires opening { IsOpening Fifo history.now.processes running.old }
     ensures number { open_number running.new ≡ open_number running.old }
-    ensures ok { OnOk result (IsOpening Fifo (with_event history.now.processes to (RecvEvent message.now)) running.new) }
+    ensures ok { OnOk result
+        (IsOpening Fifo (with_event history.now.processes to (RecvEvent message.now)) running.new) }
     ensures err { OnErr result (IsOpening Fifo history.now.processes running.new) }
 {
     match running {
@@ -259,7 +281,8 @@ pub(crate) fn hear(
     requires begun { has_check_of round (tape_at history.now.processes to) ≡ true }
     requires opening { IsOpening Fifo history.now.processes running.old }
     ensures number { open_number running.new ≡ open_number running.old }
-    ensures opening { IsOpening Fifo (with_event history.now.processes to (MarkEvent from round)) running.new }
+    ensures opening { IsOpening Fifo (with_event history.now.processes to (MarkEvent from round))
+        running.new }
 {
     match running {
         Some(running) => {
@@ -282,7 +305,8 @@ pub fn list_completed(
 )
     requires opening { IsOpening Fifo history.now.processes running.old }
     requires room { 0 < rounds.old.room }
-    ensures listed { rounds.new.items ≡ rounds.old.items ++ newly_closed Fifo history.now.processes running.old }
+    ensures listed { rounds.new.items
+        ≡ rounds.old.items ++ newly_closed Fifo history.now.processes running.old }
     ensures left { running.new ≡ left_open Fifo history.now.processes running.old }
 {
     match running {
@@ -308,7 +332,8 @@ fn list_round(
         is_completed_fifo history.now.processes round.number ≡ true) }
     requires opening { IsOpening Fifo history.now.processes running.old }
     requires room { 0 < rounds.old.room }
-    ensures listed { rounds.new.items ≡ rounds.old.items ++ newly_closed Fifo history.now.processes running.old }
+    ensures listed { rounds.new.items
+        ≡ rounds.old.items ++ newly_closed Fifo history.now.processes running.old }
     ensures left { running.new ≡ None }
 {
     match running.take() {
@@ -329,8 +354,11 @@ pub(crate) fn still_turning(
     requires turning { IsTurning history.now.processes turning }
     requires channels { IsCounted history.now.processes turning.number channels }
     requires room { 0 < rounds.old.room }
-    ensures listed { rounds.new.items ≡ rounds.old.items ++ newly_closed Unordered history.now.processes (Some (opened_by turning)) }
-    ensures left { opened_turning result ≡ left_open Unordered history.now.processes (Some (opened_by turning)) }
+    ensures listed { rounds.new.items
+        ≡ rounds.old.items
+        ++ newly_closed Unordered history.now.processes (Some (opened_by turning)) }
+    ensures left { opened_turning result
+        ≡ left_open Unordered history.now.processes (Some (opened_by turning)) }
 {
     match channels {
         Some(channels) => {

@@ -1,5 +1,6 @@
 //! What the links hold after a restart at a line.
-ghost use Rattle.std.specs.Prelude.{◌≡◌, ◌<◌, ◌≤◌, ◌++◌, ℕ, [], List, filter, map, length, OnOk, OnErr};
+ghost use Rattle.std.specs.Prelude.{◌≡◌, ◌<◌, ◌≤◌, ◌++◌, ℕ, [], List, filter, map, length, OnOk};
+ghost use Rattle.std.specs.Prelude.{OnErr};
 ghost use Rattle.line_tape.specs.declared.items.Item.TheVariants.{Message};
 ghost use Rattle.line_tape.specs.History.{Process};
 ghost use Rattle.line_tape.specs.Transit.{goes_between, in_transit, in_transit_between};
@@ -18,7 +19,8 @@ use std::alloc::AllocError;
 fn count_none(history: &History, messages: &[MsgName], rows: &mut Vec<Row>)
     requires { AreQueues history.now.processes (map items_of rows.old.items) }
     ensures same { map items_of rows.new.items ≡ map items_of rows.old.items }
-    ensures none { AreUncounted history.now.processes messages.now (length messages.now) rows.new.items }
+    ensures none { AreUncounted history.now.processes messages.now (length messages.now)
+        rows.new.items }
 {
     let _n = history.n();
     for message in messages {
@@ -36,9 +38,11 @@ fn count_messages(
     rows: &mut Vec<Row>,
 ) -> Result<(), AllocError>
     requires queued { AreQueues history.now.processes (map items_of rows.old.items) }
-    requires none { AreUncounted history.now.processes messages.now (length messages.now) rows.old.items }
+    requires none { AreUncounted history.now.processes messages.now (length messages.now)
+        rows.old.items }
     ensures same { map items_of rows.new.items ≡ map items_of rows.old.items }
-    ensures counted { OnOk result (AreCounted history.now.processes messages.now (length messages.now) rows.new.items) }
+    ensures counted { OnOk result
+        (AreCounted history.now.processes messages.now (length messages.now) rows.new.items) }
 {
     let _n = history.n();
     let most = messages.len();
@@ -54,8 +58,10 @@ fn count_messages(
 /// Takes all items off each link.
 fn clear_rows(rows: &mut Vec<Row>)
     ensures empty { (p q : ℕ) → between (map items_of rows.new.items) p q ≡ [] }
-    ensures queued { (history : List Process) → AreQueues history (map items_of rows.old.items) → AreQueues history (map items_of rows.new.items) }
-    ensures room { (p q : ℕ) → (queue_at rows.old.items p q).room ≤ (queue_at rows.new.items p q).room }
+    ensures queued { (history : List Process) → AreQueues history (map items_of rows.old.items)
+        → AreQueues history (map items_of rows.new.items) }
+    ensures room { (p q : ℕ)
+        → (queue_at rows.old.items p q).room ≤ (queue_at rows.new.items p q).room }
 {
     for p in 0..rows.len() {
         let row = &mut rows[p];
@@ -66,9 +72,13 @@ fn clear_rows(rows: &mut Vec<Row>)
 /// Leaves on the links what stays there through a restart: nothing where links keep their order,
 /// and else the copies.
 fn keep_copies(mode: Mode, rows: &mut Vec<Row>)
-    ensures kept { (p q : ℕ) → between (map items_of rows.new.items) p q ≡ between (copies_in mode (map items_of rows.old.items)) p q }
-    ensures queued { (history : List Process) → AreQueues history (map items_of rows.old.items) → AreQueues history (map items_of rows.new.items) }
-    ensures room { (p q : ℕ) → (queue_at rows.old.items p q).room ≤ (queue_at rows.new.items p q).room }
+    ensures kept { (p q : ℕ)
+        → between (map items_of rows.new.items) p q
+        ≡ between (copies_in mode (map items_of rows.old.items)) p q }
+    ensures queued { (history : List Process) → AreQueues history (map items_of rows.old.items)
+        → AreQueues history (map items_of rows.new.items) }
+    ensures room { (p q : ℕ)
+        → (queue_at rows.old.items p q).room ≤ (queue_at rows.new.items p q).room }
 {
     match mode {
         Mode::Fifo => clear_rows(rows),
@@ -82,8 +92,10 @@ fn put_messages(history: &History, messages: &[MsgName], rows: &mut Vec<Row>)
     requires queued { AreQueues history.now.processes (map items_of rows.old.items) }
     requires room { HaveRoom history.now.processes messages.now 0 rows.old.items }
     ensures queued { AreQueues history.now.processes (map items_of rows.new.items) }
-    ensures put { (p q : ℕ) → p < length history.now.processes → q < length history.now.processes → between (map items_of rows.new.items) p q
-        ≡ between (map items_of rows.old.items) p q ++ map (λ m. Message m) (filter (goes_between history.now.processes p q) messages.now) }
+    ensures put { (p q : ℕ) → p < length history.now.processes → q < length history.now.processes
+        → between (map items_of rows.new.items) p q
+        ≡ between (map items_of rows.old.items) p q
+        ++ map (λ m. Message m) (filter (goes_between history.now.processes p q) messages.now) }
 {
     let _n = history.n();
     for message in messages {
@@ -109,8 +121,11 @@ pub fn restart_links(
     requires transit { messages.now ≡ in_transit history.now.processes _line.now }
     requires queued { AreQueues history.now.processes links.old }
     ensures queued { OnOk result (AreQueues history.now.processes links.new) }
-    ensures put { OnOk result ((p q : ℕ) → p < length history.now.processes → q < length history.now.processes → between links.new p q
-        ≡ between (copies_in mode links.old) p q ++ map (λ m. Message m) (in_transit_between history.now.processes _line.now p q)) }
+    ensures put { OnOk result
+        ((p q : ℕ) → p < length history.now.processes → q < length history.now.processes
+        → between links.new p q
+        ≡ between (copies_in mode links.old) p q
+        ++ map (λ m. Message m) (in_transit_between history.now.processes _line.now p q)) }
     ensures err { OnErr result (links.new ≡ links.old) }
 {
     count_none(history, messages, &mut links.rows);

@@ -2,7 +2,8 @@
 ghost use Rattle.std.specs.Prelude.{◌≡◌, ◌<◌, length, map, IfOk};
 ghost use Rattle.line_tape.specs.History.{Process, process_at, tape_at, incarnation_at};
 ghost use Rattle.line_tape.specs.Line.{IsLine};
-ghost use Rattle.line_tape.specs.Restart.{restarted, restarted_incarnation, HasFurther, HaveFurther};
+ghost use Rattle.line_tape.specs.Restart.{restarted, restarted_incarnation, HasFurther};
+ghost use Rattle.line_tape.specs.Restart.{HaveFurther};
 ghost use Rattle.line_names.specs.Lines.{choice_at};
 ghost use Rattle.line_moves.specs.Restarts.{restored, restored_states};
 
@@ -19,7 +20,8 @@ fn restored(
 ) -> Result<Option<State>, AllocError>
     requires process { p < length history.now.processes }
     requires line { IsLine history.now.processes line.now }
-    ensures { IfOk result (λ state. state ≡ restored (tape_at history.now.processes p) (choice_at line.now p)) }
+    ensures { IfOk result
+        (λ state. state ≡ restored (tape_at history.now.processes p) (choice_at line.now p)) }
 {
     match line.at(p) {
         Choice::Check(check) => {
@@ -38,7 +40,8 @@ pub fn restored_states(
     line: &Line,
 ) -> Result<Vec<Option<State>>, AllocError>
     requires { IsLine history.now.processes line.now }
-    ensures { IfOk result (λ states. states.items ≡ restored_states history.now.processes line.now) }
+    ensures { IfOk result
+        (λ states. states.items ≡ restored_states history.now.processes line.now) }
 {
     let n = history.n();
     let mut states = Vec::with_capacity(alloc, n as usize)?;
@@ -54,7 +57,8 @@ pub fn restored_states(
 fn restarted_incarnation(history: &History, line: &Line, p: ProcId) -> u16
     requires process { p < length history.now.processes }
     requires further { HasFurther (process_at history.now.processes p) (choice_at line.now p) }
-    ensures { result ≡ restarted_incarnation (choice_at line.now p) (incarnation_at history.now.processes p) }
+    ensures { result
+        ≡ restarted_incarnation (choice_at line.now p) (incarnation_at history.now.processes p) }
 {
     let inc = history.incarnation(p);
     match line.at(p) {
@@ -72,7 +76,8 @@ pub fn restarted_incarnations(
     requires line { length line.now ≡ length history.now.processes }
     requires further { HaveFurther history.now.processes line.now }
     ensures { IfOk result (λ incarnations. incarnations.items
-        ≡ map (λ (process : Process). process.incarnation) (restarted history.now.processes line.now)) }
+        ≡ map (λ (process : Process). process.incarnation)
+        (restarted history.now.processes line.now)) }
 {
     let n = history.n();
     let mut incarnations = Vec::with_capacity(alloc, n as usize)?;

@@ -1,8 +1,10 @@
 //! What the steps of a round do to the tapes, the links, the colours and the rounds.
 //!
 //! All room is made first: if memory runs out, the tapes and the marks are as they were.
-ghost use Rattle.std.specs.Prelude.{◌≡◌, ◌≢◌, ◌<◌, ◌≤◌, ◌+◌, ℕ, ◌∷◌, [], length, true, false, slice_get, All, IfOk, OnOk, OnErr, Option, Some, None};
-ghost use Rattle.line_tape.specs.declared.events.Event.TheVariants.{Check as CheckEvent, Mark as MarkEvent};
+ghost use Rattle.std.specs.Prelude.{◌≡◌, ◌≢◌, ◌<◌, ◌≤◌, ◌+◌, ℕ, ◌∷◌, [], length, true, false};
+ghost use Rattle.std.specs.Prelude.{slice_get, All, IfOk, OnOk, OnErr, Option, Some, None};
+ghost use Rattle.line_tape.specs.declared.events.Event.TheVariants.{Check as CheckEvent};
+ghost use Rattle.line_tape.specs.declared.events.Event.TheVariants.{Mark as MarkEvent};
 ghost use Rattle.line_tape.specs.declared.items.Item.TheVariants.{Marker};
 ghost use Rattle.line_tape.specs.History.{tape_at, with_event};
 ghost use Rattle.line_catalogue.specs.Views.{room_at};
@@ -14,7 +16,8 @@ ghost use Rattle.line_moves.specs.declared.modes.Mode.TheVariants.{Fifo};
 ghost use Rattle.line_moves.specs.Fates.{is_forced, marker_events};
 ghost use Rattle.line_moves.specs.Listed.{IsSnapshotOf};
 ghost use Rattle.line_moves.specs.Moves.{with_events, next_check};
-ghost use Rattle.line_moves.specs.Openings.{open_number, IsCounted, IsOpening, IsOpenTurning, IsRecording, IsSettled};
+ghost use Rattle.line_moves.specs.Openings.{open_number, IsCounted, IsOpening, IsOpenTurning};
+ghost use Rattle.line_moves.specs.Openings.{IsRecording, IsSettled};
 ghost use Rattle.line_turns.specs.Tables.{between};
 ghost use Rattle.line_moves.specs.Worlds.{IsWorld};
 
@@ -52,7 +55,9 @@ pub fn begin_round(
     ensures check { IfOk result (λ begun. begun.1 ≡ next_check catalogue.old.processes at) }
     ensures number { IfOk result (λ begun. begun.0.number ≡ last + 1) }
     ensures recording { IfOk result (λ begun. IsRecording catalogue.new.processes begun.0) }
-    ensures checked { OnOk result (catalogue.new.processes ≡ with_event catalogue.old.processes at (CheckEvent state.now (Some (last + 1)))) }
+    ensures checked { OnOk result
+        (catalogue.new.processes
+        ≡ with_event catalogue.old.processes at (CheckEvent state.now (Some (last + 1)))) }
     ensures world { OnOk result (IsWorld Fifo catalogue.new.processes links.new) }
     ensures err { OnErr result (catalogue.new.processes ≡ catalogue.old.processes) }
     ensures marks { catalogue.new.marks ≡ catalogue.old.marks }
@@ -91,7 +96,9 @@ fn force_round(
     requires world { IsWorld Fifo catalogue.old.processes links.old }
     requires recording { IsRecording catalogue.old.processes running.old }
     ensures taken { OnOk result (catalogue.new.processes
-        ≡ with_events catalogue.old.processes to (CheckEvent state.now (Some running.old.number) ∷ MarkEvent from running.old.number ∷ [])) }
+        ≡ with_events catalogue.old.processes to
+        (CheckEvent state.now (Some running.old.number) ∷ MarkEvent from running.old.number
+        ∷ [])) }
     ensures world { IsWorld Fifo catalogue.new.processes links.new }
     ensures recording { IsRecording catalogue.new.processes running.new }
     ensures number { running.new.number ≡ running.old.number }
@@ -129,7 +136,8 @@ fn hear_round(
     requires marker { slice_get (between links.old from to) 0 ≡ Some (Marker round) }
     requires world { IsWorld Fifo catalogue.old.processes links.old }
     requires opening { IsOpening Fifo catalogue.old.processes running.old }
-    ensures taken { OnOk result (catalogue.new.processes ≡ with_event catalogue.old.processes to (MarkEvent from round)) }
+    ensures taken { OnOk result
+        (catalogue.new.processes ≡ with_event catalogue.old.processes to (MarkEvent from round)) }
     ensures world { IsWorld Fifo catalogue.new.processes links.new }
     ensures opening { IsOpening Fifo catalogue.new.processes running.new }
     ensures number { open_number running.new ≡ open_number running.old }
@@ -164,12 +172,16 @@ pub fn take_marker(
     requires other { from ≢ to }
     requires short { length state.now ≤ MOST_STATE }
     requires forced { forced ≡ is_forced catalogue.old.processes to round }
-    requires few { length (tape_at catalogue.old.processes to) + length (marker_events (is_forced catalogue.old.processes to round) from state.now round) ≤ MOST_EVENTS }
+    requires few { length (tape_at catalogue.old.processes to)
+        + length
+        (marker_events (is_forced catalogue.old.processes to round) from state.now round)
+        ≤ MOST_EVENTS }
     requires marker { slice_get (between links.old from to) 0 ≡ Some (Marker round) }
     requires world { IsWorld Fifo catalogue.old.processes links.old }
     requires opening { IsOpening Fifo catalogue.old.processes running.old }
     ensures taken { OnOk result (catalogue.new.processes
-        ≡ with_events catalogue.old.processes to (marker_events (is_forced catalogue.old.processes to round) from state.now round)) }
+        ≡ with_events catalogue.old.processes to
+        (marker_events (is_forced catalogue.old.processes to round) from state.now round)) }
     ensures world { IsWorld Fifo catalogue.new.processes links.new }
     ensures opening { IsOpening Fifo catalogue.new.processes running.new }
     ensures number { open_number running.new ≡ open_number running.old }
@@ -209,8 +221,12 @@ fn take_turn(
     requires turning { IsTurning catalogue.old.processes turning.old }
     requires rounds { All (IsSnapshotOf catalogue.old.processes) rounds.now }
     ensures check { IfOk result (λ turned. turned.0 ≡ next_check catalogue.old.processes at) }
-    ensures channels { IfOk result (λ turned. IsCounted catalogue.new.processes turning.new.number turned.1) }
-    ensures checked { OnOk result (catalogue.new.processes ≡ with_event catalogue.old.processes at (CheckEvent state.now (Some turning.old.number))) }
+    ensures channels { IfOk result
+        (λ turned. IsCounted catalogue.new.processes turning.new.number turned.1) }
+    ensures checked { OnOk result
+        (catalogue.new.processes
+        ≡ with_event catalogue.old.processes at
+        (CheckEvent state.now (Some turning.old.number))) }
     ensures turned { OnOk result (AreTurned catalogue.new.processes colours.new) }
     ensures turning { OnOk result (IsTurning catalogue.new.processes turning.new) }
     ensures number { turning.new.number ≡ turning.old.number }
@@ -263,9 +279,12 @@ pub fn turn_round(
     requires kept { IsOpenTurning catalogue.old.processes _round turning.old }
     requires rounds { All (IsSnapshotOf catalogue.old.processes) rounds.old.items }
     ensures check { IfOk result (λ check. check ≡ next_check catalogue.old.processes at) }
-    ensures checked { OnOk result (catalogue.new.processes ≡ with_event catalogue.old.processes at (CheckEvent state.now (Some _round))) }
+    ensures checked { OnOk result
+        (catalogue.new.processes
+        ≡ with_event catalogue.old.processes at (CheckEvent state.now (Some _round))) }
     ensures turned { OnOk result (AreTurned catalogue.new.processes colours.new) }
-    ensures settled { OnOk result (IsSettled catalogue.new.processes _round rounds.old.items turning.new rounds.new.items) }
+    ensures settled { OnOk result
+        (IsSettled catalogue.new.processes _round rounds.old.items turning.new rounds.new.items) }
     ensures room { OnOk result (further ≤ room_at catalogue.new at) }
     ensures err { OnErr result (catalogue.new.processes ≡ catalogue.old.processes) }
     ensures marks { catalogue.new.marks ≡ catalogue.old.marks }

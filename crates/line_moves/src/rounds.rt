@@ -1,6 +1,7 @@
 //! A completed round as it is listed: of markers (Chandy and Lamport, ACM TOCS 3(1), 1985) or of
 //! colours (Lai and Yang, Information Processing Letters 25(3), 1987).
-ghost use Rattle.std.specs.Prelude.{◌≡◌, ◌≢◌, ◌<◌, ◌≤◌, ℕ, [], List, length, true, false, IfOk, Some, All};
+ghost use Rattle.std.specs.Prelude.{◌≡◌, ◌≢◌, ◌<◌, ◌≤◌, ℕ, [], List, length, true, false, IfOk};
+ghost use Rattle.std.specs.Prelude.{Some, All};
 ghost use Rattle.line_tape.specs.History.{Process};
 ghost use Rattle.line_tape.specs.Restart.{is_kept};
 ghost use Rattle.line_tape.specs.Colours.{is_completed_unordered};
@@ -11,7 +12,8 @@ ghost use Rattle.line_moves.specs.Listed.{check_in, channel_in, listed, stays, I
 ghost use Rattle.line_moves.specs.Listings.{IsBelow};
 ghost use Rattle.line_marker.specs.Recording.{MarkerView, messages_by, round_of};
 ghost use Rattle.std.specs.Option.{unwrap_or};
-ghost use Rattle.line_moves.specs.Openings.{kept_channel, recorded_channel, recording_of, AreFoundAt, AreInTransit, AreMarkers, IsRecording};
+ghost use Rattle.line_moves.specs.Openings.{kept_channel, recorded_channel, recording_of};
+ghost use Rattle.line_moves.specs.Openings.{AreFoundAt, AreInTransit, AreMarkers, IsRecording};
 
 use line_marker::Marker;
 use line_names::{Choice, Line, MOST_PROCESSES, MsgName, ProcId};
@@ -91,7 +93,8 @@ impl Round {
         history: &History,
     ) -> Round
         requires markers { AreMarkers (length turning.checks) markers.items }
-        requires recording { IsRecording history.now.processes (recording_of turning markers.items) }
+        requires recording { IsRecording history.now.processes
+            (recording_of turning markers.items) }
         requires completed { is_completed_fifo history.now.processes turning.number ≡ true }
         ensures { result ≡ listed Fifo history.now.processes turning.number }
     {
@@ -115,7 +118,8 @@ impl Round {
     ) -> Round
         requires turning { IsTurning _history.now.processes turning }
         requires completed { is_completed_unordered _history.now.processes turning.number ≡ true }
-        requires channels { AreInTransit _history.now.processes (round_line _history.now.processes turning.number) channels }
+        requires channels { AreInTransit _history.now.processes
+            (round_line _history.now.processes turning.number) channels }
         ensures { result ≡ listed Unordered _history.now.processes turning.number }
     {
         let number = turning.number();

@@ -1,4 +1,5 @@
--- What is kept of the colours of processes, and how it follows the tapes (Lai and Yang, Information Processing Letters 25(3), 1987).
+-- What is kept of the colours of processes, and how it follows the tapes (Lai and Yang, Information
+-- Processing Letters 25(3), 1987).
 use Rattle.std.specs.Prelude.{◌≡◌, ℕ, ◌<◌, List, [], length, slice_index_or}
 use Rattle.line_tape.specs.declared.events.Event.{Event}
 use Rattle.line_tape.specs.Colours.{colour}

@@ -142,7 +142,8 @@ impl Channels {
         history: &History,
         messages: &[MsgName],
     ) -> Result<Channels, AllocError>
-        ensures transit { (line : List Choice) → messages.now ≡ in_transit history.now.processes line
+        ensures transit { (line : List Choice)
+            → messages.now ≡ in_transit history.now.processes line
             → IfOk result (λ channels. channels ≡ channels_at history.now.processes line) }
         ensures table { IfOk result (λ channels. IsTable (length history.now.processes) channels) }
     {

@@ -1,5 +1,6 @@
 //! The colours of processes and of what they sent.
-ghost use Rattle.std.specs.Prelude.{◌≡◌, ◌<◌, ◌≤◌, ◌++◌, ℕ, List, [], ◌∷◌, AllPairs, length, replicate, IfOk, OnOk, OnErr, Some};
+ghost use Rattle.std.specs.Prelude.{◌≡◌, ◌<◌, ◌≤◌, ◌++◌, ℕ, List, [], ◌∷◌, AllPairs, length};
+ghost use Rattle.std.specs.Prelude.{replicate, IfOk, OnOk, OnErr, Some};
 ghost use Rattle.std.specs.Option.{SomeIff};
 ghost use Rattle.line_names.specs.declared.choices.Choice.{Choice};
 ghost use Rattle.line_tape.specs.declared.events.Event.TheVariants.{Check};
@@ -51,7 +52,8 @@ impl ProcessColour {
     /// The colour of its send of that number: the round of the last turn with no more sends before
     /// it, or 0. It searches the turns by halves.
     fn colour_at(&self, number: u32) -> u32
-        ensures { AllPairs (λ (s t : Turns.Turn). s.round < t.round) self.now.turns → AllPairs (λ (s t : Turns.Turn). s.sends ≤ t.sends) self.now.turns
+        ensures { AllPairs (λ (s t : Turns.Turn). s.round < t.round) self.now.turns
+            → AllPairs (λ (s t : Turns.Turn). s.sends ≤ t.sends) self.now.turns
             → result ≡ Turns.colour_by self.now.turns number }
     {
         let turns = self.turns.as_slice();
@@ -67,7 +69,12 @@ impl ProcessColour {
     /// It takes its check of a round, whose number is greater than its colour.
     fn turn(&mut self, round: u32, sends: u32) -> Result<(), AllocError>
         requires { self.old.colour < round }
-        ensures ok { OnOk result (self.new ≡ (record { colour = round; turns = self.old.turns ++ record { round = round; sends = sends } ∷ [] })) }
+        ensures ok { OnOk result
+            (self.new
+            ≡ (record {
+              colour = round;
+              turns = self.old.turns ++ record { round = round; sends = sends } ∷ [];
+            })) }
         ensures err { OnErr result (self.new ≡ self.old) }
     {
         self.turns.push(RoundTurn { round, sends })?;
@@ -123,7 +130,8 @@ impl Colours {
     pub fn colour(&self, p: ProcId) -> u32
         requires { p < length self.now }
         ensures value { result ≡ (turned_at self.now p).colour }
-        ensures colour { (history : List Process) → AreTurned history self.now → result ≡ colour (tape_at history p) }
+        ensures colour { (history : List Process) → AreTurned history self.now
+            → result ≡ colour (tape_at history p) }
     {
         let process = &self.processes[p.get() as usize];
         process.colour.now()
@@ -137,8 +145,10 @@ impl Colours {
     pub fn before_receive(&self, to: ProcId, message: &MsgName) -> Option<u32>
         requires from { message.now.from < length self.now }
         requires to { to < length self.now }
-        ensures { (history : List Process) → AreTurned history self.now → AreColoured history → Events.Holds (tape_at history message.now.from) message.now.inc message.now.number
-            → SomeIff result (colour (tape_at history to) < message_colour history message.now) (message_colour history message.now) }
+        ensures { (history : List Process) → AreTurned history self.now → AreColoured history
+            → Events.Holds (tape_at history message.now.from) message.now.inc message.now.number
+            → SomeIff result (colour (tape_at history to) < message_colour history message.now)
+            (message_colour history message.now) }
     {
         let sender = &self.processes[message.from.get() as usize];
         let colour = sender.colour_at(message.number);
@@ -153,7 +163,9 @@ impl Colours {
     pub fn turn(&mut self, p: ProcId, round: u32, sends: u32) -> Result<(), AllocError>
         requires p { p < length self.old }
         requires greater { (turned_at self.old p).colour < round }
-        ensures ok { OnOk result ((history : List Process) (state : List ℕ) → AreTurned history self.old → sends ≡ Events.sends (tape_at history p)
+        ensures ok { OnOk result
+            ((history : List Process) (state : List ℕ) → AreTurned history self.old
+            → sends ≡ Events.sends (tape_at history p)
             → AreTurned (with_event history p (Check state (Some round))) self.new) }
         ensures err { OnErr result (self.new ≡ self.old) }
         ensures count { length self.new ≡ length self.old }
@@ -164,7 +176,8 @@ impl Colours {
     /// The processes are restarted: no check is of a round any longer, and all colours are 0. It
     /// takes constant time for each process, and no memory.
     pub fn clear(&mut self)
-        ensures restart { (history : List Process) (line : List Choice) → length line ≡ length history → AreTurned history self.old
+        ensures restart { (history : List Process) (line : List Choice)
+            → length line ≡ length history → AreTurned history self.old
             → AreTurned (restarted history line) self.new }
         ensures count { length self.new ≡ length self.old }
     {

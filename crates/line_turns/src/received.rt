@@ -1,5 +1,6 @@
 //! Which of the messages that the tapes hold are received.
-ghost use Rattle.std.specs.Prelude.{◌≡◌, ◌<◌, ◌≤◌, ◌&&◌, not, ℕ, List, [], false, All, length, replicate, slice_index_or, slice_set, take, IfOk, OnOk, OnErr};
+ghost use Rattle.std.specs.Prelude.{◌≡◌, ◌<◌, ◌≤◌, ◌&&◌, not, ℕ, List, [], false, All, length};
+ghost use Rattle.std.specs.Prelude.{replicate, slice_index_or, slice_set, take, IfOk, OnOk, OnErr};
 ghost use Rattle.line_names.specs.declared.messages.MsgName.{MsgName as Name};
 ghost use Rattle.line_tape.specs.declared.events.Event.TheVariants.{Send, Recv};
 ghost use Rattle.line_tape.specs.Event as Events;
@@ -108,7 +109,8 @@ impl ReceivedSends {
     pub fn has(&self, message: &MsgName) -> bool
         requires { message.now.from < length self.now }
         ensures { (history : List Process) (to : ℕ) → AreFlagged history self.now
-            → IsSentTo history to message.now → result ≡ has_received (tape_at history to) message.now }
+            → IsSentTo history to message.now
+            → result ≡ has_received (tape_at history to) message.now }
     {
         self.processes[message.from.get() as usize].is_set(message.number)
     }
@@ -148,7 +150,8 @@ impl ReceivedSends {
         requires line { IsLine history.now.processes line.now }
         requires count { length self.old ≡ length history.now.processes }
         ensures cut { (p : ℕ) → p < length self.old → flags_of self.new p
-            ≡ take (Events.sends (events_before history.now.processes line.now p)) (flags_of self.old p) }
+            ≡ take (Events.sends (events_before history.now.processes line.now p))
+            (flags_of self.old p) }
         ensures count { length self.new ≡ length self.old }
     {
         let n = history.n();

@@ -1,5 +1,6 @@
 //! A round of colours that is open.
-ghost use Rattle.std.specs.Prelude.{◌≡◌, ◌≢◌, ◌<◌, ◌≤◌, ◌+◌, ◌↔◌, ℕ, List, false, IfOk, IsTrue, length, replicate, Some};
+ghost use Rattle.std.specs.Prelude.{◌≡◌, ◌≢◌, ◌<◌, ◌≤◌, ◌+◌, ◌↔◌, ℕ, List, false, IfOk, IsTrue};
+ghost use Rattle.std.specs.Prelude.{length, replicate, Some};
 ghost use Rattle.line_tape.specs.declared.events.Event.TheVariants.{Check};
 ghost use Rattle.line_tape.specs.Event.{checks};
 ghost use Rattle.line_tape.specs.History.{Process, tape_at, with_event};
@@ -53,7 +54,8 @@ impl Turning {
         ensures number { IfOk result (λ turning. turning.number ≡ number) }
         ensures checks { IfOk result (λ turning. turning.checks ≡ replicate n 0) }
         ensures turning { IfOk result (λ turning. (history : List Process) → length history ≡ n
-            → ((q : ℕ) → has_check_of number (tape_at history q) ≡ false) → IsTurning history turning) }
+            → ((q : ℕ) → has_check_of number (tape_at history q) ≡ false)
+            → IsTurning history turning) }
     {
         let checks = no_checks(alloc, n)?;
         Ok(Turning { number, checks })
@@ -69,7 +71,8 @@ impl Turning {
     /// Whether a process has its check of the round. It takes constant time.
     pub fn has_check(&self, p: ProcId) -> bool
         requires { p < length self.now.checks }
-        ensures { (history : List Process) → IsTurning history self.now → result ≡ has_check_of self.now.number (tape_at history p) }
+        ensures { (history : List Process) → IsTurning history self.now
+            → result ≡ has_check_of self.now.number (tape_at history p) }
     {
         self.checks[p.get() as usize] != 0
     }
@@ -78,7 +81,9 @@ impl Turning {
     /// round. It looks once at each process.
     pub fn is_last(&self, p: ProcId) -> bool
         ensures { (history : List Process) → IsTurning history self.now
-            → (IsTrue result ↔ ((q : ℕ) → q < length history → q ≢ p → IsTrue (has_check_of self.now.number (tape_at history q)))) }
+            → (IsTrue result
+            ↔ ((q : ℕ) → q < length history → q ≢ p
+            → IsTrue (has_check_of self.now.number (tape_at history q)))) }
     {
         for (q, check) in self.checks.iter().enumerate() {
             if q != p.get() as usize && *check == 0 {
@@ -108,8 +113,10 @@ impl Turning {
         requires { p < length self.old.checks }
         ensures number { self.new.number ≡ self.old.number }
         ensures count { length self.new.checks ≡ length self.old.checks }
-        ensures turning { (history : List Process) (state : List ℕ) → IsTurning history self.old → has_check_of self.old.number (tape_at history p) ≡ false
-            → index ≡ checks (tape_at history p) + 1 → IsTurning (with_event history p (Check state (Some self.old.number))) self.new }
+        ensures turning { (history : List Process) (state : List ℕ) → IsTurning history self.old
+            → has_check_of self.old.number (tape_at history p) ≡ false
+            → index ≡ checks (tape_at history p) + 1
+            → IsTurning (with_event history p (Check state (Some self.old.number))) self.new }
     {
         self.checks[p.get() as usize] = index;
     }

@@ -3,7 +3,7 @@ use Rattle.std.specs.Prelude.{ℕ}
 use Rattle.line_world.specs.declared.replies.StepError.{StepError}
 use Rattle.line_world.specs.declared.replies.StepError.TheVariants as errors
 
--- the number of a refusal, 0 for want of memory
+-- the number of a refusal, 0 for out of memory
 abbrev pub refusal_code : StepError → ℕ
 refusal_code errors.OutOfMemory = 0
 refusal_code errors.NoSuchProcess = 1

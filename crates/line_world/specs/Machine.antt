@@ -1,4 +1,7 @@
--- The machine's state: what each process did, which checks are damaged, where it is barred, and which rounds were completed. What the links hold is read off it where they keep their order (Chandy and Lamport, ACM TOCS 3(1), 1985); else they deliver in any order, as Lai and Yang allow (Information Processing Letters 25(3), 1987), and then each holds copies.
+-- The machine's state: what each process did, which checks are damaged, where it is barred, and
+-- which rounds were completed. What the links hold is read off it where they keep their order
+-- (Chandy and Lamport, ACM TOCS 3(1), 1985); else they deliver in any order, as Lai and Yang allow
+-- (Information Processing Letters 25(3), 1987), and then each holds copies.
 use Rattle.std.specs.Prelude.{ℕ, Bool, not, ◌&&◌, List, [], ◌∷◌, ◌++◌, replicate}
 use Rattle.line_tape.specs.declared.events.Event.{Event}
 use Rattle.line_names.specs.declared.messages.MsgName.{MsgName}
@@ -42,7 +45,8 @@ items_on machine p q = items_in machine.mode machine.history machine.copies p q
 abbrev pub IsFit : Machine → Type 0
 IsFit machine = IsFitIn machine.mode machine.history
 
--- the machine with more events of process p, where `last` is then the last round begun; it is listed if these events complete it
+-- the machine with more events of process p, where `last` is then the last round begun; it is
+-- listed if these events complete it
 abbrev pub with_step : Machine → ℕ → List Event → ℕ → Machine
 with_step machine p events last =
     let new = with_events machine.history p events in
@@ -54,9 +58,14 @@ with_step machine p events last =
 
 -- a round is open: the last one was begun since the last restart, and isn't completed
 abbrev pub is_open : Machine → Bool
-is_open machine = is_begun machine.history machine.last_round && not (is_completed machine.mode machine.history machine.last_round)
+is_open machine =
+    is_begun machine.history machine.last_round
+    && not (is_completed machine.mode machine.history machine.last_round)
 
 -- the machine with one more copy from process p to q, which isn't kept in `Fifo`
 abbrev pub with_copy : Machine → ℕ → ℕ → MsgName → Machine
 with_copy machine p q message =
-    record machine { copies = copies_in machine.mode (with_list machine.copies p q (between machine.copies p q ++ message ∷ [])) }
+    record machine {
+      copies = copies_in machine.mode
+          (with_list machine.copies p q (between machine.copies p q ++ message ∷ []));
+    }

@@ -1,5 +1,7 @@
 -- What refuses a step: the first cause that holds.
-use Rattle.std.specs.Prelude.{◌≡◌, ℕ, ◌+◌, ◌-◌, Bool, false, not, ◌||◌, ◌&&◌, ◌==◌, nat_lt, nat_le, if◌then◌else◌, List, [], ◌∷◌, ◌++◌, length, slice_get, Option, Some, None}
+use Rattle.std.specs.Prelude.{◌≡◌, ℕ, ◌+◌, ◌-◌, Bool, false, not, ◌||◌, ◌&&◌, ◌==◌, nat_lt, nat_le}
+use Rattle.std.specs.Prelude.{if◌then◌else◌, List, [], ◌∷◌, ◌++◌, length, slice_get, Option, Some}
+use Rattle.std.specs.Prelude.{None}
 use Rattle.std.specs.List.{list_any, range_with_len}
 use Rattle.line_names.specs.declared.choices.Choice.{Choice}
 use Rattle.line_names.specs.declared.limits.TheConstants.{MOST_PROCESSES}
@@ -14,9 +16,16 @@ use Rattle.line_tape.specs.Survival.{is_barred, is_damaged, IsLatest}
 use Rattle.line_moves.specs.declared.modes.Mode.{Mode}
 use Rattle.line_moves.specs.declared.modes.Mode.TheVariants.{Fifo, Unordered}
 use Rattle.line_world.specs.declared.steps.Step.{Step}
-use Rattle.line_world.specs.declared.steps.Step.TheVariants.{Send, Deliver, Check, Begin, Turn, Damage, Bar, Recover}
+use Rattle.line_world.specs.declared.steps.Step.TheVariants.{Send, Deliver, Check, Begin, Turn}
+use Rattle.line_world.specs.declared.steps.Step.TheVariants.{Damage, Bar, Recover}
 use Rattle.line_world.specs.declared.replies.StepError.{StepError}
-use Rattle.line_world.specs.declared.replies.StepError.TheVariants.{NoSuchProcess, TapeFull, NoSuchCheck, StateTooLong, InitialDamage, AlreadyDamaged, ToSelf, LinkEmpty, BadPick, RoundOpen, NothingToTurn, WrongMode, NoMoreRounds, NoMoreIncarnations, BarNotLower}
+use Rattle.line_world.specs.declared.replies.StepError.TheVariants.{NoSuchProcess, TapeFull}
+use Rattle.line_world.specs.declared.replies.StepError.TheVariants.{NoSuchCheck, StateTooLong}
+use Rattle.line_world.specs.declared.replies.StepError.TheVariants.{InitialDamage, AlreadyDamaged}
+use Rattle.line_world.specs.declared.replies.StepError.TheVariants.{ToSelf, LinkEmpty, BadPick}
+use Rattle.line_world.specs.declared.replies.StepError.TheVariants.{RoundOpen, NothingToTurn}
+use Rattle.line_world.specs.declared.replies.StepError.TheVariants.{WrongMode, NoMoreRounds}
+use Rattle.line_world.specs.declared.replies.StepError.TheVariants.{NoMoreIncarnations, BarNotLower}
 use Rattle.line_moves.specs.Fates.{events_taken}
 use Rattle.line_moves.specs.Modes.{is_fifo}
 use Rattle.line_world.specs.Machine.{Machine, items_on, is_open}
@@ -32,7 +41,9 @@ is_stranger machine p = nat_le (length machine.history) p
 
 -- a member of the set is no process
 abbrev pub has_stranger : Machine → List Bool → Bool
-has_stranger machine set = list_any (is_member set) (range_with_len (length machine.history) (MOST_PROCESSES - length machine.history))
+has_stranger machine set =
+    list_any (is_member set)
+    (range_with_len (length machine.history) (MOST_PROCESSES - length machine.history))
 
 -- the bytes are too many for a state
 abbrev pub is_long : List ℕ → Bool
@@ -50,11 +61,13 @@ is_bad_pick Unordered items pick = nat_le (length items) pick
 -- the tape of process `to` has no room for all events of the item that is picked
 abbrev pub is_full_for : Machine → ℕ → ℕ → List ℕ → Option Item → Bool
 is_full_for machine from to state None = false
-is_full_for machine from to state (Some item) = is_full machine to (length (events_taken machine.mode machine.history from to state item))
+is_full_for machine from to state (Some item) =
+    is_full machine to (length (events_taken machine.mode machine.history from to state item))
 
 -- a round is open of which process p has no check yet
 abbrev pub may_turn : Machine → ℕ → Bool
-may_turn machine p = is_open machine && not (has_check_of machine.last_round (tape_at machine.history p))
+may_turn machine p =
+    is_open machine && not (has_check_of machine.last_round (tape_at machine.history p))
 
 -- what refuses a delivery, whatever the item would have the process do
 abbrev pub link_causes : Machine → ℕ → ℕ → ℕ → List ℕ → List (Bool × StepError)
@@ -75,7 +88,10 @@ refusal_of machine (Send from to body) =
     ∷ (is_full machine from 1, TapeFull)
     ∷ [])
 refusal_of machine (Deliver from to pick state) =
-    first_cause (link_causes machine from to pick state ++ (is_full_for machine from to state (slice_get (items_on machine from to) pick), TapeFull) ∷ [])
+    first_cause
+    (link_causes machine from to pick state
+    ++ (is_full_for machine from to state (slice_get (items_on machine from to) pick), TapeFull)
+    ∷ [])
 refusal_of machine (Check at state) =
     first_cause (
     (is_stranger machine at, NoSuchProcess)
@@ -111,7 +127,8 @@ refusal_of machine (Bar at check) =
     ∷ (nat_lt (checks (tape_at machine.history at)) check, NoSuchCheck)
     ∷ (is_barred machine.marks at check, BarNotLower)
     ∷ [])
-refusal_of machine (Recover failed) = first_cause ((has_stranger machine failed, NoSuchProcess) ∷ [])
+refusal_of machine (Recover failed) =
+    first_cause ((has_stranger machine failed, NoSuchProcess) ∷ [])
 
 -- the latest line takes a process back that has no further incarnation
 pub record IsSpent (machine : Machine) (failed : List Bool) : Type 0 where
@@ -119,7 +136,8 @@ pub record IsSpent (machine : Machine) (failed : List Bool) : Type 0 where
   pub latest : IsLatest machine.history machine.marks failed line
   pub spent : HaveFurther machine.history line → ⊥
 
--- a cause that takes a plan to tell: a Recover that names only processes is refused by want of incarnations alone
+-- a cause that takes a plan to tell: a Recover that names only processes is refused by want of
+-- incarnations alone
 abbrev pub IsLateCause : Machine → Step → StepError → Type 0
 IsLateCause machine (Recover failed) NoMoreIncarnations = IsSpent machine failed
 IsLateCause machine step e = ⊥

@@ -19,12 +19,14 @@ Takes old step (Refused e) new = IsRefused old step e (refusal_of old step) × (
 -- the machine may give these answers to these steps, one after another
 abbrev pub Run : Machine → List Step → List Answer → Machine → Type 0
 Run old [] [] new = new ≡ old
-Run old (step ∷ steps) (answer ∷ answers) new = (mid : Machine) × Takes old step answer mid × Run mid steps answers new
+Run old (step ∷ steps) (answer ∷ answers) new =
+    (mid : Machine) × Takes old step answer mid × Run mid steps answers new
 Run old [] (answer ∷ answers) new = ⊥
 Run old (step ∷ steps) [] new = ⊥
 
 -- a run of some steps and of more: the answers and the machine between
-pub record IsParted (old : Machine) (steps more : List Step) (answers : List Answer) (new : Machine) : Type 0 where
+pub record IsParted (old : Machine) (steps more : List Step) (answers : List Answer)
+    (new : Machine) : Type 0 where
   pub first : List Answer
   pub rest : List Answer
   pub all : answers ≡ first ++ rest

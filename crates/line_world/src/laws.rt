@@ -26,12 +26,16 @@ pub fn runs_name_apart()
 /// A run can be parted after any of its steps into two runs, so each state inside it is one that a
 /// run leads to. The call does nothing: its contract is the law.
 pub fn runs_keep_rounds()
-    ensures sound { (n : ℕ) (mode : Mode) (steps : List Step) (answers : List Answer) (machine : Machine)
+    ensures sound { (n : ℕ) (mode : Mode) (steps : List Step) (answers : List Answer)
+        (machine : Machine)
         → Run (start n mode) steps answers machine → IsSound machine }
-    ensures last { (n : ℕ) (mode : Mode) (steps : List Step) (answers : List Answer) (old : Machine) (step : Step) (answer : Answer) (new : Machine)
+    ensures last { (n : ℕ) (mode : Mode) (steps : List Step) (answers : List Answer) (old : Machine)
+        (step : Step) (answer : Answer) (new : Machine)
         → Run (start n mode) steps answers old → Takes old step answer new → CompletesLast old new }
-    ensures recovered { (n : ℕ) (mode : Mode) (steps : List Step) (answers : List Answer) (old : Machine) (step : Step) (answer : Answer) (new : Machine)
-        → Run (start n mode) steps answers old → Takes old step answer new → ReachesRounds old step answer }
+    ensures recovered { (n : ℕ) (mode : Mode) (steps : List Step) (answers : List Answer)
+        (old : Machine) (step : Step) (answer : Answer) (new : Machine)
+        → Run (start n mode) steps answers old → Takes old step answer new
+        → ReachesRounds old step answer }
     ensures parts { (old : Machine) (steps more : List Step) (answers : List Answer) (new : Machine)
         → Run old (steps ++ more) answers new → IsParted old steps more answers new }
 {}

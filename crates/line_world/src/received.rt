@@ -30,7 +30,8 @@ pub(crate) fn reserve_flag(
     requires flagged { AreFlaggedIn mode history.now.processes received.old }
     ensures same { AreFlaggedIn mode history.now.processes received.new }
     ensures ok { OnOk result ((to inc : ℕ) (body : List ℕ)
-        → AreFlaggedIn mode (with_event history.now.processes from (Send to inc body)) received.new) }
+        → AreFlaggedIn mode (with_event history.now.processes from (Send to inc body))
+        received.new) }
 {
     match mode {
         Mode::Fifo => Ok(()),
@@ -42,7 +43,8 @@ pub(crate) fn reserve_flag(
 pub(crate) fn set_flag(mode: Mode, received: &mut ReceivedSends, message: &MsgName)
     requires { mode ≡ Unordered → message.now.from < length received.old }
     ensures { (history : List Process) (to : ℕ) → to < length history
-        → (mode ≡ Unordered → IsSentTo history to message.now) → AreFlaggedIn mode history received.old
+        → (mode ≡ Unordered → IsSentTo history to message.now)
+        → AreFlaggedIn mode history received.old
         → AreFlaggedIn mode (with_event history to (Recv message.now)) received.new }
 {
     match mode {

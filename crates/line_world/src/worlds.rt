@@ -1,5 +1,6 @@
 //! The world: the machine that answers steps.
-ghost use Rattle.std.specs.Prelude.{◌≡◌, ◌≢◌, ◌<◌, ◌≤◌, ◌↔◌, ◌⊎◌, All, AllPairs, None, length, take, slice_get, IfOk, IfErr, IsErrOf, IsTrue};
+ghost use Rattle.std.specs.Prelude.{◌≡◌, ◌≢◌, ◌<◌, ◌≤◌, ◌↔◌, ◌⊎◌, All, AllPairs, None, length};
+ghost use Rattle.std.specs.Prelude.{take, slice_get, IfOk, IfErr, IsErrOf, IsTrue};
 ghost use Rattle.line_tape.specs.History.{incarnation_at};
 ghost use Rattle.line_world.specs.declared.replies.Answer.TheVariants.{Done, Refused};
 ghost use Rattle.line_world.specs.declared.steps.Step.TheVariants.{Send, Check, Damage, Bar};
@@ -71,7 +72,8 @@ impl Model for World {
     } };
 
     ghost invariant = { λ w. IsWorld w.mode w.catalogue.processes w.links
-        × AreRounds w.mode w.catalogue.processes w.last_round (opened w.mode w.running w.turning) w.rounds.items
+        × AreRounds w.mode w.catalogue.processes w.last_round (opened w.mode w.running w.turning)
+        w.rounds.items
         × ArePainted w.mode w.catalogue.processes w.colours
         × AreFlaggedIn w.mode w.catalogue.processes w.received };
 }
@@ -161,10 +163,14 @@ impl World {
     /// Sends a message.
     fn send(&mut self, from: ProcId, to: ProcId, body: &[u8]) -> Result<Reply, StepError>
         requires short { length body.now ≤ MOST_BODY }
-        ensures done { IfOk result (λ reply. Takes self.old (Send from to body.now) (Done reply) self.new) }
-        ensures refused { IfErr result (λ e. e ≢ StepError.OutOfMemory → Takes self.old (Send from to body.now) (Refused e) self.new) }
+        ensures done { IfOk result
+            (λ reply. Takes self.old (Send from to body.now) (Done reply) self.new) }
+        ensures refused { IfErr result
+            (λ e. e ≢ StepError.OutOfMemory
+            → Takes self.old (Send from to body.now) (Refused e) self.new) }
         ensures memory { IsErrOf result StepError.OutOfMemory → self.new ≡ self.old }
-        ensures unrefused { IsErrOf result StepError.OutOfMemory → refusal_of self.old (Send from to body.now) ≡ None }
+        ensures unrefused { IsErrOf result StepError.OutOfMemory
+            → refusal_of self.old (Send from to body.now) ≡ None }
     {
         if let Some(e) = self.send_refusal(from, to) {
             return Err(e);
@@ -177,10 +183,14 @@ impl World {
 
     /// Takes a check.
     fn check(&mut self, alloc: Global, at: ProcId, state: &[u8]) -> Result<Reply, StepError>
-        ensures done { IfOk result (λ reply. Takes self.old (Check at state.now) (Done reply) self.new) }
-        ensures refused { IfErr result (λ e. e ≢ StepError.OutOfMemory → Takes self.old (Check at state.now) (Refused e) self.new) }
+        ensures done { IfOk result
+            (λ reply. Takes self.old (Check at state.now) (Done reply) self.new) }
+        ensures refused { IfErr result
+            (λ e. e ≢ StepError.OutOfMemory
+            → Takes self.old (Check at state.now) (Refused e) self.new) }
         ensures memory { IsErrOf result StepError.OutOfMemory → self.new ≡ self.old }
-        ensures unrefused { IsErrOf result StepError.OutOfMemory → refusal_of self.old (Check at state.now) ≡ None }
+        ensures unrefused { IsErrOf result StepError.OutOfMemory
+            → refusal_of self.old (Check at state.now) ≡ None }
     {
         if let Some(e) = self.check_refusal(at, state) {
             return Err(e);
@@ -192,10 +202,14 @@ impl World {
 
     /// Marks a check as damaged.
     fn damage(&mut self, at: ProcId, check: u32) -> Result<Reply, StepError>
-        ensures done { IfOk result (λ reply. Takes self.old (Damage at check) (Done reply) self.new) }
-        ensures refused { IfErr result (λ e. e ≢ StepError.OutOfMemory → Takes self.old (Damage at check) (Refused e) self.new) }
+        ensures done { IfOk result
+            (λ reply. Takes self.old (Damage at check) (Done reply) self.new) }
+        ensures refused { IfErr result
+            (λ e. e ≢ StepError.OutOfMemory
+            → Takes self.old (Damage at check) (Refused e) self.new) }
         ensures memory { IsErrOf result StepError.OutOfMemory → self.new ≡ self.old }
-        ensures unrefused { IsErrOf result StepError.OutOfMemory → refusal_of self.old (Damage at check) ≡ None }
+        ensures unrefused { IsErrOf result StepError.OutOfMemory
+            → refusal_of self.old (Damage at check) ≡ None }
     {
         if at.get() >= self.catalogue.n() {
             return Err(StepError::NoSuchProcess);
@@ -210,9 +224,11 @@ impl World {
     /// Bars a process at a check.
     fn bar(&mut self, at: ProcId, check: u32) -> Result<Reply, StepError>
         ensures done { IfOk result (λ reply. Takes self.old (Bar at check) (Done reply) self.new) }
-        ensures refused { IfErr result (λ e. e ≢ StepError.OutOfMemory → Takes self.old (Bar at check) (Refused e) self.new) }
+        ensures refused { IfErr result
+            (λ e. e ≢ StepError.OutOfMemory → Takes self.old (Bar at check) (Refused e) self.new) }
         ensures memory { IsErrOf result StepError.OutOfMemory → self.new ≡ self.old }
-        ensures unrefused { IsErrOf result StepError.OutOfMemory → refusal_of self.old (Bar at check) ≡ None }
+        ensures unrefused { IsErrOf result StepError.OutOfMemory
+            → refusal_of self.old (Bar at check) ≡ None }
     {
         if at.get() >= self.catalogue.n() {
             return Err(StepError::NoSuchProcess);
@@ -227,9 +243,13 @@ impl World {
     /// It costs what `line_plan::plan` does.
     pub fn plan_for(&self, alloc: Global, failed: &ProcSet) -> Result<Plan, StepError>
         ensures plan { IfOk result (λ plan. IsPlan self.now failed.now plan) }
-        ensures rounds { IfOk result (λ plan. All (IsReached self.now.history self.now.marks failed.now plan.line) self.now.rounds) }
-        ensures stranger { IsErrOf result StepError.NoSuchProcess ↔ IsTrue (has_stranger self.now failed.now) }
-        ensures others { IfErr result (λ e. (e ≡ StepError.NoSuchProcess) ⊎ (e ≡ StepError.OutOfMemory)) }
+        ensures rounds { IfOk result
+            (λ plan. All (IsReached self.now.history self.now.marks failed.now plan.line)
+            self.now.rounds) }
+        ensures stranger { IsErrOf result StepError.NoSuchProcess
+            ↔ IsTrue (has_stranger self.now failed.now) }
+        ensures others { IfErr result
+            (λ e. (e ≡ StepError.NoSuchProcess) ⊎ (e ≡ StepError.OutOfMemory)) }
     {
         if self.has_stranger(failed) {
             return Err(StepError::NoSuchProcess);
@@ -252,9 +272,11 @@ impl World {
     ///   since the last recovery, and at each message in transit.
     pub fn step(&mut self, alloc: Global, step: &Step) -> Result<Reply, StepError>
         ensures done { IfOk result (λ reply. Takes self.old step.now (Done reply) self.new) }
-        ensures refused { IfErr result (λ e. e ≢ StepError.OutOfMemory → Takes self.old step.now (Refused e) self.new) }
+        ensures refused { IfErr result
+            (λ e. e ≢ StepError.OutOfMemory → Takes self.old step.now (Refused e) self.new) }
         ensures memory { IsErrOf result StepError.OutOfMemory → self.new ≡ self.old }
-        ensures unrefused { IsErrOf result StepError.OutOfMemory → refusal_of self.old step.now ≡ None }
+        ensures unrefused { IsErrOf result StepError.OutOfMemory
+            → refusal_of self.old step.now ≡ None }
     {
         // Each arm lends its bytes at once: made into a `StepRef` first, a step takes some 80
         // instructions more.
@@ -278,10 +300,14 @@ impl World {
     /// Takes one step as `step` does, and at its cost. What the step carries is lent.
     pub fn step_lent(&mut self, alloc: Global, step: &StepRef<'_>) -> Result<Reply, StepError>
         requires short { HasShortBody step.now }
-        ensures done { IfOk result (λ reply. Takes self.old (shown step.now) (Done reply) self.new) }
-        ensures refused { IfErr result (λ e. e ≢ StepError.OutOfMemory → Takes self.old (shown step.now) (Refused e) self.new) }
+        ensures done { IfOk result
+            (λ reply. Takes self.old (shown step.now) (Done reply) self.new) }
+        ensures refused { IfErr result
+            (λ e. e ≢ StepError.OutOfMemory
+            → Takes self.old (shown step.now) (Refused e) self.new) }
         ensures memory { IsErrOf result StepError.OutOfMemory → self.new ≡ self.old }
-        ensures unrefused { IsErrOf result StepError.OutOfMemory → refusal_of self.old (shown step.now) ≡ None }
+        ensures unrefused { IsErrOf result StepError.OutOfMemory
+            → refusal_of self.old (shown step.now) ≡ None }
     {
         match step {
             StepRef::Send { from, to, body } => self.send(*from, *to, body),
@@ -306,7 +332,9 @@ impl World {
     /// runs out, and the world is then as the steps before that one leave it.
     pub fn run(&mut self, alloc: Global, steps: &[Step]) -> Result<Vec<Answer>, RunStopped>
         ensures done { IfOk result (λ answers. Run self.old steps.now answers.items self.new) }
-        ensures stopped { IfErr result (λ stopped. Run self.old (take (length stopped.done.items) steps.now) stopped.done.items self.new) }
+        ensures stopped { IfErr result
+            (λ stopped. Run self.old (take (length stopped.done.items) steps.now) stopped.done.items
+            self.new) }
         ensures short { IfErr result (λ stopped. length stopped.done.items < length steps.now) }
     {
         let mut done = match Vec::with_capacity(alloc, steps.len()) {

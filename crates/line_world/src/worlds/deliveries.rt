@@ -1,5 +1,6 @@
 //! How a world delivers what is on a link.
-ghost use Rattle.std.specs.Prelude.{◌≡◌, ◌≢◌, ◌<◌, Some, None, length, slice_get, IfOk, IfErr, IsErrOf};
+ghost use Rattle.std.specs.Prelude.{◌≡◌, ◌≢◌, ◌<◌, Some, None, length, slice_get, IfOk, IfErr};
+ghost use Rattle.std.specs.Prelude.{IsErrOf};
 ghost use Rattle.line_world.specs.declared.replies.Answer.TheVariants.{Done, Refused};
 ghost use Rattle.line_world.specs.declared.steps.Step.TheVariants.{Deliver};
 ghost use Rattle.line_tape.specs.declared.items.Item.TheVariants.{Message, Marker};
@@ -61,11 +62,13 @@ impl World {
         requires picked { slice_get (items_on self.old from to) pick ≡ Some (Message message.now) }
         requires taken { fate_of self.old.mode self.old.history to message.now ≡ IsTaken }
         requires unforced { forced_round self.old.mode self.old.history to message.now ≡ None }
-        ensures done { IfOk result (λ reply. Takes self.old (Deliver from to pick _state.now) (Done reply) self.new) }
+        ensures done { IfOk result
+            (λ reply. Takes self.old (Deliver from to pick _state.now) (Done reply) self.new) }
         ensures refused { IfErr result (λ e. e ≢ StepError.OutOfMemory
             → Takes self.old (Deliver from to pick _state.now) (Refused e) self.new) }
         ensures memory { IsErrOf result StepError.OutOfMemory → self.new ≡ self.old }
-        ensures unrefused { IsErrOf result StepError.OutOfMemory → refusal_of self.old (Deliver from to pick _state.now) ≡ None }
+        ensures unrefused { IsErrOf result StepError.OutOfMemory
+            → refusal_of self.old (Deliver from to pick _state.now) ≡ None }
     {
         let _history = self.catalogue.history();
         if self.is_full(to, 1) {
@@ -103,11 +106,13 @@ impl World {
         requires picked { slice_get (items_on self.old from to) pick ≡ Some (Message message.now) }
         requires taken { fate_of self.old.mode self.old.history to message.now ≡ IsTaken }
         requires forced { forced_round self.old.mode self.old.history to message.now ≡ Some round }
-        ensures done { IfOk result (λ reply. Takes self.old (Deliver from to pick state.now) (Done reply) self.new) }
+        ensures done { IfOk result
+            (λ reply. Takes self.old (Deliver from to pick state.now) (Done reply) self.new) }
         ensures refused { IfErr result (λ e. e ≢ StepError.OutOfMemory
             → Takes self.old (Deliver from to pick state.now) (Refused e) self.new) }
         ensures memory { IsErrOf result StepError.OutOfMemory → self.new ≡ self.old }
-        ensures unrefused { IsErrOf result StepError.OutOfMemory → refusal_of self.old (Deliver from to pick state.now) ≡ None }
+        ensures unrefused { IsErrOf result StepError.OutOfMemory
+            → refusal_of self.old (Deliver from to pick state.now) ≡ None }
     {
         let _history = self.catalogue.history();
         if self.is_full(to, 2) {
@@ -144,11 +149,13 @@ impl World {
     ) -> Result<Reply, StepError>
         requires passed { first_cause (link_causes self.old from to pick state.now) ≡ None }
         requires picked { slice_get (items_on self.old from to) pick ≡ Some (Message message.now) }
-        ensures done { IfOk result (λ reply. Takes self.old (Deliver from to pick state.now) (Done reply) self.new) }
+        ensures done { IfOk result
+            (λ reply. Takes self.old (Deliver from to pick state.now) (Done reply) self.new) }
         ensures refused { IfErr result (λ e. e ≢ StepError.OutOfMemory
             → Takes self.old (Deliver from to pick state.now) (Refused e) self.new) }
         ensures memory { IsErrOf result StepError.OutOfMemory → self.new ≡ self.old }
-        ensures unrefused { IsErrOf result StepError.OutOfMemory → refusal_of self.old (Deliver from to pick state.now) ≡ None }
+        ensures unrefused { IsErrOf result StepError.OutOfMemory
+            → refusal_of self.old (Deliver from to pick state.now) ≡ None }
     {
         let _n = self.catalogue.n();
         let history = self.catalogue.history();
@@ -175,11 +182,13 @@ impl World {
         requires mode { self.old.mode ≡ Fifo }
         requires passed { first_cause (link_causes self.old from to 0 state.now) ≡ None }
         requires picked { slice_get (items_on self.old from to) 0 ≡ Some (Marker round) }
-        ensures done { IfOk result (λ reply. Takes self.old (Deliver from to 0 state.now) (Done reply) self.new) }
+        ensures done { IfOk result
+            (λ reply. Takes self.old (Deliver from to 0 state.now) (Done reply) self.new) }
         ensures refused { IfErr result (λ e. e ≢ StepError.OutOfMemory
             → Takes self.old (Deliver from to 0 state.now) (Refused e) self.new) }
         ensures memory { IsErrOf result StepError.OutOfMemory → self.new ≡ self.old }
-        ensures unrefused { IsErrOf result StepError.OutOfMemory → refusal_of self.old (Deliver from to 0 state.now) ≡ None }
+        ensures unrefused { IsErrOf result StepError.OutOfMemory
+            → refusal_of self.old (Deliver from to 0 state.now) ≡ None }
     {
         let _n = self.catalogue.n();
         let forced = is_forced(&self.running, self.catalogue.history(), from, to, round);
@@ -213,11 +222,13 @@ impl World {
         pick: u64,
         state: &[u8],
     ) -> Result<Reply, StepError>
-        ensures done { IfOk result (λ reply. Takes self.old (Deliver from to pick state.now) (Done reply) self.new) }
+        ensures done { IfOk result
+            (λ reply. Takes self.old (Deliver from to pick state.now) (Done reply) self.new) }
         ensures refused { IfErr result (λ e. e ≢ StepError.OutOfMemory
             → Takes self.old (Deliver from to pick state.now) (Refused e) self.new) }
         ensures memory { IsErrOf result StepError.OutOfMemory → self.new ≡ self.old }
-        ensures unrefused { IsErrOf result StepError.OutOfMemory → refusal_of self.old (Deliver from to pick state.now) ≡ None }
+        ensures unrefused { IsErrOf result StepError.OutOfMemory
+            → refusal_of self.old (Deliver from to pick state.now) ≡ None }
     {
         if let Some(e) = self.link_refusal(from, to, pick, state) {
             return Err(e);

@@ -21,8 +21,10 @@ impl World {
     #[inline(never)]
     fn boxed_plan_for(&self, alloc: Global, failed: &ProcSet) -> Result<Box<Plan>, StepError>
         ensures plan { IfOk result (λ plan. IsPlan self.now failed.now plan.value) }
-        ensures stranger { IsErrOf result StepError.NoSuchProcess ↔ IsTrue (has_stranger self.now failed.now) }
-        ensures others { IfErr result (λ e. (e ≡ StepError.NoSuchProcess) ⊎ (e ≡ StepError.OutOfMemory)) }
+        ensures stranger { IsErrOf result StepError.NoSuchProcess
+            ↔ IsTrue (has_stranger self.now failed.now) }
+        ensures others { IfErr result
+            (λ e. (e ≡ StepError.NoSuchProcess) ⊎ (e ≡ StepError.OutOfMemory)) }
     {
         let plan = self.plan_for(alloc, failed)?;
         let plan = Box::new(alloc, plan).map_err(AllocError::from)?;
@@ -38,8 +40,11 @@ impl World {
     ) -> Result<(Vec<Option<State>>, Vec<u16>), StepError>
         requires known { has_stranger self.old _failed.now ≡ false }
         requires plan { IsPlan self.old _failed.now plan.now }
-        ensures done { IfOk result (λ told. Recovers self.old _failed.now plan.now told.0.items told.1.items self.new) }
-        ensures refused { IfErr result (λ e. e ≢ StepError.OutOfMemory → Takes self.old (Recover _failed.now) (Refused e) self.new) }
+        ensures done { IfOk result
+            (λ told. Recovers self.old _failed.now plan.now told.0.items told.1.items self.new) }
+        ensures refused { IfErr result
+            (λ e. e ≢ StepError.OutOfMemory
+            → Takes self.old (Recover _failed.now) (Refused e) self.new) }
         ensures memory { IsErrOf result StepError.OutOfMemory → self.new ≡ self.old }
     {
         let history = self.catalogue.history();
@@ -61,10 +66,14 @@ impl World {
 
     /// Plans for those of the set, and restarts every process at the planned line.
     pub(super) fn recover(&mut self, alloc: Global, failed: &ProcSet) -> Result<Reply, StepError>
-        ensures done { IfOk result (λ reply. Takes self.old (Recover failed.now) (Done reply) self.new) }
-        ensures refused { IfErr result (λ e. e ≢ StepError.OutOfMemory → Takes self.old (Recover failed.now) (Refused e) self.new) }
+        ensures done { IfOk result
+            (λ reply. Takes self.old (Recover failed.now) (Done reply) self.new) }
+        ensures refused { IfErr result
+            (λ e. e ≢ StepError.OutOfMemory
+            → Takes self.old (Recover failed.now) (Refused e) self.new) }
         ensures memory { IsErrOf result StepError.OutOfMemory → self.new ≡ self.old }
-        ensures unrefused { IsErrOf result StepError.OutOfMemory → refusal_of self.old (Recover failed.now) ≡ None }
+        ensures unrefused { IsErrOf result StepError.OutOfMemory
+            → refusal_of self.old (Recover failed.now) ≡ None }
     {
         let plan = self.boxed_plan_for(alloc, failed)?;
         let (states, incarnations) = self.go_back(alloc, failed, &plan)?;

@@ -2,7 +2,8 @@
 ghost use Rattle.std.specs.Prelude.{◌≡◌, ◌≢◌, ◌<◌, ◌≤◌, ℕ, List, Some, length};
 ghost use Rattle.line_moves.specs.declared.modes.Mode.TheVariants.{Unordered};
 ghost use Rattle.line_world.specs.declared.steps.Step.TheVariants.{Send, Check, Begin, Turn};
-ghost use Rattle.line_world.specs.Refusals.{first_cause, link_causes, may_turn, refusal_of, has_stranger, is_bad_pick, is_full};
+ghost use Rattle.line_world.specs.Refusals.{first_cause, link_causes, may_turn, refusal_of};
+ghost use Rattle.line_world.specs.Refusals.{has_stranger, is_bad_pick, is_full};
 ghost use Rattle.line_world.specs.Machine.{is_open, items_on};
 
 use super::World;

@@ -18,10 +18,14 @@ impl World {
     fn begin_markers(&mut self, alloc: Global, at: ProcId, state: &[u8]) -> Result<Reply, StepError>
         requires mode { self.old.mode ≡ Fifo }
         requires passed { refusal_of self.old (Begin at state.now) ≡ None }
-        ensures done { IfOk result (λ reply. Takes self.old (Begin at state.now) (Done reply) self.new) }
-        ensures refused { IfErr result (λ e. e ≢ StepError.OutOfMemory → Takes self.old (Begin at state.now) (Refused e) self.new) }
+        ensures done { IfOk result
+            (λ reply. Takes self.old (Begin at state.now) (Done reply) self.new) }
+        ensures refused { IfErr result
+            (λ e. e ≢ StepError.OutOfMemory
+            → Takes self.old (Begin at state.now) (Refused e) self.new) }
         ensures memory { IsErrOf result StepError.OutOfMemory → self.new ≡ self.old }
-        ensures unrefused { IsErrOf result StepError.OutOfMemory → refusal_of self.old (Begin at state.now) ≡ None }
+        ensures unrefused { IsErrOf result StepError.OutOfMemory
+            → refusal_of self.old (Begin at state.now) ≡ None }
     {
         self.rounds.reserve()?;
         let (begun, check) = begin_round(
@@ -47,10 +51,14 @@ impl World {
     fn begin_colours(&mut self, alloc: Global, at: ProcId, state: &[u8]) -> Result<Reply, StepError>
         requires mode { self.old.mode ≡ Unordered }
         requires passed { refusal_of self.old (Begin at state.now) ≡ None }
-        ensures done { IfOk result (λ reply. Takes self.old (Begin at state.now) (Done reply) self.new) }
-        ensures refused { IfErr result (λ e. e ≢ StepError.OutOfMemory → Takes self.old (Begin at state.now) (Refused e) self.new) }
+        ensures done { IfOk result
+            (λ reply. Takes self.old (Begin at state.now) (Done reply) self.new) }
+        ensures refused { IfErr result
+            (λ e. e ≢ StepError.OutOfMemory
+            → Takes self.old (Begin at state.now) (Refused e) self.new) }
         ensures memory { IsErrOf result StepError.OutOfMemory → self.new ≡ self.old }
-        ensures unrefused { IsErrOf result StepError.OutOfMemory → refusal_of self.old (Begin at state.now) ≡ None }
+        ensures unrefused { IsErrOf result StepError.OutOfMemory
+            → refusal_of self.old (Begin at state.now) ≡ None }
     {
         let n = self.catalogue.n();
         let round = self.last_round + 1;
@@ -78,10 +86,14 @@ impl World {
         at: ProcId,
         state: &[u8],
     ) -> Result<Reply, StepError>
-        ensures done { IfOk result (λ reply. Takes self.old (Begin at state.now) (Done reply) self.new) }
-        ensures refused { IfErr result (λ e. e ≢ StepError.OutOfMemory → Takes self.old (Begin at state.now) (Refused e) self.new) }
+        ensures done { IfOk result
+            (λ reply. Takes self.old (Begin at state.now) (Done reply) self.new) }
+        ensures refused { IfErr result
+            (λ e. e ≢ StepError.OutOfMemory
+            → Takes self.old (Begin at state.now) (Refused e) self.new) }
         ensures memory { IsErrOf result StepError.OutOfMemory → self.new ≡ self.old }
-        ensures unrefused { IsErrOf result StepError.OutOfMemory → refusal_of self.old (Begin at state.now) ≡ None }
+        ensures unrefused { IsErrOf result StepError.OutOfMemory
+            → refusal_of self.old (Begin at state.now) ≡ None }
     {
         if let Some(e) = self.begin_refusal(at, state) {
             return Err(e);
@@ -99,10 +111,14 @@ impl World {
         at: ProcId,
         state: &[u8],
     ) -> Result<Reply, StepError>
-        ensures done { IfOk result (λ reply. Takes self.old (Turn at state.now) (Done reply) self.new) }
-        ensures refused { IfErr result (λ e. e ≢ StepError.OutOfMemory → Takes self.old (Turn at state.now) (Refused e) self.new) }
+        ensures done { IfOk result
+            (λ reply. Takes self.old (Turn at state.now) (Done reply) self.new) }
+        ensures refused { IfErr result
+            (λ e. e ≢ StepError.OutOfMemory
+            → Takes self.old (Turn at state.now) (Refused e) self.new) }
         ensures memory { IsErrOf result StepError.OutOfMemory → self.new ≡ self.old }
-        ensures unrefused { IsErrOf result StepError.OutOfMemory → refusal_of self.old (Turn at state.now) ≡ None }
+        ensures unrefused { IsErrOf result StepError.OutOfMemory
+            → refusal_of self.old (Turn at state.now) ≡ None }
     {
         if let Some(e) = self.turn_refusal(at, state) {
             return Err(e);
