@@ -1,8 +1,8 @@
-//! Why a command was not told all.
+//! Why what a command is told was not written to its end.
 
 use line_devices::DeviceFault;
 
-/// Why not all that a command is told was written.
+/// Why what a command is told was not written to its end.
 #[derive(Clone, Copy, Debug, PartialEq, Eq)]
 pub enum Halt {
     /// Memory did not suffice for the command. It was not done, and nothing is written.

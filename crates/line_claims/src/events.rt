@@ -13,7 +13,7 @@ use line_names::{Body, MOST_PROCESSES, MsgName};
 use line_tape::{Event, MOST_STATE, State};
 use std::alloc::Global;
 
-/// The event of `send,TO,INC,HEX`. What a list has gives way to the bytes of the message.
+/// The event of `send,TO,INC,HEX`. The bytes of the message take the place of those of a list.
 #[tactic(auto, unfolding(crate::specs::Events::send_of, line_fields::specs::Shapes::three))]
 pub(crate) fn send_of(n: u32, row: &Row, bytes: &mut Vec<u8>) -> Result<Event, ReadError>
     requires { n ≤ MOST_PROCESSES }
@@ -102,7 +102,7 @@ pub(crate) fn kind_of(row: &Row) -> Option<Kind>
     }
 }
 
-/// The event of a record of that kind. What a list has gives way to the bytes of a message.
+/// The event of a record of that kind. The bytes of a message take the place of those of a list.
 pub(crate) fn event_of(
     alloc: Global,
     n: u32,

@@ -58,7 +58,7 @@ pub fn name_of(code: u32) -> &'static str
 #[derive(Clone, Copy, Debug, PartialEq, Eq, Error)]
 #[error("record {record_number}: {code} {name}", name = name_of(*.code))]
 pub struct TextFault {
-    /// Which record, counted from 1; 0 for a byte that no text has, and for want of memory.
+    /// Which record, counted from 1; 0 for a byte that no text has, and for out of memory.
     pub record_number: u64,
     /// The number of the fault.
     pub code: u32,
@@ -115,7 +115,7 @@ pub fn error_at(record_number: u64, error: ReadError) -> TextError
     }
 }
 
-/// What a caller is told of an error: want of memory is the fault 0 of record 0.
+/// What a caller is told of an error: out of memory is the fault 0 of record 0.
 pub fn told(error: TextError) -> TextFault
     ensures { result ≡ told error }
 {

@@ -93,7 +93,7 @@ fn read_head(history: &mut History, at: ProcId, cursor: &mut Cursor<'_>) -> Resu
     Ok(())
 }
 
-// The events of a tape. What a list has gives way to the bytes of messages.
+// The events of a tape. The bytes of messages take the place of those of a list.
 fn read_events(
     alloc: Global,
     history: &mut History,

@@ -109,9 +109,9 @@ fn check_in(alloc: Global, text: &[u8]) -> Result<CheckText, TextError>
 ///
 /// Refused with the first fault of the text, the records taken in their order, and the questions to
 /// a record in the order in which its definition asks them. A byte that no text has is of record 0
-/// and comes before all else; a text without records wants its first one; a missing tape is a fault
-/// of the record that stands in its place, or of the one that would. Want of memory, at any time,
-/// is the fault 0 of record 0. It takes time and memory in proportion to the text.
+/// and comes before all else; the first record of a text without records is missing; a missing tape
+/// is a fault of the record that stands in its place, or of the one that would. Out of memory, at
+/// any time, is the fault 0 of record 0. It takes time and memory in proportion to the text.
 pub fn read_history(alloc: Global, text: &[u8]) -> Result<History, TextFault>
     ensures exact { Reads (λ history. history.processes) result (spec.history_of_text text.now) }
     ensures codes { IfErr result (λ fault. (fault ≡ no_memory) ⊎ IsOfText fault) }

@@ -5,7 +5,6 @@ pub mod FieldLemmas
 pub mod HexLemmas
 pub mod LaneLemmas
 pub mod LeftLemmas
-pub mod LineLemmas
 pub mod MachineLemmas
 pub mod MarkLemmas
 pub mod NumLemmas

@@ -5,7 +5,6 @@ use Rattle.std.specs.Char.{is_ascii_digit}
 use Rattle.std.specs.Str.{all_ascii_digits}
 use Rattle.std.specs.List.{list_all, list_any, join_with_byte}
 use Rattle.std.proofs.lemmas.List.{append-nil}
-use Rattle.std.proofs.lemmas.List.Folds.{list_all-append}
 use Rattle.std.proofs.lemmas.Bool.{and_parts, cases_Bool, eqb-true}
 use borrow.Author.Tests.{leb-true, le-leb}
 use Rattle.csv.specs.Writing.{default_writer, field_text, fields_text, is_blank, needs_byte, row_body, row_text, with_flexible}
@@ -13,10 +12,6 @@ use Rattle.csv.specs.declared.writer.WriterBuilder.{WriterBuilder}
 use Rattle.line_fields.specs.Records.{Record}
 use Rattle.line_fields.specs.Texts.{has_name, hex_digit, hex_text, is_field_byte, is_plain_field, record_text}
 use Rattle.line_fields.proofs.RoundLemmas.{all_ascii_digits-decimal, each_digit}
-
--- one field more
-pub plain_more : (fields : Record) (field : List ℕ) → list_all is_plain_field fields ≡ true → is_plain_field field ≡ true → list_all is_plain_field (fields ++ field ∷ []) ≡ true
-plain_more fields field before one = rw (list_all-append is_plain_field fields (field ∷ []), before, one) refl
 
 digit_is_plain : (c : ℕ) → is_ascii_digit c ≡ true → is_field_byte c ≡ true
 digit_is_plain c h =

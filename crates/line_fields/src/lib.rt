@@ -4,7 +4,6 @@
 
 mod bytes;
 mod digits;
-mod drafts;
 mod faults;
 mod fields;
 mod laws;
@@ -15,7 +14,6 @@ mod splits;
 mod writers;
 
 pub use bytes::{is_plain, is_plain_line};
-pub use drafts::Draft;
 pub use faults::{Fault, ReadError};
 pub use fields::{hex, hex_behind, hex_into, number};
 pub use laws::{
@@ -26,4 +24,4 @@ pub use outlets::{
     Field, add_field, begin_record, end_record, put_ending, put_fields, put_numbers,
 };
 pub use records::{RecordReader, Row};
-pub use writers::{RecordWriter, put_record};
+pub use writers::RecordWriter;

@@ -1,6 +1,7 @@
 //! Records that are written where they stand, in a text that is put to a sink where it is full.
 
-ghost use Rattle.std.specs.Prelude.{◌≡◌, ◌≤◌, ◌<◌, ◌+◌, ◌*◌, ◌++◌, ◌∷◌, [], decimal, length, map, vec_capacity, vec_len};
+ghost use Rattle.std.specs.Prelude.{◌≡◌, ◌≤◌, ◌<◌, ◌↔◌, ◌+◌, ◌*◌, ◌++◌, ◌∷◌, [], IsTrue, decimal};
+ghost use Rattle.std.specs.Prelude.{length, map, vec_capacity, vec_len};
 ghost use Rattle.std.specs.List.{flat_map, join_with_byte};
 ghost use Rattle.line_devices.specs.Devices.{Outputs};
 ghost use Rattle.line_fields.specs.Texts.{hex_pair, hex_text, record_text};
@@ -16,7 +17,13 @@ use line_devices::{DeviceFault, Sink, put_all};
 const SHORT_NUMBER: u64 = 100_000_000;
 
 // A comma and a short number have so many bytes at most.
-const NUMBER_ROOM: usize = 9;
+const SHORT_ROOM: usize = 9;
+
+// A comma and a number have so many bytes at most.
+const NUMBER_ROOM: usize = 41;
+
+// Room is asked for once for a name of so many bytes at most and so many numbers at most.
+const MOST_AT_ONCE: usize = 64;
 
 /// A field of a record that is written.
 #[derive(Clone, Copy)]
@@ -34,7 +41,9 @@ pub enum Field<'a> {
 #[cold]
 #[inline(never)]
 fn add_far<K: Sink>(sink: &mut K, text: &mut Vec<u8>, bytes: &[u8]) -> Result<(), DeviceFault>
-    ensures { Outputs result (K.taken sink.old) (K.taken sink.new) (K.faults sink.old) (K.faults sink.new) text.new.items (text.old.items ++ bytes.now) }
+    ensures { Outputs result (K.taken sink.old) (K.taken sink.new)
+        (K.faults sink.old) (K.faults sink.new)
+        text.new.items (text.old.items ++ bytes.now) }
 {
     put_all(sink, text.as_slice())?;
     text.clear();
@@ -48,7 +57,9 @@ fn add_far<K: Sink>(sink: &mut K, text: &mut Vec<u8>, bytes: &[u8]) -> Result<()
 // Writes bytes behind a text.
 #[inline(always)]
 fn add<K: Sink>(sink: &mut K, text: &mut Vec<u8>, bytes: &[u8]) -> Result<(), DeviceFault>
-    ensures { Outputs result (K.taken sink.old) (K.taken sink.new) (K.faults sink.old) (K.faults sink.new) text.new.items (text.old.items ++ bytes.now) }
+    ensures { Outputs result (K.taken sink.old) (K.taken sink.new)
+        (K.faults sink.old) (K.faults sink.new)
+        text.new.items (text.old.items ++ bytes.now) }
 {
     if !has_room(text, bytes.len()) {
         return add_far(sink, text, bytes);
@@ -60,7 +71,9 @@ fn add<K: Sink>(sink: &mut K, text: &mut Vec<u8>, bytes: &[u8]) -> Result<(), De
 // Writes a comma behind a text.
 #[inline(always)]
 fn add_comma<K: Sink>(sink: &mut K, text: &mut Vec<u8>) -> Result<(), DeviceFault>
-    ensures { Outputs result (K.taken sink.old) (K.taken sink.new) (K.faults sink.old) (K.faults sink.new) text.new.items (text.old.items ++ 44 ∷ []) }
+    ensures { Outputs result (K.taken sink.old) (K.taken sink.new)
+        (K.faults sink.old) (K.faults sink.new)
+        text.new.items (text.old.items ++ 44 ∷ []) }
 {
     add(sink, text, b",")
 }
@@ -68,7 +81,9 @@ fn add_comma<K: Sink>(sink: &mut K, text: &mut Vec<u8>) -> Result<(), DeviceFaul
 // Writes a comma and a word behind a text.
 #[inline(always)]
 fn add_word<K: Sink>(sink: &mut K, text: &mut Vec<u8>, word: &[u8]) -> Result<(), DeviceFault>
-    ensures { Outputs result (K.taken sink.old) (K.taken sink.new) (K.faults sink.old) (K.faults sink.new) text.new.items (text.old.items ++ 44 ∷ word.now) }
+    ensures { Outputs result (K.taken sink.old) (K.taken sink.new)
+        (K.faults sink.old) (K.faults sink.new)
+        text.new.items (text.old.items ++ 44 ∷ word.now) }
 {
     add_comma(sink, text)?;
     add(sink, text, word)
@@ -78,7 +93,9 @@ fn add_word<K: Sink>(sink: &mut K, text: &mut Vec<u8>, word: &[u8]) -> Result<()
 #[cold]
 #[inline(never)]
 fn add_number_far<K: Sink>(sink: &mut K, text: &mut Vec<u8>, value: u64) -> Result<(), DeviceFault>
-    ensures { Outputs result (K.taken sink.old) (K.taken sink.new) (K.faults sink.old) (K.faults sink.new) text.new.items (text.old.items ++ 44 ∷ decimal value) }
+    ensures { Outputs result (K.taken sink.old) (K.taken sink.new)
+        (K.faults sink.old) (K.faults sink.new)
+        text.new.items (text.old.items ++ 44 ∷ decimal value) }
 {
     let mut buffer = Buffer::new();
     add_word(sink, text, buffer.format(value).as_bytes())
@@ -87,9 +104,11 @@ fn add_number_far<K: Sink>(sink: &mut K, text: &mut Vec<u8>, value: u64) -> Resu
 // Writes a comma and a number behind a text.
 #[inline(always)]
 fn add_number<K: Sink>(sink: &mut K, text: &mut Vec<u8>, value: u64) -> Result<(), DeviceFault>
-    ensures { Outputs result (K.taken sink.old) (K.taken sink.new) (K.faults sink.old) (K.faults sink.new) text.new.items (text.old.items ++ 44 ∷ decimal value) }
+    ensures { Outputs result (K.taken sink.old) (K.taken sink.new)
+        (K.faults sink.old) (K.faults sink.new)
+        text.new.items (text.old.items ++ 44 ∷ decimal value) }
 {
-    if value >= SHORT_NUMBER || !has_room(text, NUMBER_ROOM) {
+    if value >= SHORT_NUMBER || !has_room(text, SHORT_ROOM) {
         return add_number_far(sink, text, value);
     }
     text.push_reserved(b',');
@@ -105,7 +124,9 @@ fn add_digits_far<K: Sink>(
     text: &mut Vec<u8>,
     bytes: &[u8],
 ) -> Result<(), DeviceFault>
-    ensures { Outputs result (K.taken sink.old) (K.taken sink.new) (K.faults sink.old) (K.faults sink.new) text.new.items (text.old.items ++ hex_text bytes.now) }
+    ensures { Outputs result (K.taken sink.old) (K.taken sink.new)
+        (K.faults sink.old) (K.faults sink.new)
+        text.new.items (text.old.items ++ hex_text bytes.now) }
 {
     for i in 0..bytes.len() {
         add(sink, text, &pair_of(bytes[i]))?;
@@ -115,7 +136,9 @@ fn add_digits_far<K: Sink>(
 
 // Writes a comma and the digits of bytes behind a text.
 fn add_bytes<K: Sink>(sink: &mut K, text: &mut Vec<u8>, bytes: &[u8]) -> Result<(), DeviceFault>
-    ensures { Outputs result (K.taken sink.old) (K.taken sink.new) (K.faults sink.old) (K.faults sink.new) text.new.items (text.old.items ++ 44 ∷ hex_text bytes.now) }
+    ensures { Outputs result (K.taken sink.old) (K.taken sink.new)
+        (K.faults sink.old) (K.faults sink.new)
+        text.new.items (text.old.items ++ 44 ∷ hex_text bytes.now) }
 {
     add_comma(sink, text)?;
     if !has_room(text, 2 * bytes.len()) {
@@ -133,12 +156,106 @@ fn add_numbers<K: Sink>(
     text: &mut Vec<u8>,
     numbers: &[u64],
 ) -> Result<(), DeviceFault>
-    ensures { Outputs result (K.taken sink.old) (K.taken sink.new) (K.faults sink.old) (K.faults sink.new) text.new.items (text.old.items ++ flat_map (λ n. 44 ∷ decimal n) numbers.now) }
+    ensures { Outputs result (K.taken sink.old) (K.taken sink.new)
+        (K.faults sink.old) (K.faults sink.new)
+        text.new.items (text.old.items ++ flat_map (λ n. 44 ∷ decimal n) numbers.now) }
 {
     for i in 0..numbers.len() {
         add_number(sink, text, numbers[i])?;
     }
     Ok(())
+}
+
+// Writes a number that is not short, behind a text that has room for it.
+#[cold]
+#[inline(never)]
+fn push_long(text: &mut Vec<u8>, value: u64)
+    requires { vec_len text.old + 40 ≤ vec_capacity text.old }
+    ensures text { text.new.items ≡ text.old.items ++ decimal value }
+    ensures len { vec_len text.new ≤ vec_len text.old + 40 }
+    ensures capacity { vec_capacity text.old ≤ vec_capacity text.new }
+{
+    let mut buffer = Buffer::new();
+    push_text(text, buffer.format(value).as_bytes());
+}
+
+// Writes a number behind a text that has room for it.
+#[inline(always)]
+fn push_any(text: &mut Vec<u8>, value: u64)
+    requires { vec_len text.old + 40 ≤ vec_capacity text.old }
+    ensures text { text.new.items ≡ text.old.items ++ decimal value }
+    ensures len { vec_len text.new ≤ vec_len text.old + 40 }
+    ensures capacity { vec_capacity text.old ≤ vec_capacity text.new }
+{
+    if value >= SHORT_NUMBER {
+        push_long(text, value);
+    } else {
+        push_number(text, value as u32);
+    }
+}
+
+// Writes a comma and a number behind a text that has room for them.
+#[inline(always)]
+fn push_field(text: &mut Vec<u8>, value: u64)
+    requires { vec_len text.old + 41 ≤ vec_capacity text.old }
+    ensures text { text.new.items ≡ text.old.items ++ 44 ∷ decimal value }
+    ensures len { vec_len text.new ≤ vec_len text.old + 41 }
+    ensures capacity { vec_capacity text.old ≤ vec_capacity text.new }
+{
+    text.push_reserved(b',');
+    push_any(text, value);
+}
+
+// Writes a comma before each of some numbers and the number, behind a text that has room for all.
+#[inline(always)]
+fn push_numbers(text: &mut Vec<u8>, numbers: &[u64])
+    requires { vec_len text.old + 41 * length numbers.now ≤ vec_capacity text.old }
+    ensures { text.new.items ≡ text.old.items ++ flat_map (λ n. 44 ∷ decimal n) numbers.now }
+{
+    for i in 0..numbers.len() {
+        push_field(text, numbers[i]);
+    }
+}
+
+// Writes a name and some numbers behind a text that has room for all.
+#[inline(always)]
+fn push_begin(text: &mut Vec<u8>, name: &[u8], numbers: &[u64])
+    requires { vec_len text.old + (length name.now + 41 * length numbers.now)
+        ≤ vec_capacity text.old }
+    ensures { text.new.items ≡ text.old.items
+        ++ join_with_byte 44 (name.now ∷ map decimal numbers.now) }
+{
+    push_word(text, name);
+    push_numbers(text, numbers);
+}
+
+// Begins a record with its name and some numbers, and asks for the room of each by itself.
+#[cold]
+#[inline(never)]
+fn begin_far<K: Sink>(
+    sink: &mut K,
+    text: &mut Vec<u8>,
+    name: &[u8],
+    numbers: &[u64],
+) -> Result<(), DeviceFault>
+    ensures { Outputs result (K.taken sink.old) (K.taken sink.new)
+        (K.faults sink.old) (K.faults sink.new)
+        text.new.items (text.old.items ++ join_with_byte 44 (name.now ∷ map decimal numbers.now)) }
+{
+    add(sink, text, name)?;
+    add_numbers(sink, text, numbers)
+}
+
+// Whether a text has room for a name and some numbers, and for one byte more. It asks that neither
+// is long, so that the sum is small; where both are known it asks for the room alone.
+#[inline(always)]
+fn has_room_for_all(text: &Vec<u8>, name: &[u8], numbers: &[u64]) -> bool
+    ensures { IsTrue result ↔ (length name.now ≤ 64) × (length numbers.now ≤ 64)
+        × (vec_len text.now + (length name.now + 41 * length numbers.now) < vec_capacity text.now) }
+{
+    name.len() <= MOST_AT_ONCE
+        && numbers.len() <= MOST_AT_ONCE
+        && has_room(text, name.len() + NUMBER_ROOM * numbers.len())
 }
 
 /// Begins a record with its name and some numbers behind what a writer holds.
@@ -153,10 +270,15 @@ pub fn begin_record<K: Sink>(
     name: &[u8],
     numbers: &[u64],
 ) -> Result<(), DeviceFault>
-    ensures { Outputs result (K.taken sink.old) (K.taken sink.new) (K.faults sink.old) (K.faults sink.new) writer.new (writer.old ++ join_with_byte 44 (name.now ∷ map decimal numbers.now)) }
+    ensures { Outputs result (K.taken sink.old) (K.taken sink.new)
+        (K.faults sink.old) (K.faults sink.new)
+        writer.new (writer.old ++ join_with_byte 44 (name.now ∷ map decimal numbers.now)) }
 {
-    add(sink, &mut writer.text, name)?;
-    add_numbers(sink, &mut writer.text, numbers)
+    if !has_room_for_all(&writer.text, name, numbers) {
+        return begin_far(sink, &mut writer.text, name, numbers);
+    }
+    push_begin(&mut writer.text, name, numbers);
+    Ok(())
 }
 
 /// Writes a comma and a field behind what a writer holds, as `begin_record` writes its numbers.
@@ -166,7 +288,9 @@ pub fn add_field<K: Sink>(
     writer: &mut RecordWriter,
     field: Field<'_>,
 ) -> Result<(), DeviceFault>
-    ensures { Outputs result (K.taken sink.old) (K.taken sink.new) (K.faults sink.old) (K.faults sink.new) writer.new (writer.old ++ 44 ∷ field_text field.entry) }
+    ensures { Outputs result (K.taken sink.old) (K.taken sink.new)
+        (K.faults sink.old) (K.faults sink.new)
+        writer.new (writer.old ++ 44 ∷ field_text field.entry) }
 {
     match field {
         Field::Word(word) => add_word(sink, &mut writer.text, word),
@@ -178,26 +302,35 @@ pub fn add_field<K: Sink>(
 /// Ends a record behind what a writer holds.
 #[inline(always)]
 pub fn end_record<K: Sink>(sink: &mut K, writer: &mut RecordWriter) -> Result<(), DeviceFault>
-    ensures { Outputs result (K.taken sink.old) (K.taken sink.new) (K.faults sink.old) (K.faults sink.new) writer.new (writer.old ++ 10 ∷ []) }
+    ensures { Outputs result (K.taken sink.old) (K.taken sink.new)
+        (K.faults sink.old) (K.faults sink.new)
+        writer.new (writer.old ++ 10 ∷ []) }
 {
     add(sink, &mut writer.text, b"\n")
 }
 
 /// Writes a record of a name and some numbers behind what a writer holds, as `begin_record` does.
+///
+/// It is put into its caller, where the name is known and how many numbers there are, so that it is
+/// compiled to few stores.
+#[inline(always)]
 pub fn put_numbers<K: Sink>(
     sink: &mut K,
     writer: &mut RecordWriter,
     name: &[u8],
     numbers: &[u64],
 ) -> Result<(), DeviceFault>
-    ensures { Outputs result (K.taken sink.old) (K.taken sink.new) (K.faults sink.old) (K.faults sink.new) writer.new (writer.old ++ record_text (name.now ∷ map decimal numbers.now)) }
+    ensures { Outputs result (K.taken sink.old) (K.taken sink.new)
+        (K.faults sink.old) (K.faults sink.new)
+        writer.new (writer.old ++ record_text (name.now ∷ map decimal numbers.now)) }
 {
     begin_record(sink, writer, name, numbers)?;
     end_record(sink, writer)
 }
 
 /// Writes a record of a name, some numbers and a last field behind what a writer holds, as
-/// `begin_record` does.
+/// `begin_record` does. It is put into its caller, as `put_numbers` is.
+#[inline(always)]
 pub fn put_ending<K: Sink>(
     sink: &mut K,
     writer: &mut RecordWriter,
@@ -205,7 +338,10 @@ pub fn put_ending<K: Sink>(
     numbers: &[u64],
     last: Field<'_>,
 ) -> Result<(), DeviceFault>
-    ensures { Outputs result (K.taken sink.old) (K.taken sink.new) (K.faults sink.old) (K.faults sink.new) writer.new (writer.old ++ record_text (name.now ∷ map decimal numbers.now ++ field_text last.entry ∷ [])) }
+    ensures { Outputs result (K.taken sink.old) (K.taken sink.new)
+        (K.faults sink.old) (K.faults sink.new)
+        writer.new (writer.old
+        ++ record_text (name.now ∷ map decimal numbers.now ++ field_text last.entry ∷ [])) }
 {
     begin_record(sink, writer, name, numbers)?;
     add_field(sink, writer, last)?;
@@ -218,7 +354,9 @@ fn add_fields<K: Sink>(
     writer: &mut RecordWriter,
     fields: &[Field<'_>],
 ) -> Result<(), DeviceFault>
-    ensures { Outputs result (K.taken sink.old) (K.taken sink.new) (K.faults sink.old) (K.faults sink.new) writer.new (writer.old ++ flat_map (λ field. 44 ∷ field_text field) fields.now) }
+    ensures { Outputs result (K.taken sink.old) (K.taken sink.new)
+        (K.faults sink.old) (K.faults sink.new)
+        writer.new (writer.old ++ flat_map (λ field. 44 ∷ field_text field) fields.now) }
 {
     for i in 0..fields.len() {
         add_field(sink, writer, fields[i])?;
@@ -233,7 +371,9 @@ pub fn put_fields<K: Sink>(
     name: &[u8],
     fields: &[Field<'_>],
 ) -> Result<(), DeviceFault>
-    ensures { Outputs result (K.taken sink.old) (K.taken sink.new) (K.faults sink.old) (K.faults sink.new) writer.new (writer.old ++ record_text (name.now ∷ map field_text fields.now)) }
+    ensures { Outputs result (K.taken sink.old) (K.taken sink.new)
+        (K.faults sink.old) (K.faults sink.new)
+        writer.new (writer.old ++ record_text (name.now ∷ map field_text fields.now)) }
 {
     begin_record(sink, writer, name, &[])?;
     add_fields(sink, writer, fields)?;

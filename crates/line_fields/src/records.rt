@@ -36,6 +36,7 @@ impl Model for Row {
 }
 
 // Where the field at a place of a line begins: behind the end of the one before it.
+#[inline(always)]
 fn begin_of(ends: &[usize], place: usize) -> usize
     requires some { place < length ends.now }
     requires ordered { begin_at ends.now place ≤ slice_index_or ends.now place 0 }
@@ -49,6 +50,7 @@ fn begin_of(ends: &[usize], place: usize) -> usize
 }
 
 // The field at a place of a line, whose fields end there, or an empty one past the last.
+#[inline(always)]
 #[tactic(auto, using(crate::proofs::EndLemmas::end_within, crate::proofs::EndLemmas::field_there, crate::proofs::EndLemmas::no_field))]
 fn field_in<'a>(bytes: &'a [u8], ends: &[usize], place: usize) -> &'a [u8]
     requires { All (IsWithin bytes.now) (spans_from 0 ends.now) }
@@ -62,6 +64,8 @@ fn field_in<'a>(bytes: &'a [u8], ends: &[usize], place: usize) -> &'a [u8]
 }
 
 // The field at a place of a record of `csv`, or an empty one past the last.
+#[cold]
+#[inline(never)]
 fn field_of(record: &ByteRecord, place: usize) -> &[u8]
     ensures { result.now ≡ field (fields_of record.now) place }
 {
@@ -86,6 +90,7 @@ impl Row {
     }
 
     /// How many fields it has.
+    #[inline(always)]
     pub fn len(&self) -> usize
         ensures { result ≡ length self.now }
     {
@@ -104,6 +109,7 @@ impl Row {
     }
 
     /// The field at a place, counted from 0, or an empty one past the last.
+    #[inline(always)]
     pub fn field(&self, place: usize) -> &[u8]
         ensures { result.now ≡ field self.now place }
     {
@@ -282,7 +288,7 @@ fn hand_over<'a>(alloc: Global, rest: &'a [u8], reader: &mut Option<Reader<&'a [
     *reader = Some(reader_over(alloc, rest));
 }
 
-// An error of `csv` on a plain text, over memory, is answered as want of memory.
+// An error of `csv` on a plain text, over memory, is answered as out of memory.
 fn let_go(_error: Error) -> AllocError {
     AllocError
 }
@@ -329,9 +335,9 @@ impl<'a> RecordReader<'a> {
 
     /// Puts the next record in place of the row's fields, and says whether there was one.
     ///
-    /// After the last record, and after want of memory, nothing is left and the row has no fields.
-    /// An error of `csv` is answered as want of memory. It takes time in proportion to the bytes
-    /// read.
+    /// After the last record, and once it was out of memory, nothing is left and the row has no
+    /// fields. An error of `csv` is answered as out of memory. It takes time in proportion to the
+    /// bytes read.
     pub fn next_row(&mut self, row: &mut Row) -> Result<bool, AllocError>
         ensures ok { IfOk result (λ found. MatchBool found (self.old ≡ row.new ∷ self.new) ((self.old ≡ []) × (self.new ≡ []) × (row.new ≡ []))) }
         ensures err { OnErr result ((self.new ≡ []) × (row.new ≡ [])) }

@@ -1,9 +1,7 @@
 //! The text of records that are written.
 
-ghost use Rattle.std.specs.Prelude.{◌≡◌, ◌++◌, [], IfOk, IsTrue, OnErr, OnOk};
-ghost use Rattle.line_fields.specs.Texts.{has_name, record_text};
+ghost use Rattle.std.specs.Prelude.{◌≡◌, [], IfOk};
 
-use crate::Draft;
 use std::alloc::{AllocError, Global};
 use std::marker::Model;
 
@@ -44,19 +42,6 @@ impl RecordWriter {
         Ok(RecordWriter { text })
     }
 
-    /// Writes a record behind those that were put before: its fields joined by commas, and a line
-    /// feed. The draft has no fields any more.
-    ///
-    /// Where a growth is refused, the text stays as it was.
-    pub fn put(&mut self, draft: &mut Draft) -> Result<(), AllocError>
-        requires { IsTrue (has_name draft.old) }
-        ensures ok { OnOk result (self.new ≡ self.old ++ record_text draft.old) }
-        ensures err { OnErr result (self.new ≡ self.old) }
-        ensures cleared { draft.new ≡ [] }
-    {
-        draft.put_behind(&mut self.text)
-    }
-
     /// The text of the records that were put.
     pub fn text(&self) -> &[u8]
         ensures { result.now ≡ self.now }
@@ -70,15 +55,4 @@ impl RecordWriter {
     {
         self.text.clear();
     }
-}
-
-/// Writes one record behind some bytes, which stay as they are where a growth is refused. The draft
-/// has no fields any more.
-pub fn put_record(out: &mut Vec<u8>, draft: &mut Draft) -> Result<(), AllocError>
-    requires { IsTrue (has_name draft.old) }
-    ensures ok { OnOk result (out.new.items ≡ out.old.items ++ record_text draft.old) }
-    ensures err { OnErr result (out.new.items ≡ out.old.items) }
-    ensures cleared { draft.new ≡ [] }
-{
-    draft.put_behind(out)
 }

@@ -1,6 +1,9 @@
 -- Commands with all their bytes: one more behind the others, and the first one out.
-use Rattle.std.proofs.Common.{◌≡◌, ℕ, ◌+◌, List, [], ◌∷◌, ◌++◌, drop, get_or, length, take, sym, ap, ◌∙◌, subst, arith, reverse, length-append}
+use Rattle.std.proofs.Common.{◌≡◌, ◌≤◌, ℕ, ◌+◌, ◌-◌, List, [], ◌∷◌, ◌++◌, drop, get_or, length, take, sym, ap, ◌∙◌, subst, arith, reverse, length-append, length-drop}
+use Rattle.std.specs.List.{copy_within}
+use lib.Seq.{paste}
 use Rattle.std.proofs.lemmas.List.{take_more, take_all, take-append-drop, take-append-le, drop-append-le, reverse-append}
+use Rattle.std.proofs.lemmas.List.Edits.{take-paste}
 use Rattle.std.proofs.Math.Seq.{take-length, drop-length}
 use Rattle.line_scripts.specs.declared.commands.Command.{Command}
 use Rattle.line_scripts.specs.declared.keeping.Bare.{Bare}
@@ -63,3 +66,12 @@ turned_first ks i k long is =
     let all : take (i + 1) ks ≡ ks = take_all (i + 1) ks (omega (arith, long)) in
     let more : take (i + 1) ks ≡ take i ks ++ k ∷ [] = take_more ks i k (omega (arith, long)) ∙ ap (λ (x : Kept). take i ks ++ x ∷ []) (sym is) in
     ap reverse (sym all ∙ more) ∙ reverse-append (take i ks) (k ∷ [])
+
+-- what stands behind a front of a list, moved to its beginning
+pub moved_front : (xs : List ℕ) (long gone : ℕ) → long ≡ length xs → gone ≤ long → take (long - gone) (copy_within xs gone long 0) ≡ drop gone xs
+moved_front xs long gone is le =
+    let left : ℕ = long - gone in
+    let rest : length (drop gone xs) ≡ left = length-drop gone xs ∙ ap (λ (n : ℕ). n - gone) (sym is) in
+    let same : left ≡ 0 + left = omega arith in
+    ap (λ (k : ℕ). take k (copy_within xs gone long 0)) same
+    ∙ take-paste xs 0 (drop gone xs) left (omega (arith, is, le)) (omega (arith, rest)) ∙ take_all left (drop gone xs) (omega (arith, rest))

@@ -207,6 +207,7 @@ fn with_failed(alloc: Global, n: u32, row: &Row) -> Result<Option<Box<ProcSet>>,
 
 /// The command that a record after the first spells, or its first fault. The bytes that the command
 /// carries are put behind those that a list has; of one that is refused they may be there too.
+#[inline(always)]
 #[tactic(auto, unfolding(crate::specs::Scripts::command_of, line_fields::specs::Shapes::alone))]
 pub(crate) fn command_of(
     alloc: Global,

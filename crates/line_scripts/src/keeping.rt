@@ -1,16 +1,14 @@
 //! Commands that wait to be done: a few bytes for each, and one list of the bytes that they carry.
 
-ghost use Rattle.std.specs.Prelude.{◌≡◌, ◌≤◌, ◌<◌, ◌++◌, ◌-◌, [], ◌∷◌, true, false, drop, length, take, IfNone, IfOk, IfSome, OnErr, OnOk};
+ghost use Rattle.std.specs.Prelude.{◌≡◌, ◌≤◌, ◌<◌, ◌-◌, ◌++◌, [], ◌∷◌, drop, length, take, IfNone, IfSome, OnOk};
 ghost use Rattle.line_scripts.specs.Keeping.{ArePacked, MayHave, unpacked, with_bytes};
 ghost use Rattle.line_scripts.specs.Shown.{HasShortBody, shown};
 
-use crate::commands::{Command, CommandRef};
-use line_names::{Body, ProcId, ProcSet};
-use line_tape::State;
-use line_world::{Step, StepRef};
-use std::alloc::{AllocError, Global};
+use crate::commands::CommandRef;
+use line_names::{ProcId, ProcSet};
+use line_world::StepRef;
+use std::alloc::AllocError;
 use std::marker::Model;
-use std::mem;
 
 /// A command without the bytes that a message or a state has.
 #[derive(Drop)]
@@ -38,8 +36,9 @@ pub(crate) struct Kept {
 
 /// Commands that wait to be done, the first one first.
 ///
-/// Each takes 32 bytes beside those of its message or state. Memory is let go as they are taken,
-/// but for that of the last state, in which the next one is put.
+/// Each takes 32 bytes beside those of its message or state. Each time that as many have gone as
+/// are left, their memory is let go, and that of their messages and states where it is as much as
+/// what is left of it.
 #[derive(Drop)]
 pub struct Commands {
     // The last one first.
@@ -48,8 +47,6 @@ pub struct Commands {
     bytes: Vec<u8>,
     // Where that of the first one begins.
     at: usize,
-    // What a state that is done with has left, for the next one.
-    room: Vec<u8>,
 }
 
 impl Model for Commands {
@@ -72,116 +69,6 @@ pub(crate) fn keep(kept: &mut Vec<Kept>, bare: Bare, long: usize) -> Result<(), 
     kept.reserve(1)?;
     kept.push_reserved(Kept { bare, long });
     Ok(())
-}
-
-// A message of so many bytes at most.
-fn body_of(own: &[u8]) -> Body
-    requires { MayHave (Bare.Send 0 0) (length own.now) }
-    ensures { result ≡ own.now }
-{
-    match Body::try_new(own) {
-        Ok(body) => body,
-        Err(_) => unreachable!(),
-    }
-}
-
-// A state of these bytes, in the room that is kept for it.
-fn state_of(alloc: Global, room: &mut Vec<u8>, own: &[u8]) -> Result<State, AllocError>
-    ensures { IfOk result (λ state. state ≡ own.now) }
-{
-    let mut bytes = mem::replace(room, Vec::new(alloc));
-    bytes.clear();
-    bytes.extend_from_slice(own)?;
-    Ok(State::of(bytes))
-}
-
-// Keeps the room that the state of a command that is done has, if it has one.
-fn take_room(alloc: Global, command: &mut Command, room: &mut Vec<u8>) {
-    match command {
-        Command::Do(
-            Step::Deliver { state, .. }
-            | Step::Check { state, .. }
-            | Step::Begin { state, .. }
-            | Step::Turn { state, .. },
-        ) => {
-            *room = mem::replace(state, State::of(Vec::new(alloc))).into_bytes();
-        }
-        _ => {}
-    }
-}
-
-// A send with its message.
-#[inline(never)]
-fn send_with(from: ProcId, to: ProcId, own: &[u8]) -> Command
-    requires { MayHave (Bare.Send from to) (length own.now) }
-    ensures { result ≡ with_bytes (Bare.Send from to) own.now }
-{
-    let body = body_of(own);
-    Command::Do(Step::Send { from, to, body })
-}
-
-// The command that it makes with its bytes, where it is no send. It is kept apart, since each arm
-// has room for a whole command.
-#[inline(never)]
-fn other_with(
-    alloc: Global,
-    room: &mut Vec<u8>,
-    bare: &Bare,
-    own: &[u8],
-) -> Result<Command, AllocError>
-    requires { MayHave bare.now (length own.now) }
-    ensures { IfOk result (λ command. command ≡ with_bytes bare.now own.now) }
-{
-    match bare {
-        Bare::Send { from, to } => Ok(send_with(*from, *to, own)),
-        Bare::Deliver { from, to, pick } => Ok(Command::Do(Step::Deliver {
-            from: *from,
-            to: *to,
-            pick: *pick,
-            state: state_of(alloc, room, own)?,
-        })),
-        Bare::Check { at } => Ok(Command::Do(Step::Check {
-            at: *at,
-            state: state_of(alloc, room, own)?,
-        })),
-        Bare::Begin { at } => Ok(Command::Do(Step::Begin {
-            at: *at,
-            state: state_of(alloc, room, own)?,
-        })),
-        Bare::Turn { at } => Ok(Command::Do(Step::Turn {
-            at: *at,
-            state: state_of(alloc, room, own)?,
-        })),
-        Bare::Damage { at, check } => Ok(Command::Do(Step::Damage {
-            at: *at,
-            check: *check,
-        })),
-        Bare::Bar { at, check } => Ok(Command::Do(Step::Bar {
-            at: *at,
-            check: *check,
-        })),
-        Bare::Recover(failed) => Ok(Command::Do(Step::Recover { failed: **failed })),
-        Bare::Rounds => Ok(Command::Rounds),
-        Bare::History => Ok(Command::History),
-        Bare::Bundle(failed) => Ok(Command::Bundle(**failed)),
-        Bare::Refused(code) => Ok(Command::Refused(*code)),
-    }
-}
-
-// The command that it makes with its bytes.
-fn command_with(
-    alloc: Global,
-    room: &mut Vec<u8>,
-    bare: &Bare,
-    own: &[u8],
-) -> Result<Command, AllocError>
-    requires { MayHave bare.now (length own.now) }
-    ensures { IfOk result (λ command. command ≡ with_bytes bare.now own.now) }
-{
-    match bare {
-        Bare::Send { from, to } => Ok(send_with(*from, *to, own)),
-        _ => other_with(alloc, room, bare, own),
-    }
 }
 
 /// The command that it makes with its bytes, which are lent.
@@ -230,38 +117,58 @@ pub(crate) fn lent<'a>(bare: &'a Bare, own: &'a [u8]) -> CommandRef<'a>
     }
 }
 
-// Gives back what commands that are gone have held, where that is as much as those that are left
-// hold.
-fn shrink(kept: &mut Vec<Kept>)
-    ensures { kept.new.items ≡ kept.old.items }
+// Takes so many bytes from the front of a list, and gives back their room.
+fn let_front_go(bytes: &mut Vec<u8>, gone: usize)
+    requires { gone ≤ length bytes.old.items }
+    ensures { bytes.new.items ≡ drop gone bytes.old.items }
 {
-    if kept.len() <= kept.capacity() / 2 {
-        kept.shrink_to_fit();
-    }
+    let long = bytes.len();
+    bytes.copy_within(gone..long, 0);
+    bytes.truncate(long - gone);
+    bytes.shrink_to_fit();
 }
 
 // Lets the first of the commands go, the last one of the list.
+#[inline(always)]
 fn let_go(kept: &mut Vec<Kept>)
     requires { 0 < length kept.old.items }
     ensures { kept.new.items ≡ take (length kept.old.items - 1) kept.old.items }
 {
     kept.truncate(kept.len() - 1);
-    shrink(kept);
+}
+
+// Gives back the room of commands that are gone, and that of their bytes where they are as many as
+// those that are left.
+#[cold]
+#[inline(never)]
+fn shrink(commands: &mut Commands)
+    ensures { commands.new ≡ commands.old }
+{
+    commands.kept.shrink_to_fit();
+    if commands.at >= commands.bytes.len() - commands.at {
+        let_front_go(&mut commands.bytes, commands.at);
+        commands.at = 0;
+    }
+}
+
+// The same, where those that are gone are as many as those that are left.
+#[inline(always)]
+fn shrink_at_half(commands: &mut Commands)
+    ensures { commands.new ≡ commands.old }
+{
+    if commands.kept.len() <= commands.kept.capacity() / 2 {
+        shrink(commands);
+    }
 }
 
 impl Commands {
     /// Those that were kept, in their order.
-    pub(crate) fn of(alloc: Global, mut kept: Vec<Kept>, bytes: Vec<u8>) -> Commands
+    pub(crate) fn of(mut kept: Vec<Kept>, bytes: Vec<u8>) -> Commands
         requires { ArePacked kept.items bytes.items }
         ensures { result ≡ unpacked kept.items bytes.items }
     {
         kept.reverse();
-        Commands {
-            kept,
-            bytes,
-            at: 0,
-            room: Vec::new(alloc),
-        }
+        Commands { kept, bytes, at: 0 }
     }
 
     /// The first one, its message, state or set lent, if there is one.
@@ -275,8 +182,9 @@ impl Commands {
         Some(lent(&first.bare, own))
     }
 
-    /// Lets the first one go, if there is one.
-    pub fn drop_first(&mut self)
+    // Takes the first one out, if there is one.
+    #[inline(always)]
+    fn take_first(&mut self)
         ensures { self.new ≡ drop 1 self.old }
     {
         let Some(first) = self.kept.last() else {
@@ -286,24 +194,11 @@ impl Commands {
         let_go(&mut self.kept);
     }
 
-    /// Takes the first one out, if there is one, and puts it in that place. It answers false where
-    /// there is none.
-    pub fn next(&mut self, alloc: Global, command: &mut Command) -> Result<bool, AllocError>
-        ensures some { IfOk result (λ more. more ≡ true → self.old ≡ command.new ∷ self.new) }
-        ensures none { IfOk result (λ more. more ≡ false → (self.old ≡ []) × (self.new ≡ [])) }
-        ensures memory { OnErr result ((self.new ≡ self.old) × (0 < length self.old)) }
+    /// Lets the first one go, if there is one.
+    pub fn drop_first(&mut self)
+        ensures { self.new ≡ drop 1 self.old }
     {
-        let count = self.kept.len();
-        if count == 0 {
-            return Ok(false);
-        }
-        let first = &self.kept[count - 1];
-        let end = self.at + first.long;
-        take_room(alloc, command, &mut self.room);
-        let own = &self.bytes[self.at..end];
-        *command = command_with(alloc, &mut self.room, &first.bare, own)?;
-        self.at = end;
-        let_go(&mut self.kept);
-        Ok(true)
+        self.take_first();
+        shrink_at_half(self);
     }
 }

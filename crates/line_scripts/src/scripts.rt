@@ -1,18 +1,22 @@
 //! Scripts, read record by record.
 
 ghost use Rattle.std.specs.Prelude.{◌≡◌, ◌+◌, ◌^◌, ◌≤◌, ◌<◌, ◌⊎◌, length, take, IfErr, IfOk};
-ghost use Rattle.line_names.specs.declared.limits.TheConstants.{MOST_PROCESSES};
+ghost use Rattle.line_names.specs.declared.limits.TheConstants.{MOST_BODY, MOST_PROCESSES};
 ghost use Rattle.line_scripts.specs.Scripts as spec;
 ghost use Rattle.line_claims.specs.Reads.{Reads, Yields, no_memory};
 ghost use Rattle.line_claims.specs.Reads as reads;
 ghost use Rattle.line_scripts.specs.Keeping.{MayHave, behind, with_bytes};
 ghost use Rattle.line_scripts.specs.Reads.{IsOfScript, seen, seen_kept};
+ghost use Rattle.line_scripts.specs.Shown.{HasShortBody, shown};
+ghost use Rattle.line_world.specs.Shown as steps;
 
-use crate::commands::{Command, command_of, world_of};
+use crate::commands::{Command, CommandRef, command_of, world_of};
 use crate::keeping::{Bare, Commands, keep};
 use line_claims::{TextError, TextFault, error_at, fault_at, told};
 use line_fields::{Fault, RecordReader, Row, is_plain};
-use line_world::Mode;
+use line_names::Body;
+use line_tape::State;
+use line_world::{Mode, Step, StepRef};
 use std::alloc::{AllocError, Global};
 
 /// What a text asks of a machine.
@@ -93,7 +97,7 @@ fn read(alloc: Global, text: &[u8]) -> Result<KeptScript, TextError>
             return Ok(KeptScript {
                 n,
                 mode,
-                commands: Commands::of(alloc, kept, bytes),
+                commands: Commands::of(kept, bytes),
             });
         }
         let start = bytes.len();
@@ -117,17 +121,96 @@ pub fn keep_script(alloc: Global, text: &[u8]) -> Result<KeptScript, TextFault>
     }
 }
 
-// All commands, each with its own bytes.
+// A message of its own.
+fn own_body(bytes: &[u8]) -> Body
+    requires { length bytes.now ≤ MOST_BODY }
+    ensures { result ≡ bytes.now }
+{
+    match Body::try_new(bytes) {
+        Ok(body) => body,
+        Err(_) => unreachable!(),
+    }
+}
+
+// A state of its own.
+fn own_state(alloc: Global, bytes: &[u8]) -> Result<State, AllocError>
+    ensures { IfOk result (λ state. state ≡ bytes.now) }
+{
+    let own = Vec::from_slice(alloc, bytes)?;
+    Ok(State::of(own))
+}
+
+// The step that is lent, with its own message, state or set.
+fn own_step(alloc: Global, step: &StepRef<'_>) -> Result<Step, AllocError>
+    requires { steps.HasShortBody step.now }
+    ensures { IfOk result (λ own. own ≡ steps.shown step.now) }
+{
+    match step {
+        StepRef::Send { from, to, body } => Ok(Step::Send {
+            from: *from,
+            to: *to,
+            body: own_body(body),
+        }),
+        StepRef::Deliver {
+            from,
+            to,
+            pick,
+            state,
+        } => Ok(Step::Deliver {
+            from: *from,
+            to: *to,
+            pick: *pick,
+            state: own_state(alloc, state)?,
+        }),
+        StepRef::Check { at, state } => Ok(Step::Check {
+            at: *at,
+            state: own_state(alloc, state)?,
+        }),
+        StepRef::Begin { at, state } => Ok(Step::Begin {
+            at: *at,
+            state: own_state(alloc, state)?,
+        }),
+        StepRef::Turn { at, state } => Ok(Step::Turn {
+            at: *at,
+            state: own_state(alloc, state)?,
+        }),
+        StepRef::Damage { at, check } => Ok(Step::Damage {
+            at: *at,
+            check: *check,
+        }),
+        StepRef::Bar { at, check } => Ok(Step::Bar {
+            at: *at,
+            check: *check,
+        }),
+        StepRef::Recover { failed } => Ok(Step::Recover { failed: **failed }),
+    }
+}
+
+// The command that is lent, with its own message, state or set.
+fn own_command(alloc: Global, command: &CommandRef<'_>) -> Result<Command, AllocError>
+    requires { HasShortBody command.now }
+    ensures { IfOk result (λ own. own ≡ shown command.now) }
+{
+    match command {
+        CommandRef::Do(step) => Ok(Command::Do(own_step(alloc, step)?)),
+        CommandRef::Rounds => Ok(Command::Rounds),
+        CommandRef::History => Ok(Command::History),
+        CommandRef::Bundle(failed) => Ok(Command::Bundle(**failed)),
+        CommandRef::Refused(code) => Ok(Command::Refused(*code)),
+    }
+}
+
+// All commands, each with its own message, state or set.
 fn all_of(alloc: Global, mut commands: Commands) -> Result<Vec<Command>, AllocError>
     ensures { IfOk result (λ all. all.items ≡ commands) }
 {
     let mut all = Vec::new(alloc);
     'commands: loop {
-        let mut command = Command::Rounds;
-        if !commands.next(alloc, &mut command)? {
+        let Some(command) = commands.first() else {
             return Ok(all);
-        }
-        all.push(command)?;
+        };
+        all.push(own_command(alloc, &command)?)?;
+        commands.drop_first();
     }
 }
 
@@ -135,8 +218,8 @@ fn all_of(alloc: Global, mut commands: Commands) -> Result<Vec<Command>, AllocEr
 ///
 /// Refused with the first fault of the text, the records taken in their order, and the questions to
 /// a record in the order in which its definition asks them. A byte that no text has is of record 0
-/// and comes before all else; a text without records wants its first one. Want of memory, at any
-/// time, is the fault 0 of record 0. It takes time and memory in proportion to the text.
+/// and comes before all else; the first record of a text without records is missing. Out of memory,
+/// at any time, is the fault 0 of record 0. It takes time and memory in proportion to the text.
 pub fn read_script(alloc: Global, text: &[u8]) -> Result<Script, TextFault>
     ensures exact { Reads seen result (spec.script_of_text text.now) }
     ensures codes { IfErr result (λ fault. (fault ≡ no_memory) ⊎ IsOfScript fault) }

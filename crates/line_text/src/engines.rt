@@ -213,7 +213,7 @@ pub fn run_text<S: Source, K: Sink>(
         × ((text : List ℕ) × GivesAll text (S.left source.old) (S.left source.new) (S.given source.old) (S.given source.new)
         × spec.RunsTextFront text (K.taken sink.old) (K.taken sink.new))) }
 
-    // Want of memory is of no record, and nothing is written, or it is of a command, and the
+    // Out of memory is of no record, and nothing is written, or it is of a command, and the
     // replies to those before it are written, and perhaps a front of its own.
     ensures memory { IfErr result (λ fault. fault.code ≡ 0
         → ((fault.record_number ≡ 0) × (sink.new ≡ sink.old))

@@ -124,7 +124,7 @@ pub fn check_text<S: Source, K: Sink>(
         × ((text : List ℕ) × GivesAll text (S.left source.old) (S.left source.new) (S.given source.old) (S.given source.new)
         × spec.JudgesTextFront text (K.taken sink.old) (K.taken sink.new))) }
 
-    // Want of memory is of no record, and then nothing is written.
+    // Out of memory is of no record, and then nothing is written.
     ensures memory { IfErr result (λ fault. fault.code ≡ 0 → (fault.record_number ≡ 0) × (sink.new ≡ sink.old)) }
 
     // There are no other faults, a sound sink is not blamed, and no failure of the source is passed

@@ -14,7 +14,7 @@ ghost use Rattle.line_text.specs.Runs.{RunsText, RunsTextFront, StopsText};
 
 /// A script of version 1, whatever its bytes, has the same replies in version 2, unless version 1
 /// refuses it for the number of its processes: what a run puts for the one text it may put for the
-/// other, also where it stops for want of memory or because the sink failed. So it is too where the
+/// other, also where it is out of memory or the sink failed. So it is too where the
 /// first record stands behind empty lines or spells the version with leading zeros.
 pub fn scripts_of_both_versions_run_alike()
     ensures runs { (text : List ℕ) (refused : ℕ) (old new : Option (List ℕ)) → script_of_text (codes "world,1," ++ text) ≢ Err (fault_at 1 BadCount)

@@ -1,12 +1,8 @@
-use Rattle.std.proofs.Common.{◌∷◌}
+use Rattle.std.proofs.Common.{◌∷◌, map}
 use Rattle.std.specs.Prelude.{decimal}
-use Rattle.std.specs.List.{flat_map}
-use Rattle.line_devices.proofs.OutputLemmas.{outputs_front, outputs_on}
-use Rattle.line_fields.proofs.OutletLemmas.{join_more}
+use Rattle.std.specs.List.{join_with_byte}
+use Rattle.line_devices.proofs.OutputLemmas.{outputs_more}
 use Rattle.line_fields.proofs.outlets.begin_record.Goals as goal
 
-pub returns-in_err-add : goal.returns-in_err-add
-returns-in_err-add g c = outputs_front _ _ _ _ c.args.name.now (flat_map (λ n. 44 ∷ decimal n) c.args.numbers.now) _ (join_more decimal c.args.name.now c.args.numbers.now) (rw c.writer.view_is at c.in_err-add.ensures) c.from_residual.ensures.1
-
 pub returns : goal.returns
-returns g c = outputs_on _ c.args.name.now (flat_map (λ n. 44 ∷ decimal n) c.args.numbers.now) _ (join_more decimal c.args.name.now c.args.numbers.now) (rw c.writer.view_is at c.in_ok-add.ensures) c.add_numbers.ensures
+returns g c = outputs_more tt _ _ _ _ (join_with_byte 44 (c.args.name.now ∷ map decimal c.args.numbers.now)) (rw c.writer.view_is at c.push_begin.ensures)
