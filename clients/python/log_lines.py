@@ -78,7 +78,8 @@ def event_of(line: bytes) -> Event | None:
             return None
         event, end = decoder.raw_decode(text)
     except json.JSONDecodeError as error:
-        raise Unsound(f"this is no JSON: {error.msg} at character {error.pos + 1}") from None
+        cause = error.msg.removesuffix(" at")
+        raise Unsound(f"this is no JSON: {cause} at character {error.pos + 1}") from None
     except (ValueError, RecursionError) as error:
         raise Unsound(f"this is no JSON: {error}") from None
     if not isinstance(event, dict) or end != len(text):
