@@ -3,7 +3,7 @@
 
 Logs are JSON Lines, of one process each or of several, or standard input where none is named.
 docs/LOGS.md says what their lines have. The lines of a process are in one log, in their order. The
-script has each event once, and each receipt behind its send; but for that it keeps the order in
+script has each event once, and each receipt after its send; but for that it keeps the order in
 which lines are read, one of each log in turn. Where a log is not sound, standard error has one
 line, `FILE:LINE: CAUSE`, the status is 2, and there is no script. The status is 3 where a file
 cannot be read or written.

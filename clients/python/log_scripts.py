@@ -1,4 +1,4 @@
-"""Makes the script of a computation of its events, each receipt behind its send.
+"""Makes the script of a computation of its events, each receipt after its send.
 
 A message is kept as one number, by its name, and an event that waits as the place of its line.
 """
@@ -303,7 +303,7 @@ class Making:
         return awaited is None
 
     def take(self, log: Log, place: int, line: bytes) -> None:
-        """Takes a line, and does what that and the events behind it make possible."""
+        """Takes a line, and does what that and the events that waited make possible."""
         try:
             event = event_of(line)
             if event is None:
@@ -362,8 +362,8 @@ class Making:
         if isinstance(awaited, bytes):
             if awaited not in sends:
                 return 0, f"message {named(awaited)} is received, and no line sends it"
-            behind = f"its send, {sends[awaited]}, stands behind an event that waits in turn"
-            return 3, f"message {named(awaited)} is received before it can be sent: {behind}"
+            where = f"its send, {sends[awaited]}, stands after an event that waits in turn"
+            return 3, f"message {named(awaited)} is received before it can be sent: {where}"
         if isinstance(awaited, tuple):
             sender, number = awaited
             return 1, f"process {sender} does not come to its `marker` of round {number}"

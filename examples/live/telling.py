@@ -121,7 +121,8 @@ class Teller:
         if recovery.last_round:
             checks = ", ".join(str(check) for check in recovery.last_round.checks)
             number = recovery.last_round.number
-            self.tell(f"  nobody went behind round {number}, the last completed: checks {checks}")
+            told = f"nobody went back to before round {number}, the last completed: checks {checks}"
+            self.tell(f"  {told}")
         self.tell_replays(recovery.replays)
         if not self.is_quiet:
             self.explain()

@@ -217,7 +217,7 @@ class Teller:
         self.add(message)
 
     def tell_receipt(self, command: Command, name: Name, of_round: str) -> None:
-        """A message was received, behind a check of its round where that was forced."""
+        """A message was received, after a check of its round where that was forced."""
         process, message = int(command.fields[1]), self.messages[name]
         if of_round != "-":
             self.force_check(command, process, int(of_round))

@@ -228,7 +228,7 @@ UNSOUND: list[tuple[str, list[str], int, str]] = [
      "message \"b\" overtakes message \"a\", which process 0 sent before"),
     (line(0, "receive", message="b") + line(1, "receive", message="a") + SENT
      + line(1, "send", message="b", to=0), [], 1,
-     "message \"b\" is received before it can be sent: its send, standard input:4, stands behind"),
+     "message \"b\" is received before it can be sent: its send, standard input:4, stands after"),
     (line(0, "marker", round=0), ["--processes", "2"], 1,
      "`round` is no whole number from 1 to 65535"),
     (line(0, "marker", round=True), ["--processes", "2"], 1, "`round` is no whole number"),
