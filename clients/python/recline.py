@@ -182,6 +182,12 @@ class Answer(Generic[T]):
         self._error: Exception | None = None
         self._is_there = False
 
+    def __repr__(self) -> str:
+        told = "not answered yet"
+        if self._is_there or self._error is not None:
+            told = repr(self._error or self._value)
+        return f"<Answer to {self.record[:80]!r}: {told}>"
+
     @property
     def value(self) -> T:
         """What the call answers, or raises: `Refused`, `Fault`, `ServiceEnded`.
