@@ -1,4 +1,4 @@
-"""What tests of pictures share: stories of examples and of scripts, and what pictures have to be."""
+"""What tests of pictures share: stories of examples and scripts, and what pictures have to be."""
 
 import itertools
 import pathlib
