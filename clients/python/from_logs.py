@@ -1,11 +1,9 @@
 #!/usr/bin/env python3
 """Makes a script for recline of the logs of a computation.
 
-Usage: from_logs.py [OPTIONS] [LOG..] > SCRIPT
-
 Logs are JSON Lines, of one process each or of several, or standard input where none is named.
 docs/LOGS.md says what their lines have. The lines of a process are in one log, in their order. The
-script has each event once, and each receipt behind its send; but for that it keeps the order in
+script has each event once, and each receipt after its send; but for that it keeps the order in
 which lines are read, one of each log in turn. Where a log is not sound, standard error has one
 line, `FILE:LINE: CAUSE`, the status is 2, and there is no script. The status is 3 where a file
 cannot be read or written.
@@ -65,14 +63,20 @@ def read(logs: Sequence[Log], making: Making, progress: Progress) -> None:
 def words() -> argparse.Namespace:
     """The command line."""
     line = argparse.ArgumentParser(
-        description=__doc__, formatter_class=argparse.RawDescriptionHelpFormatter
+        prog="from_logs.py",
+        usage="from_logs.py [OPTIONS] [LOG ..] > SCRIPT",
+        description=__doc__,
+        formatter_class=argparse.RawDescriptionHelpFormatter,
     )
     line.add_argument("logs", metavar="LOG", nargs="*", help="a log in JSON Lines")
-    line.add_argument("--links", choices=["fifo", "unordered"], default="fifo", help="(fifo)")
-    line.add_argument("--processes", type=int, metavar="N", help="how many there are, 1 to 256")
+    line.add_argument("--links", choices=["fifo", "unordered"], default="fifo",
+                      help="whether each link keeps the order of sending (fifo), or none does")
+    line.add_argument("--processes", type=int, metavar="N",
+                      help="how many there are, 1 to 256; else as many as the logs name")
     line.add_argument("--failed", action="append", default=[], metavar="PROCESS",
-                      help="end the script with the recovery after this one failed (repeatable)")
-    line.add_argument("--names", metavar="FILE", help="write the names and recline's to this file")
+                      help="end the script with a recovery in which this one failed (repeatable)")
+    line.add_argument("--names", metavar="FILE",
+                      help="write how recline calls the processes and messages to FILE")
     line.add_argument("--shorten", action="store_true",
                       help="put the SHA-256 digest for a state or a body that is too long")
     asked = line.parse_args()
@@ -115,7 +119,8 @@ def main() -> int:
         with contextlib.ExitStack() as files:
             return made(words(), files)
     except OSError as error:
-        sys.stderr.write(f"from_logs: {error}\n")
+        file = f"{error.filename}: " if error.filename else ""
+        sys.stderr.write(f"from_logs: {file}{error.strerror}\n")
         return 3
 
 

@@ -39,6 +39,7 @@ class Log:
         self._window, self._start = b"", 0
 
     def close(self) -> None:
+        """Lets the file go, and a copy of it too."""
         self._file.close()
 
     def next(self) -> bytes:
@@ -78,7 +79,8 @@ def event_of(line: bytes) -> Event | None:
             return None
         event, end = decoder.raw_decode(text)
     except json.JSONDecodeError as error:
-        raise Unsound(f"this is no JSON: {error.msg} at character {error.pos + 1}") from None
+        cause = error.msg.removesuffix(" at")
+        raise Unsound(f"this is no JSON: {cause} at character {error.pos + 1}") from None
     except (ValueError, RecursionError) as error:
         raise Unsound(f"this is no JSON: {error}") from None
     if not isinstance(event, dict) or end != len(text):
@@ -101,3 +103,14 @@ def shown(name: str) -> str:
     """A name, as it stands in a log."""
     text = json.dumps(name)
     return text if len(text) <= 80 else f"{text[:76]}..\""
+
+
+def named(message: bytes) -> str:
+    """The name of a message, as it stands in a log."""
+    return shown(message.decode("utf-8", "replace"))
+
+
+def number_of(digits: str) -> int:
+    """The number that digits spell, or 1,000 where it is greater."""
+    digits = digits.lstrip("0") or "0"
+    return int(digits) if len(digits) <= 3 else 1_000

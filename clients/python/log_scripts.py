@@ -1,4 +1,4 @@
-"""Makes the script of a computation of its events, each receipt behind its send.
+"""Makes the script of a computation of its events, each receipt after its send.
 
 A message is kept as one number, by its name, and an event that waits as the place of its line.
 """
@@ -15,7 +15,9 @@ import tempfile
 from collections.abc import Iterator, Sequence
 from typing import IO, Any
 
-from log_lines import MOST_LINE, Event, Log, Unsound, event_of, shown, text_of
+from log_lines import (
+    MOST_LINE, Event, Log, Unsound, event_of, named, number_of, shown, text_of,
+)
 
 MOST_PROCESSES, MOST_IN_FIRST_VERSION = 256, 64
 MOST_EVENTS, MOST_ROUND, MOST_BODY, MOST_STATE = 1_000_000, 65_535, 64, 4_096
@@ -55,18 +57,8 @@ def packed(sender: int, to: int, place: int, rounds: int) -> int:
 
 
 def unpacked(message: int) -> tuple[int, int, int, int]:
+    """Of a message its sender, its addressee, its place on its link, and its sender's rounds."""
     return message & 255, message >> 8 & 255, message >> 16 & 0xFFFFF, message >> 36 & 0xFFFF
-
-
-def number_of(digits: str) -> int:
-    """The number that digits spell, or one that is too great."""
-    digits = digits.lstrip("0") or "0"
-    return int(digits) if len(digits) <= 3 else MOST_EVENTS
-
-
-def named(message: bytes) -> str:
-    """The name of a message, as it stands in a log."""
-    return shown(message.decode("utf-8", "replace"))
 
 
 class Making:
@@ -92,6 +84,7 @@ class Making:
         return known if known is not None else self.new_process(name)
 
     def new_process(self, name: str) -> Process:
+        """A process that no line has named so far, with the next number or its own."""
         is_number = name.isascii() and name.isdigit()
         if name[:1] == "-" and name[1:].isdigit():
             raise Unsound(f"process {name}: processes are numbered from 0 on")
@@ -121,6 +114,7 @@ class Making:
         raise Unsound(f"the logs have no process {shown(name)}, which failed")
 
     def way(self, sender: Process, to: Process) -> Link:
+        """The link between two processes."""
         key = sender.number << 8 | to.number
         link = self.ways.get(key)
         if link is None:
@@ -163,10 +157,12 @@ class Making:
         self.script.write(record.encode())
 
     def release(self, awaited: Awaited) -> None:
+        """What has waited for this may go on."""
         if awaited in self.waiting:
             self.ready.extend(self.waiting.pop(awaited))
 
     def send(self, process: Process, event: Event) -> Awaited | None:
+        """A message is sent, which its name must tell from all others."""
         name = text_of(event, "message").encode("utf-8", "surrogatepass")
         if name in self.messages:
             raise Unsound(f"message {named(name)} is sent a second time")
@@ -182,6 +178,7 @@ class Making:
         return None
 
     def receive(self, process: Process, event: Event) -> Awaited | None:
+        """A message is received, which waits until it is sent."""
         name = text_of(event, "message").encode("utf-8", "surrogatepass")
         message = self.messages.get(name)
         if message is None:
@@ -221,10 +218,12 @@ class Making:
         return f"message {named(next(names, b''))}, which process {sender} sent before"
 
     def checkpoint(self, process: Process, event: Event) -> Awaited | None:
+        """A checkpoint outside of rounds."""
         self.put(process, 1, f"check,{process.number},{self.state_of(event)}\n")
         return None
 
     def marker(self, process: Process, event: Event) -> Awaited | None:
+        """A round is begun or entered, or its marker comes on a link."""
         number = event.get("round")
         if type(number) is not int or not 1 <= number <= MOST_ROUND:
             raise Unsound(f"`round` is no whole number from 1 to {MOST_ROUND}")
@@ -304,7 +303,7 @@ class Making:
         return awaited is None
 
     def take(self, log: Log, place: int, line: bytes) -> None:
-        """Takes a line, and does what that and the events behind it make possible."""
+        """Takes a line, and does what that and the events that waited make possible."""
         try:
             event = event_of(line)
             if event is None:
@@ -363,8 +362,8 @@ class Making:
         if isinstance(awaited, bytes):
             if awaited not in sends:
                 return 0, f"message {named(awaited)} is received, and no line sends it"
-            behind = f"its send, {sends[awaited]}, stands behind an event that waits in turn"
-            return 3, f"message {named(awaited)} is received before it can be sent: {behind}"
+            where = f"its send, {sends[awaited]}, stands after an event that waits in turn"
+            return 3, f"message {named(awaited)} is received before it can be sent: {where}"
         if isinstance(awaited, tuple):
             sender, number = awaited
             return 1, f"process {sender} does not come to its `marker` of round {number}"

@@ -182,6 +182,12 @@ class Answer(Generic[T]):
         self._error: Exception | None = None
         self._is_there = False
 
+    def __repr__(self) -> str:
+        told = "not answered yet"
+        if self._is_there or self._error is not None:
+            told = repr(self._error or self._value)
+        return f"<Answer to {self.record[:80]!r}: {told}>"
+
     @property
     def value(self) -> T:
         """What the call answers, or raises: `Refused`, `Fault`, `ServiceEnded`.
@@ -244,23 +250,28 @@ def _fields(text: str, kind: str) -> list[int]:
 
 
 def _message(fields: Sequence[str]) -> MessageName:
+    """The fields of a name."""
     return MessageName(*map(int, fields))
 
 
 def _choice(field: str) -> int | None:
+    """The field of a choice; None is where the process stands."""
     return None if field == "now" else int(field)
 
 
 def _read_nothing(text: str) -> None:
+    """The answer to a `world` record."""
     if text:
         raise ValueError(text)
 
 
 def _read_sent(text: str) -> MessageName:
+    """The answer to `send`."""
     return MessageName(*_fields(text, "sent"))
 
 
 def _read_delivered(text: str) -> Delivered:
+    """The answer to `deliver`."""
     kind, *fields = text.split(",")
     if kind == "took":
         return Took(_message(fields[:3]), None if fields[3] == "-" else int(fields[3]))
@@ -274,27 +285,33 @@ def _read_delivered(text: str) -> Delivered:
 
 
 def _read_checked(text: str) -> int:
+    """The answer to `check`."""
     _process, check = _fields(text, "checked")
     return check
 
 
 def _read_begun(text: str) -> Begun:
+    """The answer to `begin`."""
     return Begun(*_fields(text, "begun"))
 
 
 def _read_turned(text: str) -> Turned:
+    """The answer to `turn`."""
     return Turned(*_fields(text, "turned"))
 
 
 def _read_damaged(text: str) -> None:
+    """The answer to `damage`."""
     _process, _check = _fields(text, "damaged")
 
 
 def _read_barred(text: str) -> None:
+    """The answer to `bar`."""
     _process, _check = _fields(text, "barred")
 
 
 def _read_plan(text: str) -> Plan:
+    """The answer to `recover`: its lines, its entries and its replays stand in this order."""
     first, *others = text.split("\n")
     sweeps, entries, replays = _fields(first, "recovered")
     records = [record.split(",") for record in others]
@@ -317,6 +334,7 @@ def _part(record: list[str]) -> list[str]:
 
 
 def _read_rounds(text: str) -> tuple[Round, ...]:
+    """The answer to `rounds`: each round, and then what its channels held."""
     records = [record.split(",") for record in text.split("\n")[1:]]
     rounds: list[tuple[list[int], list[Channel]]] = []
     for (kind, *fields), group in itertools.groupby(records, _part):
@@ -330,6 +348,7 @@ def _read_rounds(text: str) -> tuple[Round, ...]:
 
 
 def _read_text(text: str) -> str:
+    """The answer to `history` and `bundle`, with its last line feed."""
     return text + "\n"
 
 
@@ -379,6 +398,7 @@ class _Journal:
         raise JournalError(f"{self.path}: it begins with {first[:80]!r}, and not with {world!r}")
 
     def _sync_folder(self) -> None:
+        """Syncs the folder, so that a new journal is found after a loss of power."""
         folder = os.open(os.path.dirname(self.path) or ".", os.O_RDONLY)
         try:
             os.fsync(folder)
@@ -419,6 +439,7 @@ class _Journal:
         self._end = end
 
     def _put(self, text: bytes, place: int) -> None:
+        """Writes all of it at a place, and syncs it where that is asked for."""
         while text:
             written = os.pwrite(self._file.fileno(), text, place)
             text, place = text[written:], place + written
@@ -448,6 +469,7 @@ class _Journal:
         return sum(1 for at, line in self.lines() if at <= place and line.removesuffix("\r"))
 
     def close(self) -> None:
+        """Lets the journal go, so that another client may have it."""
         self._file.close()
 
 
@@ -471,6 +493,7 @@ class Together:
             self._service._exchange(None, to_the_end=True)
 
     def _tell(self, read: Callable[[str], T], *fields: str) -> Answer[T]:
+        """Takes a record of these fields, whose answer is read so."""
         if self._is_over:
             raise RuntimeError("the block of together() is over")
         answer = Answer(",".join(fields), read, self.not_done)
@@ -481,39 +504,50 @@ class Together:
         return answer
 
     def send(self, sender: int, to: int, body: bytes = b"") -> Answer[MessageName]:
+        """As `Service.send`."""
         return self._tell(_read_sent, "send", _number(sender), _number(to), _hex(body))
 
     def deliver(
         self, sender: int, to: int, pick: int = 0, state: bytes = b""
     ) -> Answer[Delivered]:
+        """As `Service.deliver`."""
         numbers = _number(sender), _number(to), _number(pick, _MOST_PLACE)
         return self._tell(_read_delivered, "deliver", *numbers, _hex(state))
 
     def check(self, process: int, state: bytes = b"") -> Answer[int]:
+        """As `Service.check`."""
         return self._tell(_read_checked, "check", _number(process), _hex(state))
 
     def begin(self, process: int, state: bytes = b"") -> Answer[Begun]:
+        """As `Service.begin`."""
         return self._tell(_read_begun, "begin", _number(process), _hex(state))
 
     def turn(self, process: int, state: bytes = b"") -> Answer[Turned]:
+        """As `Service.turn`."""
         return self._tell(_read_turned, "turn", _number(process), _hex(state))
 
     def damage(self, process: int, check: int) -> Answer[None]:
+        """As `Service.damage`."""
         return self._tell(_read_damaged, "damage", _number(process), _number(check))
 
     def bar(self, process: int, check: int) -> Answer[None]:
+        """As `Service.bar`."""
         return self._tell(_read_barred, "bar", _number(process), _number(check))
 
     def recover(self, failed: Iterable[int] = ()) -> Answer[Plan]:
+        """As `Service.recover`."""
         return self._tell(_read_plan, "recover", *_numbers(failed))
 
     def rounds(self) -> Answer[tuple[Round, ...]]:
+        """As `Service.rounds`."""
         return self._tell(_read_rounds, "rounds")
 
     def history(self) -> Answer[str]:
+        """As `Service.history`."""
         return self._tell(_read_text, "history")
 
     def bundle(self, failed: Iterable[int] = ()) -> Answer[str]:
+        """As `Service.bundle`."""
         return self._tell(_read_text, "bundle", *_numbers(failed))
 
 
@@ -582,6 +616,7 @@ class Service:
             raise
 
     def _start(self, command: Sequence[str | os.PathLike[str]]) -> None:
+        """Starts the service. Writing to it does not wait, so that answers are read meanwhile."""
         self._said = tempfile.TemporaryFile()
         pipe = subprocess.PIPE
         try:
@@ -628,6 +663,7 @@ class Service:
     # Records go out and answers come in.
 
     def _test_runs(self) -> None:
+        """Raises `ServiceEnded` where the service has ended."""
         if self._over is not None:
             raise ServiceEnded(self._over.status, self._over.said) from self._cause
 

@@ -96,7 +96,7 @@ def judge(asked: argparse.Namespace, cells: Sequence[float]) -> bool:
     """Whether the cells have the bits that they must have."""
     is_good = is_same(cells, rod.plain_loop(asked.cells, asked.turns), "a plain loop")
     if not asked.alone:
-        quiet = Teller("", "", asked.turns, True)
+        quiet = Teller("", "", asked.turns, True, "without failures: ")
         others = cells_by_workers(asked, None, Kills([]), quiet)
         quiet.progress.wipe()
         is_good = is_same(cells, others, "a run without failures") and is_good

@@ -358,14 +358,14 @@ class Supervisor:
             return None
         listed = self.service.rounds()
         if not listed or listed[-1].number != self.last_round:
-            raise Failure(f"the recovery went behind round {self.last_round}")
+            raise Failure(f"the recovery went back to before round {self.last_round}")
         return listed[-1]
 
     def begin_next_world(self) -> None:
         """Begins a new world before a tape is full: from the line that there is if all failed.
 
         What is in transit there is sent first, and then each takes a checkpoint. So no line of the
-        new world is behind that.
+        new world is before that.
         """
         self.watch.begins_world()
         self.failed.update(self.numbers)

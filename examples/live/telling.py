@@ -47,8 +47,8 @@ def replayed(message: Message) -> str:
 class Progress:
     """How far all is, on a terminal alone: on the last line of standard error, which is wiped."""
 
-    def __init__(self, turns: int) -> None:
-        self.turns = turns
+    def __init__(self, turns: int, run: str) -> None:
+        self.turns, self.run = turns, run
         self.is_terminal = sys.stderr.isatty()
         self.next = time.monotonic() + SECONDS_OF_SILENCE
         self.is_there = False
@@ -58,7 +58,8 @@ class Progress:
         if self.is_terminal and time.monotonic() >= self.next:
             self.next = time.monotonic() + SECONDS_BETWEEN
             self.is_there = True
-            print(f"\r\x1b[Kturn {turn} of {self.turns}", end="", file=sys.stderr, flush=True)
+            told = f"{self.run}turn {turn} of {self.turns}"
+            print(f"\r\x1b[K{told}", end="", file=sys.stderr, flush=True)
 
     def wipe(self) -> None:
         """Takes the line away."""
@@ -68,11 +69,13 @@ class Progress:
 
 
 class Teller:
-    """Tells on standard output what happens."""
+    """Tells on standard output what happens, and on a terminal which turn of which run it is."""
 
-    def __init__(self, journal: str, program: str, turns: int, is_quiet: bool) -> None:
+    def __init__(
+        self, journal: str, program: str, turns: int, is_quiet: bool, run: str = ""
+    ) -> None:
         self.journal, self.program, self.is_quiet = journal, program, is_quiet
-        self.progress = Progress(turns)
+        self.progress = Progress(turns, run)
         self.furthest = 0
         self.killed = self.recoveries = self.rounds = self.turns_again = 0
 
@@ -118,7 +121,8 @@ class Teller:
         if recovery.last_round:
             checks = ", ".join(str(check) for check in recovery.last_round.checks)
             number = recovery.last_round.number
-            self.tell(f"  nobody went behind round {number}, the last completed: checks {checks}")
+            told = f"nobody went back to before round {number}, the last completed: checks {checks}"
+            self.tell(f"  {told}")
         self.tell_replays(recovery.replays)
         if not self.is_quiet:
             self.explain()

@@ -95,7 +95,7 @@ def add_checkpoints(group: argparse._ArgumentGroup) -> None:
     group.add_argument(
         "--rounds",
         action="store_true",
-        help="checkpoints by rounds of markers: nobody goes back behind a completed round",
+        help="checkpoints by rounds of markers: nobody goes back to before a completed round",
     )
 
 

@@ -183,6 +183,7 @@ class Teller:
         return len(self.story.events), command.record, process
 
     def add(self, event: Event) -> None:
+        """Adds an event to the story and to the tape of its process."""
         self.story.events.append(event)
         self.tapes[event.process].append(event)
 
@@ -209,12 +210,14 @@ class Teller:
         self.add_check(command, process, index, number, command.fields[3], is_forced=True)
 
     def tell_send(self, command: Command, name: Name) -> None:
+        """A message was sent."""
         to, body = int(command.fields[1]), command.fields[2].lower()
         message = Message(*self.at(command, name.sender), name=name, to=to, body=body)
         self.messages[name] = message
         self.add(message)
 
     def tell_receipt(self, command: Command, name: Name, of_round: str) -> None:
+        """A message was received, after a check of its round where that was forced."""
         process, message = int(command.fields[1]), self.messages[name]
         if of_round != "-":
             self.force_check(command, process, int(of_round))
@@ -226,17 +229,20 @@ class Teller:
         self.add(receipt)
 
     def tell_marker(self, command: Command, number: int, is_forced: bool) -> None:
+        """A marker came, and its round's check was taken before where that was forced."""
         sender, process = int(command.fields[0]), int(command.fields[1])
         if is_forced:
             self.force_check(command, process, number)
         self.add(MarkerReceipt(*self.at(command, process), source=self.of_round[sender, number]))
 
     def tell_damage(self, command: Command, process: int, index: int) -> None:
+        """A check was marked as damaged."""
         check = self.checks[process][index]
         check.damage = Damage(*self.at(command, process), check=check)
         self.add(check.damage)
 
     def tell_bar(self, command: Command, process: int, index: int) -> None:
+        """A process was barred."""
         bar = Bar(*self.at(command, process), check=self.checks[process][index])
         self.bars[process] = bar
         self.add(bar)

@@ -38,7 +38,7 @@ def at_choice(choice: Choice) -> str:
 
 def message(name: Name) -> str:
     """A message by its name. The first incarnation of its sender, 0, is not told."""
-    under = f", sent under its incarnation {name.incarnation}" if name.incarnation else ""
+    under = f" (sent under incarnation {name.incarnation})" if name.incarnation else ""
     return f"message {name.number} of process {name.sender}{under}"
 
 

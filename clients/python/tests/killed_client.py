@@ -93,6 +93,7 @@ class Killed(recline.Service):
     seconds = 0.0
 
     def _start(self, command: Sequence[str | os.PathLike[str]]) -> None:
+        """Starts the service, and a clock that kills it."""
         super()._start(command)
         # A process that was not waited for keeps its number, so no other one is killed.
         self.killing = threading.Timer(self.seconds, self._process.kill)

@@ -195,6 +195,8 @@ UNSOUND: list[tuple[str, list[str], int, str]] = [
     ("{", [], 1,
      "this is no JSON: Expecting property name enclosed in double quotes at character 2\n"),
     ("\n\nx\n", [], 3, "this is no JSON"),
+    ('{"process": 1, "event": "rec', [], 1,
+     "this is no JSON: Unterminated string starting at character 25\n"),
     ("[1]\n", [], 1, "this is no JSON object"),
     ("{} {}\n", [], 1, "this is no JSON object"),
     ("[" * 100_000 + "\n", [], 1, "this is no JSON"),
@@ -226,7 +228,7 @@ UNSOUND: list[tuple[str, list[str], int, str]] = [
      "message \"b\" overtakes message \"a\", which process 0 sent before"),
     (line(0, "receive", message="b") + line(1, "receive", message="a") + SENT
      + line(1, "send", message="b", to=0), [], 1,
-     "message \"b\" is received before it can be sent: its send, standard input:4, stands behind"),
+     "message \"b\" is received before it can be sent: its send, standard input:4, stands after"),
     (line(0, "marker", round=0), ["--processes", "2"], 1,
      "`round` is no whole number from 1 to 65535"),
     (line(0, "marker", round=True), ["--processes", "2"], 1, "`round` is no whole number"),
@@ -270,7 +272,9 @@ class TestUnsound(unittest.TestCase):
             self.assertEqual(ran.stderr, told)
             told = f"{folder}/one:2: message \"a\" is received, and no line sends it\n"
             self.assertEqual(made("", f"{folder}/one", "/dev/null").stderr, told)
-            self.assertEqual(made("", f"{folder}/three").returncode, 3)
+            ran = made("", f"{folder}/three")
+            told = f"from_logs: {folder}/three: No such file or directory\n"
+            self.assertEqual((ran.stdout, ran.returncode, ran.stderr), ("", 3, told))
             self.assertEqual(made(SENT, "--names", f"{folder}/no/names").returncode, 3)
 
     def test_failed(self) -> None:

@@ -224,6 +224,7 @@ class TestRefusedJournals(ServiceCase):
     """Journals that are not gone on with, and stay as they are."""
 
     def refused(self, text: bytes, told: str, **others: Any) -> None:
+        """A journal with this text is not gone on with, for a cause that is told, and stays."""
         self.journal.write_bytes(text)
         with self.assertRaisesRegex(JournalError, told):
             self.kept(**others)

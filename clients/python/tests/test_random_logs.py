@@ -28,6 +28,7 @@ class Computation:
             self.step(step)
 
     def step(self, step: int) -> None:
+        """Something that a process likes to do, if it can."""
         p = self.chance.randrange(self.n)
         kind = self.chance.choice(["send", "receive", "receive", "checkpoint", "marker"])
         if kind == "send":
@@ -63,6 +64,7 @@ class Computation:
                     self.ways.setdefault((p, q), []).append(number)
 
     def receive(self, p: int) -> None:
+        """A process takes the next item of a link, or any where links keep no order."""
         sender = self.chance.choice([q for q in range(self.n) if q != p])
         way = self.ways.get((sender, p))
         if not way:

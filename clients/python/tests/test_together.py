@@ -51,6 +51,14 @@ class TestTogether(ServiceCase):
             faulty.value
         self.assertEqual(ahead.not_done, [refused, faulty])
         self.assertEqual(refused.record, "turn,0,")
+        told = "Refused(22, 'WrongMode', 'turn,0,')"
+        self.assertEqual(repr(refused), f"<Answer to 'turn,0,': {told}>")
+        self.assertEqual(repr(done), "<Answer to 'check,0,': 1>")
+
+    def test_not_answered(self) -> None:
+        with self.opened().together() as ahead:
+            checked = ahead.check(0)
+            self.assertEqual(repr(checked), "<Answer to 'check,0,': not answered yet>")
 
     def test_after_the_block(self) -> None:
         service = self.opened()
