@@ -1,17 +1,16 @@
 //! Judge a claim, and write one down so that anybody can have it judged.
 ghost use Rattle.std.specs.Prelude.{◌≡◌, ◌↔◌, IfOk, IsTrue};
-ghost use Rattle.line_check.specs.Shape.{HasShape};
-ghost use Rattle.line_claims.specs.Records.{check_records, in_order};
-ghost use Rattle.line_fields.specs.Texts.{records_text};
-ghost use Rattle.line_tape.specs.Chain.{IsChain};
-ghost use Rattle.line_tape.specs.Survival.{IsLatest};
+ghost use Rattle.recline.specs.Shape.{HasShape};
+ghost use Rattle.recline.specs.ClaimRecords.{check_records, in_order};
+ghost use Rattle.recline.specs.Texts.{records_text};
+ghost use Rattle.recline.specs.Chain.{IsChain};
+ghost use Rattle.recline.specs.Survival.{IsLatest};
 
 use anyhow::Result;
-use line_check::check_certificate;
-use line_claims::write_check_text;
-use line_names::ProcSet;
-use line_plan::Plan;
-use line_tape::{History, Marks};
+use recline::check::check_certificate;
+use recline::plan::Plan;
+use recline::text::write_check_text;
+use recline::{History, Marks, ProcSet};
 use std::alloc::Global;
 
 /// Whether the certificate of a plan shows that its line is the latest one. The plan may come from

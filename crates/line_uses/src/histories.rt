@@ -1,13 +1,11 @@
 //! Plan a history that is at hand.
 ghost use Rattle.std.specs.Prelude.{◌≡◌, length, IfOk};
-ghost use Rattle.line_tape.specs.Survival.{IsLatest};
-ghost use Rattle.line_tape.specs.Transit.{in_transit};
+ghost use Rattle.recline.specs.Survival.{IsLatest};
+ghost use Rattle.recline.specs.Transit.{in_transit};
 
 use anyhow::Result;
-use line_catalogue::Catalogue;
-use line_names::ProcSet;
-use line_plan::{Plan, plan};
-use line_tape::{History, Marks};
+use recline::plan::{Catalogue, Plan, plan};
+use recline::{History, Marks, ProcSet};
 use std::alloc::Global;
 
 /// Where the processes of a history go on from if these failed: the latest recovery line, its

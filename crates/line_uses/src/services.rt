@@ -1,15 +1,15 @@
 //! Answer records as they come.
 ghost use Rattle.std.specs.Prelude.{Some, [], IfOk};
-ghost use Rattle.line_service.specs.Turns.{AnswersText};
+ghost use Rattle.recline.specs.Turns.{AnswersText};
 
 use anyhow::Result;
-use line_devices::{MemSink, MemSource};
-use line_service::{Outcome, serve};
+use recline::service::{Outcome, serve};
+use recline::text::{MemSink, MemSource};
 use std::alloc::Global;
 
 /// The answers to a client's records, as `recline serve` writes them, and the worst of them. Over
-/// `ReadSource` and `WriteSink` of `line_streams` the client may be at the other end of a pipe or a
-/// socket: each of its records is answered before the next one is waited for.
+/// `ReadSource` and `WriteSink` the client may be at the other end of a pipe or a socket: each of
+/// its records is answered before the next one is waited for.
 pub fn answers_to(alloc: Global, records: Vec<u8>) -> Result<(MemSink, Outcome)>
     ensures { IfOk result (λ told.
         AnswersText records.items told.1 (Some []) (Some told.0.bytes)) }

@@ -1,14 +1,17 @@
 //! That the callers do what they say.
 use crate::{
-    answers_to, certificate_text, is_latest, plan_exchange, plan_history, replies_to, run_world,
+    answers_to, certificate_text, is_latest, plan_exchange, plan_history, replies_to, run_first,
+    run_next, run_world,
 };
-use line_names::{Body, Choice, MsgName, ProcId, ProcIdError, ProcSet};
-use line_plan::Plan;
-use line_service::Outcome;
-use line_tape::{Event, History, Marks, State};
-use line_world::{Answer, Mode, Reply, Step};
+use recline::plan::Plan;
+use recline::service::Outcome;
+use recline::workers::Routine;
+use recline::world::{Answer, Mode, Reply, Step};
+use recline::{Body, Choice, Event, History, Marks, MsgName, ProcId, ProcIdError, ProcSet, State};
 use std::alloc::Global;
+use std::sync::Wait;
 use std::test::Fail;
+use std::thread::Threads;
 
 /// One of two processes.
 fn process(p: u32) -> Result<ProcId, ProcIdError> {
@@ -129,5 +132,24 @@ fn what_workers_did_is_planned(rt: HostRuntime) -> Result<(), Fail> {
     let (gathered, plan) = plan_exchange(&rt, rt.alloc(), 3, 5)?;
     assert_eq!(rt; gathered.history().n(), 3);
     assert_eq!(rt; plan.line.choices(), [Choice::Now; 3].as_slice());
+    Ok(())
+}
+
+/// How many checks each of two workers has that turned five times, of which worker 1 then failed,
+/// and five times more.
+fn checks_of_two<R: Threads + Wait + Sync>(rt: &R, alloc: Global) -> Result<(u32, u32), Fail> {
+    let work = Routine::new(alloc, 5);
+    let failed = ProcSet::empty().with(process(1)?);
+    let gathered = run_first(rt, alloc, 2, &work, failed)?;
+    let (_plan, gathered) = run_next(rt, &work, gathered)?;
+    let history = gathered.history();
+    let first = history.tape(ProcId::try_new(0, history.n())?).checks();
+    let second = history.tape(ProcId::try_new(1, history.n())?).checks();
+    Ok((first, second))
+}
+
+#[test]
+fn workers_go_on_after_a_failure(rt: HostRuntime) -> Result<(), Fail> {
+    assert_eq!(rt; checks_of_two(&rt, rt.alloc())?, (10, 10));
     Ok(())
 }

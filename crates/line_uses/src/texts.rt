@@ -1,10 +1,9 @@
 //! Run a script that is in memory.
 ghost use Rattle.std.specs.Prelude.{ℕ, Some, [], IfOk};
-ghost use Rattle.line_text.specs.Runs.{RunsText};
+ghost use Rattle.recline.specs.TextRuns.{RunsText};
 
 use anyhow::Result;
-use line_devices::{MemSink, MemSource};
-use line_text::run_text;
+use recline::text::{MemSink, MemSource, run_text};
 use std::alloc::Global;
 
 /// The replies to a script, as `recline run` writes them. Files, pipes and sockets do as well: they

@@ -1,13 +1,12 @@
 //! Workers in threads, and the recovery line of what they did.
 ghost use Rattle.std.specs.Prelude.{◌≡◌, length, IfOk};
-ghost use Rattle.line_names.specs.Sets.{nobody};
-ghost use Rattle.line_tape.specs.Fit.{IsFitFifo};
-ghost use Rattle.line_tape.specs.Survival.{IsLatest};
+ghost use Rattle.recline.specs.Sets.{nobody};
+ghost use Rattle.recline.specs.Fit.{IsFitFifo};
+ghost use Rattle.recline.specs.Survival.{IsLatest};
 
 use anyhow::Result;
-use line_plan::Plan;
-use line_posts::Gathered;
-use line_workers::{Exchange, run};
+use recline::plan::Plan;
+use recline::workers::{Exchange, Gathered, run};
 use std::alloc::Global;
 use std::sync::Wait;
 use std::thread::Threads;

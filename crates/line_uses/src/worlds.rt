@@ -1,10 +1,10 @@
 //! Drive a world: messages, checkpoints, failures and recoveries on one thread.
 ghost use Rattle.std.specs.Prelude.{IfOk};
-ghost use Rattle.line_world.specs.Machine.{start};
-ghost use Rattle.line_world.specs.Runs.{Run};
+ghost use Rattle.recline.specs.Machine.{start};
+ghost use Rattle.recline.specs.Runs.{Run};
 
 use anyhow::Result;
-use line_world::{Answer, Mode, Step, World};
+use recline::world::{Answer, Mode, Step, World};
 use std::alloc::Global;
 
 /// What a world of `n` processes answers to these steps, and the world that they lead to, which

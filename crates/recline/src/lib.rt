@@ -1,0 +1,106 @@
+//! The library of recline: one door to its crates, with a module for each job.
+//!
+//! What all jobs speak of stands here: names, events, tapes, histories, marks and lines. A module
+//! has the calls of its job, the types that they take and answer, and their errors. Nothing is
+//! written here: each item is handed on from the crate that has it, with its contract, and stands
+//! in one place. `docs/LIBRARY.md` shows each job by a short caller that is proved.
+#![tactic(auto)]
+
+pub use line_names::{
+    Body, BodyError, Certificate, Choice, Line, MOST_BODY, MOST_PROCESSES, MsgName, Passed, ProcId,
+    ProcIdError, ProcSet,
+};
+pub use line_tape::{
+    BarError, CountError, Event, EventRef, Events, History, HistoryError, LAST_INCARNATION,
+    LAST_ROUND, MOST_EVENTS, MOST_STATE, MarkError, Marks, State, Tape, TapeError,
+};
+
+/// Plan the recovery line of a history: where each process goes on from after a failure, with the
+/// certificate of that and the messages that are sent again.
+///
+/// Begin with `Catalogue::of` of a history and its marks, or with `Catalogue::new` and `add` where
+/// events come one by one; then ask `plan`.
+pub mod plan {
+    pub use line_catalogue::{AddError, Catalogue, CatalogueError, DamageError};
+    pub use line_plan::{Plan, PlanError, plan};
+    pub use line_vectors::{ReachRef, Sent};
+}
+
+/// Judge a line, or a line with its certificate, from the history alone, whoever made it. No call
+/// takes memory, and none trusts the planner.
+///
+/// Begin with `check_certificate` or `check_consistent`. The laws say what a certificate shows.
+pub mod check {
+    pub use line_check::{CertFault, FaultCode, LineFault, check_certificate, check_consistent};
+    pub use line_tape::{chain_makes_latest, chain_passes_each, latest_is_unique, now_is_latest};
+}
+
+/// Drive a world: processes that send, receive, take checkpoints, make snapshots in rounds, fail
+/// and recover, one step after the other on one thread. Its links keep the order of sending or
+/// keep none.
+///
+/// Begin with `World::new`; then `step` for one step, or `run` for a list of steps.
+pub mod world {
+    pub use line_tape::Item;
+    pub use line_world::{
+        Answer, Mode, Reply, Round, RunStopped, Step, StepError, StepRef, World, runs_keep_rounds,
+        runs_name_apart,
+    };
+}
+
+/// Read texts, write them, run scripts and judge check texts, as the program `recline` does. Bytes
+/// come from a `Source` and go to a `Sink`: memory, files, pipes, sockets, or a device of your own.
+///
+/// Begin with `run_text` or `check_text` over `MemSource` and `MemSink`, or over `ReadSource` and
+/// `WriteSink`; with `read_script`, `read_history` or `read_check_text`; or with `write_history` or
+/// `write_check_text`. `RecordReader` and `RecordWriter` are for records of your own.
+pub mod text {
+    pub use line_claims::{
+        CheckText, Claim, TextFault, claims_are_read_again, histories_are_read_again, name_of,
+        put_check_text, read_certificate, read_check_text, read_history, version_2_reads_version_1,
+        write_check_text, write_history,
+    };
+    pub use line_devices::{
+        DeviceFault, MOST_INPUT, MemSink, MemSource, ReadRefused, Sink, Source, put_all, read_all,
+    };
+    pub use line_fields::{
+        Draft, Fault, ReadError, RecordReader, RecordWriter, Row, hex, is_plain, number,
+    };
+    pub use line_replies::{put_refusal, put_reply, write_reply};
+    pub use line_scripts::{
+        Command, Script, read_script, scripts_are_read_again, version_2_reads_scripts_of_version_1,
+    };
+    pub use line_streams::{ReadSource, WriteSink};
+    pub use line_text::{
+        Done, check_text, claims_of_version_1_are_judged_alike_in_version_2, run_text,
+        scripts_of_both_versions_run_alike,
+    };
+}
+
+/// Workers in threads that exchange messages and report to a collector, which plans while they run.
+/// When they end or fail, what they did is gathered and planned, and new workers go on from there.
+///
+/// Begin with `run` and a `Work` of your own, where none fails; else with `fleet`, `run_crew`,
+/// `gather` and `Gathered::restart`. A `Work` calls its `Post`. `drill` has workers follow scripts.
+pub mod workers {
+    pub use line_drills::{DrillError, DrillWhy, Gate, Order, drill};
+    pub use line_marker::Marker;
+    pub use line_posts::{
+        BeginWhy, Collector, FleetError, GatherRefused, GatherWhy, Gathered, MOST_CAPACITY,
+        MOST_WORKERS, Post, ReceiveWhy, Received, ReportError, Reported, RestartRefused,
+        RestartWhy, SendRefused, SendWhy, fleet, gather, generations_last,
+    };
+    pub use line_workers::{Exchange, NoThread, Routine, RunError, Stream, Work, run, run_crew};
+}
+
+/// Answer the records of a client as they come, each before the next one is waited for. What is
+/// wrong is answered, changes nothing, and the service goes on.
+///
+/// Begin with `serve` over a `Source` and a `Sink` of `text`; or with `Service::new` and `hear`,
+/// where the bytes come from elsewhere.
+pub mod service {
+    pub use line_service::{
+        MOST_LINE, Outcome, ServeError, Service, faults_change_nothing, pieces_are_answered_alike,
+        scripts_are_served_as_they_run, serve, serve_turn,
+    };
+}
