@@ -1,5 +1,6 @@
 -- What commands are told, and what is written of that.
-use Rattle.std.specs.Prelude.{IsTrue, ◌≡◌, ◌≢◌, ℕ, ◌++◌, Bool, true, false, List, [], ◌∷◌, Option, length, Result, Ok, Err}
+use Rattle.std.specs.Prelude.{IsTrue, ◌≡◌, ◌≢◌, ℕ, ◌++◌, Bool, true, false, List, [], ◌∷◌, Option}
+use Rattle.std.specs.Prelude.{length, Result, Ok, Err}
 use Rattle.std.specs.List.{count_by, flat_map}
 use Rattle.line_claims.specs.Claims.{Claim}
 use Rattle.line_claims.specs.Records.{check_records, history_records, in_order}
@@ -26,7 +27,8 @@ use Rattle.line_replies.specs.Replies.{answer_records, refused}
 use Rattle.line_replies.specs.Rounds.{rounds_records}
 use Rattle.line_devices.specs.Devices.{PutsButEnd, PutsFront}
 
--- what a command is told: the machine's answer, the number of its refusal before any step, rounds among so many processes, a history, or a history with a claim on it
+-- what a command is told: the machine's answer, the number of its refusal before any step, rounds
+-- among so many processes, a history, or a history with a claim on it
 pub data Told : Type 0 where
   Answered : Answer → Told
   Refused : ℕ → Told
@@ -51,32 +53,44 @@ is_refused (Listing n rounds) = false
 is_refused (Shown history) = false
 is_refused (Claimed history claim) = false
 
--- the claim of a plan for these failed: the machine's marks in order, and the plan's line and certificate
+-- the claim of a plan for these failed: the machine's marks in order, and the plan's line and
+-- certificate
 pub record IsClaimFor (machine : Machine) (failed : List Bool) (claim : Claim) : Type 0 where
   pub there : IsTrue (has_stranger machine failed) → ⊥
   pub plan : Plan
   pub planned : IsPlan machine failed plan
-  pub claim_is : claim ≡ record { marks = in_order machine.history machine.marks; failed = failed; line = plan.line; certificate = plan.certificate.items }
+  pub claim_is : claim
+      ≡ record {
+        marks = in_order machine.history machine.marks;
+        failed = failed;
+        line = plan.line;
+        certificate = plan.certificate.items;
+      }
 
 -- from old, a step was answered so and left new, unless memory did not suffice for it
 abbrev pub Answers : Machine → Step → Result Reply StepError → Machine → Type 0
 Answers old step (Ok reply) new = Takes old step (answers.Done reply) new
-Answers old step (Err error) new = error ≢ errors.OutOfMemory → Takes old step (answers.Refused error) new
+Answers old step (Err error) new =
+    error ≢ errors.OutOfMemory → Takes old step (answers.Refused error) new
 
 -- from old, a command may be told this, and leaves new
 abbrev pub Tells : Machine → Command → Told → Machine → Type 0
 Tells old (commands.Do step) (Answered answer) new = Takes old step answer new
 Tells old (commands.Refused code) (Refused shown) new = (shown ≡ code) × (new ≡ old)
-Tells old commands.Rounds (Listing n rounds) new = (n ≡ length old.history) × (rounds ≡ old.rounds) × (new ≡ old)
+Tells old commands.Rounds (Listing n rounds) new =
+    (n ≡ length old.history) × (rounds ≡ old.rounds) × (new ≡ old)
 Tells old commands.History (Shown history) new = (history ≡ old.history) × (new ≡ old)
-Tells old (commands.Bundle failed) (Claimed history claim) new = (history ≡ old.history) × IsClaimFor old failed claim × (new ≡ old)
-Tells old (commands.Bundle failed) (Refused code) new = IsTrue (has_stranger old failed) × (code ≡ code_of NoSuchProcess) × (new ≡ old)
+Tells old (commands.Bundle failed) (Claimed history claim) new =
+    (history ≡ old.history) × IsClaimFor old failed claim × (new ≡ old)
+Tells old (commands.Bundle failed) (Refused code) new =
+    IsTrue (has_stranger old failed) × (code ≡ code_of NoSuchProcess) × (new ≡ old)
 Tells old command told new = ⊥
 
 -- from old, commands may be told these, one after another
 abbrev pub TellsAll : Machine → List Command → List Told → Machine → Type 0
 TellsAll old [] [] new = new ≡ old
-TellsAll old (command ∷ commands) (one ∷ others) new = (mid : Machine) × Tells old command one mid × TellsAll mid commands others new
+TellsAll old (command ∷ commands) (one ∷ others) new =
+    (mid : Machine) × Tells old command one mid × TellsAll mid commands others new
 TellsAll old [] (one ∷ others) new = ⊥
 TellsAll old (command ∷ commands) [] new = ⊥
 
@@ -88,15 +102,18 @@ text_of all = records_text (flat_map told_records all)
 abbrev pub refusals : List Told → ℕ
 refusals all = count_by is_refused all
 
--- a command was told something, and whether it was refused; what was held and the text of that are put but for their end, which is held
-pub record Does (old : Machine) (command : Command) (new : Machine) (taken now : Option (List ℕ)) (held later : List ℕ) (refused : Bool) : Type 0 where
+-- a command was told something, and whether it was refused; what was held and the text of that are
+-- put but for their end, which is held
+pub record Does (old : Machine) (command : Command) (new : Machine) (taken now : Option (List ℕ))
+    (held later : List ℕ) (refused : Bool) : Type 0 where
   pub told : Told
   pub tells : Tells old command told new
   pub counted : refused ≡ is_refused told
   pub put : PutsButEnd taken now later (held ++ records_text (told_records told))
 
 -- a command was told something, and of what was held and the text of that a front was put
-pub record DoesFront (old : Machine) (command : Command) (new : Machine) (taken now : Option (List ℕ)) (held : List ℕ) : Type 0 where
+pub record DoesFront (old : Machine) (command : Command) (new : Machine)
+    (taken now : Option (List ℕ)) (held : List ℕ) : Type 0 where
   pub told : Told
   pub tells : Tells old command told new
   pub put : PutsFront taken now (held ++ records_text (told_records told))

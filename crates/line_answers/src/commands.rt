@@ -31,11 +31,18 @@ fn bundle<K: Sink>(
     writer: &mut RecordWriter,
     failed: &ProcSet,
 ) -> Result<bool, Halt>
-    ensures ok { IfOk result (λ refused. spec.Does world.now (Command.Bundle failed.now) world.now (K.taken sink.old) (K.taken sink.new) writer.old writer.new refused) }
-    ensures memory { IfErr result (λ halt. halt ≡ Halt.Memory → (sink.new ≡ sink.old) × (writer.new ≡ writer.old)) }
-    ensures write { IfErr result (λ halt. halt ≡ Halt.Write → spec.DoesFront world.now (Command.Bundle failed.now) world.now (K.taken sink.old) (K.taken sink.new) writer.old) }
+    ensures ok { IfOk result
+        (λ refused. spec.Does world.now (Command.Bundle failed.now) world.now (K.taken sink.old)
+        (K.taken sink.new) writer.old writer.new refused) }
+    ensures memory { IfErr result
+        (λ halt. halt ≡ Halt.Memory → (sink.new ≡ sink.old) × (writer.new ≡ writer.old)) }
+    ensures write { IfErr result
+        (λ halt. halt ≡ Halt.Write
+        → spec.DoesFront world.now (Command.Bundle failed.now) world.now (K.taken sink.old)
+        (K.taken sink.new) writer.old) }
     ensures sound { OnOk result (K.faults sink.new ≡ K.faults sink.old) }
-    ensures failed { IfErr result (λ halt. halt ≡ Halt.Write → K.faults sink.new ≡ one_more (K.faults sink.old)) }
+    ensures failed { IfErr result
+        (λ halt. halt ≡ Halt.Write → K.faults sink.new ≡ one_more (K.faults sink.old)) }
 {
     match world.plan_for(alloc, failed) {
         Ok(plan) => {
@@ -61,7 +68,9 @@ fn list_rounds<K: Sink>(
     sink: &mut K,
     writer: &mut RecordWriter,
 ) -> Result<(), DeviceFault>
-    ensures { Outputs result (K.taken sink.old) (K.taken sink.new) (K.faults sink.old) (K.faults sink.new) writer.new (writer.old ++ records_text (rounds_records (length world.now.history) world.now.rounds)) }
+    ensures { Outputs result (K.taken sink.old) (K.taken sink.new) (K.faults sink.old)
+        (K.faults sink.new) writer.new
+        (writer.old ++ records_text (rounds_records (length world.now.history) world.now.rounds)) }
 {
     let n = world.history().n();
     put_rounds(sink, writer, n, world.rounds())
@@ -73,7 +82,9 @@ fn show_history<K: Sink>(
     sink: &mut K,
     writer: &mut RecordWriter,
 ) -> Result<(), DeviceFault>
-    ensures { Outputs result (K.taken sink.old) (K.taken sink.new) (K.faults sink.old) (K.faults sink.new) writer.new (writer.old ++ records_text (history_records world.now.history)) }
+    ensures { Outputs result (K.taken sink.old) (K.taken sink.new) (K.faults sink.old)
+        (K.faults sink.new) writer.new
+        (writer.old ++ records_text (history_records world.now.history)) }
 {
     let history = world.history();
     let version = earliest_version(history.n());
@@ -86,11 +97,22 @@ fn tell_step<K: Sink>(
     writer: &mut RecordWriter,
     answer: Result<Reply, StepError>,
 ) -> Result<bool, Halt>
-    ensures ok { (old new : Machine) (step : Step) → spec.Answers old step answer new → IfOk result (λ refused. spec.Does old (Command.Do step) new (K.taken sink.old) (K.taken sink.new) writer.old writer.new refused) }
-    ensures memory { IfErr result (λ halt. halt ≡ Halt.Memory → (answer ≡ Err StepError.OutOfMemory) × (sink.new ≡ sink.old) × (writer.new ≡ writer.old)) }
-    ensures write { (old new : Machine) (step : Step) → spec.Answers old step answer new → IfErr result (λ halt. halt ≡ Halt.Write → spec.DoesFront old (Command.Do step) new (K.taken sink.old) (K.taken sink.new) writer.old) }
+    ensures ok { (old new : Machine) (step : Step) → spec.Answers old step answer new
+        → IfOk result
+        (λ refused. spec.Does old (Command.Do step) new (K.taken sink.old) (K.taken sink.new)
+        writer.old writer.new refused) }
+    ensures memory { IfErr result
+        (λ halt. halt ≡ Halt.Memory
+        → (answer ≡ Err StepError.OutOfMemory) × (sink.new ≡ sink.old)
+        × (writer.new ≡ writer.old)) }
+    ensures write { (old new : Machine) (step : Step) → spec.Answers old step answer new
+        → IfErr result
+        (λ halt. halt ≡ Halt.Write
+        → spec.DoesFront old (Command.Do step) new (K.taken sink.old) (K.taken sink.new)
+        writer.old) }
     ensures sound { OnOk result (K.faults sink.new ≡ K.faults sink.old) }
-    ensures failed { IfErr result (λ halt. halt ≡ Halt.Write → K.faults sink.new ≡ one_more (K.faults sink.old)) }
+    ensures failed { IfErr result
+        (λ halt. halt ≡ Halt.Write → K.faults sink.new ≡ one_more (K.faults sink.old)) }
 {
     match answer {
         Ok(reply) => {
@@ -107,13 +129,13 @@ fn tell_step<K: Sink>(
     }
 }
 
-/// Does a command, writes what it is told behind what a writer holds, and says whether it was
+/// Does a command, writes what it is told after what a writer holds, and says whether it was
 /// refused.
 ///
 /// Memory is asked for before the command is done and before anything is written: where it does not
 /// suffice the machine, the sink and the writer are as they were. What a command that was done is
 /// told is written without memory, and put where the writer has no room for it. Where the sink
-/// fails, a front of what was held and of what the command was told is put.
+/// fails, a prefix of what was held and of what the command was told is put.
 pub fn do_command<K: Sink>(
     alloc: Global,
     world: &mut World,
@@ -122,11 +144,19 @@ pub fn do_command<K: Sink>(
     command: &CommandRef<'_>,
 ) -> Result<bool, Halt>
     requires { HasShortBody command.now }
-    ensures ok { IfOk result (λ refused. spec.Does world.old (shown command.now) world.new (K.taken sink.old) (K.taken sink.new) writer.old writer.new refused) }
-    ensures memory { IfErr result (λ halt. halt ≡ Halt.Memory → (world.new ≡ world.old) × (sink.new ≡ sink.old) × (writer.new ≡ writer.old)) }
-    ensures write { IfErr result (λ halt. halt ≡ Halt.Write → spec.DoesFront world.old (shown command.now) world.new (K.taken sink.old) (K.taken sink.new) writer.old) }
+    ensures ok { IfOk result
+        (λ refused. spec.Does world.old (shown command.now) world.new (K.taken sink.old)
+        (K.taken sink.new) writer.old writer.new refused) }
+    ensures memory { IfErr result
+        (λ halt. halt ≡ Halt.Memory
+        → (world.new ≡ world.old) × (sink.new ≡ sink.old) × (writer.new ≡ writer.old)) }
+    ensures write { IfErr result
+        (λ halt. halt ≡ Halt.Write
+        → spec.DoesFront world.old (shown command.now) world.new (K.taken sink.old)
+        (K.taken sink.new) writer.old) }
     ensures sound { OnOk result (K.faults sink.new ≡ K.faults sink.old) }
-    ensures failed { IfErr result (λ halt. halt ≡ Halt.Write → K.faults sink.new ≡ one_more (K.faults sink.old)) }
+    ensures failed { IfErr result
+        (λ halt. halt ≡ Halt.Write → K.faults sink.new ≡ one_more (K.faults sink.old)) }
 {
     match command {
         CommandRef::Refused(code) => {

@@ -22,7 +22,9 @@ fn put_messages<K: Sink>(
     to: ProcId,
     messages: &[MsgName],
 ) -> Result<(), DeviceFault>
-    ensures { Outputs result (K.taken sink.old) (K.taken sink.new) (K.faults sink.old) (K.faults sink.new) writer.new (writer.old ++ records_text (map (records.channel_record round from to) messages.now)) }
+    ensures { Outputs result (K.taken sink.old) (K.taken sink.new) (K.faults sink.old)
+        (K.faults sink.new) writer.new
+        (writer.old ++ records_text (map (records.channel_record round from to) messages.now)) }
 {
     for i in 0..messages.len() {
         put_message(sink, writer, round, from, to, messages[i])?;
@@ -40,7 +42,9 @@ fn put_channel<K: Sink>(
 ) -> Result<(), DeviceFault>
     requires from { from < length round.now.checks }
     requires to { to < length round.now.checks }
-    ensures { Outputs result (K.taken sink.old) (K.taken sink.new) (K.faults sink.old) (K.faults sink.new) writer.new (writer.old ++ records_text (records.channel_records round.now from to)) }
+    ensures { Outputs result (K.taken sink.old) (K.taken sink.new) (K.faults sink.old)
+        (K.faults sink.new) writer.new
+        (writer.old ++ records_text (records.channel_records round.now from to)) }
 {
     if from.get() == to.get() {
         return Ok(());
@@ -61,7 +65,9 @@ fn put_channels_from<K: Sink>(
     requires few { n ≤ MOST_PROCESSES }
     requires checks { length round.now.checks ≡ n }
     requires from { from < n }
-    ensures { Outputs result (K.taken sink.old) (K.taken sink.new) (K.faults sink.old) (K.faults sink.new) writer.new (writer.old ++ records_text (records.channels_from n round.now from)) }
+    ensures { Outputs result (K.taken sink.old) (K.taken sink.new) (K.faults sink.old)
+        (K.faults sink.new) writer.new
+        (writer.old ++ records_text (records.channels_from n round.now from)) }
 {
     for value in 0..n {
         let Ok(to) = ProcId::try_new(value, n) else {
@@ -81,7 +87,9 @@ fn put_channels<K: Sink>(
 ) -> Result<(), DeviceFault>
     requires few { n ≤ MOST_PROCESSES }
     requires checks { length round.now.checks ≡ n }
-    ensures { Outputs result (K.taken sink.old) (K.taken sink.new) (K.faults sink.old) (K.faults sink.new) writer.new (writer.old ++ records_text (records.channels_of n round.now)) }
+    ensures { Outputs result (K.taken sink.old) (K.taken sink.new) (K.faults sink.old)
+        (K.faults sink.new) writer.new
+        (writer.old ++ records_text (records.channels_of n round.now)) }
 {
     for value in 0..n {
         let Ok(from) = ProcId::try_new(value, n) else {
@@ -101,7 +109,9 @@ fn put_whole_round<K: Sink>(
 ) -> Result<(), DeviceFault>
     requires few { n ≤ MOST_PROCESSES }
     requires checks { length round.now.checks ≡ n }
-    ensures { Outputs result (K.taken sink.old) (K.taken sink.new) (K.faults sink.old) (K.faults sink.new) writer.new (writer.old ++ records_text (records.round_records n round.now)) }
+    ensures { Outputs result (K.taken sink.old) (K.taken sink.new) (K.faults sink.old)
+        (K.faults sink.new) writer.new
+        (writer.old ++ records_text (records.round_records n round.now)) }
 {
     put_round(sink, writer, n, round)?;
     put_channels(sink, writer, n, round)
@@ -116,7 +126,9 @@ fn put_each<K: Sink>(
 ) -> Result<(), DeviceFault>
     requires few { n ≤ MOST_PROCESSES }
     requires checks { All (λ round. length round.checks ≡ n) rounds.now }
-    ensures { Outputs result (K.taken sink.old) (K.taken sink.new) (K.faults sink.old) (K.faults sink.new) writer.new (writer.old ++ records_text (flat_map (records.round_records n) rounds.now)) }
+    ensures { Outputs result (K.taken sink.old) (K.taken sink.new) (K.faults sink.old)
+        (K.faults sink.new) writer.new
+        (writer.old ++ records_text (flat_map (records.round_records n) rounds.now)) }
 {
     for i in 0..rounds.len() {
         put_whole_round(sink, writer, n, &rounds[i])?;
@@ -124,7 +136,7 @@ fn put_each<K: Sink>(
     Ok(())
 }
 
-/// Writes the rounds among `n` processes behind what a writer holds: how many there are, and then of
+/// Writes the rounds among `n` processes after what a writer holds: how many there are, and then of
 /// each its checks and the messages on its channels, by sender and receiver.
 pub(crate) fn put_rounds<K: Sink>(
     sink: &mut K,
@@ -134,7 +146,9 @@ pub(crate) fn put_rounds<K: Sink>(
 ) -> Result<(), DeviceFault>
     requires few { n ≤ MOST_PROCESSES }
     requires checks { All (λ round. length round.checks ≡ n) rounds.now }
-    ensures { Outputs result (K.taken sink.old) (K.taken sink.new) (K.faults sink.old) (K.faults sink.new) writer.new (writer.old ++ records_text (records.rounds_records n rounds.now)) }
+    ensures { Outputs result (K.taken sink.old) (K.taken sink.new) (K.faults sink.old)
+        (K.faults sink.new) writer.new
+        (writer.old ++ records_text (records.rounds_records n rounds.now)) }
 {
     put_rounds_head(sink, writer, rounds.len())?;
     put_each(sink, writer, n, rounds)

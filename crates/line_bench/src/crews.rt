@@ -14,9 +14,13 @@ use std::alloc::Global;
 /// A call of a worker.
 #[derive(Clone, Copy)]
 pub enum Call {
+    /// Sends a message to a worker.
     Send { to: ProcId },
+    /// Receives what comes next from a worker.
     Receive { from: ProcId },
+    /// Takes a check.
     Check,
+    /// Reports what it did.
     Report,
 }
 

@@ -195,7 +195,8 @@ fn do_job<R: Print>(rt: &R, alloc: Global, job: &str, numbers: [u64; 3]) -> Resu
     for input in 0..inputs {
         if !is_done(alloc, &mut digest, job, seed, input, steps)? {
             println!(rt;
-                "Usage: line_bench JOB SEED INPUTS SIZE; a job is ring, unordered, rounds, dominoes, claims, plans or generations"
+                "Usage: line_bench JOB SEED INPUTS SIZE; a job is ring, unordered, rounds, \
+                 dominoes, claims, plans or generations"
             )?;
             return Ok(());
         }

@@ -12,7 +12,8 @@ use Rattle.line_claims.specs.Entries.{damage_of, bar_of, failed_of, line_of, ent
 use Rattle.line_claims.specs.Parts.{many, named, one}
 use Rattle.line_claims.specs.Reads.{numbered}
 
--- the marks of damage and the bars, the failed processes, a line, and the entries of its certificate
+-- the marks of damage and the bars, the failed processes, a line, and the entries of its
+-- certificate
 pub record Claim : Type 0 where
   pub marks : MarksView
   pub failed : List Bool
@@ -21,7 +22,13 @@ pub record Claim : Type 0 where
 
 -- a claim with its certificate as a list
 abbrev pub seen : made.Claim → Claim
-seen claim = record { marks = claim.marks; failed = claim.failed; line = claim.line; certificate = claim.certificate.items }
+seen claim =
+    record {
+      marks = claim.marks;
+      failed = claim.failed;
+      line = claim.line;
+      certificate = claim.certificate.items;
+    }
 
 -- there are no records
 abbrev pub is_none : List Record → Bool
@@ -32,7 +39,8 @@ is_none (r ∷ rest) = false
 abbrev pub is_bar : ℕ → Record → Bool
 is_bar version r = (version == 2) && named (codes "bar") r
 
--- the claim of that version among n processes that records spell, the first of which is the i-th of the text
+-- the claim of that version among n processes that records spell, the first of which is the i-th of
+-- the text
 unfoldable pub claim_from : ℕ → ℕ → ℕ → List Record → Result Claim TextFault
 claim_from version n i records = do
   damage ← many (named (codes "damage")) (damage_of n) (no_marks n) i records
@@ -42,4 +50,10 @@ claim_from version n i records = do
   entries ← many (named (codes "pass")) (entry_of n) [] line.number line.left
   end ← one (codes "end") end_of entries.number entries.left
   last ← numbered end.number (want (is_none end.left) faults.BadRecord)
-  Ok (record { marks = marks.value; failed = failed.value; line = line.value; certificate = entries.value })
+  Ok
+      (record {
+        marks = marks.value;
+        failed = failed.value;
+        line = line.value;
+        certificate = entries.value;
+      })

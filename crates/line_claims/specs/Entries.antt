@@ -1,5 +1,6 @@
 -- What one record of a claim spells, among n processes.
-use Rattle.std.specs.Prelude.{ℕ, ◌+◌, ◌==◌, ◌&&◌, not, Bool, List, [], ◌∷◌, ◌++◌, drop, fold, length, nat_le, nat_lt, Result, Ok}
+use Rattle.std.specs.Prelude.{ℕ, ◌+◌, ◌==◌, ◌&&◌, not, Bool, List, [], ◌∷◌, ◌++◌, drop, fold}
+use Rattle.std.specs.Prelude.{length, nat_le, nat_lt, Result, Ok}
 use Rattle.std.specs.List.{list_all}
 use Rattle.line_names.specs.declared.certificates.Passed.{Passed}
 use Rattle.line_names.specs.declared.choices.Choice.{Choice}
@@ -27,7 +28,8 @@ damage_of n marks = two plain plain (λ number check. process n number >>= λ p.
 
 -- one bar more, lower than the one before
 unfoldable pub barred : MarksView → ℕ → ℕ → Result MarksView Fault
-barred marks p check = want (not (is_barred marks p check)) faults.BarNotLower >>= λ lower. Ok (with_bar marks p check)
+barred marks p check =
+    want (not (is_barred marks p check)) faults.BarNotLower >>= λ lower. Ok (with_bar marks p check)
 
 -- bar,P,C
 unfoldable pub bar_of : ℕ → MarksView → Record → Result MarksView Fault
@@ -42,14 +44,21 @@ failed_of n r = do
 
 -- line,CHOICE,..: 1 choice to as many as a text of that version may have processes
 unfoldable pub line_of : ℕ → Record → Result (List Choice) Fault
-line_of version r = want (nat_le 2 (length r) && nat_le (length r) (most_in version + 1)) faults.BadRecord >>= λ long. choices (drop 1 r)
+line_of version r =
+    want (nat_le 2 (length r) && nat_le (length r) (most_in version + 1)) faults.BadRecord >>=
+    λ long. choices (drop 1 r)
 
 -- pass,P,CHOICE,FROM,INC,NUMBER
 unfoldable pub passed_of : ℕ → Record → Result Passed Fault
 passed_of n = five plain choice plain incarnation plain (λ who passed sender inc number. do
   at ← process n who
   from ← process n sender
-  Ok (record { at = at; choice = passed; message = record { from = from; inc = inc; number = number } }))
+  Ok
+      (record {
+        at = at;
+        choice = passed;
+        message = record { from = from; inc = inc; number = number };
+      }))
 
 -- the entries with that of one record more
 unfoldable pub entry_of : ℕ → List Passed → Record → Result (List Passed) Fault

@@ -23,19 +23,30 @@ send_of n = three plain incarnation hex (λ number inc body. do
 
 -- recv,FROM,INC,NUMBER
 unfoldable pub recv_of : ℕ → Record → Result Event Fault
-recv_of n = three plain incarnation plain (λ sender inc number. process n sender >>= λ from. Ok (Recv (record { from = from; inc = inc; number = number })))
+recv_of n =
+    three plain incarnation plain
+    (λ sender inc number. process n sender >>= λ from. Ok
+    (Recv (record { from = from; inc = inc; number = number })))
 
 -- check,HEX,ROUND
 unfoldable pub check_of : Record → Result Event Fault
-check_of = two hex round_or_none (λ state round. want (nat_le (length state) MOST_STATE) faults.StateTooLong >>= λ short. Ok (Check state round))
+check_of =
+    two hex round_or_none
+    (λ state round. want (nat_le (length state) MOST_STATE) faults.StateTooLong >>= λ short. Ok
+    (Check state round))
 
 -- mark,FROM,ROUND
 unfoldable pub mark_of : ℕ → Record → Result Event Fault
-mark_of n = two plain round (λ sender of_round. process n sender >>= λ from. Ok (Mark from of_round))
+mark_of n =
+    two plain round (λ sender of_round. process n sender >>= λ from. Ok (Mark from of_round))
 
 -- the records that spell events
 abbrev pub is_event : Record → Bool
-is_event r = named (codes "send") r || named (codes "recv") r || named (codes "check") r || named (codes "mark") r
+is_event r =
+    named (codes "send") r
+    || named (codes "recv") r
+    || named (codes "check") r
+    || named (codes "mark") r
 
 -- the event of such a record
 abbrev pub event_of : ℕ → Record → Result Event Fault

@@ -1,5 +1,6 @@
 -- Which history a list of records spells, and the first fault where it spells none.
-use Rattle.std.specs.Prelude.{ℕ, zero, suc, ◌+◌, nat_le, nat_lt, ◌==◌, ◌&&◌, List, drop, length, replicate, Result, Ok, codes}
+use Rattle.std.specs.Prelude.{ℕ, zero, suc, ◌+◌, nat_le, nat_lt, ◌==◌, ◌&&◌, List, drop, length}
+use Rattle.std.specs.Prelude.{replicate, Result, Ok, codes}
 use Rattle.line_fields.specs.declared.faults.Fault.{Fault}
 use Rattle.line_fields.specs.declared.faults.Fault.TheVariants as faults
 use Rattle.line_fields.specs.Fields.{◌>>=◌, want}
@@ -24,11 +25,17 @@ head_of = two plain plain (λ version n. do
 
 -- the version and the number of processes that the first record announces
 abbrev pub head_in : List Record → Result (ℕ × ℕ) TextFault
-head_in records = numbered 1 (want (begins (named (codes "history")) records) faults.NoWorld >>= λ it. head_of (first records))
+head_in records =
+    numbered 1
+    (want (begins (named (codes "history")) records) faults.NoWorld >>= λ it. head_of
+    (first records))
 
 -- tape,P,INC of process p
 unfoldable pub tape_of : ℕ → List Process → Record → Result (List Process) Fault
-tape_of p history = two plain incarnation (λ number inc. want (number == p) faults.BadRecord >>= λ next. Ok (with_incarnation history p inc))
+tape_of p history =
+    two plain incarnation
+    (λ number inc. want (number == p) faults.BadRecord >>= λ next. Ok
+    (with_incarnation history p inc))
 
 -- the event of a record stands at the end of the tape of process p, where that has room
 unfoldable pub event_at : ℕ → List Process → Record → Result (List Process) Fault
@@ -38,13 +45,15 @@ event_at p history r = do
   Ok (with_event history p event)
 
 -- the tape of process p, and its events
-unfoldable pub tape_from : ℕ → List Process → ℕ → List Record → Result (Part (List Process)) TextFault
+unfoldable pub tape_from : ℕ → List Process → ℕ → List Record
+    → Result (Part (List Process)) TextFault
 tape_from p history i records = do
   tape ← one (codes "tape") (tape_of p history) i records
   many is_event (event_at p) tape.value tape.number tape.left
 
 -- the tapes of so many processes, the first of which is p
-unfoldable pub tapes_from : ℕ → ℕ → List Process → ℕ → List Record → Result (Part (List Process)) TextFault
+unfoldable pub tapes_from : ℕ → ℕ → List Process → ℕ → List Record
+    → Result (Part (List Process)) TextFault
 tapes_from p zero history i records = Ok (record { value = history; number = i; left = records })
 tapes_from p (suc others) history i records = do
   tape ← tape_from p history i records

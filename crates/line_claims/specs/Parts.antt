@@ -1,5 +1,6 @@
 -- The parts that a text is made of: one record with a name, or any number of records of a kind.
-use Rattle.std.specs.Prelude.{◌≡◌, ℕ, ◌+◌, Bool, false, List, [], ◌∷◌, drop, slice_index_or, Result, Ok, Err, if◌then◌else◌}
+use Rattle.std.specs.Prelude.{◌≡◌, ℕ, ◌+◌, Bool, false, List, [], ◌∷◌, drop, slice_index_or, Result}
+use Rattle.std.specs.Prelude.{Ok, Err, if◌then◌else◌}
 use Rattle.std.specs.Str.{bytes_eq}
 use Rattle.line_fields.specs.declared.faults.Fault.{Fault}
 use Rattle.line_fields.specs.declared.faults.Fault.TheVariants as faults
@@ -10,7 +11,7 @@ use Rattle.line_claims.specs.declared.faults.TextFault.{TextFault}
 use Rattle.line_claims.specs.Cursors.{Place}
 use Rattle.line_claims.specs.Reads.{FailsText, numbered}
 
--- what a part spells, the number of the record behind it, and that record with those after it
+-- what a part spells, the number of the record after it, and that record with those after it
 pub record Part (A : Type 0) : Type 0 where
   pub value : A
   pub number : ℕ
@@ -30,19 +31,25 @@ begins is [] = false
 begins is (r ∷ rest) = is r
 
 -- one record with that name, the i-th of the text
-unfoldable pub one : {A : Type 0} → List ℕ → (Record → Result A Fault) → ℕ → List Record → Result (Part A) TextFault
+unfoldable pub one : {A : Type 0} → List ℕ → (Record → Result A Fault) → ℕ → List Record
+    → Result (Part A) TextFault
 one name read i records = do
-  x ← numbered i (want (begins (named name) records) faults.BadRecord >>= λ it. read (first records))
+  x ← numbered i
+      (want (begins (named name) records) faults.BadRecord >>= λ it. read (first records))
   Ok (record { value = x; number = i + 1; left = drop 1 records })
 
--- all records of a kind up to the first of another, from the i-th on, each read behind those before it
-unfoldable pub many : {A : Type 0} → (Record → Bool) → (A → Record → Result A Fault) → A → ℕ → List Record → Result (Part A) TextFault
+-- all records of a kind up to the first of another, from the i-th on, each read after those before
+-- it
+unfoldable pub many : {A : Type 0} → (Record → Bool) → (A → Record → Result A Fault) → A → ℕ
+    → List Record → Result (Part A) TextFault
 many is read before i [] = Ok (record { value = before; number = i; left = [] })
 many is read before i (r ∷ rest) =
     if is r then (numbered i (read before r) >>= λ more. many is read more (i + 1) rest)
     else Ok (record { value = before; number = i; left = r ∷ rest })
 
--- a part was read, seen as a value, and the place behind it was left
-abbrev pub Leaves : {A B : Type 0} → (A → B) → Result A TextError → Result (Part B) TextFault → Place → Type 0
-Leaves seen (Ok x) read place = read ≡ Ok (record { value = seen x; number = place.number; left = place.left })
+-- a part was read, seen as a value, and the place after it was left
+abbrev pub Leaves : {A B : Type 0} → (A → B) → Result A TextError → Result (Part B) TextFault
+    → Place → Type 0
+Leaves seen (Ok x) read place =
+    read ≡ Ok (record { value = seen x; number = place.number; left = place.left })
 Leaves seen (Err e) read place = FailsText e read

@@ -1,5 +1,6 @@
 -- What keeps to the ranges that the fields of its records have.
-use Rattle.std.specs.Prelude.{◌≡◌, ℕ, ◌≤◌, ◌<◌, ◌^◌, ◌==◌, false, List, [], ◌∷◌, ◌++◌, length, Option, Some, None}
+use Rattle.std.specs.Prelude.{◌≡◌, ℕ, ◌≤◌, ◌<◌, ◌^◌, ◌==◌, false, List, [], ◌∷◌, ◌++◌, length}
+use Rattle.std.specs.Prelude.{Option, Some, None}
 use Rattle.std.specs.List.{AllByRecursion, list_any}
 use Rattle.line_names.specs.declared.certificates.Passed.{Passed}
 use Rattle.line_names.specs.declared.choices.Choice.{Choice}
@@ -8,7 +9,8 @@ use Rattle.line_names.specs.Sets.{is_member}
 use Rattle.line_names.specs.declared.limits.TheConstants.{MOST_BODY, MOST_PROCESSES}
 use Rattle.line_tape.specs.declared.events.Event.{Event}
 use Rattle.line_tape.specs.declared.events.Event.TheVariants.{Send, Recv, Check, Mark}
-use Rattle.line_tape.specs.declared.limits.TheConstants.{LAST_INCARNATION, MOST_EVENTS, MOST_STATE, LAST_ROUND}
+use Rattle.line_tape.specs.declared.limits.TheConstants.{LAST_INCARNATION, MOST_EVENTS, MOST_STATE}
+use Rattle.line_tape.specs.declared.limits.TheConstants.{LAST_ROUND}
 use Rattle.line_tape.specs.History.{Process}
 use Rattle.line_claims.specs.declared.numbers.TheConstants.{MOST_NUMBER}
 use Rattle.line_claims.specs.Claims.{Claim}
@@ -28,7 +30,8 @@ IsRound (Some round) = (1 ≤ round) × (round ≤ LAST_ROUND)
 -- the numbers of an event, and what it carries; the processes that it names are below n
 abbrev pub IsInRange : ℕ → Event → Type 0
 IsInRange n (Send to inc body) = (to < n) × (inc ≤ LAST_INCARNATION) × AreBytes MOST_BODY body
-IsInRange n (Recv message) = (message.from < n) × (message.inc ≤ LAST_INCARNATION) × (message.number ≤ MOST_NUMBER)
+IsInRange n (Recv message) =
+    (message.from < n) × (message.inc ≤ LAST_INCARNATION) × (message.number ≤ MOST_NUMBER)
 IsInRange n (Check state round) = AreBytes MOST_STATE state × IsRound round
 IsInRange n (Mark from round) = (from < n) × IsRound (Some round)
 
@@ -44,12 +47,16 @@ pub record IsHistoryInRange (history : List Process) : Type 0 where
   pub few : length history ≤ MOST_PROCESSES
   pub tapes : AllByRecursion (IsTapeInRange (length history)) history
 
--- the numbers of an event fit the words that memory holds them in: incarnations 16 bits, others 32, and bytes 8
+-- the numbers of an event fit the words that memory holds them in: incarnations 16 bits, others 32,
+-- and bytes 8
 abbrev pub FitsWords : Event → Type 0
-FitsWords (Send to inc body) = (to < 2 ^ 32) × (inc < 2 ^ 16) × AllByRecursion (λ byte. byte < 2 ^ 8) body
-FitsWords (Recv message) = (message.from < 2 ^ 32) × (message.inc < 2 ^ 16) × (message.number < 2 ^ 32)
+FitsWords (Send to inc body) =
+    (to < 2 ^ 32) × (inc < 2 ^ 16) × AllByRecursion (λ byte. byte < 2 ^ 8) body
+FitsWords (Recv message) =
+    (message.from < 2 ^ 32) × (message.inc < 2 ^ 16) × (message.number < 2 ^ 32)
 FitsWords (Check state None) = AllByRecursion (λ byte. byte < 2 ^ 8) state
-FitsWords (Check state (Some round)) = AllByRecursion (λ byte. byte < 2 ^ 8) state × (round < 2 ^ 32)
+FitsWords (Check state (Some round)) =
+    AllByRecursion (λ byte. byte < 2 ^ 8) state × (round < 2 ^ 32)
 FitsWords (Mark from round) = (from < 2 ^ 32) × (round < 2 ^ 32)
 
 -- so do those of a process
@@ -69,7 +76,8 @@ IsRoundInRange other = Unit {0}
 
 -- so are the rounds of a history
 abbrev pub AreRoundsInRange : List Process → Type 0
-AreRoundsInRange history = AllByRecursion (λ process. AllByRecursion IsRoundInRange process.tape) history
+AreRoundsInRange history =
+    AllByRecursion (λ process. AllByRecursion IsRoundInRange process.tape) history
 
 -- a choice
 abbrev pub IsChoice : Choice → Type 0
@@ -84,17 +92,20 @@ pub record IsEntryInRange (n : ℕ) (entry : Passed) : Type 0 where
   pub inc : entry.message.inc ≤ LAST_INCARNATION
   pub number : entry.message.number ≤ MOST_NUMBER
 
--- further marks of a process, behind these: none of the initial state, and none twice
+-- further marks of a process, after these: none of the initial state, and none twice
 abbrev pub AreMarks : List ℕ → List ℕ → Type 0
 AreMarks before [] = Unit {0}
-AreMarks before (check ∷ others) = (1 ≤ check) × (check ≤ MOST_NUMBER) × (list_any (λ mark. mark == check) before ≡ false) × AreMarks (before ++ check ∷ []) others
+AreMarks before (check ∷ others) =
+    (1 ≤ check) × (check ≤ MOST_NUMBER) × (list_any (λ mark. mark == check) before ≡ false)
+    × AreMarks (before ++ check ∷ []) others
 
 -- the check of a bar, if there is one
 abbrev pub IsBar : Option ℕ → Type 0
 IsBar None = Unit {0}
 IsBar (Some check) = check ≤ MOST_NUMBER
 
--- a claim, on a history of as many processes as it has lists of marks, whose line is no longer than its version allows
+-- a claim, on a history of as many processes as it has lists of marks, whose line is no longer than
+-- its version allows
 pub record IsClaimInRange (claim : Claim) : Type 0 where
   pub few : length claim.marks.damaged ≤ MOST_PROCESSES
   pub marks : AllByRecursion (AreMarks []) claim.marks.damaged

@@ -38,7 +38,7 @@ abbrev pub Steps : {A : Type 0} → Result Unit ReadError → Result A Fault →
 Steps (Ok done) read new = read ≡ Ok new
 Steps (Err e) read new = Fails e read
 
--- want of memory, which is of no record
+-- out of memory, which is of no record
 abbrev pub no_memory : TextFault
 no_memory = record { record_number = 0; code = 0 }
 

@@ -1,5 +1,6 @@
 -- How histories and claims are written, record by record.
-use Rattle.std.specs.Prelude.{ℕ, ◌+◌, Bool, if◌then◌else◌, List, [], ◌∷◌, ◌++◌, length, map, filter, Option, Some, None, codes, decimal}
+use Rattle.std.specs.Prelude.{ℕ, ◌+◌, Bool, if◌then◌else◌, List, [], ◌∷◌, ◌++◌, length, map, filter}
+use Rattle.std.specs.Prelude.{Option, Some, None, codes, decimal}
 use Rattle.std.specs.List.{list_any, range_with_len}
 use Rattle.std.specs.Option.{is_some}
 use Rattle.line_names.specs.declared.certificates.Passed.{Passed}
@@ -57,7 +58,7 @@ tapes_records p (process ∷ others) = tape_records p process ++ tapes_records (
 abbrev pub history_record : ℕ → ℕ → Record
 history_record version n = codes "history" ∷ decimal version ∷ decimal n ∷ []
 
--- history,V,N with any text for N, and the records behind it
+-- history,V,N with any text for N, and the records after it
 abbrev pub in_version : ℕ → List ℕ → List Record → List Record
 in_version version number rest = (codes "history" ∷ decimal version ∷ number ∷ []) ∷ rest
 
@@ -96,9 +97,11 @@ bars_records p (bar ∷ others) = bar_records p bar ++ bars_records (p + 1) othe
 abbrev pub marks_records : MarksView → List Record
 marks_records marks = damages_records 0 marks.damaged ++ bars_records 0 marks.bars
 
--- the version of a text that tells of the marks of processes: 2 where one is barred, and else the earliest that may have so many
+-- the version of a text that tells of the marks of processes: 2 where one is barred, and else the
+-- earliest that may have so many
 abbrev pub version_of : MarksView → ℕ
-version_of marks = if list_any is_some marks.bars then 2 else earliest_version (length marks.damaged)
+version_of marks =
+    if list_any is_some marks.bars then 2 else earliest_version (length marks.damaged)
 
 -- the processes of a set, of the first n
 abbrev pub members : ℕ → List Bool → List ℕ
@@ -114,19 +117,23 @@ line_record line = codes "line" ∷ map choice_text line
 
 -- pass,P,CHOICE,FROM,INC,NUMBER
 abbrev pub pass_record : Passed → Record
-pass_record entry = codes "pass" ∷ decimal entry.at ∷ choice_text entry.choice ∷ name_fields entry.message
+pass_record entry =
+    codes "pass" ∷ decimal entry.at ∷ choice_text entry.choice ∷ name_fields entry.message
 
 -- end
 abbrev pub end_record : Record
 end_record = codes "end" ∷ []
 
--- what stands behind the marks of a claim
+-- what stands after the marks of a claim
 abbrev pub judged_records : ℕ → List Bool → List Choice → List Passed → List Record
-judged_records n failed line certificate = failed_record n failed ∷ line_record line ∷ (map pass_record certificate ++ end_record ∷ [])
+judged_records n failed line certificate =
+    failed_record n failed ∷ line_record line ∷ (map pass_record certificate ++ end_record ∷ [])
 
 -- a claim
 abbrev pub claim_records : Claim → List Record
-claim_records claim = marks_records claim.marks ++ judged_records (length claim.marks.damaged) claim.failed claim.line claim.certificate
+claim_records claim =
+    marks_records claim.marks
+    ++ judged_records (length claim.marks.damaged) claim.failed claim.line claim.certificate
 
 -- the damaged checks of process p, of its checks up to the last one, in order
 abbrev pub damaged_checks : MarksView → ℕ → ℕ → List ℕ
@@ -146,4 +153,6 @@ in_order history marks = record {
 -- a history, and a claim on it
 abbrev pub check_records : List Process → Claim → List Record
 check_records history claim =
-    front_records (version_of claim.marks) history ++ (marks_records claim.marks ++ judged_records (length history) claim.failed claim.line claim.certificate)
+    front_records (version_of claim.marks) history
+    ++ (marks_records claim.marks
+    ++ judged_records (length history) claim.failed claim.line claim.certificate)

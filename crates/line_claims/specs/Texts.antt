@@ -13,9 +13,10 @@ use Rattle.line_claims.specs.Reads.{fault_at, numbered}
 
 -- the records of a text, where it has no byte that no text has
 abbrev pub records_in : List ℕ → Result (List Record) TextFault
-records_in text = if is_input_text text then Ok (records_of_text text) else Err (fault_at 0 faults.BadRecord)
+records_in text =
+    if is_input_text text then Ok (records_of_text text) else Err (fault_at 0 faults.BadRecord)
 
--- a history: a front with nothing behind it
+-- a history: a front with nothing after it
 unfoldable pub history_of : List Record → Result (List Process) TextFault
 history_of records = do
   head ← head_in records
@@ -36,7 +37,7 @@ pub record Check : Type 0 where
 abbrev pub seen_check : made.CheckText → Check
 seen_check text = record { history = text.history.processes; claim = seen text.claim }
 
--- a history and a claim on it: a front with a claim behind it
+-- a history and a claim on it: a front with a claim after it
 unfoldable pub check_of : List Record → Result Check TextFault
 check_of records = do
   head ← head_in records

@@ -34,7 +34,9 @@ pub struct Claim {
 fn read_damage(alloc: Global, n: u32, cursor: &mut Cursor<'_>) -> Result<Marks, TextError>
     requires { n ≤ MOST_PROCESSES }
     ensures exact { Leaves (λ marks. marks) result
-        (many (named (codes "damage")) (entries.damage_of n) (no_marks n) cursor.old.number cursor.old.left) cursor.new }
+        (many (named (codes "damage")) (entries.damage_of n) (no_marks n) cursor.old.number
+        cursor.old.left)
+        cursor.new }
     ensures whole { IfOk result (λ marks. length marks.damaged ≡ n) }
 {
     let mut marks = Marks::new(alloc, n)?;
@@ -57,7 +59,8 @@ fn read_bars(
     requires few { n ≤ MOST_PROCESSES }
     requires whole { length marks.old.damaged ≡ n }
     ensures { Leaves (λ done. marks.new) result
-        (many (spec.is_bar version) (entries.bar_of n) marks.old cursor.old.number cursor.old.left) cursor.new }
+        (many (spec.is_bar version) (entries.bar_of n) marks.old cursor.old.number cursor.old.left)
+        cursor.new }
 {
     'records: while let Some(row) = cursor.bar(version) {
         if let Err(fault) = bar_of(marks, n, row) {
@@ -90,7 +93,8 @@ fn read_failed(n: u32, cursor: &mut Cursor<'_>) -> Result<ProcSet, TextError>
 #[tactic(auto, unfolding(crate::specs::Parts::one))]
 fn read_line(version: u32, cursor: &mut Cursor<'_>) -> Result<Line, TextError>
     ensures { Leaves (λ line. line) result
-        (one (codes "line") (entries.line_of version) cursor.old.number cursor.old.left) cursor.new }
+        (one (codes "line") (entries.line_of version) cursor.old.number cursor.old.left)
+        cursor.new }
 {
     let Some(row) = cursor.named(b"line") else {
         return Err(fault_at(cursor.number(), Fault::BadRecord));
@@ -107,7 +111,8 @@ fn read_line(version: u32, cursor: &mut Cursor<'_>) -> Result<Line, TextError>
 fn read_entries(alloc: Global, n: u32, cursor: &mut Cursor<'_>) -> Result<Certificate, TextError>
     requires { n ≤ MOST_PROCESSES }
     ensures { Leaves (λ certificate. certificate.items) result
-        (many (named (codes "pass")) (entries.entry_of n) [] cursor.old.number cursor.old.left) cursor.new }
+        (many (named (codes "pass")) (entries.entry_of n) [] cursor.old.number cursor.old.left)
+        cursor.new }
 {
     let mut certificate = Certificate::new(alloc);
     'records: while let Some(row) = cursor.named(b"pass") {
@@ -144,7 +149,8 @@ pub(crate) fn read_claim(
     cursor: &mut Cursor<'_>,
 ) -> Result<Claim, TextError>
     requires { n ≤ MOST_PROCESSES }
-    ensures { Yields spec.seen result (spec.claim_from version n cursor.old.number cursor.old.left) }
+    ensures { Yields spec.seen result
+        (spec.claim_from version n cursor.old.number cursor.old.left) }
 {
     let mut marks = read_damage(alloc, n, cursor)?;
     read_bars(version, n, &mut marks, cursor)?;

@@ -1,6 +1,7 @@
 //! A place among the records of a text.
 
-ghost use Rattle.std.specs.Prelude.{◌≡◌, ◌≢◌, ◌+◌, ◌∷◌, [], true, false, IfOk, IsTrue, MatchOption, OnOk, drop};
+ghost use Rattle.std.specs.Prelude.{◌≡◌, ◌≢◌, ◌+◌, ◌∷◌, [], true, false, IfOk, IsTrue, MatchOption};
+ghost use Rattle.std.specs.Prelude.{OnOk, drop};
 ghost use Rattle.line_fields.specs.Bytes.{is_input_text};
 ghost use Rattle.line_fields.specs.Records.{Record, field, records_of_text};
 ghost use Rattle.line_claims.specs.Claims.{is_bar};
@@ -37,7 +38,8 @@ impl<'a> Cursor<'a> {
     /// The first record of a plain text.
     pub fn open(alloc: Global, text: &'a [u8]) -> Result<Cursor<'a>, AllocError>
         requires { IsTrue (is_input_text text.now) }
-        ensures { IfOk result (λ cursor. cursor ≡ record { number = 1; left = records_of_text text.entry.now }) }
+        ensures { IfOk result
+            (λ cursor. cursor ≡ record { number = 1; left = records_of_text text.entry.now }) }
     {
         let mut records = RecordReader::open(alloc, text);
         let mut row = Row::new(alloc);
@@ -59,7 +61,8 @@ impl<'a> Cursor<'a> {
 
     /// The record that stands here.
     pub fn row(&self) -> Option<&Row>
-        ensures { MatchOption result (self.now.left ≡ []) (λ row. self.now.left ≡ row.now ∷ drop 1 self.now.left) }
+        ensures { MatchOption result (self.now.left ≡ [])
+            (λ row. self.now.left ≡ row.now ∷ drop 1 self.now.left) }
     {
         if self.found { Some(&self.row) } else { None }
     }
@@ -67,7 +70,8 @@ impl<'a> Cursor<'a> {
     /// The record that stands here, where it has that name.
     pub fn named(&self, name: &[u8]) -> Option<&Row>
         ensures { MatchOption result (begins (named name.now) self.now.left ≡ false)
-            (λ row. (begins (named name.now) self.now.left ≡ true) × (self.now.left ≡ row.now ∷ drop 1 self.now.left)) }
+            (λ row. (begins (named name.now) self.now.left ≡ true)
+            × (self.now.left ≡ row.now ∷ drop 1 self.now.left)) }
     {
         match self.row() {
             None => None,
@@ -84,7 +88,8 @@ impl<'a> Cursor<'a> {
     /// The record that stands here and the kind of its event, where it spells one.
     pub fn event(&self) -> Option<(Kind, &Row)>
         ensures { MatchOption result (begins spec.is_event self.now.left ≡ false)
-            (λ found. (begins spec.is_event self.now.left ≡ true) × (self.now.left ≡ found.1.now ∷ drop 1 self.now.left)
+            (λ found. (begins spec.is_event self.now.left ≡ true)
+            × (self.now.left ≡ found.1.now ∷ drop 1 self.now.left)
             × (field found.1.now 0 ≡ spec.kind_text found.0)) }
     {
         match self.row() {
@@ -99,7 +104,8 @@ impl<'a> Cursor<'a> {
     /// The record that stands here, where it bars a process and the version knows bars.
     pub fn bar(&self, version: u32) -> Option<&Row>
         ensures { MatchOption result (begins (is_bar version) self.now.left ≡ false)
-            (λ row. (begins (is_bar version) self.now.left ≡ true) × (self.now.left ≡ row.now ∷ drop 1 self.now.left)) }
+            (λ row. (begins (is_bar version) self.now.left ≡ true)
+            × (self.now.left ≡ row.now ∷ drop 1 self.now.left)) }
     {
         if version != 2 {
             return None;
@@ -110,7 +116,8 @@ impl<'a> Cursor<'a> {
     /// Goes on to the next record.
     pub fn advance(&mut self) -> Result<(), AllocError>
         requires { self.old.left ≢ [] }
-        ensures { OnOk result (self.new ≡ record { number = self.old.number + 1; left = drop 1 self.old.left }) }
+        ensures { OnOk result
+            (self.new ≡ record { number = self.old.number + 1; left = drop 1 self.old.left }) }
     {
         self.found = self.records.next_row(&mut self.row)?;
         self.number += 1;

@@ -52,7 +52,7 @@ pub(crate) fn bar_of(marks: &mut Marks, n: u32, row: &Row) -> Result<(), Fault>
     }
 }
 
-/// The processes of a record such as `failed` or `failed,P,..`: those of the fields behind the
+/// The processes of a record such as `failed` or `failed,P,..`: those of the fields after the
 /// first, a process that is not below `n` being a fault once all fields are numbers.
 pub fn failed_of(n: u32, row: &Row) -> Result<ProcSet, Fault>
     requires { n ≤ MOST_PROCESSES }
@@ -73,7 +73,7 @@ pub fn failed_of(n: u32, row: &Row) -> Result<ProcSet, Fault>
     Ok(failed)
 }
 
-// The choices of the fields behind the first.
+// The choices of the fields after the first.
 fn choices_of(row: &Row) -> Result<Line, Fault>
     requires { length row.now ≤ MOST_PROCESSES + 1 }
     ensures { result ≡ choices (drop 1 row.now) }

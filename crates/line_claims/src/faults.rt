@@ -97,7 +97,8 @@ impl<T: Drop> From<AllocFailed<T>> for TextError {
 
 /// A fault of the record with that number.
 pub fn fault_at(record_number: u64, fault: Fault) -> TextError
-    ensures { result ≡ TextError.Fault (record { record_number = record_number; code = code_of fault }) }
+    ensures { result
+        ≡ TextError.Fault (record { record_number = record_number; code = code_of fault }) }
 {
     TextError::Fault(TextFault {
         record_number,

@@ -1,6 +1,7 @@
 //! Histories, read record by record.
 
-ghost use Rattle.std.specs.Prelude.{◌≡◌, ◌≤◌, ◌<◌, Ok, Err, codes, length, replicate, IfErr, IfOk, OnOk};
+ghost use Rattle.std.specs.Prelude.{◌≡◌, ◌≤◌, ◌<◌, Ok, Err, codes, length, replicate, IfErr, IfOk};
+ghost use Rattle.std.specs.Prelude.{OnOk};
 ghost use Rattle.line_names.specs.declared.limits.TheConstants.{MOST_PROCESSES};
 ghost use Rattle.line_fields.specs.Records.{field};
 ghost use Rattle.line_tape.specs.History.{fresh};
@@ -38,8 +39,10 @@ pub(crate) fn head_of(row: &Row) -> Result<(u32, u32), Fault>
 #[tactic(auto, unfolding(crate::specs::Histories::tape_of, line_fields::specs::Shapes::two))]
 fn tape_of(history: &mut History, at: ProcId, row: &Row) -> Result<(), Fault>
     requires { at < length history.old.processes }
-    ensures ok { OnOk result (spec.tape_of at history.old.processes row.now ≡ Ok history.new.processes) }
-    ensures err { IfErr result (λ fault. spec.tape_of at history.old.processes row.now ≡ Err fault) }
+    ensures ok { OnOk result
+        (spec.tape_of at history.old.processes row.now ≡ Ok history.new.processes) }
+    ensures err { IfErr result
+        (λ fault. spec.tape_of at history.old.processes row.now ≡ Err fault) }
     ensures same { length history.new.processes ≡ length history.old.processes }
 {
     want(row.len() == 3, Fault::BadRecord)?;
@@ -62,7 +65,8 @@ fn event_at(
 ) -> Result<(), ReadError>
     requires there { at < length history.old.processes }
     requires kind { field row.now 0 ≡ kind_text kind }
-    ensures exact { Steps result (spec.event_at at history.old.processes row.now) history.new.processes }
+    ensures exact { Steps result (spec.event_at at history.old.processes row.now)
+        history.new.processes }
     ensures same { length history.new.processes ≡ length history.old.processes }
 {
     let event = event_of(alloc, history.n(), kind, row, bytes)?;
@@ -80,7 +84,9 @@ fn event_at(
 fn read_head(history: &mut History, at: ProcId, cursor: &mut Cursor<'_>) -> Result<(), TextError>
     requires { at < length history.old.processes }
     ensures exact { Leaves (λ done. history.new.processes) result
-        (one (codes "tape") (spec.tape_of at history.old.processes) cursor.old.number cursor.old.left) cursor.new }
+        (one (codes "tape") (spec.tape_of at history.old.processes) cursor.old.number
+        cursor.old.left)
+        cursor.new }
     ensures same { length history.new.processes ≡ length history.old.processes }
 {
     let Some(row) = cursor.named(b"tape") else {
@@ -103,7 +109,8 @@ fn read_events(
 ) -> Result<(), TextError>
     requires { at < length history.old.processes }
     ensures exact { Leaves (λ done. history.new.processes) result
-        (many is_event (spec.event_at at) history.old.processes cursor.old.number cursor.old.left) cursor.new }
+        (many is_event (spec.event_at at) history.old.processes cursor.old.number cursor.old.left)
+        cursor.new }
     ensures same { length history.new.processes ≡ length history.old.processes }
 {
     'records: while let Some((kind, row)) = cursor.event() {

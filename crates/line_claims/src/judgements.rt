@@ -25,7 +25,8 @@ fn put_damage<K: Sink>(
     p: ProcId,
     check: u32,
 ) -> Result<(), DeviceFault>
-    ensures { Outputs result (K.taken sink.old) (K.taken sink.new) (K.faults sink.old) (K.faults sink.new) writer.new (writer.old ++ record_text (spec.damage_record p check)) }
+    ensures { Outputs result (K.taken sink.old) (K.taken sink.new) (K.faults sink.old)
+        (K.faults sink.new) writer.new (writer.old ++ record_text (spec.damage_record p check)) }
 {
     let place = p.get();
     put_numbers(sink, writer, b"damage", &[place as u64, check as u64])
@@ -40,7 +41,10 @@ fn put_damages_of<K: Sink>(
     p: ProcId,
     last: u32,
 ) -> Result<(), DeviceFault>
-    ensures { Outputs result (K.taken sink.old) (K.taken sink.new) (K.faults sink.old) (K.faults sink.new) writer.new (writer.old ++ records_text (map (spec.damage_record p) (spec.damaged_checks marks.now p last))) }
+    ensures { Outputs result (K.taken sink.old) (K.taken sink.new) (K.faults sink.old)
+        (K.faults sink.new) writer.new
+        (writer.old
+        ++ records_text (map (spec.damage_record p) (spec.damaged_checks marks.now p last))) }
 {
     for before in 0..last {
         let check = before + 1;
@@ -58,7 +62,11 @@ fn put_damages<K: Sink>(
     history: &History,
     marks: &Marks,
 ) -> Result<(), DeviceFault>
-    ensures { Outputs result (K.taken sink.old) (K.taken sink.new) (K.faults sink.old) (K.faults sink.new) writer.new (writer.old ++ records_text (spec.damages_records 0 (spec.in_order history.now.processes marks.now).damaged)) }
+    ensures { Outputs result (K.taken sink.old) (K.taken sink.new) (K.faults sink.old)
+        (K.faults sink.new) writer.new
+        (writer.old
+        ++ records_text
+        (spec.damages_records 0 (spec.in_order history.now.processes marks.now).damaged)) }
 {
     let n = history.n();
     for value in 0..n {
@@ -78,7 +86,8 @@ fn put_bar<K: Sink>(
     p: ProcId,
     bar: u32,
 ) -> Result<(), DeviceFault>
-    ensures { Outputs result (K.taken sink.old) (K.taken sink.new) (K.faults sink.old) (K.faults sink.new) writer.new (writer.old ++ record_text (spec.bar_record p bar)) }
+    ensures { Outputs result (K.taken sink.old) (K.taken sink.new) (K.faults sink.old)
+        (K.faults sink.new) writer.new (writer.old ++ record_text (spec.bar_record p bar)) }
 {
     let place = p.get();
     put_numbers(sink, writer, b"bar", &[place as u64, bar as u64])
@@ -91,7 +100,9 @@ fn put_bar_of<K: Sink>(
     marks: &Marks,
     p: ProcId,
 ) -> Result<(), DeviceFault>
-    ensures { Outputs result (K.taken sink.old) (K.taken sink.new) (K.faults sink.old) (K.faults sink.new) writer.new (writer.old ++ records_text (spec.bar_records p (bar_at marks.now p))) }
+    ensures { Outputs result (K.taken sink.old) (K.taken sink.new) (K.faults sink.old)
+        (K.faults sink.new) writer.new
+        (writer.old ++ records_text (spec.bar_records p (bar_at marks.now p))) }
 {
     match marks.bar_of(p) {
         Some(bar) => put_bar(sink, writer, p, bar),
@@ -106,7 +117,11 @@ fn put_bars<K: Sink>(
     history: &History,
     marks: &Marks,
 ) -> Result<(), DeviceFault>
-    ensures { Outputs result (K.taken sink.old) (K.taken sink.new) (K.faults sink.old) (K.faults sink.new) writer.new (writer.old ++ records_text (spec.bars_records 0 (spec.in_order history.now.processes marks.now).bars)) }
+    ensures { Outputs result (K.taken sink.old) (K.taken sink.new) (K.faults sink.old)
+        (K.faults sink.new) writer.new
+        (writer.old
+        ++ records_text
+        (spec.bars_records 0 (spec.in_order history.now.processes marks.now).bars)) }
 {
     let n = history.n();
     for value in 0..n {
@@ -125,7 +140,10 @@ fn put_marks<K: Sink>(
     history: &History,
     marks: &Marks,
 ) -> Result<(), DeviceFault>
-    ensures { Outputs result (K.taken sink.old) (K.taken sink.new) (K.faults sink.old) (K.faults sink.new) writer.new (writer.old ++ records_text (spec.marks_records (spec.in_order history.now.processes marks.now))) }
+    ensures { Outputs result (K.taken sink.old) (K.taken sink.new) (K.faults sink.old)
+        (K.faults sink.new) writer.new
+        (writer.old
+        ++ records_text (spec.marks_records (spec.in_order history.now.processes marks.now))) }
 {
     put_damages(sink, writer, history, marks)?;
     put_bars(sink, writer, history, marks)
@@ -139,7 +157,9 @@ fn add_members<K: Sink>(
     set: &ProcSet,
 ) -> Result<(), DeviceFault>
     requires { n ≤ MOST_PROCESSES }
-    ensures { Outputs result (K.taken sink.old) (K.taken sink.new) (K.faults sink.old) (K.faults sink.new) writer.new (writer.old ++ flat_map (λ p. 44 ∷ decimal p) (spec.members n set.now)) }
+    ensures { Outputs result (K.taken sink.old) (K.taken sink.new) (K.faults sink.old)
+        (K.faults sink.new) writer.new
+        (writer.old ++ flat_map (λ p. 44 ∷ decimal p) (spec.members n set.now)) }
 {
     for value in 0..n {
         let Ok(p) = ProcId::try_new(value, n) else {
@@ -160,7 +180,9 @@ fn put_failed<K: Sink>(
     failed: &ProcSet,
 ) -> Result<(), DeviceFault>
     requires { n ≤ MOST_PROCESSES }
-    ensures { Outputs result (K.taken sink.old) (K.taken sink.new) (K.faults sink.old) (K.faults sink.new) writer.new (writer.old ++ record_text (spec.failed_record n failed.now)) }
+    ensures { Outputs result (K.taken sink.old) (K.taken sink.new) (K.faults sink.old)
+        (K.faults sink.new) writer.new
+        (writer.old ++ record_text (spec.failed_record n failed.now)) }
 {
     begin_record(sink, writer, b"failed", &[])?;
     add_members(sink, writer, n, failed)?;
@@ -173,7 +195,9 @@ fn add_choices<K: Sink>(
     writer: &mut RecordWriter,
     choices: &[Choice],
 ) -> Result<(), DeviceFault>
-    ensures { Outputs result (K.taken sink.old) (K.taken sink.new) (K.faults sink.old) (K.faults sink.new) writer.new (writer.old ++ flat_map (λ choice. 44 ∷ spec.choice_text choice) choices.now) }
+    ensures { Outputs result (K.taken sink.old) (K.taken sink.new) (K.faults sink.old)
+        (K.faults sink.new) writer.new
+        (writer.old ++ flat_map (λ choice. 44 ∷ spec.choice_text choice) choices.now) }
 {
     for i in 0..choices.len() {
         let field = choice_field(choices[i]);
@@ -188,7 +212,8 @@ fn put_line<K: Sink>(
     writer: &mut RecordWriter,
     line: &Line,
 ) -> Result<(), DeviceFault>
-    ensures { Outputs result (K.taken sink.old) (K.taken sink.new) (K.faults sink.old) (K.faults sink.new) writer.new (writer.old ++ record_text (spec.line_record line.now)) }
+    ensures { Outputs result (K.taken sink.old) (K.taken sink.new) (K.faults sink.old)
+        (K.faults sink.new) writer.new (writer.old ++ record_text (spec.line_record line.now)) }
 {
     begin_record(sink, writer, b"line", &[])?;
     add_choices(sink, writer, line.choices())?;
@@ -203,7 +228,8 @@ fn put_any_pass<K: Sink>(
     writer: &mut RecordWriter,
     entry: &Passed,
 ) -> Result<(), DeviceFault>
-    ensures { Outputs result (K.taken sink.old) (K.taken sink.new) (K.faults sink.old) (K.faults sink.new) writer.new (writer.old ++ record_text (spec.pass_record entry.now)) }
+    ensures { Outputs result (K.taken sink.old) (K.taken sink.new) (K.faults sink.old)
+        (K.faults sink.new) writer.new (writer.old ++ record_text (spec.pass_record entry.now)) }
 {
     let at = entry.at.get();
     let choice = choice_field(entry.choice);
@@ -218,7 +244,7 @@ fn put_any_pass<K: Sink>(
     put_fields(sink, writer, b"pass", &fields)
 }
 
-/// Writes `pass,P,CHOICE,FROM,INC,NUMBER` behind what a writer holds: an entry of a certificate.
+/// Writes `pass,P,CHOICE,FROM,INC,NUMBER` after what a writer holds: an entry of a certificate.
 ///
 /// It asks for no memory, and fails only where the sink fails.
 pub fn put_pass<K: Sink>(
@@ -226,7 +252,8 @@ pub fn put_pass<K: Sink>(
     writer: &mut RecordWriter,
     entry: &Passed,
 ) -> Result<(), DeviceFault>
-    ensures { Outputs result (K.taken sink.old) (K.taken sink.new) (K.faults sink.old) (K.faults sink.new) writer.new (writer.old ++ record_text (spec.pass_record entry.now)) }
+    ensures { Outputs result (K.taken sink.old) (K.taken sink.new) (K.faults sink.old)
+        (K.faults sink.new) writer.new (writer.old ++ record_text (spec.pass_record entry.now)) }
 {
     let at = entry.at.get();
     let from = entry.message.from.get();
@@ -249,7 +276,9 @@ fn put_passes<K: Sink>(
     writer: &mut RecordWriter,
     entries: &[Passed],
 ) -> Result<(), DeviceFault>
-    ensures { Outputs result (K.taken sink.old) (K.taken sink.new) (K.faults sink.old) (K.faults sink.new) writer.new (writer.old ++ records_text (map spec.pass_record entries.now)) }
+    ensures { Outputs result (K.taken sink.old) (K.taken sink.new) (K.faults sink.old)
+        (K.faults sink.new) writer.new
+        (writer.old ++ records_text (map spec.pass_record entries.now)) }
 {
     for entry in entries {
         put_pass(sink, writer, entry)?;
@@ -259,7 +288,8 @@ fn put_passes<K: Sink>(
 
 // Writes `end`, the last record of a claim.
 fn put_end<K: Sink>(sink: &mut K, writer: &mut RecordWriter) -> Result<(), DeviceFault>
-    ensures { Outputs result (K.taken sink.old) (K.taken sink.new) (K.faults sink.old) (K.faults sink.new) writer.new (writer.old ++ record_text spec.end_record) }
+    ensures { Outputs result (K.taken sink.old) (K.taken sink.new) (K.faults sink.old)
+        (K.faults sink.new) writer.new (writer.old ++ record_text spec.end_record) }
 {
     put_numbers(sink, writer, b"end", &[])
 }
@@ -270,7 +300,10 @@ fn put_entries<K: Sink>(
     writer: &mut RecordWriter,
     certificate: &[Passed],
 ) -> Result<(), DeviceFault>
-    ensures { Outputs result (K.taken sink.old) (K.taken sink.new) (K.faults sink.old) (K.faults sink.new) writer.new (writer.old ++ records_text (map spec.pass_record certificate.now ++ spec.end_record ∷ [])) }
+    ensures { Outputs result (K.taken sink.old) (K.taken sink.new) (K.faults sink.old)
+        (K.faults sink.new) writer.new
+        (writer.old
+        ++ records_text (map spec.pass_record certificate.now ++ spec.end_record ∷ [])) }
 {
     put_passes(sink, writer, certificate)?;
     put_end(sink, writer)
@@ -283,14 +316,19 @@ fn put_chain<K: Sink>(
     line: &Line,
     certificate: &[Passed],
 ) -> Result<(), DeviceFault>
-    ensures { Outputs result (K.taken sink.old) (K.taken sink.new) (K.faults sink.old) (K.faults sink.new) writer.new (writer.old ++ records_text (spec.line_record line.now ∷ (map spec.pass_record certificate.now ++ spec.end_record ∷ []))) }
+    ensures { Outputs result (K.taken sink.old) (K.taken sink.new) (K.faults sink.old)
+        (K.faults sink.new) writer.new
+        (writer.old
+        ++ records_text
+        (spec.line_record line.now
+        ∷ (map spec.pass_record certificate.now ++ spec.end_record ∷ []))) }
 {
     put_line(sink, writer, line)?;
     put_entries(sink, writer, certificate)
 }
 
-// Writes what stands behind the marks of a claim on a history of `n` processes: the failed
-// processes in order, the line, the entries of its certificate, and the end.
+// Writes what stands after the marks of a claim on a history of `n` processes: the failed processes
+// in order, the line, the entries of its certificate, and the end.
 fn put_judged<K: Sink>(
     sink: &mut K,
     writer: &mut RecordWriter,
@@ -300,13 +338,15 @@ fn put_judged<K: Sink>(
     certificate: &[Passed],
 ) -> Result<(), DeviceFault>
     requires { n ≤ MOST_PROCESSES }
-    ensures { Outputs result (K.taken sink.old) (K.taken sink.new) (K.faults sink.old) (K.faults sink.new) writer.new (writer.old ++ records_text (spec.judged_records n failed.now line.now certificate.now)) }
+    ensures { Outputs result (K.taken sink.old) (K.taken sink.new) (K.faults sink.old)
+        (K.faults sink.new) writer.new
+        (writer.old ++ records_text (spec.judged_records n failed.now line.now certificate.now)) }
 {
     put_failed(sink, writer, n, failed)?;
     put_chain(sink, writer, line, certificate)
 }
 
-// Writes what stands behind the history in a check text.
+// Writes what stands after the history in a check text.
 fn put_claim<K: Sink>(
     sink: &mut K,
     writer: &mut RecordWriter,
@@ -316,7 +356,13 @@ fn put_claim<K: Sink>(
     line: &Line,
     certificate: &[Passed],
 ) -> Result<(), DeviceFault>
-    ensures { Outputs result (K.taken sink.old) (K.taken sink.new) (K.faults sink.old) (K.faults sink.new) writer.new (writer.old ++ records_text (spec.marks_records (spec.in_order history.now.processes marks.now) ++ spec.judged_records (length history.now.processes) failed.now line.now certificate.now)) }
+    ensures { Outputs result (K.taken sink.old) (K.taken sink.new) (K.faults sink.old)
+        (K.faults sink.new) writer.new
+        (writer.old
+        ++ records_text
+        (spec.marks_records (spec.in_order history.now.processes marks.now)
+        ++ spec.judged_records (length history.now.processes) failed.now line.now
+        certificate.now)) }
 {
     put_marks(sink, writer, history, marks)?;
     put_judged(sink, writer, history.n(), failed, line, certificate)
@@ -339,13 +385,13 @@ fn version_of(history: &History, marks: &Marks) -> u32
     earliest_version(n)
 }
 
-/// Writes a check text behind what a writer holds: a history, and the claim on it that these of its
+/// Writes a check text after what a writer holds: a history, and the claim on it that these of its
 /// checks are damaged, its processes are barred so, these failed, and this is the line with its
 /// certificate. It is of version 2 where a process is barred or there are more than 64, and else of
 /// version 1.
 ///
-/// It asks for no memory, and fails only where the sink fails; then a front of what was held and of
-/// the check text is put. It asks once for a mark of each check.
+/// It asks for no memory, and fails only where the sink fails; then a prefix of what was held and
+/// of the check text is put. It asks once for a mark of each check.
 pub fn put_check_text<K: Sink>(
     sink: &mut K,
     writer: &mut RecordWriter,
@@ -355,7 +401,17 @@ pub fn put_check_text<K: Sink>(
     line: &Line,
     certificate: &[Passed],
 ) -> Result<(), DeviceFault>
-    ensures { Outputs result (K.taken sink.old) (K.taken sink.new) (K.faults sink.old) (K.faults sink.new) writer.new (writer.old ++ records_text (spec.check_records history.now.processes (record { marks = spec.in_order history.now.processes marks.now; failed = failed.now; line = line.now; certificate = certificate.now }))) }
+    ensures { Outputs result (K.taken sink.old) (K.taken sink.new) (K.faults sink.old)
+        (K.faults sink.new) writer.new
+        (writer.old
+        ++ records_text
+        (spec.check_records history.now.processes
+        (record {
+          marks = spec.in_order history.now.processes marks.now;
+          failed = failed.now;
+          line = line.now;
+          certificate = certificate.now;
+        }))) }
 {
     let version = version_of(history, marks);
     put_history(sink, writer, version, history)?;

@@ -23,9 +23,11 @@ fn keep_history(
 ) -> Result<(), DeviceFault>
     requires empty { writer.old ≡ [] }
     requires none { sink.old.bytes ≡ [] }
-    ensures text { OnOk result (sink.new.bytes ≡ records_text (spec.history_records history.now.processes)) }
+    ensures text { OnOk result
+        (sink.new.bytes ≡ records_text (spec.history_records history.now.processes)) }
     ensures fits { OnOk result (FitsMemory history.now.processes) }
-    ensures range { OnOk result (AreRoundsInRange history.now.processes → IsHistoryInRange history.now.processes) }
+    ensures range { OnOk result
+        (AreRoundsInRange history.now.processes → IsHistoryInRange history.now.processes) }
 {
     let version = earliest_version(history.n());
     put_history(sink, writer, version, history)?;
@@ -37,8 +39,11 @@ fn keep_history(
 ///
 /// It takes memory for the text, and for 64 KiB.
 pub fn write_history(alloc: Global, history: &History) -> Result<Vec<u8>, AllocError>
-    ensures text { IfOk result (λ text. text.items ≡ records_text (spec.history_records history.now.processes)) }
-    ensures again { IfOk result (λ text. AreRoundsInRange history.now.processes → history_of_text text.items ≡ Ok history.now.processes) }
+    ensures text { IfOk result
+        (λ text. text.items ≡ records_text (spec.history_records history.now.processes)) }
+    ensures again { IfOk result
+        (λ text. AreRoundsInRange history.now.processes
+        → history_of_text text.items ≡ Ok history.now.processes) }
 
     // So it is known to be of that history alone.
     ensures fits { OnOk result (FitsMemory history.now.processes) }
@@ -63,7 +68,16 @@ fn keep_check_text(
 ) -> Result<(), DeviceFault>
     requires empty { writer.old ≡ [] }
     requires none { sink.old.bytes ≡ [] }
-    ensures { OnOk result (sink.new.bytes ≡ records_text (spec.check_records history.now.processes (record { marks = spec.in_order history.now.processes marks.now; failed = failed.now; line = line.now; certificate = certificate.now }))) }
+    ensures { OnOk result
+        (sink.new.bytes
+        ≡ records_text
+        (spec.check_records history.now.processes
+        (record {
+          marks = spec.in_order history.now.processes marks.now;
+          failed = failed.now;
+          line = line.now;
+          certificate = certificate.now;
+        }))) }
 {
     put_check_text(sink, writer, history, marks, failed, line, certificate)?;
     put_all(sink, writer.text())
@@ -82,7 +96,16 @@ pub fn write_check_text(
     line: &Line,
     certificate: &[Passed],
 ) -> Result<Vec<u8>, AllocError>
-    ensures { IfOk result (λ text. text.items ≡ records_text (spec.check_records history.now.processes (record { marks = spec.in_order history.now.processes marks.now; failed = failed.now; line = line.now; certificate = certificate.now }))) }
+    ensures { IfOk result
+        (λ text. text.items
+        ≡ records_text
+        (spec.check_records history.now.processes
+        (record {
+          marks = spec.in_order history.now.processes marks.now;
+          failed = failed.now;
+          line = line.now;
+          certificate = certificate.now;
+        }))) }
 {
     let mut writer = RecordWriter::with_room(alloc)?;
     let mut sink = MemSink::new(alloc, usize::MAX, None);

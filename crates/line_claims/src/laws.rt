@@ -7,7 +7,8 @@ ghost use Rattle.line_tape.specs.History.{Process};
 ghost use Rattle.line_claims.specs.Claims.{Claim};
 ghost use Rattle.line_claims.specs.Ranges.{FitsMemory, IsClaimInRange, IsHistoryInRange};
 ghost use Rattle.line_claims.specs.Records.{claim_records, front_records, in_version, version_of};
-ghost use Rattle.line_claims.specs.Texts.{Check, certificate_of_text, check_of, check_of_text, history_of, history_of_text, records_in};
+ghost use Rattle.line_claims.specs.Texts.{Check, certificate_of_text, check_of, check_of_text};
+ghost use Rattle.line_claims.specs.Texts.{history_of, history_of_text, records_in};
 ghost use Rattle.line_claims.specs.Versions.{IsVersion, most_in};
 
 /// A history is read again from its own text of each version that may have so many processes, where
@@ -17,12 +18,16 @@ ghost use Rattle.line_claims.specs.Versions.{IsVersion, most_in};
 /// The records of a history that can stand in memory, in range or not, are those of no other, in
 /// either version, and so is its text.
 pub fn histories_are_read_again()
-    ensures same { (version : ℕ) (history : List Process) → IsVersion version → IsHistoryInRange history → length history ≤ most_in version
+    ensures same { (version : ℕ) (history : List Process) → IsVersion version
+        → IsHistoryInRange history → length history ≤ most_in version
         → history_of_text (records_text (front_records version history)) ≡ Ok history }
-    ensures records { (version later : ℕ) (history other : List Process) → FitsMemory history → FitsMemory other
+    ensures records { (version later : ℕ) (history other : List Process) → FitsMemory history
+        → FitsMemory other
         → front_records version history ≡ front_records later other → history ≡ other }
-    ensures apart { (version later : ℕ) (history other : List Process) → IsVersion version → IsVersion later → FitsMemory history → FitsMemory other
-        → records_text (front_records version history) ≡ records_text (front_records later other) → history ≡ other }
+    ensures apart { (version later : ℕ) (history other : List Process) → IsVersion version
+        → IsVersion later → FitsMemory history → FitsMemory other
+        → records_text (front_records version history) ≡ records_text (front_records later other)
+        → history ≡ other }
 {}
 
 /// A claim is read again from its own text, bars included, and so is a history with a claim on it,
@@ -33,10 +38,17 @@ pub fn histories_are_read_again()
 /// What spells a claim in version 1 spells the same one in version 2.
 pub fn claims_are_read_again()
     ensures alone { (claim : Claim) → IsClaimInRange claim
-        → certificate_of_text (version_of claim.marks) (length claim.marks.damaged) (records_text (claim_records claim)) ≡ Ok claim }
-    ensures both { (history : List Process) (claim : Claim) → IsHistoryInRange history → IsClaimInRange claim → length claim.marks.damaged ≡ length history
-        → check_of_text (records_text (front_records (version_of claim.marks) history ++ claim_records claim)) ≡ Ok (record { history = history; claim = claim }) }
-    ensures later { (n : ℕ) (text : List ℕ) (claim : Claim) → certificate_of_text 1 n text ≡ Ok claim → certificate_of_text 2 n text ≡ Ok claim }
+        → certificate_of_text (version_of claim.marks) (length claim.marks.damaged)
+        (records_text (claim_records claim))
+        ≡ Ok claim }
+    ensures both { (history : List Process) (claim : Claim) → IsHistoryInRange history
+        → IsClaimInRange claim → length claim.marks.damaged ≡ length history
+        → check_of_text
+        (records_text
+        (front_records (version_of claim.marks) history ++ claim_records claim))
+        ≡ Ok (record { history = history; claim = claim }) }
+    ensures later { (n : ℕ) (text : List ℕ) (claim : Claim)
+        → certificate_of_text 1 n text ≡ Ok claim → certificate_of_text 2 n text ≡ Ok claim }
 {}
 
 /// What spells a history, or a history with a claim on it, in version 1 spells the same one in
@@ -45,13 +57,19 @@ pub fn claims_are_read_again()
 /// are quoted and their lines end.
 pub fn version_2_reads_version_1()
     ensures histories { (number : List ℕ) (rest : List Record) (history : List Process)
-        → history_of (in_version 1 number rest) ≡ Ok history → history_of (in_version 2 number rest) ≡ Ok history }
+        → history_of (in_version 1 number rest) ≡ Ok history
+        → history_of (in_version 2 number rest) ≡ Ok history }
     ensures checks { (number : List ℕ) (rest : List Record) (check : Check)
-        → check_of (in_version 1 number rest) ≡ Ok check → check_of (in_version 2 number rest) ≡ Ok check }
-    ensures history_texts { (number : List ℕ) (rest : List Record) (text later : List ℕ) (history : List Process)
-        → records_in text ≡ Ok (in_version 1 number rest) → records_in later ≡ Ok (in_version 2 number rest)
+        → check_of (in_version 1 number rest) ≡ Ok check
+        → check_of (in_version 2 number rest) ≡ Ok check }
+    ensures history_texts { (number : List ℕ) (rest : List Record) (text later : List ℕ)
+        (history : List Process)
+        → records_in text ≡ Ok (in_version 1 number rest)
+        → records_in later ≡ Ok (in_version 2 number rest)
         → history_of_text text ≡ Ok history → history_of_text later ≡ Ok history }
-    ensures check_texts { (number : List ℕ) (rest : List Record) (text later : List ℕ) (check : Check)
-        → records_in text ≡ Ok (in_version 1 number rest) → records_in later ≡ Ok (in_version 2 number rest)
+    ensures check_texts { (number : List ℕ) (rest : List Record) (text later : List ℕ)
+        (check : Check)
+        → records_in text ≡ Ok (in_version 1 number rest)
+        → records_in later ≡ Ok (in_version 2 number rest)
         → check_of_text text ≡ Ok check → check_of_text later ≡ Ok check }
 {}

@@ -42,7 +42,8 @@ fn open(alloc: Global, text: &[u8]) -> Result<Cursor<'_>, TextError>
 // The version and the number of processes that the first record announces.
 fn read_first(cursor: &Cursor<'_>) -> Result<(u32, u32), TextError>
     ensures exact { Yields (λ head. head) result (head_in cursor.now.left) }
-    ensures within { IfOk result (λ head. (1 ≤ head.1) × (head.1 ≤ MOST_PROCESSES) × (cursor.now.left ≢ [])) }
+    ensures within { IfOk result
+        (λ head. (1 ≤ head.1) × (head.1 ≤ MOST_PROCESSES) × (cursor.now.left ≢ [])) }
 {
     let Some(row) = cursor.named(b"history") else {
         return Err(fault_at(1, Fault::NoWorld));
@@ -123,7 +124,7 @@ pub fn read_history(alloc: Global, text: &[u8]) -> Result<History, TextFault>
 }
 
 /// The claim among `n` processes that a text spells: the part of a check text of that version that
-/// stands behind its history, with its records numbered from 1. Version 1 knows no bars.
+/// stands after its history, with its records numbered from 1. Version 1 knows no bars.
 ///
 /// It asks nothing of a history: a mark, a bar or a choice may be of a check that isn't there, and
 /// the line may have any number of choices up to the greatest number of processes of a text of that

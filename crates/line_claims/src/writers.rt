@@ -6,7 +6,8 @@ ghost use Rattle.line_devices.specs.Devices.{Outputs};
 ghost use Rattle.line_fields.specs.Texts.{record_text, records_text};
 ghost use Rattle.line_tape.specs.History.{process_at};
 ghost use Rattle.line_tape.specs.Shown.{shown};
-ghost use Rattle.line_claims.specs.Ranges.{AreRoundsInRange, FitsMemory, FitsProcess, FitsWords, IsHistoryInRange};
+ghost use Rattle.line_claims.specs.Ranges.{AreRoundsInRange, FitsMemory, FitsProcess, FitsWords};
+ghost use Rattle.line_claims.specs.Ranges.{IsHistoryInRange};
 ghost use Rattle.line_claims.specs.Records as spec;
 
 use crate::spellings::{number_field, numbers_of};
@@ -23,7 +24,9 @@ fn put_send<K: Sink>(
     inc: u16,
     body: &[u8],
 ) -> Result<(), DeviceFault>
-    ensures put { Outputs result (K.taken sink.old) (K.taken sink.new) (K.faults sink.old) (K.faults sink.new) writer.new (writer.old ++ record_text (spec.event_record (Event.Send to inc body.now))) }
+    ensures put { Outputs result (K.taken sink.old) (K.taken sink.new) (K.faults sink.old)
+        (K.faults sink.new) writer.new
+        (writer.old ++ record_text (spec.event_record (Event.Send to inc body.now))) }
     ensures fits { OnOk result (FitsWords (Event.Send to inc body.now)) }
 {
     let place = to.get();
@@ -37,7 +40,9 @@ fn put_recv<K: Sink>(
     writer: &mut RecordWriter,
     message: MsgName,
 ) -> Result<(), DeviceFault>
-    ensures put { Outputs result (K.taken sink.old) (K.taken sink.new) (K.faults sink.old) (K.faults sink.new) writer.new (writer.old ++ record_text (spec.event_record (Event.Recv message))) }
+    ensures put { Outputs result (K.taken sink.old) (K.taken sink.new) (K.faults sink.old)
+        (K.faults sink.new) writer.new
+        (writer.old ++ record_text (spec.event_record (Event.Recv message))) }
     ensures fits { OnOk result (FitsWords (Event.Recv message)) }
 {
     put_numbers(sink, writer, b"recv", &numbers_of(message))
@@ -50,7 +55,9 @@ fn put_check<K: Sink>(
     state: &[u8],
     round: Option<u32>,
 ) -> Result<(), DeviceFault>
-    ensures put { Outputs result (K.taken sink.old) (K.taken sink.new) (K.faults sink.old) (K.faults sink.new) writer.new (writer.old ++ record_text (spec.event_record (Event.Check state.now round))) }
+    ensures put { Outputs result (K.taken sink.old) (K.taken sink.new) (K.faults sink.old)
+        (K.faults sink.new) writer.new
+        (writer.old ++ record_text (spec.event_record (Event.Check state.now round))) }
     ensures fits { OnOk result (FitsWords (Event.Check state.now round)) }
 {
     let last = number_field(round);
@@ -64,7 +71,9 @@ fn put_mark<K: Sink>(
     from: ProcId,
     round: u32,
 ) -> Result<(), DeviceFault>
-    ensures put { Outputs result (K.taken sink.old) (K.taken sink.new) (K.faults sink.old) (K.faults sink.new) writer.new (writer.old ++ record_text (spec.event_record (Event.Mark from round))) }
+    ensures put { Outputs result (K.taken sink.old) (K.taken sink.new) (K.faults sink.old)
+        (K.faults sink.new) writer.new
+        (writer.old ++ record_text (spec.event_record (Event.Mark from round))) }
     ensures fits { OnOk result (FitsWords (Event.Mark from round)) }
 {
     let place = from.get();
@@ -78,7 +87,9 @@ fn put_event<K: Sink>(
     writer: &mut RecordWriter,
     event: &EventRef<'_>,
 ) -> Result<(), DeviceFault>
-    ensures put { Outputs result (K.taken sink.old) (K.taken sink.new) (K.faults sink.old) (K.faults sink.new) writer.new (writer.old ++ record_text (spec.event_record (shown event.now))) }
+    ensures put { Outputs result (K.taken sink.old) (K.taken sink.new) (K.faults sink.old)
+        (K.faults sink.new) writer.new
+        (writer.old ++ record_text (spec.event_record (shown event.now))) }
     ensures fits { OnOk result (FitsWords (shown event.now)) }
 {
     match event {
@@ -95,7 +106,9 @@ fn put_events<K: Sink>(
     writer: &mut RecordWriter,
     events: &Events<'_>,
 ) -> Result<(), DeviceFault>
-    ensures put { Outputs result (K.taken sink.old) (K.taken sink.new) (K.faults sink.old) (K.faults sink.new) writer.new (writer.old ++ records_text (map spec.event_record events.now)) }
+    ensures put { Outputs result (K.taken sink.old) (K.taken sink.new) (K.faults sink.old)
+        (K.faults sink.new) writer.new
+        (writer.old ++ records_text (map spec.event_record events.now)) }
     ensures fits { OnOk result (AllByRecursion FitsWords events.now) }
 {
     for i in 0..events.len() {
@@ -111,7 +124,8 @@ fn put_tape_head<K: Sink>(
     p: ProcId,
     inc: u16,
 ) -> Result<(), DeviceFault>
-    ensures { Outputs result (K.taken sink.old) (K.taken sink.new) (K.faults sink.old) (K.faults sink.new) writer.new (writer.old ++ record_text (spec.tape_record p inc)) }
+    ensures { Outputs result (K.taken sink.old) (K.taken sink.new) (K.faults sink.old)
+        (K.faults sink.new) writer.new (writer.old ++ record_text (spec.tape_record p inc)) }
 {
     let place = p.get();
     put_numbers(sink, writer, b"tape", &[place as u64, inc as u64])
@@ -125,7 +139,11 @@ fn put_tape<K: Sink>(
     inc: u16,
     events: &Events<'_>,
 ) -> Result<(), DeviceFault>
-    ensures put { Outputs result (K.taken sink.old) (K.taken sink.new) (K.faults sink.old) (K.faults sink.new) writer.new (writer.old ++ records_text (spec.tape_records p (record { incarnation = inc; tape = events.now }))) }
+    ensures put { Outputs result (K.taken sink.old) (K.taken sink.new) (K.faults sink.old)
+        (K.faults sink.new) writer.new
+        (writer.old
+        ++ records_text
+        (spec.tape_records p (record { incarnation = inc; tape = events.now }))) }
     ensures fits { OnOk result (FitsProcess (record { incarnation = inc; tape = events.now })) }
 {
     put_tape_head(sink, writer, p, inc)?;
@@ -140,7 +158,9 @@ fn put_tape_of<K: Sink>(
     p: ProcId,
 ) -> Result<(), DeviceFault>
     requires { p < length history.now.processes }
-    ensures put { Outputs result (K.taken sink.old) (K.taken sink.new) (K.faults sink.old) (K.faults sink.new) writer.new (writer.old ++ records_text (spec.tape_records p (process_at history.now.processes p))) }
+    ensures put { Outputs result (K.taken sink.old) (K.taken sink.new) (K.faults sink.old)
+        (K.faults sink.new) writer.new
+        (writer.old ++ records_text (spec.tape_records p (process_at history.now.processes p))) }
     ensures fits { OnOk result (FitsProcess (process_at history.now.processes p)) }
 {
     let inc = history.incarnation(p);
@@ -155,25 +175,29 @@ fn put_history_head<K: Sink>(
     version: u32,
     n: u32,
 ) -> Result<(), DeviceFault>
-    ensures { Outputs result (K.taken sink.old) (K.taken sink.new) (K.faults sink.old) (K.faults sink.new) writer.new (writer.old ++ record_text (spec.history_record version n)) }
+    ensures { Outputs result (K.taken sink.old) (K.taken sink.new) (K.faults sink.old)
+        (K.faults sink.new) writer.new (writer.old ++ record_text (spec.history_record version n)) }
 {
     put_numbers(sink, writer, b"history", &[version as u64, n as u64])
 }
 
-/// Writes the records of a history in a text of that version behind what a writer holds.
+/// Writes the records of a history in a text of that version after what a writer holds.
 ///
-/// It asks for no memory, and fails only where the sink fails; then a front of what was held and of
-/// the records is put. What was written stood in memory, so it is known to be in the ranges of its
-/// fields where its rounds are.
+/// It asks for no memory, and fails only where the sink fails; then a prefix of what was held and
+/// of the records is put. What was written stood in memory, so it is known to be in the ranges of
+/// its fields where its rounds are.
 pub fn put_history<K: Sink>(
     sink: &mut K,
     writer: &mut RecordWriter,
     version: u32,
     history: &History,
 ) -> Result<(), DeviceFault>
-    ensures put { Outputs result (K.taken sink.old) (K.taken sink.new) (K.faults sink.old) (K.faults sink.new) writer.new (writer.old ++ records_text (spec.front_records version history.now.processes)) }
+    ensures put { Outputs result (K.taken sink.old) (K.taken sink.new) (K.faults sink.old)
+        (K.faults sink.new) writer.new
+        (writer.old ++ records_text (spec.front_records version history.now.processes)) }
     ensures fits { OnOk result (FitsMemory history.now.processes) }
-    ensures range { OnOk result (AreRoundsInRange history.now.processes → IsHistoryInRange history.now.processes) }
+    ensures range { OnOk result
+        (AreRoundsInRange history.now.processes → IsHistoryInRange history.now.processes) }
 {
     let n = history.n();
     put_history_head(sink, writer, version, n)?;

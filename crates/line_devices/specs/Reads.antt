@@ -1,11 +1,13 @@
 -- What a bounded read tells of its source: all that it gave, or why it was refused.
 use Rattle.std.specs.Prelude.{◌≡◌, ◌<◌, ◌≤◌, ◌+◌, ℕ, List, [], Option, Some, length}
 use Rattle.line_devices.specs.declared.sources.ReadRefused.{ReadRefused}
-use Rattle.line_devices.specs.declared.sources.ReadRefused.TheVariants.{OutOfMemory, Failed, TooLong}
+use Rattle.line_devices.specs.declared.sources.ReadRefused.TheVariants.{OutOfMemory, Failed}
+use Rattle.line_devices.specs.declared.sources.ReadRefused.TheVariants.{TooLong}
 use Rattle.line_devices.specs.declared.sources.TheConstants.{MOST_INPUT}
 use Rattle.line_devices.specs.Devices.{one_more}
 
--- a source gave this text, no longer than an input may be, and not a byte else; where it tells what is left, the text was all of it, and nothing is left
+-- a source gave this text, no longer than an input may be, and not a byte else; where it tells what
+-- is left, the text was all of it, and nothing is left
 pub record GivesAll (text : List ℕ) (old new : Option (List ℕ)) (given later : ℕ) : Type 0 where
   pub few : length text ≤ MOST_INPUT
   pub counted : later ≡ given + length text

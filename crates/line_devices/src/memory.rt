@@ -1,6 +1,7 @@
 //! A source and a sink over memory, which stand for the devices of a system.
 
-ghost use Rattle.std.specs.Prelude.{◌≡◌, ◌++◌, ◌+◌, ◌<◌, ◌≤◌, ◌↔◌, [], Some, IfOk, IsErr, IsTrue, OnErr, OnOk, length, take, min};
+ghost use Rattle.std.specs.Prelude.{◌≡◌, ◌++◌, ◌+◌, ◌<◌, ◌≤◌, ◌↔◌, [], Some, IfOk, IsErr, IsTrue};
+ghost use Rattle.std.specs.Prelude.{OnErr, OnOk, length, take, min};
 ghost use Rattle.line_devices.specs.Devices.{ends_after, one_more};
 ghost use Rattle.line_devices.specs.Memory.{next_call};
 
@@ -56,7 +57,14 @@ impl Model for MemSource {
 
     ghost Value = { GivesOf };
 
-    ghost view = { λ s. record { left = drop s.at s.bytes.items; given = s.at; step = s.step; fail_at = s.fail_at; faults = s.faults; ends = s.ends } };
+    ghost view = { λ s. record {
+      left = drop s.at s.bytes.items;
+      given = s.at;
+      step = s.step;
+      fail_at = s.fail_at;
+      faults = s.faults;
+      ends = s.ends;
+    } };
 
     ghost invariant = { λ s. (s.at ≤ vec_len s.bytes) × (0 < s.step) };
 }
@@ -67,7 +75,15 @@ impl MemSource {
     /// The call `fail_at`, counted from 1, fails, and no other; `None` and `Some(0)` name no call.
     pub fn new(bytes: Vec<u8>, step: usize, fail_at: Option<u64>) -> Self
         requires { 0 < step }
-        ensures { result ≡ record { left = bytes.items; given = 0; step = step; fail_at = fail_at; faults = 0; ends = 0 } }
+        ensures { result
+            ≡ record {
+              left = bytes.items;
+              given = 0;
+              step = step;
+              fail_at = fail_at;
+              faults = 0;
+              ends = 0;
+            } }
     {
         MemSource {
             bytes,
@@ -98,9 +114,22 @@ impl Source for MemSource {
 
         // It fails at its one call, and loses nothing then.
         ensures fails { IsErr result ↔ (self.old.fail_at ≡ Some 1) }
-        ensures count { IfOk result (λ n. n ≡ min (min (length self.old.left) self.old.step) (length into.old)) }
-        ensures ok { IfOk result (λ n. self.new ≡ record self.old { left = self.new.left; given = self.old.given + n; fail_at = next_call self.old.fail_at; ends = ends_after n self.old.ends }) }
-        ensures err { OnErr result (self.new ≡ record self.old { fail_at = next_call self.old.fail_at; faults = one_more self.old.faults }) }
+        ensures count { IfOk result
+            (λ n. n ≡ min (min (length self.old.left) self.old.step) (length into.old)) }
+        ensures ok { IfOk result
+            (λ n. self.new
+            ≡ record self.old {
+              left = self.new.left;
+              given = self.old.given + n;
+              fail_at = next_call self.old.fail_at;
+              ends = ends_after n self.old.ends;
+            }) }
+        ensures err { OnErr result
+            (self.new
+            ≡ record self.old {
+              fail_at = next_call self.old.fail_at;
+              faults = one_more self.old.faults;
+            }) }
     {
         if is_struck(&mut self.fail_at) {
             return Err(count_fault(&mut self.faults));
@@ -133,7 +162,12 @@ impl Model for MemSink {
 
     ghost Value = { Holds };
 
-    ghost view = { λ s. record { bytes = s.bytes.items; step = s.step; fail_at = s.fail_at; faults = s.faults } };
+    ghost view = { λ s. record {
+      bytes = s.bytes.items;
+      step = s.step;
+      fail_at = s.fail_at;
+      faults = s.faults;
+    } };
 
     ghost invariant = { λ s. 0 < s.step };
 }
@@ -181,11 +215,21 @@ impl Sink for MemSink {
         ensures within { IfOk result (λ n. n ≤ length from.now) }
         ensures some { IfOk result (λ n. 0 < length from.now → 0 < n) }
 
-        // It fails at its one call, or for want of memory, and takes nothing then.
+        // It fails at its one call, or where memory is refused, and takes nothing then.
         ensures fails { self.old.fail_at ≡ Some 1 → IsErr result }
         ensures count { IfOk result (λ n. n ≡ min self.old.step (length from.now)) }
-        ensures ok { IfOk result (λ n. self.new ≡ record self.old { bytes = self.old.bytes ++ take n from.now; fail_at = next_call self.old.fail_at }) }
-        ensures err { OnErr result (self.new ≡ record self.old { fail_at = next_call self.old.fail_at; faults = one_more self.old.faults }) }
+        ensures ok { IfOk result
+            (λ n. self.new
+            ≡ record self.old {
+              bytes = self.old.bytes ++ take n from.now;
+              fail_at = next_call self.old.fail_at;
+            }) }
+        ensures err { OnErr result
+            (self.new
+            ≡ record self.old {
+              fail_at = next_call self.old.fail_at;
+              faults = one_more self.old.faults;
+            }) }
     {
         if is_struck(&mut self.fail_at) {
             return Err(count_fault(&mut self.faults));
@@ -199,8 +243,14 @@ impl Sink for MemSink {
 
     fn finish(&mut self) -> Result<(), DeviceFault>
         ensures fails { IsErr result ↔ (self.old.fail_at ≡ Some 1) }
-        ensures ok { OnOk result (self.new ≡ record self.old { fail_at = next_call self.old.fail_at }) }
-        ensures err { OnErr result (self.new ≡ record self.old { fail_at = next_call self.old.fail_at; faults = one_more self.old.faults }) }
+        ensures ok { OnOk result
+            (self.new ≡ record self.old { fail_at = next_call self.old.fail_at }) }
+        ensures err { OnErr result
+            (self.new
+            ≡ record self.old {
+              fail_at = next_call self.old.fail_at;
+              faults = one_more self.old.faults;
+            }) }
     {
         if is_struck(&mut self.fail_at) {
             return Err(count_fault(&mut self.faults));

@@ -1,6 +1,7 @@
 //! Where bytes go.
 
-ghost use Rattle.std.specs.Prelude.{◌≡◌, ◌<◌, ◌≤◌, [], ℕ, List, Option, IfOk, OnErr, OnOk, length, take};
+ghost use Rattle.std.specs.Prelude.{◌≡◌, ◌<◌, ◌≤◌, [], ℕ, List, Option, IfOk, OnErr, OnOk, length};
+ghost use Rattle.std.specs.Prelude.{take};
 ghost use Rattle.line_devices.specs.Devices.{Puts, PutsFront, one_more};
 
 use crate::DeviceFault;
@@ -16,12 +17,13 @@ pub trait Sink {
     /// Takes bytes from the front of the slice, and says how many: one at least, unless the slice
     /// is empty.
     ///
-    /// After a failure the count of failures has risen by one, and a front of the slice may have
+    /// After a failure the count of failures has risen by one, and a prefix of the slice may have
     /// been taken.
     fn put(&mut self, from: &[u8]) -> Result<usize, DeviceFault>
         ensures within { IfOk result (λ n. n ≤ length from.now) }
         ensures some { IfOk result (λ n. 0 < length from.now → 0 < n) }
-        ensures moves { IfOk result (λ n. Puts (taken self.old) (taken self.new) (take n from.now)) }
+        ensures moves { IfOk result
+            (λ n. Puts (taken self.old) (taken self.new) (take n from.now)) }
         ensures front { OnErr result (PutsFront (taken self.old) (taken self.new) from.now) }
         ensures sound { OnOk result (faults self.new ≡ faults self.old) }
         ensures failed { OnErr result (faults self.new ≡ one_more (faults self.old)) };
@@ -39,8 +41,8 @@ pub trait Sink {
 
 /// Puts all of these bytes, in as many calls as the sink needs.
 ///
-/// It stops at the first failure, and a front of the bytes is then taken. So of several texts that
-/// are put one after the other, until the first failure, a front of them all is taken.
+/// It stops at the first failure, and a prefix of the bytes is then taken. So of several texts that
+/// are put one after the other, until the first failure, a prefix of them all is taken.
 pub fn put_all<K: Sink>(sink: &mut K, bytes: &[u8]) -> Result<(), DeviceFault>
     ensures ok { OnOk result (Puts (K.taken sink.old) (K.taken sink.new) bytes.now) }
     ensures err { OnErr result (PutsFront (K.taken sink.old) (K.taken sink.new) bytes.now) }

@@ -1,6 +1,7 @@
 //! Where bytes come from.
 
-ghost use Rattle.std.specs.Prelude.{◌≡◌, ◌<◌, ◌≤◌, ◌+◌, ℕ, List, Option, IfErr, IfOk, OnErr, OnOk, length, take};
+ghost use Rattle.std.specs.Prelude.{◌≡◌, ◌<◌, ◌≤◌, ◌+◌, ℕ, List, Option, IfErr, IfOk, OnErr, OnOk};
+ghost use Rattle.std.specs.Prelude.{length, take};
 ghost use Rattle.line_devices.specs.Devices.{Fills, FillsFront, IsDone, ends_after, one_more};
 ghost use Rattle.line_devices.specs.Reads.{CountsFault, GivesAll, IsTooLong};
 
@@ -70,8 +71,11 @@ const CHUNK: usize = 4096;
 /// 4,096 bytes more than it takes. It takes time and memory in proportion to the bytes read.
 pub fn read_all<S: Source>(alloc: Global, source: &mut S) -> Result<Vec<u8>, ReadRefused>
     // All that the source gave in this call is answered, and nothing is left.
-    ensures whole { IfOk result (λ v. GivesAll v.items (S.left source.old) (S.left source.new) (S.given source.old) (S.given source.new)) }
-    ensures too_long { result ≡ Err ReadRefused.TooLong → IsTooLong (S.left source.old) (S.given source.old) (S.given source.new) }
+    ensures whole { IfOk result
+        (λ v. GivesAll v.items (S.left source.old) (S.left source.new) (S.given source.old)
+        (S.given source.new)) }
+    ensures too_long { result ≡ Err ReadRefused.TooLong
+        → IsTooLong (S.left source.old) (S.given source.old) (S.given source.new) }
     ensures lost { OnErr result (FillsFront (S.left source.old) (S.left source.new)) }
 
     // Only a failure of the source is counted.

@@ -207,7 +207,8 @@ fn tells_what_is_wrong(rt: HostRuntime) -> Result<(), Fail> {
     )?;
     assert_eq!(rt;
         words.as_str(),
-        "the device failed; no memory for the input; the source failed; the input is longer than 67108864 bytes"
+        "the device failed; no memory for the input; the source failed; \
+         the input is longer than 67108864 bytes"
     );
     Ok(())
 }

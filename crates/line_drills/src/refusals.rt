@@ -9,16 +9,27 @@ use std::fmt;
 /// Why a drill did not end well.
 #[derive(Clone, Copy, Debug, PartialEq, Eq, Hash)]
 pub enum DrillWhy {
+    /// Out of memory.
     OutOfMemory,
+    /// The number is not below the number of processes.
     NoSuchProcess,
+    /// The tape is full.
     TapeFull,
+    /// The state is longer than 4,096 bytes.
     StateTooLong,
+    /// The number of scripts is not from 1 to 64.
     BadCount,
+    /// A process exchanges nothing with itself.
     ToSelf,
+    /// A drill has no rounds, and a marker came.
     WrongMode,
+    /// The gate did not open within the turns.
     HeldOut,
+    /// No free slot and no message came within the turns.
     WaitedOut,
+    /// The capacity is not from 1 to 1,024.
     BadCapacity,
+    /// A thread could not be started.
     NoThread,
 }
 

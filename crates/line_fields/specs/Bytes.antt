@@ -7,9 +7,13 @@ abbrev pub begins_with_feed : List ℕ → Bool
 begins_with_feed [] = false
 begins_with_feed (byte ∷ rest) = byte == 10
 
--- a byte that may stand before these: 32 to 126 but the double quote, a line feed, or a carriage return directly before one
+-- a byte that may stand before these: 32 to 126 but the double quote, a line feed, or a carriage
+-- return directly before one
 abbrev pub is_allowed : ℕ → List ℕ → Bool
-is_allowed byte rest = (nat_le 32 byte && nat_le byte 126 && not (byte == 34)) || (byte == 10) || ((byte == 13) && begins_with_feed rest)
+is_allowed byte rest =
+    (nat_le 32 byte && nat_le byte 126 && not (byte == 34))
+    || (byte == 10)
+    || ((byte == 13) && begins_with_feed rest)
 
 -- a byte that may stand anywhere: 32 to 126 but the double quote, or a line feed
 abbrev pub is_common : ℕ → Bool

@@ -1,5 +1,6 @@
 -- What the fields of a record spell, and the first fault where they spell nothing.
-use Rattle.std.specs.Prelude.{◌≡◌, ℕ, ◌+◌, ◌-◌, ◌*◌, nat_le, ◌==◌, ◌&&◌, Bool, true, false, not, List, [], ◌∷◌, length, Result, Ok, Err, if◌then◌else◌}
+use Rattle.std.specs.Prelude.{◌≡◌, ℕ, ◌+◌, ◌-◌, ◌*◌, nat_le, ◌==◌, ◌&&◌, Bool, true, false, not}
+use Rattle.std.specs.Prelude.{List, [], ◌∷◌, length, Result, Ok, Err, if◌then◌else◌}
 use Rattle.std.specs.Str.{all_ascii_digits}
 use Rattle.std.specs.Str.Parse.{digits_value}
 use Rattle.line_fields.specs.declared.faults.Fault.{Fault}
@@ -21,7 +22,11 @@ want false fault = Err fault
 -- a number in a range: one digit or more, leading zeros among them
 unfoldable pub num : ℕ → ℕ → List ℕ → Result ℕ Fault
 num least most text =
-    if not (length text == 0) && all_ascii_digits text && nat_le least (digits_value 10 text) && nat_le (digits_value 10 text) most then Ok (digits_value 10 text)
+    if not (length text == 0)
+    && all_ascii_digits text
+    && nat_le least (digits_value 10 text)
+    && nat_le (digits_value 10 text) most
+    then Ok (digits_value 10 text)
     else Err BadNumber
 
 -- one hexadecimal digit, of either case

@@ -1,5 +1,6 @@
 -- The records of a text, each the list of its fields.
-use Rattle.std.specs.Prelude.{ℕ, List, [], ◌∷◌, Bool, true, false, ◌==◌, if◌then◌else◌, map, filter, slice_index_or}
+use Rattle.std.specs.Prelude.{ℕ, List, [], ◌∷◌, Bool, true, false, ◌==◌, if◌then◌else◌, map, filter}
+use Rattle.std.specs.Prelude.{slice_index_or}
 
 -- the fields of a record, each the list of its bytes
 abbrev pub Record : Type 0
@@ -13,7 +14,10 @@ without mark (byte ∷ rest) = if byte == mark then without mark rest else byte 
 -- the part of a list up to the first mark, and the parts between the marks after it
 unfoldable pub cut : ℕ → List ℕ → List ℕ × List (List ℕ)
 cut mark [] = ([], [])
-cut mark (byte ∷ rest) = if byte == mark then ([], (cut mark rest).0 ∷ (cut mark rest).1) else (byte ∷ (cut mark rest).0, (cut mark rest).1)
+cut mark (byte ∷ rest) =
+    if byte == mark
+    then ([], (cut mark rest).0 ∷ (cut mark rest).1)
+    else (byte ∷ (cut mark rest).0, (cut mark rest).1)
 
 -- all parts of a list between marks
 abbrev pub parts : ℕ → List ℕ → List (List ℕ)

@@ -1,9 +1,12 @@
 -- What a row holds, where the lines of a text end, and what is left of a text, also to `csv`.
-use Rattle.std.specs.Prelude.{◌≡◌, ◌≤◌, ◌<◌, ◌==◌, ◌||◌, ◌+◌, ◌-◌, ◌++◌, Bool, false, true, not, slice_index_or, ℕ, zero, suc, List, [], ◌∷◌, drop, length, map, take, Option, Some, None, if◌then◌else◌, IsSome, ⊤}
+use Rattle.std.specs.Prelude.{◌≡◌, ◌≤◌, ◌<◌, ◌==◌, ◌||◌, ◌+◌, ◌-◌, ◌++◌, Bool, false, true, not}
+use Rattle.std.specs.Prelude.{slice_index_or, ℕ, zero, suc, List, [], ◌∷◌, drop, length, map, take}
+use Rattle.std.specs.Prelude.{Option, Some, None, if◌then◌else◌, IsSome, ⊤}
 use Rattle.std.specs.Borrow.{Bor}
 use Rattle.std.specs.List.{list_all}
 use Rattle.csv.specs.Machine.{step, is_end as ends_row, fields_after, field_after, ends_at_end}
-use Rattle.csv.specs.Reading.{default_config, source_of, Ready, reader_trim, reader_config, reader_state, is_flexible}
+use Rattle.csv.specs.Reading.{default_config, source_of, Ready, reader_trim, reader_config}
+use Rattle.csv.specs.Reading.{reader_state, is_flexible}
 use Rattle.csv.specs.declared.reader.Reader.{Reader}
 use Rattle.csv.specs.declared.reader.Trim.TheVariants as trim
 use Rattle.csv.specs.declared.parser.State.{State}
@@ -15,7 +18,8 @@ pub record Span : Type 0 where
   pub start : ℕ
   pub end : ℕ
 
--- the fields of a line by where they end, each but the first behind a comma, from where the first begins
+-- the fields of a line by where they end, each but the first after a comma, from where the first
+-- begins
 unfoldable pub spans_from : ℕ → List ℕ → List Span
 spans_from start [] = []
 spans_from start (end ∷ ends) = record { start = start; end = end } ∷ spans_from (end + 1) ends
@@ -74,8 +78,12 @@ pub record IsLineEnd (text : List ℕ) (end : ℕ) : Type 0 where
 unfoldable pub rows_from : State → List (List ℕ) → List ℕ → List ℕ → List (List (List ℕ))
 rows_from s fields field [] = if ends_at_end s then (fields ++ (field ∷ [])) ∷ [] else []
 rows_from s fields field (c ∷ rest) =
-    if ends_row (step default_config s c).1 then fields_after (step default_config s c).1 fields field ∷ rows_from (step default_config s c).0 [] [] rest
-    else rows_from (step default_config s c).0 (fields_after (step default_config s c).1 fields field) (field_after (step default_config s c).1 c field) rest
+    if ends_row (step default_config s c).1
+    then fields_after (step default_config s c).1 fields field
+    ∷ rows_from (step default_config s c).0 [] [] rest
+    else rows_from (step default_config s c).0
+    (fields_after (step default_config s c).1 fields field)
+    (field_after (step default_config s c).1 c field) rest
 
 -- the same of a text that may not be known
 abbrev pub rows_at : State → Option (List ℕ) → List (List (List ℕ))

@@ -2,7 +2,8 @@
 
 ghost use Rattle.std.specs.Prelude.{◌≡◌};
 ghost use Rattle.std.specs.List.{list_all};
-ghost use Rattle.line_fields.specs.Bytes.{begins_with_feed, is_allowed, is_common, is_input_text, is_line_byte, is_line_text};
+ghost use Rattle.line_fields.specs.Bytes.{begins_with_feed, is_allowed, is_common, is_input_text};
+ghost use Rattle.line_fields.specs.Bytes.{is_line_byte, is_line_text};
 
 // Whether a byte may stand in an input text, before these.
 fn is_allowed(byte: u8, others: &[u8]) -> bool

@@ -1,6 +1,7 @@
 //! Hexadecimal digits, sixteen at a time.
 
-ghost use Rattle.std.specs.Prelude.{◌≡◌, ◌≤◌, ◌+◌, ◌*◌, ◌/◌, ◌++◌, Ok, length, map, take, vec_capacity, vec_len};
+ghost use Rattle.std.specs.Prelude.{◌≡◌, ◌≤◌, ◌+◌, ◌*◌, ◌/◌, ◌++◌, Ok, length, map, take};
+ghost use Rattle.std.specs.Prelude.{vec_capacity, vec_len};
 ghost use Rattle.std.specs.Option.{IfSome};
 ghost use Rattle.std.specs.Simd.Lanes.{chunk};
 ghost use Rattle.line_fields.specs.Digits.{value_or_none, with_front};
@@ -48,13 +49,13 @@ fn first_eight(text: &[u8]) -> Option<[u8; 8]>
     Some((high * u8x8::splat(16) + low).to_array())
 }
 
-// Puts the bytes that a text spells behind those of a list, eight at a time, up to the first
-// sixteen bytes that are not all digits, and answers what is left of the text. There is room for
-// them.
+// Puts the bytes that a text spells after those of a list, eight at a time, up to the first sixteen
+// bytes that are not all digits, and answers what is left of the text. There is room for them.
 #[inline(always)]
 pub(crate) fn eights_into<'a>(bytes: &mut Vec<u8>, text: &'a [u8]) -> &'a [u8]
     requires { vec_len bytes.old + length text.now / 2 ≤ vec_capacity bytes.old }
-    ensures same { with_front bytes.old.items (hex text.entry.now) ≡ with_front bytes.new.items (hex result.now) }
+    ensures same { with_front bytes.old.items (hex text.entry.now)
+        ≡ with_front bytes.new.items (hex result.now) }
     ensures room { vec_len bytes.new + length result.now / 2 ≤ vec_capacity bytes.new }
     ensures longer { vec_len bytes.old ≤ vec_len bytes.new }
     ensures kept { take (vec_len bytes.old) bytes.new.items ≡ bytes.old.items }
@@ -117,7 +118,8 @@ fn push_sixteen(out: &mut Vec<u8>, digits: &[u8; 16])
 #[inline(always)]
 pub(crate) fn push_eights<'a>(out: &mut Vec<u8>, bytes: &'a [u8]) -> &'a [u8]
     requires { vec_len out.old + 2 * length bytes.now ≤ vec_capacity out.old }
-    ensures same { out.new.items ++ hex_text result.now ≡ out.old.items ++ hex_text bytes.entry.now }
+    ensures same { out.new.items ++ hex_text result.now
+        ≡ out.old.items ++ hex_text bytes.entry.now }
     ensures room { vec_len out.new + 2 * length result.now ≤ vec_capacity out.new }
 {
     let mut rest = bytes;

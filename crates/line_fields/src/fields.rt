@@ -93,13 +93,14 @@ fn digit(byte: u8) -> Result<u8, Fault>
 }
 
 /// Puts the bytes that the hexadecimal digits of a field spell, two digits of either case for each
-/// byte, behind those that a list has.
+/// byte, after those that a list has.
 ///
 /// Refused as `BadNumber`: a field with an odd number of bytes, or with one that is no digit. An
 /// empty field spells no bytes. The list grows at most once, where it has no room for as many bytes
-/// more as the field spells. After a refusal it may have some of them behind what it had.
+/// more as the field spells. After a refusal it may have some of them after what it had.
 pub fn hex_behind(bytes: &mut Vec<u8>, text: &[u8]) -> Result<(), ReadError>
-    ensures exact { Gives (λ _. bytes.new.items) result (with_front bytes.old.items (spec.hex text.now)) }
+    ensures exact { Gives (λ _. bytes.new.items) result
+        (with_front bytes.old.items (spec.hex text.now)) }
     ensures kept { take (vec_len bytes.old) bytes.new.items ≡ bytes.old.items }
 {
     bytes.reserve(text.len() / 2)?;

@@ -1,6 +1,7 @@
-//! The bytes of a field, written behind a text that has room for them.
+//! The bytes of a field, written after a text that has room for them.
 
-ghost use Rattle.std.specs.Prelude.{◌≡◌, ◌≤◌, ◌<◌, ◌↔◌, ◌++◌, ◌+◌, ◌*◌, IsTrue, length, vec_capacity, vec_len, decimal};
+ghost use Rattle.std.specs.Prelude.{◌≡◌, ◌≤◌, ◌<◌, ◌↔◌, ◌++◌, ◌+◌, ◌*◌, IsTrue, length};
+ghost use Rattle.std.specs.Prelude.{vec_capacity, vec_len, decimal};
 ghost use Rattle.line_fields.specs.Texts.{hex_digit, hex_pair, hex_text};
 ghost use Rattle.line_fields.specs.Writers.{two_digits};
 

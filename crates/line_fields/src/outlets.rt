@@ -36,8 +36,8 @@ pub enum Field<'a> {
     Bytes(&'a [u8]),
 }
 
-// Writes bytes behind a text that has no room for them: it is put, and what is longer than its
-// whole room is put too.
+// Writes bytes after a text that has no room for them: it is put, and what is longer than its whole
+// room is put too.
 #[cold]
 #[inline(never)]
 fn add_far<K: Sink>(sink: &mut K, text: &mut Vec<u8>, bytes: &[u8]) -> Result<(), DeviceFault>
@@ -54,7 +54,7 @@ fn add_far<K: Sink>(sink: &mut K, text: &mut Vec<u8>, bytes: &[u8]) -> Result<()
     put_all(sink, bytes)
 }
 
-// Writes bytes behind a text.
+// Writes bytes after a text.
 #[inline(always)]
 fn add<K: Sink>(sink: &mut K, text: &mut Vec<u8>, bytes: &[u8]) -> Result<(), DeviceFault>
     ensures { Outputs result (K.taken sink.old) (K.taken sink.new)
@@ -68,7 +68,7 @@ fn add<K: Sink>(sink: &mut K, text: &mut Vec<u8>, bytes: &[u8]) -> Result<(), De
     Ok(())
 }
 
-// Writes a comma behind a text.
+// Writes a comma after a text.
 #[inline(always)]
 fn add_comma<K: Sink>(sink: &mut K, text: &mut Vec<u8>) -> Result<(), DeviceFault>
     ensures { Outputs result (K.taken sink.old) (K.taken sink.new)
@@ -78,7 +78,7 @@ fn add_comma<K: Sink>(sink: &mut K, text: &mut Vec<u8>) -> Result<(), DeviceFaul
     add(sink, text, b",")
 }
 
-// Writes a comma and a word behind a text.
+// Writes a comma and a word after a text.
 #[inline(always)]
 fn add_word<K: Sink>(sink: &mut K, text: &mut Vec<u8>, word: &[u8]) -> Result<(), DeviceFault>
     ensures { Outputs result (K.taken sink.old) (K.taken sink.new)
@@ -89,7 +89,7 @@ fn add_word<K: Sink>(sink: &mut K, text: &mut Vec<u8>, word: &[u8]) -> Result<()
     add(sink, text, word)
 }
 
-// Writes a comma and a number behind a text, also where it is long or there is no room.
+// Writes a comma and a number after a text, also where it is long or there is no room.
 #[cold]
 #[inline(never)]
 fn add_number_far<K: Sink>(sink: &mut K, text: &mut Vec<u8>, value: u64) -> Result<(), DeviceFault>
@@ -101,7 +101,7 @@ fn add_number_far<K: Sink>(sink: &mut K, text: &mut Vec<u8>, value: u64) -> Resu
     add_word(sink, text, buffer.format(value).as_bytes())
 }
 
-// Writes a comma and a number behind a text.
+// Writes a comma and a number after a text.
 #[inline(always)]
 fn add_number<K: Sink>(sink: &mut K, text: &mut Vec<u8>, value: u64) -> Result<(), DeviceFault>
     ensures { Outputs result (K.taken sink.old) (K.taken sink.new)
@@ -116,7 +116,7 @@ fn add_number<K: Sink>(sink: &mut K, text: &mut Vec<u8>, value: u64) -> Result<(
     Ok(())
 }
 
-// Writes the digits of bytes behind a text that has no room for them all, byte by byte.
+// Writes the digits of bytes after a text that has no room for them all, byte by byte.
 #[cold]
 #[inline(never)]
 fn add_digits_far<K: Sink>(
@@ -134,7 +134,7 @@ fn add_digits_far<K: Sink>(
     Ok(())
 }
 
-// Writes a comma and the digits of bytes behind a text.
+// Writes a comma and the digits of bytes after a text.
 fn add_bytes<K: Sink>(sink: &mut K, text: &mut Vec<u8>, bytes: &[u8]) -> Result<(), DeviceFault>
     ensures { Outputs result (K.taken sink.old) (K.taken sink.new)
         (K.faults sink.old) (K.faults sink.new)
@@ -149,7 +149,7 @@ fn add_bytes<K: Sink>(sink: &mut K, text: &mut Vec<u8>, bytes: &[u8]) -> Result<
     Ok(())
 }
 
-// Writes a comma before each of some numbers and the number, behind a text.
+// Writes a comma before each of some numbers and the number, after a text.
 #[inline(always)]
 fn add_numbers<K: Sink>(
     sink: &mut K,
@@ -166,7 +166,7 @@ fn add_numbers<K: Sink>(
     Ok(())
 }
 
-// Writes a number that is not short, behind a text that has room for it.
+// Writes a number that is not short, after a text that has room for it.
 #[cold]
 #[inline(never)]
 fn push_long(text: &mut Vec<u8>, value: u64)
@@ -179,7 +179,7 @@ fn push_long(text: &mut Vec<u8>, value: u64)
     push_text(text, buffer.format(value).as_bytes());
 }
 
-// Writes a number behind a text that has room for it.
+// Writes a number after a text that has room for it.
 #[inline(always)]
 fn push_any(text: &mut Vec<u8>, value: u64)
     requires { vec_len text.old + 40 ≤ vec_capacity text.old }
@@ -194,7 +194,7 @@ fn push_any(text: &mut Vec<u8>, value: u64)
     }
 }
 
-// Writes a comma and a number behind a text that has room for them.
+// Writes a comma and a number after a text that has room for them.
 #[inline(always)]
 fn push_field(text: &mut Vec<u8>, value: u64)
     requires { vec_len text.old + 41 ≤ vec_capacity text.old }
@@ -206,7 +206,7 @@ fn push_field(text: &mut Vec<u8>, value: u64)
     push_any(text, value);
 }
 
-// Writes a comma before each of some numbers and the number, behind a text that has room for all.
+// Writes a comma before each of some numbers and the number, after a text that has room for all.
 #[inline(always)]
 fn push_numbers(text: &mut Vec<u8>, numbers: &[u64])
     requires { vec_len text.old + 41 * length numbers.now ≤ vec_capacity text.old }
@@ -217,7 +217,7 @@ fn push_numbers(text: &mut Vec<u8>, numbers: &[u64])
     }
 }
 
-// Writes a name and some numbers behind a text that has room for all.
+// Writes a name and some numbers after a text that has room for all.
 #[inline(always)]
 fn push_begin(text: &mut Vec<u8>, name: &[u8], numbers: &[u64])
     requires { vec_len text.old + (length name.now + 41 * length numbers.now)
@@ -258,11 +258,11 @@ fn has_room_for_all(text: &Vec<u8>, name: &[u8], numbers: &[u64]) -> bool
         && has_room(text, name.len() + NUMBER_ROOM * numbers.len())
 }
 
-/// Begins a record with its name and some numbers behind what a writer holds.
+/// Begins a record with its name and some numbers after what a writer holds.
 ///
 /// Where the writer has no room for a field it puts what it holds, and a field that is longer than
 /// its whole room goes to the sink at once. So it asks for no memory, and fails only where the sink
-/// fails; then a front of what it held and of what was written is put.
+/// fails; then a prefix of what it held and of what was written is put.
 #[inline(always)]
 pub fn begin_record<K: Sink>(
     sink: &mut K,
@@ -281,7 +281,7 @@ pub fn begin_record<K: Sink>(
     Ok(())
 }
 
-/// Writes a comma and a field behind what a writer holds, as `begin_record` writes its numbers.
+/// Writes a comma and a field after what a writer holds, as `begin_record` writes its numbers.
 #[inline(always)]
 pub fn add_field<K: Sink>(
     sink: &mut K,
@@ -299,7 +299,7 @@ pub fn add_field<K: Sink>(
     }
 }
 
-/// Ends a record behind what a writer holds.
+/// Ends a record after what a writer holds.
 #[inline(always)]
 pub fn end_record<K: Sink>(sink: &mut K, writer: &mut RecordWriter) -> Result<(), DeviceFault>
     ensures { Outputs result (K.taken sink.old) (K.taken sink.new)
@@ -309,7 +309,7 @@ pub fn end_record<K: Sink>(sink: &mut K, writer: &mut RecordWriter) -> Result<()
     add(sink, &mut writer.text, b"\n")
 }
 
-/// Writes a record of a name and some numbers behind what a writer holds, as `begin_record` does.
+/// Writes a record of a name and some numbers after what a writer holds, as `begin_record` does.
 ///
 /// It is put into its caller, where the name is known and how many numbers there are, so that it is
 /// compiled to few stores.
@@ -328,7 +328,7 @@ pub fn put_numbers<K: Sink>(
     end_record(sink, writer)
 }
 
-/// Writes a record of a name, some numbers and a last field behind what a writer holds, as
+/// Writes a record of a name, some numbers and a last field after what a writer holds, as
 /// `begin_record` does. It is put into its caller, as `put_numbers` is.
 #[inline(always)]
 pub fn put_ending<K: Sink>(
@@ -348,7 +348,7 @@ pub fn put_ending<K: Sink>(
     end_record(sink, writer)
 }
 
-// Writes a comma before each of some fields and the field, behind what a writer holds.
+// Writes a comma before each of some fields and the field, after what a writer holds.
 fn add_fields<K: Sink>(
     sink: &mut K,
     writer: &mut RecordWriter,
@@ -364,7 +364,7 @@ fn add_fields<K: Sink>(
     Ok(())
 }
 
-/// Writes a record of a name and some fields behind what a writer holds, as `begin_record` does.
+/// Writes a record of a name and some fields after what a writer holds, as `begin_record` does.
 pub fn put_fields<K: Sink>(
     sink: &mut K,
     writer: &mut RecordWriter,

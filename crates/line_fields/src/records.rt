@@ -1,10 +1,14 @@
 //! The records of an input text, one at a time. From the first carriage return on `csv` reads it.
 
-ghost use Rattle.std.specs.Prelude.{◌≡◌, ◌==◌, ◌+◌, ◌≤◌, ◌<◌, ◌∷◌, [], true, false, All, IfOk, IsTrue, MatchBool, OnErr, if◌then◌else◌, length, slice_index_or, take};
+ghost use Rattle.std.specs.Prelude.{◌≡◌, ◌==◌, ◌+◌, ◌≤◌, ◌<◌, ◌∷◌, [], true, false, All, IfOk};
+ghost use Rattle.std.specs.Prelude.{IsTrue, MatchBool, OnErr, if◌then◌else◌, length};
+ghost use Rattle.std.specs.Prelude.{slice_index_or, take};
 ghost use Rattle.csv.specs.Records.{fields_of};
 ghost use Rattle.line_fields.specs.Bytes.{begins_with_feed, is_input_text, is_line_text};
 ghost use Rattle.line_fields.specs.Records.{field, is_line, parts, records_of_text};
-ghost use Rattle.line_fields.specs.Rows.{IsLineEnd, IsReading, IsReadingOn, IsWithin, begin_at, begins_with_end, begins_with_return, fields_in, rows_left, rows_left_in, spans_from};
+ghost use Rattle.line_fields.specs.Rows.{IsLineEnd, IsReading, IsReadingOn, IsWithin, begin_at};
+ghost use Rattle.line_fields.specs.Rows.{begins_with_end, begins_with_return, fields_in, rows_left};
+ghost use Rattle.line_fields.specs.Rows.{rows_left_in, spans_from};
 
 use crate::bytes::is_plain_line;
 use crate::splits::split;
@@ -35,7 +39,7 @@ impl Model for Row {
     ghost invariant = { λ s. All (IsWithin s.bytes.items) (spans_from 0 s.ends.items) };
 }
 
-// Where the field at a place of a line begins: behind the end of the one before it.
+// Where the field at a place of a line begins: after the end of the one before it.
 #[inline(always)]
 fn begin_of(ends: &[usize], place: usize) -> usize
     requires some { place < length ends.now }
@@ -153,11 +157,11 @@ impl Row {
     }
 
     /// Puts the fields of the first line of a text in place of those of the row, or none where a
-    /// growth is refused, and says where that line ends: before a line feed or a carriage return, or
-    /// with the text.
+    /// growth is refused, and says where that line ends: before a line feed or a carriage return,
+    /// or with the text.
     ///
-    /// It looks at the bytes sixteen at a time, as far as the text goes, so a line is best read with
-    /// what stands behind it.
+    /// It looks at the bytes sixteen at a time, as far as the text goes, so a line is best read
+    /// with what stands after it.
     #[tactic(auto, unfolding(crate::specs::Rows::spans_from))]
     pub fn take_line(&mut self, text: &[u8]) -> Result<usize, AllocError>
         ensures line { IfOk result (λ end. IsLineEnd text.now end) }
@@ -193,11 +197,14 @@ impl Row {
         Ok(true)
     }
 
-    // Puts the next record of a reader of `csv` in place of the fields of the row, or none after the
-    // last one and where it is refused.
+    // Puts the next record of a reader of `csv` in place of the fields of the row, or none after
+    // the last one and where it is refused.
     fn read_record(&mut self, reader: &mut Reader<&[u8]>) -> Result<bool, AllocError>
         requires { IsReading reader.old }
-        ensures ok { IfOk result (λ found. MatchBool found (IsReading reader.new × (rows_left reader.old ≡ self.new ∷ rows_left reader.new)) ((rows_left reader.old ≡ []) × (self.new ≡ []))) }
+        ensures ok { IfOk result
+            (λ found. MatchBool found
+            (IsReading reader.new × (rows_left reader.old ≡ self.new ∷ rows_left reader.new))
+            ((rows_left reader.old ≡ []) × (self.new ≡ []))) }
         ensures err { OnErr result (self.new ≡ []) }
     {
         self.clear();
@@ -249,7 +256,8 @@ fn read_first<'a>(text: &'a [u8], row: &mut Row) -> Result<&'a [u8], AllocError>
     requires some { is_line text.now ≡ true }
     requires begins { begins_with_end text.now ≡ false }
     ensures input { IfOk result (λ rest. is_input_text rest.now ≡ true) }
-    ensures ok { IfOk result (λ rest. records_of_text text.now ≡ row.new ∷ records_of_text rest.now) }
+    ensures ok { IfOk result
+        (λ rest. records_of_text text.now ≡ row.new ∷ records_of_text rest.now) }
     ensures err { OnErr result (row.new ≡ []) }
 {
     let end = row.take_line(text)?;
@@ -271,7 +279,11 @@ fn reader_over(alloc: Global, text: &[u8]) -> Reader<&[u8]>
 // The next record of a reader of `csv`.
 fn read(reader: &mut Reader<&[u8]>, row: &mut ByteRecord) -> Result<bool, Error>
     requires { IsReading reader.old }
-    ensures { IfOk result (λ found. MatchBool found (IsReading reader.new × (rows_left reader.old ≡ fields_of row.new ∷ rows_left reader.new)) (rows_left reader.old ≡ [])) }
+    ensures { IfOk result
+        (λ found. MatchBool found
+        (IsReading reader.new
+        × (rows_left reader.old ≡ fields_of row.new ∷ rows_left reader.new))
+        (rows_left reader.old ≡ [])) }
 {
     reader.read_byte_record(row)
 }
@@ -298,7 +310,9 @@ fn read_or_close(reader: &mut Option<Reader<&[u8]>>, row: &mut Row) -> Result<bo
     requires reading { IsReadingOn reader.old }
     requires empty { row.old ≡ [] }
     ensures reading { IsReadingOn reader.new }
-    ensures ok { IfOk result (λ found. MatchBool found (rows_left_in reader.old ≡ row.new ∷ rows_left_in reader.new) ((rows_left_in reader.old ≡ []) × (rows_left_in reader.new ≡ []) × (row.new ≡ []))) }
+    ensures ok { IfOk result
+        (λ found. MatchBool found (rows_left_in reader.old ≡ row.new ∷ rows_left_in reader.new)
+        ((rows_left_in reader.old ≡ []) × (rows_left_in reader.new ≡ []) × (row.new ≡ []))) }
     ensures err { OnErr result ((rows_left_in reader.new ≡ []) × (row.new ≡ [])) }
 {
     let Some(left) = reader else {
@@ -339,7 +353,9 @@ impl<'a> RecordReader<'a> {
     /// fields. An error of `csv` is answered as out of memory. It takes time in proportion to the
     /// bytes read.
     pub fn next_row(&mut self, row: &mut Row) -> Result<bool, AllocError>
-        ensures ok { IfOk result (λ found. MatchBool found (self.old ≡ row.new ∷ self.new) ((self.old ≡ []) × (self.new ≡ []) × (row.new ≡ []))) }
+        ensures ok { IfOk result
+            (λ found. MatchBool found (self.old ≡ row.new ∷ self.new)
+            ((self.old ≡ []) × (self.new ≡ []) × (row.new ≡ []))) }
         ensures err { OnErr result ((self.new ≡ []) × (row.new ≡ [])) }
     {
         row.clear();

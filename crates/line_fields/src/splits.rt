@@ -32,8 +32,10 @@ fn marks_of_sixteen(text: &[u8], at: usize) -> u64
 // The bytes are looked at sixteen at a time, and near the end of the text one by one.
 pub(crate) fn split(text: &[u8], ends: &mut Vec<usize>) -> Result<usize, AllocError>
     ensures line { IfOk result (λ end. IsLineEnd text.now end) }
-    ensures within { IfOk result (λ end. All (IsWithin (take end text.now)) (spans_from 0 ends.new.items)) }
-    ensures fields { IfOk result (λ end. fields_in (take end text.now) ends.new.items ≡ parts 44 (take end text.now)) }
+    ensures within { IfOk result
+        (λ end. All (IsWithin (take end text.now)) (spans_from 0 ends.new.items)) }
+    ensures fields { IfOk result
+        (λ end. fields_in (take end text.now) ends.new.items ≡ parts 44 (take end text.now)) }
 {
     ends.clear();
     let mut at = 0;

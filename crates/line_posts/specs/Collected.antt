@@ -88,7 +88,7 @@ pub record HasCollectedMore (old new : CollectorView) : Type 0 where
       × IsPrefix (row_at old.seen p) (more ++ row_at new.seen p)
 
 -- the cause for which an event is not added to the tape of process p, where those before it do not
--- hold; want of memory comes last
+-- hold; out of memory comes last
 abbrev pub IsNotAdded : List Process → ℕ → Event → AddError → Type 0
 IsNotAdded history p event NoSuchProcess = NamesBelow (length history) event → ⊥
 IsNotAdded history p event StateTooLong = NamesBelow (length history) event × HasLongState event

@@ -88,7 +88,8 @@ pub(crate) fn open_all(
 ) -> Result<Opened, AllocError>
     requires fit { IsFitFifo history.now.processes }
     requires plain { ArePlain history.now.processes }
-    ensures { IfOk result (λ opened. AreOpened history.now.processes floor capacity opened.posts.items
+    ensures { IfOk result
+        (λ opened. AreOpened history.now.processes floor capacity opened.posts.items
         (in_ends opened.lines.items)) }
 {
     let count = history.n() as usize;

@@ -1,5 +1,6 @@
 //! A worker's own side of its links: its tape, and the ends of the rings to each other worker.
-ghost use Rattle.std.specs.Prelude.{◌≡◌, ◌≢◌, ◌<◌, ◌≤◌, ◌↔◌, IfOk, IfErr, IsErrOf, OnOk, OnErr, length};
+ghost use Rattle.std.specs.Prelude.{◌≡◌, ◌≢◌, ◌<◌, ◌≤◌, ◌↔◌, IfOk, IfErr, IsErrOf, OnOk, OnErr};
+ghost use Rattle.std.specs.Prelude.{length};
 ghost use Rattle.std.specs.Prelude.{map};
 ghost use Rattle.std.specs.VecDeque.{deque_items};
 ghost use Rattle.line_tape.specs.Event.{checks};
@@ -7,7 +8,8 @@ ghost use Rattle.line_tape.specs.Fit.{IsFitFifo};
 ghost use Rattle.line_tape.specs.History.{IsTape};
 ghost use Rattle.line_rings.specs.Ends.{free_at, out_ends, in_ends, known_rows, producer_end};
 ghost use Rattle.line_journals.specs.Journals.{IsSameJournal};
-ghost use Rattle.line_posts.specs.Posts.{checked_alone, next_name, post_of, sent_by, IsPost, PostView};
+ghost use Rattle.line_posts.specs.Posts.{checked_alone, next_name, post_of, sent_by, IsPost};
+ghost use Rattle.line_posts.specs.Posts.{PostView};
 ghost use Rattle.line_posts.specs.Refusals.{IsNotSent, MaySend};
 ghost use Rattle.line_posts.specs.Generations.{IsSamePost};
 ghost use Rattle.line_posts.specs.Openings.{IsOpening};

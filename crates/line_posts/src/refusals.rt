@@ -9,8 +9,11 @@ use std::fmt;
 /// Why there is no fleet.
 #[derive(Clone, Copy, Debug, PartialEq, Eq, Hash)]
 pub enum FleetError {
+    /// Out of memory.
     OutOfMemory,
+    /// The number of workers is not from 1 to 64.
     BadCount,
+    /// The capacity is not from 1 to 1,024.
     BadCapacity,
 }
 
@@ -55,10 +58,15 @@ impl From<AllocError> for FleetError {
 /// Why a message was not sent.
 #[derive(Clone, Copy, Debug, PartialEq, Eq, Hash)]
 pub enum SendWhy {
+    /// Out of memory.
     OutOfMemory,
+    /// The number is not below the number of processes.
     NoSuchProcess,
+    /// A process sends nothing to itself.
     ToSelf,
+    /// The tape is full.
     TapeFull,
+    /// The ring shows no free slot.
     RingFull,
 }
 
@@ -105,12 +113,19 @@ pub struct SendRefused {
 /// Why nothing was received.
 #[derive(Clone, Copy, Debug, PartialEq, Eq, Hash)]
 pub enum ReceiveWhy {
+    /// Out of memory.
     OutOfMemory,
+    /// The number is not below the number of processes.
     NoSuchProcess,
+    /// A process receives nothing from itself.
     ToSelf,
+    /// The state is longer than 4,096 bytes.
     StateTooLong,
+    /// The ring shows nothing.
     NothingThere,
+    /// The tape is full.
     TapeFull,
+    /// A ring shows no free slot for a marker.
     RingFull,
 }
 
@@ -156,12 +171,19 @@ impl Error for ReceiveWhy {}
 /// Why no round was begun.
 #[derive(Clone, Copy, Debug, PartialEq, Eq, Hash)]
 pub enum BeginWhy {
+    /// Out of memory.
     OutOfMemory,
+    /// Only process 0 begins rounds.
     NotLead,
+    /// The state is longer than 4,096 bytes.
     StateTooLong,
+    /// The last round is still open.
     RoundOpen,
+    /// There is no further round number.
     NoMoreRounds,
+    /// The tape is full.
     TapeFull,
+    /// A ring shows no free slot for a marker.
     RingFull,
 }
 
@@ -207,6 +229,7 @@ impl Error for BeginWhy {}
 /// Why nothing was reported.
 #[derive(Clone, Copy, Debug, PartialEq, Eq, Hash)]
 pub enum ReportError {
+    /// Out of memory.
     OutOfMemory,
 }
 
@@ -240,8 +263,11 @@ impl From<AllocError> for ReportError {
 /// Why nothing was gathered.
 #[derive(Clone, Copy, Debug, PartialEq, Eq, Hash)]
 pub enum GatherWhy {
+    /// Out of memory.
     OutOfMemory,
+    /// A failed process is not below the number of processes.
     NoSuchProcess,
+    /// The posts are not one for each process, in order.
     Unfinished,
 }
 
@@ -275,7 +301,9 @@ impl Error for GatherWhy {}
 /// Why what was gathered did not go on.
 #[derive(Clone, Copy, Debug, PartialEq, Eq, Hash)]
 pub enum RestartWhy {
+    /// Out of memory.
     OutOfMemory,
+    /// A process that goes back has incarnation 65,535.
     NoMoreIncarnations,
 }
 

@@ -1,5 +1,6 @@
 //! What links hold where a generation begins.
-ghost use Rattle.std.specs.Prelude.{◌≡◌, ◌≢◌, ◌<◌, ◌≤◌, ◌+◌, ◌-◌, ◌++◌, ◌∷◌, [], ℕ, All, List, None};
+ghost use Rattle.std.specs.Prelude.{◌≡◌, ◌≢◌, ◌<◌, ◌≤◌, ◌+◌, ◌-◌, ◌++◌, ◌∷◌, [], ℕ, All, List};
+ghost use Rattle.std.specs.Prelude.{None};
 ghost use Rattle.std.specs.Prelude.{IfOk, IsTrue, OnOk, false, length, replicate, slice_index_or};
 ghost use Rattle.std.specs.Prelude.{slice_set};
 ghost use Rattle.line_tape.specs.Event.{sends, IsShort, NamesBelow};
@@ -10,7 +11,8 @@ ghost use Rattle.line_tape.specs.declared.events.Event.{Event};
 ghost use Rattle.line_rings.specs.Ends.{row_at};
 ghost use Rattle.line_posts.specs.Gathering.{rows_of};
 ghost use Rattle.line_posts.specs.Openings.{ArePlain};
-ghost use Rattle.line_posts.specs.Replays.{cell_at, counts_of, letters_of, with_cell, AreAllReplays};
+ghost use Rattle.line_posts.specs.Replays.{cell_at, counts_of, letters_of, with_cell};
+ghost use Rattle.line_posts.specs.Replays.{AreAllReplays};
 ghost use Rattle.line_posts.specs.Replays.{AreOfSender, AreSorted, AreSquare, AreTaken};
 ghost use Rattle.line_posts.specs.Replays.{AreTakenBelow, IsNoted};
 

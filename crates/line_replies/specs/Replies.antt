@@ -1,5 +1,6 @@
 -- The records that are written for what the machine answers.
-use Rattle.std.specs.Prelude.{ℕ, Bool, if◌then◌else◌, List, [], ◌∷◌, ◌++◌, length, map, Option, Some, None, codes, decimal, slice_index_or}
+use Rattle.std.specs.Prelude.{ℕ, Bool, if◌then◌else◌, List, [], ◌∷◌, ◌++◌, length, map, Option}
+use Rattle.std.specs.Prelude.{Some, None, codes, decimal, slice_index_or}
 use Rattle.std.specs.List.{range_with_len}
 use Rattle.line_names.specs.declared.certificates.Passed.{Passed}
 use Rattle.line_names.specs.declared.choices.Choice.{Choice}
@@ -8,7 +9,9 @@ use Rattle.line_names.specs.Lines.{choice_at}
 use Rattle.line_fields.specs.Records.{Record}
 use Rattle.line_fields.specs.Texts.{hex_text}
 use Rattle.line_world.specs.declared.replies.Reply.{Reply}
-use Rattle.line_world.specs.declared.replies.Reply.TheVariants.{Sent, Took, Marked, Stale, Repeated, Checked, Begun, Turned, Damaged, Barred, Recovered}
+use Rattle.line_world.specs.declared.replies.Reply.TheVariants.{Sent, Took, Marked, Stale, Repeated}
+use Rattle.line_world.specs.declared.replies.Reply.TheVariants.{Checked, Begun, Turned, Damaged}
+use Rattle.line_world.specs.declared.replies.Reply.TheVariants.{Barred, Recovered}
 use Rattle.line_world.specs.declared.replies.Answer.{Answer}
 use Rattle.line_world.specs.declared.replies.Answer.TheVariants as answers
 use Rattle.line_world.specs.Codes.{refusal_code}
@@ -34,7 +37,8 @@ took m forced = codes "took" ∷ name_fields m ++ number_text forced ∷ []
 
 -- marked,ROUND,forced or marked,ROUND,closed
 abbrev pub marked : ℕ → Bool → Record
-marked round forced = codes "marked" ∷ decimal round ∷ (if forced then codes "forced" else codes "closed") ∷ []
+marked round forced =
+    codes "marked" ∷ decimal round ∷ (if forced then codes "forced" else codes "closed") ∷ []
 
 -- begun,P,C,ROUND
 abbrev pub begun : ℕ → ℕ → ℕ → Record
@@ -58,7 +62,8 @@ barred p check = codes "barred" ∷ decimal p ∷ decimal check ∷ []
 
 -- recovered,SWEEPS,ENTRIES,REPLAYS
 abbrev pub recovered : ℕ → ℕ → ℕ → Record
-recovered sweeps entries replays = codes "recovered" ∷ decimal sweeps ∷ decimal entries ∷ decimal replays ∷ []
+recovered sweeps entries replays =
+    codes "recovered" ∷ decimal sweeps ∷ decimal entries ∷ decimal replays ∷ []
 
 -- the state that a process goes on from, where it is a stored one
 abbrev pub state_text : Option (List ℕ) → List ℕ
@@ -67,15 +72,18 @@ state_text (Some bytes) = hex_text bytes
 
 -- line,P,CHOICE,INC,HEX
 abbrev pub line : ℕ → Choice → ℕ → Option (List ℕ) → Record
-line p choice inc state = codes "line" ∷ decimal p ∷ choice_text choice ∷ decimal inc ∷ state_text state ∷ []
+line p choice inc state =
+    codes "line" ∷ decimal p ∷ choice_text choice ∷ decimal inc ∷ state_text state ∷ []
 
 -- the line record of process p
 abbrev pub line_of : List Choice → List ℕ → List (Option (List ℕ)) → ℕ → Record
-line_of choices incarnations states p = line p (choice_at choices p) (slice_index_or incarnations p 0) (slice_index_or states p None)
+line_of choices incarnations states p =
+    line p (choice_at choices p) (slice_index_or incarnations p 0) (slice_index_or states p None)
 
 -- the line records of the processes in their order
 abbrev pub lines : List Choice → List ℕ → List (Option (List ℕ)) → List Record
-lines choices incarnations states = map (line_of choices incarnations states) (range_with_len 0 (length choices))
+lines choices incarnations states =
+    map (line_of choices incarnations states) (range_with_len 0 (length choices))
 
 -- the records of a certificate, in its order
 abbrev pub passes : List Passed → List Record
@@ -90,9 +98,11 @@ abbrev pub replays_of : List MsgName → List Record
 replays_of replays = map replay replays
 
 -- the records of a recovery
-abbrev pub recovery : ℕ → List Passed → List MsgName → List Choice → List ℕ → List (Option (List ℕ)) → List Record
+abbrev pub recovery : ℕ → List Passed → List MsgName → List Choice → List ℕ → List (Option (List ℕ))
+    → List Record
 recovery sweeps entries replays choices incarnations states =
-    recovered sweeps (length entries) (length replays) ∷ (lines choices incarnations states ++ (passes entries ++ replays_of replays))
+    recovered sweeps (length entries) (length replays)
+    ∷ (lines choices incarnations states ++ (passes entries ++ replays_of replays))
 
 -- refused,CODE,NAME
 abbrev pub refused : ℕ → Record
@@ -110,7 +120,9 @@ reply_records (Begun at check round) = begun at check round ∷ []
 reply_records (Turned at check round) = turned at check round ∷ []
 reply_records (Damaged at check) = damaged at check ∷ []
 reply_records (Barred at check) = barred at check ∷ []
-reply_records (Recovered plan states incarnations) = recovery plan.value.sweeps plan.value.certificate.items plan.value.replays.items plan.value.line incarnations.items states.items
+reply_records (Recovered plan states incarnations) =
+    recovery plan.value.sweeps plan.value.certificate.items plan.value.replays.items plan.value.line
+    incarnations.items states.items
 
 -- the records of an answer
 abbrev pub answer_records : Answer → List Record

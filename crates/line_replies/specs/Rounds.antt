@@ -11,15 +11,19 @@ rounds_record count = codes "rounds" ∷ decimal count ∷ []
 
 -- round,R,C0,C1,..: its check of each of n processes
 abbrev pub round_record : ℕ → Listed → Record
-round_record n round = codes "round" ∷ decimal round.number ∷ map (λ p. decimal (check_in round p)) (range_with_len 0 n)
+round_record n round =
+    codes "round" ∷ decimal round.number
+    ∷ map (λ p. decimal (check_in round p)) (range_with_len 0 n)
 
 -- channel,R,FROM,TO,INC,NUMBER
 abbrev pub channel_record : ℕ → ℕ → ℕ → MsgName → Record
-channel_record r from to m = codes "channel" ∷ decimal r ∷ decimal from ∷ decimal to ∷ decimal m.inc ∷ decimal m.number ∷ []
+channel_record r from to m =
+    codes "channel" ∷ decimal r ∷ decimal from ∷ decimal to ∷ decimal m.inc ∷ decimal m.number ∷ []
 
 -- the channel from process p to q; there is none from a process to itself
 abbrev pub channel_records : Listed → ℕ → ℕ → List Record
-channel_records round p q = if p == q then [] else map (channel_record round.number p q) (channel_in round p q)
+channel_records round p q =
+    if p == q then [] else map (channel_record round.number p q) (channel_in round p q)
 
 -- the channels from process p to each of n
 abbrev pub channels_from : ℕ → Listed → ℕ → List Record

@@ -22,7 +22,8 @@ fn put_sent<K: Sink>(
     writer: &mut RecordWriter,
     message: MsgName,
 ) -> Result<(), DeviceFault>
-    ensures { Outputs result (K.taken sink.old) (K.taken sink.new) (K.faults sink.old) (K.faults sink.new) writer.new (writer.old ++ record_text (spec.sent message)) }
+    ensures { Outputs result (K.taken sink.old) (K.taken sink.new) (K.faults sink.old)
+        (K.faults sink.new) writer.new (writer.old ++ record_text (spec.sent message)) }
 {
     put_numbers(sink, writer, b"sent", &numbers_of(message))
 }
@@ -33,7 +34,8 @@ fn put_stale<K: Sink>(
     writer: &mut RecordWriter,
     message: MsgName,
 ) -> Result<(), DeviceFault>
-    ensures { Outputs result (K.taken sink.old) (K.taken sink.new) (K.faults sink.old) (K.faults sink.new) writer.new (writer.old ++ record_text (spec.stale message)) }
+    ensures { Outputs result (K.taken sink.old) (K.taken sink.new) (K.faults sink.old)
+        (K.faults sink.new) writer.new (writer.old ++ record_text (spec.stale message)) }
 {
     put_numbers(sink, writer, b"stale", &numbers_of(message))
 }
@@ -44,7 +46,8 @@ fn put_repeated<K: Sink>(
     writer: &mut RecordWriter,
     message: MsgName,
 ) -> Result<(), DeviceFault>
-    ensures { Outputs result (K.taken sink.old) (K.taken sink.new) (K.faults sink.old) (K.faults sink.new) writer.new (writer.old ++ record_text (spec.repeated message)) }
+    ensures { Outputs result (K.taken sink.old) (K.taken sink.new) (K.faults sink.old)
+        (K.faults sink.new) writer.new (writer.old ++ record_text (spec.repeated message)) }
 {
     put_numbers(sink, writer, b"repeated", &numbers_of(message))
 }
@@ -56,7 +59,8 @@ fn put_took<K: Sink>(
     message: MsgName,
     forced: Option<u32>,
 ) -> Result<(), DeviceFault>
-    ensures { Outputs result (K.taken sink.old) (K.taken sink.new) (K.faults sink.old) (K.faults sink.new) writer.new (writer.old ++ record_text (spec.took message forced)) }
+    ensures { Outputs result (K.taken sink.old) (K.taken sink.new) (K.faults sink.old)
+        (K.faults sink.new) writer.new (writer.old ++ record_text (spec.took message forced)) }
 {
     let last = number_field(forced);
     put_ending(sink, writer, b"took", &numbers_of(message), last)
@@ -69,7 +73,8 @@ fn put_checked<K: Sink>(
     at: ProcId,
     check: u32,
 ) -> Result<(), DeviceFault>
-    ensures { Outputs result (K.taken sink.old) (K.taken sink.new) (K.faults sink.old) (K.faults sink.new) writer.new (writer.old ++ record_text (spec.checked at check)) }
+    ensures { Outputs result (K.taken sink.old) (K.taken sink.new) (K.faults sink.old)
+        (K.faults sink.new) writer.new (writer.old ++ record_text (spec.checked at check)) }
 {
     let place = at.get();
     put_numbers(sink, writer, b"checked", &[place as u64, check as u64])
@@ -82,7 +87,8 @@ fn put_marked<K: Sink>(
     round: u32,
     forced: bool,
 ) -> Result<(), DeviceFault>
-    ensures { Outputs result (K.taken sink.old) (K.taken sink.new) (K.faults sink.old) (K.faults sink.new) writer.new (writer.old ++ record_text (spec.marked round forced)) }
+    ensures { Outputs result (K.taken sink.old) (K.taken sink.new) (K.faults sink.old)
+        (K.faults sink.new) writer.new (writer.old ++ record_text (spec.marked round forced)) }
 {
     if forced {
         put_ending(
@@ -111,7 +117,8 @@ fn put_begun<K: Sink>(
     check: u32,
     round: u32,
 ) -> Result<(), DeviceFault>
-    ensures { Outputs result (K.taken sink.old) (K.taken sink.new) (K.faults sink.old) (K.faults sink.new) writer.new (writer.old ++ record_text (spec.begun at check round)) }
+    ensures { Outputs result (K.taken sink.old) (K.taken sink.new) (K.faults sink.old)
+        (K.faults sink.new) writer.new (writer.old ++ record_text (spec.begun at check round)) }
 {
     let place = at.get();
     put_numbers(
@@ -130,7 +137,8 @@ fn put_turned<K: Sink>(
     check: u32,
     round: u32,
 ) -> Result<(), DeviceFault>
-    ensures { Outputs result (K.taken sink.old) (K.taken sink.new) (K.faults sink.old) (K.faults sink.new) writer.new (writer.old ++ record_text (spec.turned at check round)) }
+    ensures { Outputs result (K.taken sink.old) (K.taken sink.new) (K.faults sink.old)
+        (K.faults sink.new) writer.new (writer.old ++ record_text (spec.turned at check round)) }
 {
     let place = at.get();
     put_numbers(
@@ -148,7 +156,8 @@ fn put_damaged<K: Sink>(
     at: ProcId,
     check: u32,
 ) -> Result<(), DeviceFault>
-    ensures { Outputs result (K.taken sink.old) (K.taken sink.new) (K.faults sink.old) (K.faults sink.new) writer.new (writer.old ++ record_text (spec.damaged at check)) }
+    ensures { Outputs result (K.taken sink.old) (K.taken sink.new) (K.faults sink.old)
+        (K.faults sink.new) writer.new (writer.old ++ record_text (spec.damaged at check)) }
 {
     let place = at.get();
     put_numbers(sink, writer, b"damaged", &[place as u64, check as u64])
@@ -161,22 +170,24 @@ fn put_barred<K: Sink>(
     at: ProcId,
     check: u32,
 ) -> Result<(), DeviceFault>
-    ensures { Outputs result (K.taken sink.old) (K.taken sink.new) (K.faults sink.old) (K.faults sink.new) writer.new (writer.old ++ record_text (spec.barred at check)) }
+    ensures { Outputs result (K.taken sink.old) (K.taken sink.new) (K.faults sink.old)
+        (K.faults sink.new) writer.new (writer.old ++ record_text (spec.barred at check)) }
 {
     let place = at.get();
     put_numbers(sink, writer, b"barred", &[place as u64, check as u64])
 }
 
-/// Writes the records of a reply behind what a writer holds.
+/// Writes the records of a reply after what a writer holds.
 ///
-/// It asks for no memory, and fails only where the sink fails; then a front of what was held and of
-/// the reply is put.
+/// It asks for no memory, and fails only where the sink fails; then a prefix of what was held and
+/// of the reply is put.
 pub fn put_reply<K: Sink>(
     sink: &mut K,
     writer: &mut RecordWriter,
     reply: &Reply,
 ) -> Result<(), DeviceFault>
-    ensures { Outputs result (K.taken sink.old) (K.taken sink.new) (K.faults sink.old) (K.faults sink.new) writer.new (writer.old ++ records_text (spec.reply_records reply.now)) }
+    ensures { Outputs result (K.taken sink.old) (K.taken sink.new) (K.faults sink.old)
+        (K.faults sink.new) writer.new (writer.old ++ records_text (spec.reply_records reply.now)) }
 {
     match reply {
         Reply::Sent { message } => put_sent(sink, writer, *message),
@@ -197,14 +208,15 @@ pub fn put_reply<K: Sink>(
     }
 }
 
-/// Writes `refused,CODE,NAME` behind what a writer holds. It asks for no memory, and fails only where
-/// the sink fails.
+/// Writes `refused,CODE,NAME` after what a writer holds. It asks for no memory, and fails only
+/// where the sink fails.
 pub fn put_refusal<K: Sink>(
     sink: &mut K,
     writer: &mut RecordWriter,
     code: u32,
 ) -> Result<(), DeviceFault>
-    ensures { Outputs result (K.taken sink.old) (K.taken sink.new) (K.faults sink.old) (K.faults sink.new) writer.new (writer.old ++ record_text (spec.refused code)) }
+    ensures { Outputs result (K.taken sink.old) (K.taken sink.new) (K.faults sink.old)
+        (K.faults sink.new) writer.new (writer.old ++ record_text (spec.refused code)) }
 {
     let name = name_of(code).as_bytes();
     put_ending(sink, writer, b"refused", &[code as u64], Field::Word(name))

@@ -22,7 +22,9 @@ fn add_checks<K: Sink>(
 ) -> Result<(), DeviceFault>
     requires few { n ≤ MOST_PROCESSES }
     requires checks { length round.now.checks ≡ n }
-    ensures { Outputs result (K.taken sink.old) (K.taken sink.new) (K.faults sink.old) (K.faults sink.new) writer.new (writer.old ++ flat_map (λ p. 44 ∷ decimal (check_in round.now p)) (range_with_len 0 n)) }
+    ensures { Outputs result (K.taken sink.old) (K.taken sink.new) (K.faults sink.old)
+        (K.faults sink.new) writer.new
+        (writer.old ++ flat_map (λ p. 44 ∷ decimal (check_in round.now p)) (range_with_len 0 n)) }
 {
     for value in 0..n {
         let Ok(p) = ProcId::try_new(value, n) else {
@@ -34,7 +36,7 @@ fn add_checks<K: Sink>(
     Ok(())
 }
 
-/// Writes `round,R,C0,C1,..` behind what a writer holds: a round among `n` processes, with its check
+/// Writes `round,R,C0,C1,..` after what a writer holds: a round among `n` processes, with its check
 /// of each. The messages on its channels follow.
 ///
 /// It asks for no memory, and fails only where the sink fails.
@@ -46,7 +48,8 @@ pub fn put_round<K: Sink>(
 ) -> Result<(), DeviceFault>
     requires few { n ≤ MOST_PROCESSES }
     requires checks { length round.now.checks ≡ n }
-    ensures { Outputs result (K.taken sink.old) (K.taken sink.new) (K.faults sink.old) (K.faults sink.new) writer.new (writer.old ++ record_text (spec.round_record n round.now)) }
+    ensures { Outputs result (K.taken sink.old) (K.taken sink.new) (K.faults sink.old)
+        (K.faults sink.new) writer.new (writer.old ++ record_text (spec.round_record n round.now)) }
 {
     let number = round.number();
     begin_record(sink, writer, b"round", &[number as u64])?;
@@ -54,7 +57,7 @@ pub fn put_round<K: Sink>(
     end_record(sink, writer)
 }
 
-/// Writes `channel,R,FROM,TO,INC,NUMBER` behind what a writer holds: a message that was on a channel
+/// Writes `channel,R,FROM,TO,INC,NUMBER` after what a writer holds: a message that was on a channel
 /// as that round was completed.
 ///
 /// It asks for no memory, and fails only where the sink fails.
@@ -66,7 +69,9 @@ pub fn put_message<K: Sink>(
     to: ProcId,
     message: MsgName,
 ) -> Result<(), DeviceFault>
-    ensures { Outputs result (K.taken sink.old) (K.taken sink.new) (K.faults sink.old) (K.faults sink.new) writer.new (writer.old ++ record_text (spec.channel_record round from to message)) }
+    ensures { Outputs result (K.taken sink.old) (K.taken sink.new) (K.faults sink.old)
+        (K.faults sink.new) writer.new
+        (writer.old ++ record_text (spec.channel_record round from to message)) }
 {
     let sender = from.get();
     let receiver = to.get();
@@ -80,7 +85,7 @@ pub fn put_message<K: Sink>(
     put_numbers(sink, writer, b"channel", &numbers)
 }
 
-/// Writes `rounds,COUNT` behind what a writer holds: how many rounds follow.
+/// Writes `rounds,COUNT` after what a writer holds: how many rounds follow.
 ///
 /// It asks for no memory, and fails only where the sink fails.
 pub fn put_rounds_head<K: Sink>(
@@ -88,7 +93,8 @@ pub fn put_rounds_head<K: Sink>(
     writer: &mut RecordWriter,
     count: usize,
 ) -> Result<(), DeviceFault>
-    ensures { Outputs result (K.taken sink.old) (K.taken sink.new) (K.faults sink.old) (K.faults sink.new) writer.new (writer.old ++ record_text (spec.rounds_record count)) }
+    ensures { Outputs result (K.taken sink.old) (K.taken sink.new) (K.faults sink.old)
+        (K.faults sink.new) writer.new (writer.old ++ record_text (spec.rounds_record count)) }
 {
     put_numbers(sink, writer, b"rounds", &[count as u64])
 }

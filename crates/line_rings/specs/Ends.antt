@@ -1,5 +1,6 @@
 -- The ends of rings: which ring an end is of, and what has passed it.
-use Rattle.std.specs.Prelude.{◌≡◌, ◌<◌, ◌≤◌, ℕ, zero, suc, List, [], ◌∷◌, ◌++◌, Option, Some, None, All, slice_get, slice_index_or, map, option_map, length}
+use Rattle.std.specs.Prelude.{◌≡◌, ◌<◌, ◌≤◌, ℕ, zero, suc, List, [], ◌∷◌, ◌++◌, Option, Some, None}
+use Rattle.std.specs.Prelude.{All, slice_get, slice_index_or, map, option_map, length}
 use denote.RawPtr.{Ptr}
 use mathlib.Core.List.{IsPrefix}
 use Rattle.std.specs.declared.alloc.Global.{Global}
@@ -135,7 +136,7 @@ module _ {T : Type 0} where
   abbrev pub AreFresh : List (End T) → Type 0
   AreFresh ends = (q : ℕ) → items_at ends q ≡ []
 
--- each row with its item behind it
+-- each row with its item after it
 abbrev pub dealt : {X : Type 0} → List (List X) → List X → List (List X)
 dealt rows [] = rows
 dealt [] (x ∷ xs) = []

@@ -1,7 +1,9 @@
 //! One step on one end of a list of ends.
-ghost use Rattle.std.specs.Prelude.{◌≡◌, ◌≢◌, ◌++◌, ◌∷◌, [], ◌+◌, ◌<◌, ◌≤◌, ℕ, List, OnOk, IfErr, IsOk, IsTrue, Some, false, length};
+ghost use Rattle.std.specs.Prelude.{◌≡◌, ◌≢◌, ◌++◌, ◌∷◌, [], ◌+◌, ◌<◌, ◌≤◌, ℕ, List, OnOk, IfErr};
+ghost use Rattle.std.specs.Prelude.{IsOk, IsTrue, Some, false, length};
 ghost use mathlib.Core.List.{IsPrefix};
-ghost use Rattle.line_rings.specs.Ends.{out_ends, in_ends, producer_end, free_at, known_at, with_item, items_at, ring_at};
+ghost use Rattle.line_rings.specs.Ends.{out_ends, in_ends, producer_end, free_at, known_at};
+ghost use Rattle.line_rings.specs.Ends.{with_item, items_at, ring_at};
 
 use rtrb::{Consumer, Producer};
 

@@ -1,6 +1,7 @@
 //! A ring from each sender to each receiver.
 ghost use Rattle.std.specs.Prelude.{◌≡◌, [], All, IfOk, length, replicate};
-ghost use Rattle.line_rings.specs.Ends.{out_ends, out_rows, in_rows, dealt, AreFresh, AreLinked, HasAllFree, HaveAllFree, HaveSlots};
+ghost use Rattle.line_rings.specs.Ends.{out_ends, out_rows, in_rows, dealt, AreFresh, AreLinked};
+ghost use Rattle.line_rings.specs.Ends.{HasAllFree, HaveAllFree, HaveSlots};
 
 use rtrb::{Consumer, Producer, RingBuffer};
 use std::alloc::{AllocError, Global};

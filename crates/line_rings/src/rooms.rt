@@ -1,6 +1,7 @@
 //! Free slots that are known, so that pushes cannot fail: only the sending end fills slots.
 ghost use Rattle.std.specs.Prelude.{◌≡◌, ◌≢◌, ◌<◌, ◌+◌, ℕ, IsTrue, false, length};
-ghost use Rattle.line_rings.specs.Ends.{out_ends, free_at, with_item, HasFilled, HasFullEnd, HasRoomBelow, IsFilled};
+ghost use Rattle.line_rings.specs.Ends.{out_ends, free_at, with_item, HasFilled, HasFullEnd};
+ghost use Rattle.line_rings.specs.Ends.{HasRoomBelow, IsFilled};
 
 use rtrb::Producer;
 

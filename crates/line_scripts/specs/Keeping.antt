@@ -1,10 +1,13 @@
--- How commands are kept, each without its bytes, and the bytes of all in one list. No contract that a caller reads needs this: there they are a list of commands.
+-- How commands are kept, each without its bytes, and the bytes of all in one list. No contract that
+-- a caller reads needs this: there they are a list of commands.
 use Rattle.std.specs.Prelude.{◌≡◌, ◌≤◌, ℕ, List, [], ◌∷◌, length, take, drop, Option, Some, None}
 use Rattle.line_names.specs.declared.limits.TheConstants.{MOST_BODY}
 use Rattle.line_fields.specs.declared.faults.Fault.TheVariants as faults
-use Rattle.line_world.specs.declared.steps.Step.TheVariants.{Send, Deliver, Check, Begin, Turn, Damage, Bar, Recover}
+use Rattle.line_world.specs.declared.steps.Step.TheVariants.{Send, Deliver, Check, Begin, Turn}
+use Rattle.line_world.specs.declared.steps.Step.TheVariants.{Damage, Bar, Recover}
 use Rattle.line_scripts.specs.declared.commands.Command.{Command}
-use Rattle.line_scripts.specs.declared.commands.Command.TheVariants.{Bundle, Do, History, Refused, Rounds}
+use Rattle.line_scripts.specs.declared.commands.Command.TheVariants.{Bundle, Do, History, Refused}
+use Rattle.line_scripts.specs.declared.commands.Command.TheVariants.{Rounds}
 use Rattle.line_scripts.specs.declared.keeping.Bare.{Bare}
 use Rattle.line_scripts.specs.declared.keeping.Bare.TheVariants as bares
 use Rattle.line_scripts.specs.declared.keeping.Kept.{Kept}
@@ -30,7 +33,7 @@ with_bytes bares.History bytes = History
 with_bytes (bares.Bundle failed) bytes = Bundle failed.value
 with_bytes (bares.Refused code) bytes = Refused code
 
--- what a list has behind what it had
+-- what a list has after what it had
 abbrev pub behind : List ℕ → List ℕ → List ℕ
 behind old new = drop (length old) new
 
@@ -42,9 +45,11 @@ MayHave other long = Unit {0}
 -- the commands that these and all their bytes make
 abbrev pub unpacked : List Kept → List ℕ → List Command
 unpacked [] bytes = []
-unpacked (k ∷ others) bytes = with_bytes k.bare (take k.long bytes) ∷ unpacked others (drop k.long bytes)
+unpacked (k ∷ others) bytes =
+    with_bytes k.bare (take k.long bytes) ∷ unpacked others (drop k.long bytes)
 
--- the bytes of each stand behind those of the ones before it, and there are no others
+-- the bytes of each stand after those of the ones before it, and there are no others
 abbrev pub ArePacked : List Kept → List ℕ → Type 0
 ArePacked [] bytes = bytes ≡ []
-ArePacked (k ∷ others) bytes = MayHave k.bare k.long × (k.long ≤ length bytes) × ArePacked others (drop k.long bytes)
+ArePacked (k ∷ others) bytes =
+    MayHave k.bare k.long × (k.long ≤ length bytes) × ArePacked others (drop k.long bytes)

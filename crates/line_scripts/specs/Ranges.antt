@@ -3,10 +3,12 @@ use Rattle.std.specs.Prelude.{◌≡◌, ℕ, ◌≤◌, ◌<◌, ◌^◌, Bool,
 use Rattle.std.specs.List.{AllByRecursion}
 use Rattle.line_names.specs.declared.limits.TheConstants.{MOST_BODY, MOST_PROCESSES}
 use Rattle.line_names.specs.Sets.{is_member}
-use Rattle.line_world.specs.declared.steps.Step.TheVariants.{Send, Deliver, Check, Begin, Turn, Damage, Bar, Recover}
+use Rattle.line_world.specs.declared.steps.Step.TheVariants.{Send, Deliver, Check, Begin, Turn}
+use Rattle.line_world.specs.declared.steps.Step.TheVariants.{Damage, Bar, Recover}
 use Rattle.line_claims.specs.Ranges.{AreBytes}
 use Rattle.line_scripts.specs.declared.commands.Command.{Command}
-use Rattle.line_scripts.specs.declared.commands.Command.TheVariants.{Bundle, Do, History, Refused, Rounds}
+use Rattle.line_scripts.specs.declared.commands.Command.TheVariants.{Bundle, Do, History, Refused}
+use Rattle.line_scripts.specs.declared.commands.Command.TheVariants.{Rounds}
 use Rattle.line_scripts.specs.Scripts.{Script}
 
 -- a set of processes, of the first n
@@ -25,7 +27,8 @@ IsWithCheck n at check = (at < n) × (check < 2 ^ 32)
 -- a command among n processes, which is not refused before its step
 abbrev pub IsCommandInRange : ℕ → Command → Type 0
 IsCommandInRange n (Do (Send from to body)) = (from < n) × (to < n) × AreBytes MOST_BODY body
-IsCommandInRange n (Do (Deliver from to picked state)) = (from < n) × (picked < 2 ^ 64) × IsWithState n to state
+IsCommandInRange n (Do (Deliver from to picked state)) =
+    (from < n) × (picked < 2 ^ 64) × IsWithState n to state
 IsCommandInRange n (Do (Check at state)) = IsWithState n at state
 IsCommandInRange n (Do (Begin at state)) = IsWithState n at state
 IsCommandInRange n (Do (Turn at state)) = IsWithState n at state

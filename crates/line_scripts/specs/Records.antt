@@ -4,13 +4,15 @@ use Rattle.line_fields.specs.Records.{Record}
 use Rattle.line_fields.specs.Texts.{hex_text}
 use Rattle.line_moves.specs.declared.modes.Mode.{Mode}
 use Rattle.line_moves.specs.declared.modes.Mode.TheVariants.{Fifo, Unordered}
-use Rattle.line_world.specs.declared.steps.Step.TheVariants.{Send, Deliver, Check, Begin, Turn, Damage, Bar, Recover}
+use Rattle.line_world.specs.declared.steps.Step.TheVariants.{Send, Deliver, Check, Begin, Turn}
+use Rattle.line_world.specs.declared.steps.Step.TheVariants.{Damage, Bar, Recover}
 use Rattle.line_claims.specs.Numbers.{plain}
 use Rattle.line_claims.specs.Records.{members}
 use Rattle.line_claims.specs.Texts.{records_in}
 use Rattle.line_claims.specs.Versions.{earliest_version}
 use Rattle.line_scripts.specs.declared.commands.Command.{Command}
-use Rattle.line_scripts.specs.declared.commands.Command.TheVariants.{Bundle, Do, History, Refused, Rounds}
+use Rattle.line_scripts.specs.declared.commands.Command.TheVariants.{Bundle, Do, History, Refused}
+use Rattle.line_scripts.specs.declared.commands.Command.TheVariants.{Rounds}
 use Rattle.line_scripts.specs.Scripts.{Script}
 
 -- how links deliver
@@ -24,8 +26,10 @@ world_record version n mode = codes "world" ∷ decimal version ∷ decimal n �
 
 -- a command among n processes; of one that is refused there is no record
 abbrev pub command_record : ℕ → Command → Record
-command_record n (Do (Send from to body)) = codes "send" ∷ decimal from ∷ decimal to ∷ hex_text body ∷ []
-command_record n (Do (Deliver from to picked state)) = codes "deliver" ∷ decimal from ∷ decimal to ∷ decimal picked ∷ hex_text state ∷ []
+command_record n (Do (Send from to body)) =
+    codes "send" ∷ decimal from ∷ decimal to ∷ hex_text body ∷ []
+command_record n (Do (Deliver from to picked state)) =
+    codes "deliver" ∷ decimal from ∷ decimal to ∷ decimal picked ∷ hex_text state ∷ []
 command_record n (Do (Check at state)) = codes "check" ∷ decimal at ∷ hex_text state ∷ []
 command_record n (Do (Begin at state)) = codes "begin" ∷ decimal at ∷ hex_text state ∷ []
 command_record n (Do (Turn at state)) = codes "turn" ∷ decimal at ∷ hex_text state ∷ []
@@ -39,13 +43,16 @@ command_record n (Refused code) = []
 
 -- a script, in the earliest version that has room for its processes
 abbrev pub script_records : Script → List Record
-script_records script = world_record (earliest_version script.n) script.n (mode_text script.mode) ∷ map (command_record script.n) script.commands
+script_records script =
+    world_record (earliest_version script.n) script.n (mode_text script.mode)
+    ∷ map (command_record script.n) script.commands
 
 -- records of which the first is `world`, a version and these further fields
 abbrev pub with_version : List ℕ → Record → List Record → List Record
 with_version version others rest = (codes "world" ∷ version ∷ others) ∷ rest
 
--- a text of version 1, and one of version 2 that has the same records but for that, however the two spell the version and end their lines
+-- a text of version 1, and one of version 2 that has the same records but for that, however the two
+-- spell the version and end their lines
 pub record DifferInVersion (text later : List ℕ) : Type 0 where
   pub one : List ℕ
   pub two : List ℕ

@@ -1,5 +1,6 @@
 -- Which script a list of records spells, and the first fault where it spells none.
-use Rattle.std.specs.Prelude.{ℕ, ◌+◌, nat_le, nat_lt, ◌==◌, ◌&&◌, Bool, List, [], ◌∷◌, drop, fold, length, Result, Ok, Err, if◌then◌else◌, codes}
+use Rattle.std.specs.Prelude.{ℕ, ◌+◌, nat_le, nat_lt, ◌==◌, ◌&&◌, Bool, List, [], ◌∷◌, drop, fold}
+use Rattle.std.specs.Prelude.{length, Result, Ok, Err, if◌then◌else◌, codes}
 use Rattle.std.specs.Str.{bytes_eq}
 use Rattle.std.specs.List.{list_all}
 use Rattle.line_names.specs.declared.limits.TheConstants.{MOST_BODY}
@@ -13,9 +14,11 @@ use Rattle.line_fields.specs.Shapes.{alone, two, three, four}
 use Rattle.line_moves.specs.declared.modes.Mode.{Mode}
 use Rattle.line_moves.specs.declared.modes.Mode.TheVariants.{Fifo, Unordered}
 use Rattle.line_world.specs.declared.steps.Step.{Step}
-use Rattle.line_world.specs.declared.steps.Step.TheVariants.{Send, Deliver, Check, Begin, Turn, Damage, Bar, Recover}
+use Rattle.line_world.specs.declared.steps.Step.TheVariants.{Send, Deliver, Check, Begin, Turn}
+use Rattle.line_world.specs.declared.steps.Step.TheVariants.{Damage, Bar, Recover}
 use Rattle.line_scripts.specs.declared.commands.Command.{Command}
-use Rattle.line_scripts.specs.declared.commands.Command.TheVariants.{Bundle, Do, History, Refused, Rounds}
+use Rattle.line_scripts.specs.declared.commands.Command.TheVariants.{Bundle, Do, History, Refused}
+use Rattle.line_scripts.specs.declared.commands.Command.TheVariants.{Rounds}
 use Rattle.line_claims.specs.declared.faults.TextFault.{TextFault}
 use Rattle.line_claims.specs.declared.versions.TheConstants.{LAST_VERSION}
 use Rattle.line_claims.specs.Numbers.{numbers, plain}
@@ -52,19 +55,25 @@ refused fault = Refused (code_of fault)
 
 -- a command whose processes are all below n, else one that is refused
 abbrev pub below : ℕ → List ℕ → Command → Command
-below n processes command = if list_all (λ p. nat_lt p n) processes then command else refused faults.NoSuchProcess
+below n processes command =
+    if list_all (λ p. nat_lt p n) processes then command else refused faults.NoSuchProcess
 
 -- a command whose body isn't too long, else one that is refused
 abbrev pub with_body : List ℕ → Command → Command
-with_body body command = if nat_le (length body) MOST_BODY then command else refused faults.BodyTooLong
+with_body body command =
+    if nat_le (length body) MOST_BODY then command else refused faults.BodyTooLong
 
 -- send,FROM,TO,HEX
 unfoldable pub send_of : ℕ → Record → Result Command Fault
-send_of n = three plain plain hex (λ from to body. Ok (below n (from ∷ to ∷ []) (with_body body (Do (Send from to body)))))
+send_of n =
+    three plain plain hex
+    (λ from to body. Ok (below n (from ∷ to ∷ []) (with_body body (Do (Send from to body)))))
 
 -- deliver,FROM,TO,PICK,HEX
 unfoldable pub deliver_of : ℕ → Record → Result Command Fault
-deliver_of n = four plain plain pick hex (λ from to picked state. Ok (below n (from ∷ to ∷ []) (Do (Deliver from to picked state))))
+deliver_of n =
+    four plain plain pick hex
+    (λ from to picked state. Ok (below n (from ∷ to ∷ []) (Do (Deliver from to picked state))))
 
 -- check,P,HEX, begin,P,HEX or turn,P,HEX: a step of a process with a state
 unfoldable pub with_state : (ℕ → List ℕ → Step) → ℕ → Record → Result Command Fault
@@ -76,7 +85,8 @@ with_check step n = two plain plain (λ at check. Ok (below n (at ∷ []) (Do (s
 
 -- recover,P,.. or bundle,P,..: a command of processes, of none where no field names one
 unfoldable pub with_failed : (List Bool → Command) → ℕ → Record → Result Command Fault
-with_failed command n r = numbers (drop 1 r) >>= λ failed. Ok (below n failed (command (fold with_member nobody failed)))
+with_failed command n r =
+    numbers (drop 1 r) >>= λ failed. Ok (below n failed (command (fold with_member nobody failed)))
 
 -- the command that a record spells, among n processes: the first field is its name
 unfoldable pub command_of : ℕ → Record → Result Command Fault
@@ -88,7 +98,8 @@ command_of n r =
     else if bytes_eq (field r 0) (codes "turn") then with_state Turn n r
     else if bytes_eq (field r 0) (codes "damage") then with_check Damage n r
     else if bytes_eq (field r 0) (codes "bar") then with_check Bar n r
-    else if bytes_eq (field r 0) (codes "recover") then with_failed (λ failed. Do (Recover failed)) n r
+    else if bytes_eq (field r 0) (codes "recover")
+    then with_failed (λ failed. Do (Recover failed)) n r
     else if bytes_eq (field r 0) (codes "rounds") then alone Rounds r
     else if bytes_eq (field r 0) (codes "history") then alone History r
     else if bytes_eq (field r 0) (codes "bundle") then with_failed Bundle n r

@@ -95,7 +95,7 @@ pub fn world_of(row: &Row) -> Result<(u32, Mode), Fault>
     Ok((n, mode))
 }
 
-// Puts the bytes that a field spells behind those that a list has.
+// Puts the bytes that a field spells after those that a list has.
 #[tactic(auto, using(crate::proofs::BehindLemmas::given_behind))]
 fn spell_behind(bytes: &mut Vec<u8>, text: &[u8]) -> Result<(), ReadError>
     ensures exact { Gives (λ _. behind bytes.old.items bytes.new.items) result (hex text.now) }
@@ -107,8 +107,10 @@ fn spell_behind(bytes: &mut Vec<u8>, text: &[u8]) -> Result<(), ReadError>
 #[tactic(auto, unfolding(crate::specs::Scripts::send_of, line_fields::specs::Shapes::three))]
 fn send_of(n: u32, row: &Row, bytes: &mut Vec<u8>) -> Result<Bare, ReadError>
     requires { n ≤ MOST_PROCESSES }
-    ensures exact { Gives (λ bare. with_bytes bare (behind bytes.old.items bytes.new.items)) result (spec.send_of n row.now) }
-    ensures fits { IfOk result (λ bare. MayHave bare (length (behind bytes.old.items bytes.new.items))) }
+    ensures exact { Gives (λ bare. with_bytes bare (behind bytes.old.items bytes.new.items)) result
+        (spec.send_of n row.now) }
+    ensures fits { IfOk result
+        (λ bare. MayHave bare (length (behind bytes.old.items bytes.new.items))) }
     ensures kept { take (length bytes.old.items) bytes.new.items ≡ bytes.old.items }
 {
     want(row.len() == 4, Fault::BadRecord)?;
@@ -131,8 +133,10 @@ fn send_of(n: u32, row: &Row, bytes: &mut Vec<u8>) -> Result<Bare, ReadError>
 #[tactic(auto, unfolding(crate::specs::Scripts::deliver_of, line_fields::specs::Shapes::four))]
 fn deliver_of(n: u32, row: &Row, bytes: &mut Vec<u8>) -> Result<Bare, ReadError>
     requires { n ≤ MOST_PROCESSES }
-    ensures exact { Gives (λ bare. with_bytes bare (behind bytes.old.items bytes.new.items)) result (spec.deliver_of n row.now) }
-    ensures fits { IfOk result (λ bare. MayHave bare (length (behind bytes.old.items bytes.new.items))) }
+    ensures exact { Gives (λ bare. with_bytes bare (behind bytes.old.items bytes.new.items)) result
+        (spec.deliver_of n row.now) }
+    ensures fits { IfOk result
+        (λ bare. MayHave bare (length (behind bytes.old.items bytes.new.items))) }
     ensures kept { take (length bytes.old.items) bytes.new.items ≡ bytes.old.items }
 {
     want(row.len() == 5, Fault::BadRecord)?;
@@ -149,12 +153,14 @@ fn deliver_of(n: u32, row: &Row, bytes: &mut Vec<u8>) -> Result<Bare, ReadError>
     Ok(Bare::Deliver { from, to, pick })
 }
 
-// The process of a record with a state, whose bytes the list then has behind the others; none where
+// The process of a record with a state, whose bytes the list then has after the others; none where
 // there is no such process.
 #[tactic(auto, unfolding(crate::specs::Scripts::with_state, line_fields::specs::Shapes::two))]
 fn with_state(n: u32, row: &Row, bytes: &mut Vec<u8>) -> Result<Option<ProcId>, ReadError>
     requires { n ≤ MOST_PROCESSES }
-    ensures exact { (step : ℕ → List ℕ → Step) → Gives (of_found (λ at. Command.Do (step at (behind bytes.old.items bytes.new.items)))) result (spec.with_state step n row.now) }
+    ensures exact { (step : ℕ → List ℕ → Step)
+        → Gives (of_found (λ at. Command.Do (step at (behind bytes.old.items bytes.new.items))))
+        result (spec.with_state step n row.now) }
     ensures kept { take (length bytes.old.items) bytes.new.items ≡ bytes.old.items }
 {
     want(row.len() == 3, Fault::BadRecord)?;
@@ -167,7 +173,9 @@ fn with_state(n: u32, row: &Row, bytes: &mut Vec<u8>) -> Result<Option<ProcId>, 
 #[tactic(auto, unfolding(crate::specs::Scripts::with_check, line_fields::specs::Shapes::two))]
 fn with_check(n: u32, row: &Row) -> Result<Option<(ProcId, u32)>, ReadError>
     requires { n ≤ MOST_PROCESSES }
-    ensures { (step : ℕ → ℕ → Step) → Gives (of_found (λ found. Command.Do (step found.0 found.1))) result (spec.with_check step n row.now) }
+    ensures { (step : ℕ → ℕ → Step)
+        → Gives (of_found (λ found. Command.Do (step found.0 found.1))) result
+        (spec.with_check step n row.now) }
 {
     want(row.len() == 3, Fault::BadRecord)?;
     let at = plain(row, 1)?;
@@ -196,7 +204,9 @@ fn is_of_process(fault: Fault) -> bool
 // The processes of a record; none where there is no such process.
 fn with_failed(alloc: Global, n: u32, row: &Row) -> Result<Option<Box<ProcSet>>, ReadError>
     requires { n ≤ MOST_PROCESSES }
-    ensures { (command : List Bool → Command) → Gives (of_found (λ failed. command failed.value)) result (spec.with_failed command n row.now) }
+    ensures { (command : List Bool → Command)
+        → Gives (of_found (λ failed. command failed.value)) result
+        (spec.with_failed command n row.now) }
 {
     match failed_of(n, row) {
         Ok(failed) => Ok(Some(boxed(alloc, failed)?)),
@@ -206,7 +216,7 @@ fn with_failed(alloc: Global, n: u32, row: &Row) -> Result<Option<Box<ProcSet>>,
 }
 
 /// The command that a record after the first spells, or its first fault. The bytes that the command
-/// carries are put behind those that a list has; of one that is refused they may be there too.
+/// carries are put after those that a list has; of one that is refused they may be there too.
 #[inline(always)]
 #[tactic(auto, unfolding(crate::specs::Scripts::command_of, line_fields::specs::Shapes::alone))]
 pub(crate) fn command_of(
@@ -216,8 +226,10 @@ pub(crate) fn command_of(
     bytes: &mut Vec<u8>,
 ) -> Result<Bare, ReadError>
     requires { n ≤ MOST_PROCESSES }
-    ensures exact { Gives (λ bare. with_bytes bare (behind bytes.old.items bytes.new.items)) result (spec.command_of n row.now) }
-    ensures fits { IfOk result (λ bare. MayHave bare (length (behind bytes.old.items bytes.new.items))) }
+    ensures exact { Gives (λ bare. with_bytes bare (behind bytes.old.items bytes.new.items)) result
+        (spec.command_of n row.now) }
+    ensures fits { IfOk result
+        (λ bare. MayHave bare (length (behind bytes.old.items bytes.new.items))) }
     ensures kept { take (length bytes.old.items) bytes.new.items ≡ bytes.old.items }
 {
     let Some(name) = name_of(row.field(0)) else {

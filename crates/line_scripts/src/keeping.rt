@@ -1,6 +1,7 @@
 //! Commands that wait to be done: a few bytes for each, and one list of the bytes that they carry.
 
-ghost use Rattle.std.specs.Prelude.{◌≡◌, ◌≤◌, ◌<◌, ◌-◌, ◌++◌, [], ◌∷◌, drop, length, take, IfNone, IfSome, OnOk};
+ghost use Rattle.std.specs.Prelude.{◌≡◌, ◌≤◌, ◌<◌, ◌-◌, ◌++◌, [], ◌∷◌, drop, length, take, IfNone};
+ghost use Rattle.std.specs.Prelude.{IfSome, OnOk};
 ghost use Rattle.line_scripts.specs.Keeping.{ArePacked, MayHave, unpacked, with_bytes};
 ghost use Rattle.line_scripts.specs.Shown.{HasShortBody, shown};
 
@@ -59,12 +60,14 @@ impl Model for Commands {
 
     ghost view = { λ c. unpacked (reverse c.kept.items) (drop c.at c.bytes.items) };
 
-    ghost invariant = { λ c. (c.at ≤ length c.bytes.items) × ArePacked (reverse c.kept.items) (drop c.at c.bytes.items) };
+    ghost invariant = { λ c. (c.at ≤ length c.bytes.items)
+        × ArePacked (reverse c.kept.items) (drop c.at c.bytes.items) };
 }
 
-/// Puts a command that carries so many bytes behind the others.
+/// Puts a command that carries so many bytes after the others.
 pub(crate) fn keep(kept: &mut Vec<Kept>, bare: Bare, long: usize) -> Result<(), AllocError>
-    ensures { OnOk result (kept.new.items ≡ kept.old.items ++ record { bare = bare; long = long } ∷ []) }
+    ensures { OnOk result
+        (kept.new.items ≡ kept.old.items ++ record { bare = bare; long = long } ∷ []) }
 {
     kept.reserve(1)?;
     kept.push_reserved(Kept { bare, long });

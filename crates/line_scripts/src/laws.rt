@@ -14,7 +14,8 @@ ghost use Rattle.line_scripts.specs.Scripts.{Script, script_of, script_of_text};
 /// of their fields and none of them is refused before its step. That text is of version 1 where the
 /// script has at most 64 processes, and else of version 2.
 pub fn scripts_are_read_again()
-    ensures { (script : Script) → IsScriptInRange script → script_of_text (records_text (script_records script)) ≡ Ok script }
+    ensures { (script : Script) → IsScriptInRange script
+        → script_of_text (records_text (script_records script)) ≡ Ok script }
 {}
 
 /// Among at most 64 processes, records spell the same script, or have the same fault, in either
@@ -22,12 +23,14 @@ pub fn scripts_are_read_again()
 ///
 /// A text of version 1, whatever its bytes, is read the same in version 2, unless version 1 refuses
 /// it for the number of its processes: with `world,2,` in place of `world,1,` at its beginning, and
-/// also where its first record stands behind empty lines or spells the version with leading zeros.
+/// also where its first record stands after empty lines or spells the version with leading zeros.
 pub fn version_2_reads_scripts_of_version_1()
     ensures records { (n : ℕ) (mode : List ℕ) (rest : List Record) → n ≤ MOST_IN_FIRST_VERSION
         → script_of (world_record 1 n mode ∷ rest) ≡ script_of (world_record 2 n mode ∷ rest) }
-    ensures texts { (text : List ℕ) → script_of_text (codes "world,1," ++ text) ≢ Err (fault_at 1 BadCount)
+    ensures texts { (text : List ℕ)
+        → script_of_text (codes "world,1," ++ text) ≢ Err (fault_at 1 BadCount)
         → script_of_text (codes "world,2," ++ text) ≡ script_of_text (codes "world,1," ++ text) }
-    ensures spelled { (text later : List ℕ) → DifferInVersion text later → script_of_text text ≢ Err (fault_at 1 BadCount)
+    ensures spelled { (text later : List ℕ) → DifferInVersion text later
+        → script_of_text text ≢ Err (fault_at 1 BadCount)
         → script_of_text later ≡ script_of_text text }
 {}

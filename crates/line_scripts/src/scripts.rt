@@ -54,7 +54,7 @@ fn world_at(row: &Row) -> Result<(u32, Mode), TextError>
     }
 }
 
-// What the record with that number asks for; the bytes that it carries are put behind those that a
+// What the record with that number asks for; the bytes that it carries are put after those that a
 // list has.
 fn command_at(
     alloc: Global,
@@ -64,8 +64,10 @@ fn command_at(
     bytes: &mut Vec<u8>,
 ) -> Result<Bare, TextError>
     requires { n ≤ MOST_PROCESSES }
-    ensures exact { Yields (λ bare. with_bytes bare (behind bytes.old.items bytes.new.items)) result (reads.numbered record_number (spec.command_of n row.now)) }
-    ensures fits { IfOk result (λ bare. MayHave bare (length (behind bytes.old.items bytes.new.items))) }
+    ensures exact { Yields (λ bare. with_bytes bare (behind bytes.old.items bytes.new.items)) result
+        (reads.numbered record_number (spec.command_of n row.now)) }
+    ensures fits { IfOk result
+        (λ bare. MayHave bare (length (behind bytes.old.items bytes.new.items))) }
     ensures kept { take (length bytes.old.items) bytes.new.items ≡ bytes.old.items }
 {
     match command_of(alloc, n, row, bytes) {

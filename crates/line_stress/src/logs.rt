@@ -7,7 +7,7 @@ use line_tape::State;
 /// The answers of one worker: the CRC-32 of all that was handed in and answered, and some counts.
 ///
 /// What goes into it is, of an accepted call: a letter for its kind, then its numbers, each with
-/// its highest byte first, and the bytes of the body or the state behind their length.
+/// its highest byte first, and the bytes of the body or the state after their length.
 #[derive(Clone, Copy, Drop)]
 pub struct Log {
     digest: u32,

@@ -161,7 +161,7 @@ pub fn own_history(alloc: Global, collector: &Collector, posts: &Vec<Post>) -> R
     Ok(own)
 }
 
-/// Prints a history, with a record before it and one behind it.
+/// Prints a history, with a record before it and one after it.
 pub fn print_history<R: Print>(rt: &R, alloc: Global, kind: &str, history: &History) -> Result<()> {
     println!(rt; "{kind}")?;
     let text = write_history(alloc, history)?;

@@ -14,16 +14,21 @@ use Rattle.line_fields.specs.Texts.{record_text}
 use Rattle.line_tape.specs.Chain.{IsChain}
 use Rattle.line_tape.specs.Survival.{IsLatest}
 
--- a claim names only what its history has, its entries are a chain that is valid for its line, and so that line is the latest
+-- a claim names only what its history has, its entries are a chain that is valid for its line, and
+-- so that line is the latest
 pub record IsValid (check : Check) : Type 0 where
-  pub shape : HasShape check.history check.claim.marks check.claim.failed check.claim.certificate check.claim.line
-  pub chain : IsChain check.history check.claim.marks check.claim.failed check.claim.certificate check.claim.line
+  pub shape : HasShape check.history check.claim.marks check.claim.failed check.claim.certificate
+      check.claim.line
+  pub chain : IsChain check.history check.claim.marks check.claim.failed check.claim.certificate
+      check.claim.line
   pub latest : IsLatest check.history check.claim.marks check.claim.failed check.claim.line
 
 -- nothing is wrong with a claim, or this is the first thing that is
 abbrev pub IsVerdict : Check → Option CertFault → Type 0
 IsVerdict check None = IsValid check
-IsVerdict check (Some fault) = IsFirstFault check.history check.claim.marks check.claim.failed check.claim.certificate check.claim.line fault.entry fault.code
+IsVerdict check (Some fault) =
+    IsFirstFault check.history check.claim.marks check.claim.failed check.claim.certificate
+    check.claim.line fault.entry fault.code
 
 -- the number of a fault of a claim
 abbrev pub fault_code : FaultCode → ℕ
@@ -34,13 +39,17 @@ fault_code faults.LineDiffers = 14
 fault_code faults.NotConsistent = 15
 fault_code faults.BadShape = 16
 
--- valid, or invalid,ENTRY,CODE,NAME: the entry that the fault is of, counted from 0, where it is of one
+-- valid, or invalid,ENTRY,CODE,NAME: the entry that the fault is of, counted from 0, where it is of
+-- one
 abbrev pub verdict_record : Option CertFault → Record
 verdict_record None = codes "valid" ∷ []
-verdict_record (Some fault) = codes "invalid" ∷ number_text fault.entry ∷ decimal (fault_code fault.code) ∷ name_of (fault_code fault.code) ∷ []
+verdict_record (Some fault) =
+    codes "invalid" ∷ number_text fault.entry ∷ decimal (fault_code fault.code)
+    ∷ name_of (fault_code fault.code) ∷ []
 
 -- the text spells a history and a claim on it, which are told this, and the record of that was put
-pub record JudgesText (text : List ℕ) (verdict : Option CertFault) (old new : Option (List ℕ)) : Type 0 where
+pub record JudgesText (text : List ℕ) (verdict : Option CertFault)
+    (old new : Option (List ℕ)) : Type 0 where
   pub check : Check
   pub spelt : check_of_text text ≡ Ok check
   pub judged : IsVerdict check verdict

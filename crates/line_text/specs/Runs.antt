@@ -1,5 +1,6 @@
 -- The run of a script, and the text of what its commands are told.
-use Rattle.std.specs.Prelude.{◌≡◌, ◌<◌, ◌≤◌, ℕ, ◌+◌, ◌++◌, Bool, if◌then◌else◌, List, Option, drop, length, take, Ok}
+use Rattle.std.specs.Prelude.{◌≡◌, ◌<◌, ◌≤◌, ℕ, ◌+◌, ◌++◌, Bool, if◌then◌else◌, List, Option, drop}
+use Rattle.std.specs.Prelude.{length, take, Ok}
 use Rattle.line_devices.specs.Devices.{Puts, PutsButEnd, PutsFront, one_more}
 use Rattle.line_world.specs.Machine.{Machine, start}
 use Rattle.line_scripts.specs.declared.commands.Command.{Command}
@@ -12,23 +13,27 @@ use Rattle.line_text.specs.declared.engines.Stop.TheVariants as stops
 abbrev pub first_of : Script → Machine
 first_of script = start script.n script.mode
 
--- the machine ran these commands, so many of them refused, and the text of what they were told was put
-pub record Runs (first : Machine) (commands : List Command) (refused : ℕ) (old new : Option (List ℕ)) : Type 0 where
+-- the machine ran these commands, so many of them refused, and the text of what they were told was
+-- put
+pub record Runs (first : Machine) (commands : List Command) (refused : ℕ)
+    (old new : Option (List ℕ)) : Type 0 where
   pub told : List Told
   pub end : Machine
   pub run : TellsAll first commands told end
   pub count : refused ≡ refusals told
   pub text : Puts old new (text_of told)
 
--- the machine ran the first commands, and a front of the text of that run was put
-pub record RunsFront (first : Machine) (commands : List Command) (old new : Option (List ℕ)) : Type 0 where
+-- the machine ran the first commands, and a prefix of the text of that run was put
+pub record RunsFront (first : Machine) (commands : List Command)
+    (old new : Option (List ℕ)) : Type 0 where
   pub done : ℕ
   pub told : List Told
   pub end : Machine
   pub run : TellsAll first (take done commands) told end
   pub text : PutsFront old new (text_of told)
 
--- the first of these commands was told something or, for want of memory, nothing, and these bytes are a front of the text of that
+-- the first of these commands was told something or, out of memory, nothing, and these bytes
+-- are a prefix of the text of that
 pub record BeginsReply (first : Machine) (commands : List Command) (bytes : List ℕ) : Type 0 where
   pub told : List Told
   pub end : Machine
@@ -37,8 +42,10 @@ pub record BeginsReply (first : Machine) (commands : List Command) (bytes : List
   pub run : TellsAll first (take (length told) commands) told end
   pub text : text_of told ≡ bytes ++ rest
 
--- the machine ran the commands before that record's; of what they were told, and a front of what that one was told, this holds
-pub record StopsAt (first : Machine) (commands : List Command) (record_number : ℕ) (Holds : List ℕ → Type 0) : Type 0 where
+-- the machine ran the commands before that record's; of what they were told, and a prefix of what
+-- that one was told, this holds
+pub record StopsAt (first : Machine) (commands : List Command) (record_number : ℕ)
+    (Holds : List ℕ → Type 0) : Type 0 where
   pub done : ℕ
   pub told : List Told
   pub end : Machine
@@ -61,20 +68,24 @@ pub record RunsTextFront (text : List ℕ) (old new : Option (List ℕ)) : Type 
   pub spelt : script_of_text text ≡ Ok script
   pub runs : RunsFront (first_of script) script.commands old new
 
--- the text spells a script that the machine ran up to the command of that record; what was put is what the commands before it were told, and perhaps a front of what it was told
+-- the text spells a script that the machine ran up to the command of that record; what was put is
+-- what the commands before it were told, and perhaps a prefix of what it was told
 pub record StopsText (text : List ℕ) (record_number : ℕ) (old new : Option (List ℕ)) : Type 0 where
   pub script : Script
   pub spelt : script_of_text text ≡ Ok script
   pub runs : StopsAt (first_of script) script.commands record_number (Puts old new)
 
 -- one command more was done, and counted where it was refused
-pub record DoesOne (old : Machine) (command : Command) (new : Machine) (taken now : Option (List ℕ)) (held : List ℕ) (refused : ℕ) (later : List ℕ) (count : ℕ) : Type 0 where
+pub record DoesOne (old : Machine) (command : Command) (new : Machine) (taken now : Option (List ℕ))
+    (held : List ℕ) (refused : ℕ) (later : List ℕ) (count : ℕ) : Type 0 where
   pub one : Bool
   pub does : Does old command new taken now held later one
   pub counted : count ≡ refused + (if one then 1 else 0)
 
--- the first commands were done, so many of them refused, and the text of what they were told is put but for what is held
-pub record IsRunTo (first : Machine) (commands : List Command) (done : ℕ) (now : Machine) (refused : ℕ) (old new : Option (List ℕ)) (held : List ℕ) : Type 0 where
+-- the first commands were done, so many of them refused, and the text of what they were told is put
+-- but for what is held
+pub record IsRunTo (first : Machine) (commands : List Command) (done : ℕ) (now : Machine)
+    (refused : ℕ) (old new : Option (List ℕ)) (held : List ℕ) : Type 0 where
   pub told : List Told
   pub run : TellsAll first (take done commands) told now
   pub count : refused ≡ refusals told
@@ -82,8 +93,10 @@ pub record IsRunTo (first : Machine) (commands : List Command) (done : ℕ) (now
   pub text : PutsButEnd old new held (text_of told)
 
 -- why commands were not done to their end, where this holds of the text of what they were told
-abbrev pub Stops : Stop → Machine → List Command → Option (List ℕ) → Option (List ℕ) → (List ℕ → Type 0) → Type 0
-Stops (stops.Memory record_number) first commands old new Holds = StopsAt first commands record_number Holds
+abbrev pub Stops : Stop → Machine → List Command → Option (List ℕ) → Option (List ℕ)
+    → (List ℕ → Type 0) → Type 0
+Stops (stops.Memory record_number) first commands old new Holds =
+    StopsAt first commands record_number Holds
 Stops stops.Write first commands old new Holds = RunsFront first commands old new
 
 -- a sink has one fault more where it failed, and none else

@@ -27,12 +27,17 @@ pub(crate) fn fault_of(code: u32) -> TextFault
 
 /// Reads the whole input.
 pub(crate) fn read_input<S: Source>(alloc: Global, source: &mut S) -> Result<Vec<u8>, TextFault>
-    ensures whole { IfOk result (λ text. GivesAll text.items (S.left source.old) (S.left source.new) (S.given source.old) (S.given source.new)) }
-    ensures codes { IfErr result (λ fault. (fault ≡ no_memory) ⊎ (fault ≡ record { record_number = 0; code = READ_FAULT })) }
+    ensures whole { IfOk result
+        (λ text. GivesAll text.items (S.left source.old) (S.left source.new) (S.given source.old)
+        (S.given source.new)) }
+    ensures codes { IfErr result
+        (λ fault. (fault ≡ no_memory) ⊎ (fault ≡ record { record_number = 0; code = READ_FAULT })) }
     ensures failed { IfErr result (λ fault. fault.code ≡ READ_FAULT
-        → (S.faults source.new ≡ one_more (S.faults source.old)) ⊎ IsTooLong (S.left source.old) (S.given source.old) (S.given source.new)) }
+        → (S.faults source.new ≡ one_more (S.faults source.old))
+        ⊎ IsTooLong (S.left source.old) (S.given source.old) (S.given source.new)) }
     ensures heard { OnOk result (S.faults source.new ≡ S.faults source.old) }
-    ensures told { IfErr result (λ fault. fault.code ≢ READ_FAULT → S.faults source.new ≡ S.faults source.old) }
+    ensures told { IfErr result
+        (λ fault. fault.code ≢ READ_FAULT → S.faults source.new ≡ S.faults source.old) }
     ensures ended { OnOk result (S.ends source.new ≡ one_more (S.ends source.old)) }
     ensures unended { OnErr result (S.ends source.new ≡ S.ends source.old) }
 {

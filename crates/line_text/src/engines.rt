@@ -1,6 +1,7 @@
 //! Scripts that are run: a text in, the text of the replies out.
 
-ghost use Rattle.std.specs.Prelude.{◌≡◌, ◌≢◌, ◌<◌, ◌≤◌, ◌+◌, ◌^◌, ◌⊎◌, ℕ, List, [], ◌∷◌, true, false, Err, Ok, if◌then◌else◌, length, IfOk, IfErr, OnOk};
+ghost use Rattle.std.specs.Prelude.{◌≡◌, ◌≢◌, ◌<◌, ◌≤◌, ◌+◌, ◌^◌, ◌⊎◌, ℕ, List, [], ◌∷◌, true};
+ghost use Rattle.std.specs.Prelude.{false, Err, Ok, if◌then◌else◌, length, IfOk, IfErr, OnOk};
 ghost use Rattle.line_answers.specs.Answers.{DoesFront};
 ghost use Rattle.line_devices.specs.Devices.{Puts, PutsButEnd, one_more};
 ghost use Rattle.line_devices.specs.Reads.{GivesAll, IsTooLong};
@@ -59,16 +60,24 @@ fn do_next<K: Sink>(
     refused: &mut u64,
 ) -> Result<bool, Halt>
     requires { refused.old < 18446744073709551615 }
-    ensures ok { IfOk result (λ more. more ≡ true → (first : Command) × (commands.old ≡ first ∷ commands.new)
-        × spec.DoesOne world.old first world.new (K.taken sink.old) (K.taken sink.new) writer.old refused.old writer.new refused.new) }
-    ensures none { IfOk result (λ more. more ≡ false → (commands.old ≡ []) × (commands.new ≡ []) × (world.new ≡ world.old)
+    ensures ok { IfOk result
+        (λ more. more ≡ true → (first : Command) × (commands.old ≡ first ∷ commands.new)
+        × spec.DoesOne world.old first world.new (K.taken sink.old) (K.taken sink.new) writer.old
+        refused.old writer.new refused.new) }
+    ensures none { IfOk result
+        (λ more. more ≡ false → (commands.old ≡ []) × (commands.new ≡ []) × (world.new ≡ world.old)
         × (sink.new ≡ sink.old) × (writer.new ≡ writer.old) × (refused.new ≡ refused.old)) }
-    ensures memory { IfErr result (λ halt. halt ≡ Halt.Memory → (first : Command) × (rest : List Command) × (commands.old ≡ first ∷ rest)
+    ensures memory { IfErr result
+        (λ halt. halt ≡ Halt.Memory
+        → (first : Command) × (rest : List Command) × (commands.old ≡ first ∷ rest)
         × (world.new ≡ world.old) × (sink.new ≡ sink.old) × (writer.new ≡ writer.old)) }
-    ensures write { IfErr result (λ halt. halt ≡ Halt.Write → (first : Command) × (rest : List Command) × (commands.old ≡ first ∷ rest)
+    ensures write { IfErr result
+        (λ halt. halt ≡ Halt.Write
+        → (first : Command) × (rest : List Command) × (commands.old ≡ first ∷ rest)
         × DoesFront world.old first world.new (K.taken sink.old) (K.taken sink.new) writer.old) }
     ensures sound { OnOk result (K.faults sink.new ≡ K.faults sink.old) }
-    ensures failed { IfErr result (λ halt. halt ≡ Halt.Write → K.faults sink.new ≡ one_more (K.faults sink.old)) }
+    ensures failed { IfErr result
+        (λ halt. halt ≡ Halt.Write → K.faults sink.new ≡ one_more (K.faults sink.old)) }
 {
     let Some(command) = commands.first() else {
         return Ok(false);
@@ -90,10 +99,15 @@ fn do_commands<K: Sink>(
 ) -> Result<u64, Stop>
     requires empty { writer.old ≡ [] }
     requires few { length commands.old + 2 < 2 ^ 64 }
-    ensures ok { IfOk result (λ refused. spec.IsRunTo world.old commands.old (length commands.old) world.new refused (K.taken sink.old) (K.taken sink.new) writer.new) }
-    ensures err { IfErr result (λ stop. spec.Stops stop world.old commands.old (K.taken sink.old) (K.taken sink.new) (PutsButEnd (K.taken sink.old) (K.taken sink.new) writer.new)) }
+    ensures ok { IfOk result
+        (λ refused. spec.IsRunTo world.old commands.old (length commands.old) world.new refused
+        (K.taken sink.old) (K.taken sink.new) writer.new) }
+    ensures err { IfErr result
+        (λ stop. spec.Stops stop world.old commands.old (K.taken sink.old) (K.taken sink.new)
+        (PutsButEnd (K.taken sink.old) (K.taken sink.new) writer.new)) }
     ensures sound { OnOk result (K.faults sink.new ≡ K.faults sink.old) }
-    ensures blamed { IfErr result (λ stop. spec.Blames stop (K.faults sink.old) (K.faults sink.new)) }
+    ensures blamed { IfErr result
+        (λ stop. spec.Blames stop (K.faults sink.old) (K.faults sink.new)) }
 {
     let mut refused = 0u64;
     let mut done = 0u64;
@@ -121,11 +135,16 @@ fn run_commands<K: Sink>(
 ) -> Result<u64, TextFault>
     requires empty { writer.old ≡ [] }
     requires few { length commands.old + 2 < 2 ^ 64 }
-    ensures ok { IfOk result (λ refused. spec.Runs world.old commands.old refused (K.taken sink.old) (K.taken sink.new)) }
+    ensures ok { IfOk result
+        (λ refused. spec.Runs world.old commands.old refused (K.taken sink.old)
+        (K.taken sink.new)) }
     ensures write { IfErr result (λ fault. fault.code ≡ WRITE_FAULT
         → (fault.record_number ≡ 0) × (K.faults sink.new ≡ one_more (K.faults sink.old))
         × spec.RunsFront world.old commands.old (K.taken sink.old) (K.taken sink.new)) }
-    ensures memory { IfErr result (λ fault. fault.code ≡ 0 → spec.StopsAt world.old commands.old fault.record_number (Puts (K.taken sink.old) (K.taken sink.new))) }
+    ensures memory { IfErr result
+        (λ fault. fault.code ≡ 0
+        → spec.StopsAt world.old commands.old fault.record_number
+        (Puts (K.taken sink.old) (K.taken sink.new))) }
     ensures codes { IfErr result (λ fault. (fault.code ≡ 0) ⊎ (fault.code ≡ WRITE_FAULT)) }
     ensures sound { OnOk result (K.faults sink.new ≡ K.faults sink.old) }
 {
@@ -160,17 +179,28 @@ fn world_of(alloc: Global, script: &KeptScript) -> Result<World, TextFault>
 
 // The script that the whole input spells. The text of the input is let go.
 fn script_of<S: Source>(alloc: Global, source: &mut S) -> Result<KeptScript, TextFault>
-    ensures spelt { IfOk result (λ script. (text : List ℕ) × GivesAll text (S.left source.old) (S.left source.new) (S.given source.old) (S.given source.new)
+    ensures spelt { IfOk result
+        (λ script. (text : List ℕ)
+        × GivesAll text (S.left source.old) (S.left source.new) (S.given source.old)
+        (S.given source.new)
         × (script_of_text text ≡ Ok (seen_kept script))) }
     ensures within { IfOk result (λ script. (1 ≤ script.n) × (script.n ≤ MOST_PROCESSES)) }
     ensures few { IfOk result (λ script. length script.commands + 2 < 2 ^ 64) }
     ensures text { IfErr result (λ fault. IsOfText fault
-        → (text : List ℕ) × GivesAll text (S.left source.old) (S.left source.new) (S.given source.old) (S.given source.new) × (script_of_text text ≡ Err fault)) }
+        → (text : List ℕ)
+        × GivesAll text (S.left source.old) (S.left source.new) (S.given source.old)
+        (S.given source.new)
+        × (script_of_text text ≡ Err fault)) }
     ensures read { IfErr result (λ fault. fault.code ≡ READ_FAULT
-        → (S.faults source.new ≡ one_more (S.faults source.old)) ⊎ IsTooLong (S.left source.old) (S.given source.old) (S.given source.new)) }
-    ensures codes { IfErr result (λ fault. (fault ≡ no_memory) ⊎ (fault ≡ record { record_number = 0; code = READ_FAULT }) ⊎ IsOfScript fault) }
+        → (S.faults source.new ≡ one_more (S.faults source.old))
+        ⊎ IsTooLong (S.left source.old) (S.given source.old) (S.given source.new)) }
+    ensures codes { IfErr result
+        (λ fault. (fault ≡ no_memory)
+        ⊎ (fault ≡ record { record_number = 0; code = READ_FAULT })
+        ⊎ IsOfScript fault) }
     ensures heard { OnOk result (S.faults source.new ≡ S.faults source.old) }
-    ensures told { IfErr result (λ fault. fault.code ≢ READ_FAULT → S.faults source.new ≡ S.faults source.old) }
+    ensures told { IfErr result
+        (λ fault. fault.code ≢ READ_FAULT → S.faults source.new ≡ S.faults source.old) }
     ensures ended { HearsEnd result (S.ends source.old) (S.ends source.new) }
 {
     let text = read_input(alloc, source)?;
@@ -194,30 +224,41 @@ pub fn run_text<S: Source, K: Sink>(
     sink: &mut K,
 ) -> Result<Done, TextFault>
     // What the source gave, to its end and within the limit, is a script that was run.
-    ensures done { IfOk result (λ done. (text : List ℕ) × GivesAll text (S.left source.old) (S.left source.new) (S.given source.old) (S.given source.new)
+    ensures done { IfOk result
+        (λ done. (text : List ℕ)
+        × GivesAll text (S.left source.old) (S.left source.new) (S.given source.old)
+        (S.given source.new)
         × spec.RunsText text done.refused (K.taken sink.old) (K.taken sink.new)) }
 
     // A fault of the text is its first, and then nothing is written.
     ensures text { IfErr result (λ fault. IsOfText fault
         → (sink.new ≡ sink.old)
-        × ((text : List ℕ) × GivesAll text (S.left source.old) (S.left source.new) (S.given source.old) (S.given source.new) × (script_of_text text ≡ Err fault))) }
+        × ((text : List ℕ)
+        × GivesAll text (S.left source.old) (S.left source.new) (S.given source.old)
+        (S.given source.new)
+        × (script_of_text text ≡ Err fault))) }
 
     // So it is where the source failed or the input is too long.
     ensures read { IfErr result (λ fault. fault.code ≡ READ_FAULT
         → (fault.record_number ≡ 0) × (sink.new ≡ sink.old)
-        × ((S.faults source.new ≡ one_more (S.faults source.old)) ⊎ IsTooLong (S.left source.old) (S.given source.old) (S.given source.new))) }
+        × ((S.faults source.new ≡ one_more (S.faults source.old))
+        ⊎ IsTooLong (S.left source.old) (S.given source.old) (S.given source.new))) }
 
-    // Where the sink failed, what it took is a front of the replies.
+    // Where the sink failed, what it took is a prefix of the replies.
     ensures write { IfErr result (λ fault. fault.code ≡ WRITE_FAULT
         → (fault.record_number ≡ 0) × (K.faults sink.new ≡ one_more (K.faults sink.old))
-        × ((text : List ℕ) × GivesAll text (S.left source.old) (S.left source.new) (S.given source.old) (S.given source.new)
+        × ((text : List ℕ)
+        × GivesAll text (S.left source.old) (S.left source.new) (S.given source.old)
+        (S.given source.new)
         × spec.RunsTextFront text (K.taken sink.old) (K.taken sink.new))) }
 
-    // Out of memory is of no record, and nothing is written, or it is of a command, and the
-    // replies to those before it are written, and perhaps a front of its own.
+    // Out of memory is of no record, and nothing is written, or it is of a command, and the replies
+    // to those before it are written, and perhaps a prefix of its own.
     ensures memory { IfErr result (λ fault. fault.code ≡ 0
         → ((fault.record_number ≡ 0) × (sink.new ≡ sink.old))
-        ⊎ ((text : List ℕ) × GivesAll text (S.left source.old) (S.left source.new) (S.given source.old) (S.given source.new)
+        ⊎ ((text : List ℕ)
+        × GivesAll text (S.left source.old) (S.left source.new) (S.given source.old)
+        (S.given source.new)
         × spec.StopsText text fault.record_number (K.taken sink.old) (K.taken sink.new))) }
 
     // There are no other faults, a sound sink is not blamed, and no failure of the source is passed
@@ -225,7 +266,8 @@ pub fn run_text<S: Source, K: Sink>(
     ensures codes { IfErr result (λ fault. fault.code ≤ WRITE_FAULT) }
     ensures sound { OnOk result (K.faults sink.new ≡ K.faults sink.old) }
     ensures heard { OnOk result (S.faults source.new ≡ S.faults source.old) }
-    ensures told { IfErr result (λ fault. fault.code ≢ READ_FAULT → S.faults source.new ≡ S.faults source.old) }
+    ensures told { IfErr result
+        (λ fault. fault.code ≢ READ_FAULT → S.faults source.new ≡ S.faults source.old) }
 
     // Once the source said that nothing is left, it is asked no more.
     ensures ended { HearsEnd result (S.ends source.old) (S.ends source.new) }

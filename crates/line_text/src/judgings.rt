@@ -1,6 +1,7 @@
 //! Check texts that are judged: a text in, a verdict out.
 
-ghost use Rattle.std.specs.Prelude.{◌≡◌, ◌≢◌, ◌++◌, ◌≤◌, ◌⊎◌, [], ℕ, List, Err, Some, IfErr, IfOk, OnErr, OnOk};
+ghost use Rattle.std.specs.Prelude.{◌≡◌, ◌≢◌, ◌++◌, ◌≤◌, ◌⊎◌, [], ℕ, List, Err, Some, IfErr, IfOk};
+ghost use Rattle.std.specs.Prelude.{OnErr, OnOk};
 ghost use Rattle.line_claims.specs.Reads.{IsOfText};
 ghost use Rattle.line_claims.specs.Texts.{check_of_text, seen_check};
 ghost use Rattle.line_devices.specs.Devices.{Outputs, Puts, PutsFront, one_more};
@@ -47,7 +48,9 @@ fn put_fault<K: Sink>(
     writer: &mut RecordWriter,
     fault: CertFault,
 ) -> Result<(), DeviceFault>
-    ensures { Outputs result (K.taken sink.old) (K.taken sink.new) (K.faults sink.old) (K.faults sink.new) writer.new (writer.old ++ record_text (spec.verdict_record (Some fault))) }
+    ensures { Outputs result (K.taken sink.old) (K.taken sink.new) (K.faults sink.old)
+        (K.faults sink.new) writer.new
+        (writer.old ++ record_text (spec.verdict_record (Some fault))) }
 {
     let code = code_of(fault.code);
     let entry = number_field(fault.entry);
@@ -62,7 +65,8 @@ fn put_verdict<K: Sink>(
     writer: &mut RecordWriter,
     verdict: Option<CertFault>,
 ) -> Result<(), DeviceFault>
-    ensures { Outputs result (K.taken sink.old) (K.taken sink.new) (K.faults sink.old) (K.faults sink.new) writer.new (writer.old ++ record_text (spec.verdict_record verdict)) }
+    ensures { Outputs result (K.taken sink.old) (K.taken sink.new) (K.faults sink.old)
+        (K.faults sink.new) writer.new (writer.old ++ record_text (spec.verdict_record verdict)) }
 {
     match verdict {
         None => put_numbers(sink, writer, b"valid", &[]),
@@ -77,8 +81,11 @@ fn tell_verdict<K: Sink>(
     verdict: Option<CertFault>,
 ) -> Result<(), DeviceFault>
     requires { writer.old ≡ [] }
-    ensures ok { OnOk result (Puts (K.taken sink.old) (K.taken sink.new) (record_text (spec.verdict_record verdict))) }
-    ensures err { OnErr result (PutsFront (K.taken sink.old) (K.taken sink.new) (record_text (spec.verdict_record verdict))) }
+    ensures ok { OnOk result
+        (Puts (K.taken sink.old) (K.taken sink.new) (record_text (spec.verdict_record verdict))) }
+    ensures err { OnErr result
+        (PutsFront (K.taken sink.old) (K.taken sink.new)
+        (record_text (spec.verdict_record verdict))) }
     ensures sound { OnOk result (K.faults sink.new ≡ K.faults sink.old) }
     ensures failed { OnErr result (K.faults sink.new ≡ one_more (K.faults sink.old)) }
 {
@@ -105,34 +112,45 @@ pub fn check_text<S: Source, K: Sink>(
     sink: &mut K,
 ) -> Result<Option<CertFault>, TextFault>
     // What the source gave, to its end and within the limit, is a check text that was judged.
-    ensures done { IfOk result (λ verdict. (text : List ℕ) × GivesAll text (S.left source.old) (S.left source.new) (S.given source.old) (S.given source.new)
+    ensures done { IfOk result
+        (λ verdict. (text : List ℕ)
+        × GivesAll text (S.left source.old) (S.left source.new) (S.given source.old)
+        (S.given source.new)
         × spec.JudgesText text verdict (K.taken sink.old) (K.taken sink.new)) }
 
     // A fault of the text is its first, and then nothing is written.
     ensures text { IfErr result (λ fault. IsOfText fault
         → (sink.new ≡ sink.old)
-        × ((text : List ℕ) × GivesAll text (S.left source.old) (S.left source.new) (S.given source.old) (S.given source.new) × (check_of_text text ≡ Err fault))) }
+        × ((text : List ℕ)
+        × GivesAll text (S.left source.old) (S.left source.new) (S.given source.old)
+        (S.given source.new)
+        × (check_of_text text ≡ Err fault))) }
 
     // So it is where the source failed or the input is too long.
     ensures read { IfErr result (λ fault. fault.code ≡ READ_FAULT
         → (fault.record_number ≡ 0) × (sink.new ≡ sink.old)
-        × ((S.faults source.new ≡ one_more (S.faults source.old)) ⊎ IsTooLong (S.left source.old) (S.given source.old) (S.given source.new))) }
+        × ((S.faults source.new ≡ one_more (S.faults source.old))
+        ⊎ IsTooLong (S.left source.old) (S.given source.old) (S.given source.new))) }
 
-    // Where the sink failed, what it took is a front of the verdict.
+    // Where the sink failed, what it took is a prefix of the verdict.
     ensures write { IfErr result (λ fault. fault.code ≡ WRITE_FAULT
         → (fault.record_number ≡ 0) × (K.faults sink.new ≡ one_more (K.faults sink.old))
-        × ((text : List ℕ) × GivesAll text (S.left source.old) (S.left source.new) (S.given source.old) (S.given source.new)
+        × ((text : List ℕ)
+        × GivesAll text (S.left source.old) (S.left source.new) (S.given source.old)
+        (S.given source.new)
         × spec.JudgesTextFront text (K.taken sink.old) (K.taken sink.new))) }
 
     // Out of memory is of no record, and then nothing is written.
-    ensures memory { IfErr result (λ fault. fault.code ≡ 0 → (fault.record_number ≡ 0) × (sink.new ≡ sink.old)) }
+    ensures memory { IfErr result
+        (λ fault. fault.code ≡ 0 → (fault.record_number ≡ 0) × (sink.new ≡ sink.old)) }
 
     // There are no other faults, a sound sink is not blamed, and no failure of the source is passed
     // over.
     ensures codes { IfErr result (λ fault. (fault.code ≤ WRITE_FAULT) ⊎ IsOfText fault) }
     ensures sound { OnOk result (K.faults sink.new ≡ K.faults sink.old) }
     ensures heard { OnOk result (S.faults source.new ≡ S.faults source.old) }
-    ensures told { IfErr result (λ fault. fault.code ≢ READ_FAULT → S.faults source.new ≡ S.faults source.old) }
+    ensures told { IfErr result
+        (λ fault. fault.code ≢ READ_FAULT → S.faults source.new ≡ S.faults source.old) }
 
     // Once the source said that nothing is left, it is asked no more.
     ensures ended { HearsEnd result (S.ends source.old) (S.ends source.new) }

@@ -14,30 +14,43 @@ ghost use Rattle.line_text.specs.Runs.{RunsText, RunsTextFront, StopsText};
 
 /// A script of version 1, whatever its bytes, has the same replies in version 2, unless version 1
 /// refuses it for the number of its processes: what a run puts for the one text it may put for the
-/// other, also where it is out of memory or the sink failed. So it is too where the
-/// first record stands behind empty lines or spells the version with leading zeros.
+/// other, also where it is out of memory or the sink failed. So it is too where the first record
+/// stands after empty lines or spells the version with leading zeros.
 pub fn scripts_of_both_versions_run_alike()
-    ensures runs { (text : List ℕ) (refused : ℕ) (old new : Option (List ℕ)) → script_of_text (codes "world,1," ++ text) ≢ Err (fault_at 1 BadCount)
-        → RunsText (codes "world,1," ++ text) refused old new ↔ RunsText (codes "world,2," ++ text) refused old new }
-    ensures fronts { (text : List ℕ) (old new : Option (List ℕ)) → script_of_text (codes "world,1," ++ text) ≢ Err (fault_at 1 BadCount)
-        → RunsTextFront (codes "world,1," ++ text) old new ↔ RunsTextFront (codes "world,2," ++ text) old new }
-    ensures stops { (text : List ℕ) (record_number : ℕ) (old new : Option (List ℕ)) → script_of_text (codes "world,1," ++ text) ≢ Err (fault_at 1 BadCount)
-        → StopsText (codes "world,1," ++ text) record_number old new ↔ StopsText (codes "world,2," ++ text) record_number old new }
-    ensures runs_as_spelled { (text later : List ℕ) (refused : ℕ) (old new : Option (List ℕ)) → DifferInVersion text later → script_of_text text ≢ Err (fault_at 1 BadCount)
+    ensures runs { (text : List ℕ) (refused : ℕ) (old new : Option (List ℕ))
+        → script_of_text (codes "world,1," ++ text) ≢ Err (fault_at 1 BadCount)
+        → RunsText (codes "world,1," ++ text) refused old new
+        ↔ RunsText (codes "world,2," ++ text) refused old new }
+    ensures fronts { (text : List ℕ) (old new : Option (List ℕ))
+        → script_of_text (codes "world,1," ++ text) ≢ Err (fault_at 1 BadCount)
+        → RunsTextFront (codes "world,1," ++ text) old new
+        ↔ RunsTextFront (codes "world,2," ++ text) old new }
+    ensures stops { (text : List ℕ) (record_number : ℕ) (old new : Option (List ℕ))
+        → script_of_text (codes "world,1," ++ text) ≢ Err (fault_at 1 BadCount)
+        → StopsText (codes "world,1," ++ text) record_number old new
+        ↔ StopsText (codes "world,2," ++ text) record_number old new }
+    ensures runs_as_spelled { (text later : List ℕ) (refused : ℕ) (old new : Option (List ℕ))
+        → DifferInVersion text later → script_of_text text ≢ Err (fault_at 1 BadCount)
         → RunsText text refused old new ↔ RunsText later refused old new }
-    ensures fronts_as_spelled { (text later : List ℕ) (old new : Option (List ℕ)) → DifferInVersion text later → script_of_text text ≢ Err (fault_at 1 BadCount)
+    ensures fronts_as_spelled { (text later : List ℕ) (old new : Option (List ℕ))
+        → DifferInVersion text later → script_of_text text ≢ Err (fault_at 1 BadCount)
         → RunsTextFront text old new ↔ RunsTextFront later old new }
-    ensures stops_as_spelled { (text later : List ℕ) (record_number : ℕ) (old new : Option (List ℕ)) → DifferInVersion text later → script_of_text text ≢ Err (fault_at 1 BadCount)
+    ensures stops_as_spelled { (text later : List ℕ) (record_number : ℕ) (old new : Option (List ℕ))
+        → DifferInVersion text later → script_of_text text ≢ Err (fault_at 1 BadCount)
         → StopsText text record_number old new ↔ StopsText later record_number old new }
 {}
 
 /// A check text of version 1 that spells a claim gets the same verdict in version 2: with
 /// `history,2,N` in place of `history,1,N` as its first record, and all other records as they were.
 pub fn claims_of_version_1_are_judged_alike_in_version_2()
-    ensures verdicts { (number : List ℕ) (rest : List Record) (text later : List ℕ) (verdict : Option CertFault) (old new : Option (List ℕ))
-        → records_in text ≡ Ok (in_version 1 number rest) → records_in later ≡ Ok (in_version 2 number rest)
+    ensures verdicts { (number : List ℕ) (rest : List Record) (text later : List ℕ)
+        (verdict : Option CertFault) (old new : Option (List ℕ))
+        → records_in text ≡ Ok (in_version 1 number rest)
+        → records_in later ≡ Ok (in_version 2 number rest)
         → JudgesText text verdict old new → JudgesText later verdict old new }
-    ensures fronts { (number : List ℕ) (rest : List Record) (text later : List ℕ) (old new : Option (List ℕ))
-        → records_in text ≡ Ok (in_version 1 number rest) → records_in later ≡ Ok (in_version 2 number rest)
+    ensures fronts { (number : List ℕ) (rest : List Record) (text later : List ℕ)
+        (old new : Option (List ℕ))
+        → records_in text ≡ Ok (in_version 1 number rest)
+        → records_in later ≡ Ok (in_version 2 number rest)
         → JudgesTextFront text old new → JudgesTextFront later old new }
 {}

@@ -16,6 +16,7 @@ pub enum WordsFault {
     Version(String),
     /// The words are no command of the program.
     Bad,
+    /// Memory was refused.
     OutOfMemory,
 }
 

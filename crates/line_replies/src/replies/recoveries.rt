@@ -1,6 +1,7 @@
 //! The records that are written for a recovery.
 
-ghost use Rattle.std.specs.Prelude.{◌≡◌, ◌<◌, ◌++◌, ◌∷◌, [], None, codes, decimal, length, slice_index_or};
+ghost use Rattle.std.specs.Prelude.{◌≡◌, ◌<◌, ◌++◌, ◌∷◌, [], None, codes, decimal, length};
+ghost use Rattle.std.specs.Prelude.{slice_index_or};
 ghost use Rattle.line_claims.specs.Records.{choice_text};
 ghost use Rattle.line_devices.specs.Devices.{Outputs};
 ghost use Rattle.line_names.specs.Lines.{choice_at};
@@ -23,7 +24,9 @@ fn put_recovered<K: Sink>(
     entries: usize,
     replays: usize,
 ) -> Result<(), DeviceFault>
-    ensures { Outputs result (K.taken sink.old) (K.taken sink.new) (K.faults sink.old) (K.faults sink.new) writer.new (writer.old ++ record_text (spec.recovered sweeps entries replays)) }
+    ensures { Outputs result (K.taken sink.old) (K.taken sink.new) (K.faults sink.old)
+        (K.faults sink.new) writer.new
+        (writer.old ++ record_text (spec.recovered sweeps entries replays)) }
 {
     let numbers = [sweeps as u64, entries as u64, replays as u64];
     put_numbers(sink, writer, b"recovered", &numbers)
@@ -68,7 +71,12 @@ fn put_now<K: Sink>(
     inc: u64,
     state: Field<'_>,
 ) -> Result<(), DeviceFault>
-    ensures { Outputs result (K.taken sink.old) (K.taken sink.new) (K.faults sink.old) (K.faults sink.new) writer.new (writer.old ++ record_text (codes "line" ∷ decimal p ∷ choice_text Choice.Now ∷ decimal inc ∷ field_text state.entry ∷ [])) }
+    ensures { Outputs result (K.taken sink.old) (K.taken sink.new) (K.faults sink.old)
+        (K.faults sink.new) writer.new
+        (writer.old
+        ++ record_text
+        (codes "line" ∷ decimal p ∷ choice_text Choice.Now ∷ decimal inc
+        ∷ field_text state.entry ∷ [])) }
 {
     let fields = [
         Field::Number(p as u64),
@@ -89,7 +97,9 @@ fn put_line<K: Sink>(
     p: usize,
 ) -> Result<(), DeviceFault>
     requires { p < length choices.now }
-    ensures { Outputs result (K.taken sink.old) (K.taken sink.new) (K.faults sink.old) (K.faults sink.new) writer.new (writer.old ++ record_text (spec.line_of choices.now incarnations.now states.now p)) }
+    ensures { Outputs result (K.taken sink.old) (K.taken sink.new) (K.faults sink.old)
+        (K.faults sink.new) writer.new
+        (writer.old ++ record_text (spec.line_of choices.now incarnations.now states.now p)) }
 {
     let inc = incarnation_at(incarnations, p);
     let state = state_field(states, p);
@@ -110,7 +120,9 @@ fn put_lines<K: Sink>(
     incarnations: &[u16],
     states: &[Option<State>],
 ) -> Result<(), DeviceFault>
-    ensures { Outputs result (K.taken sink.old) (K.taken sink.new) (K.faults sink.old) (K.faults sink.new) writer.new (writer.old ++ records_text (spec.lines choices.now incarnations.now states.now)) }
+    ensures { Outputs result (K.taken sink.old) (K.taken sink.new) (K.faults sink.old)
+        (K.faults sink.new) writer.new
+        (writer.old ++ records_text (spec.lines choices.now incarnations.now states.now)) }
 {
     for p in 0..choices.len() {
         put_line(sink, writer, choices, incarnations, states, p)?;
@@ -124,7 +136,8 @@ fn put_passes<K: Sink>(
     writer: &mut RecordWriter,
     entries: &[Passed],
 ) -> Result<(), DeviceFault>
-    ensures { Outputs result (K.taken sink.old) (K.taken sink.new) (K.faults sink.old) (K.faults sink.new) writer.new (writer.old ++ records_text (spec.passes entries.now)) }
+    ensures { Outputs result (K.taken sink.old) (K.taken sink.new) (K.faults sink.old)
+        (K.faults sink.new) writer.new (writer.old ++ records_text (spec.passes entries.now)) }
 {
     for entry in entries {
         put_pass(sink, writer, entry)?;
@@ -138,7 +151,8 @@ fn put_replay<K: Sink>(
     writer: &mut RecordWriter,
     message: MsgName,
 ) -> Result<(), DeviceFault>
-    ensures { Outputs result (K.taken sink.old) (K.taken sink.new) (K.faults sink.old) (K.faults sink.new) writer.new (writer.old ++ record_text (spec.replay message)) }
+    ensures { Outputs result (K.taken sink.old) (K.taken sink.new) (K.faults sink.old)
+        (K.faults sink.new) writer.new (writer.old ++ record_text (spec.replay message)) }
 {
     put_numbers(sink, writer, b"replay", &numbers_of(message))
 }
@@ -149,7 +163,8 @@ fn put_replays<K: Sink>(
     writer: &mut RecordWriter,
     replays: &[MsgName],
 ) -> Result<(), DeviceFault>
-    ensures { Outputs result (K.taken sink.old) (K.taken sink.new) (K.faults sink.old) (K.faults sink.new) writer.new (writer.old ++ records_text (spec.replays_of replays.now)) }
+    ensures { Outputs result (K.taken sink.old) (K.taken sink.new) (K.faults sink.old)
+        (K.faults sink.new) writer.new (writer.old ++ records_text (spec.replays_of replays.now)) }
 {
     for i in 0..replays.len() {
         put_replay(sink, writer, replays[i])?;
@@ -164,7 +179,9 @@ fn put_rest<K: Sink>(
     entries: &[Passed],
     replays: &[MsgName],
 ) -> Result<(), DeviceFault>
-    ensures { Outputs result (K.taken sink.old) (K.taken sink.new) (K.faults sink.old) (K.faults sink.new) writer.new (writer.old ++ records_text (spec.passes entries.now ++ spec.replays_of replays.now)) }
+    ensures { Outputs result (K.taken sink.old) (K.taken sink.new) (K.faults sink.old)
+        (K.faults sink.new) writer.new
+        (writer.old ++ records_text (spec.passes entries.now ++ spec.replays_of replays.now)) }
 {
     put_passes(sink, writer, entries)?;
     put_replays(sink, writer, replays)
@@ -180,7 +197,12 @@ fn put_line_and_rest<K: Sink>(
     entries: &[Passed],
     replays: &[MsgName],
 ) -> Result<(), DeviceFault>
-    ensures { Outputs result (K.taken sink.old) (K.taken sink.new) (K.faults sink.old) (K.faults sink.new) writer.new (writer.old ++ records_text (spec.lines choices.now incarnations.now states.now ++ (spec.passes entries.now ++ spec.replays_of replays.now))) }
+    ensures { Outputs result (K.taken sink.old) (K.taken sink.new) (K.faults sink.old)
+        (K.faults sink.new) writer.new
+        (writer.old
+        ++ records_text
+        (spec.lines choices.now incarnations.now states.now
+        ++ (spec.passes entries.now ++ spec.replays_of replays.now))) }
 {
     put_lines(sink, writer, choices, incarnations, states)?;
     put_rest(sink, writer, entries, replays)
@@ -194,7 +216,12 @@ pub(super) fn put_recovery<K: Sink>(
     incarnations: &Vec<u16>,
     states: &Vec<Option<State>>,
 ) -> Result<(), DeviceFault>
-    ensures { Outputs result (K.taken sink.old) (K.taken sink.new) (K.faults sink.old) (K.faults sink.new) writer.new (writer.old ++ records_text (spec.recovery plan.now.sweeps plan.now.certificate.items plan.now.replays.items plan.now.line incarnations.now.items states.now.items)) }
+    ensures { Outputs result (K.taken sink.old) (K.taken sink.new) (K.faults sink.old)
+        (K.faults sink.new) writer.new
+        (writer.old
+        ++ records_text
+        (spec.recovery plan.now.sweeps plan.now.certificate.items plan.now.replays.items
+        plan.now.line incarnations.now.items states.now.items)) }
 {
     let entries = plan.certificate.as_slice();
     let replays = plan.replays.as_slice();
