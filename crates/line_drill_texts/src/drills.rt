@@ -20,7 +20,7 @@ const CAPACITY: usize = 1;
 /// How often a worker tries to send or to receive a message, at most.
 const TURNS: u64 = 10_000_000;
 
-/// Memory was wanting before the workers began, or after they ended.
+/// Memory was out before the workers began, or after they ended.
 const OUT_OF_MEMORY: DrillError = DrillError {
     worker: None,
     order: None,

@@ -24,7 +24,7 @@ fn read_again<R: Read>(reader: &mut R, into: &mut [u8]) -> io::Result<usize>
     Err(io::Error::from(ErrorKind::TimedOut))
 }
 
-// Counts an end, where a call gave nothing.
+/// Counts an end, where a call gave nothing.
 fn count_end(ends: &mut u64, count: usize)
     ensures { ends.new ≡ ends_after count ends.old }
 {

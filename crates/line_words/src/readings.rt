@@ -5,7 +5,7 @@ ghost use Rattle.std.specs.IoError.{error_kind};
 use crate::faults::WordsFault;
 use std::io::{Error, ErrorKind};
 
-/// Why the words of the command line were not read: memory was wanting, or one of them is no text.
+/// Why the words of the command line were not read: memory was out, or one of them is no text.
 pub fn fault_of_reading(error: &Error) -> WordsFault
     ensures memory { error_kind error.now ≡ ErrorKind.OutOfMemory
         → result ≡ WordsFault.OutOfMemory }

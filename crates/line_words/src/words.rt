@@ -13,7 +13,7 @@ pub fn command_of<'a>(alloc: Global, words: &'a [&'a str]) -> Result<Job, WordsF
     ensures ok { IfOk result (λ job. AsksFor (map (λ w. w.now) words.entry.now) job) }
     ensures range { IfOk result IsInRange }
 
-    // A command line that asks for a job is refused for want of memory alone.
+    // A command line that asks for a job is refused only where memory is out.
     ensures err { IfErr result (λ fault. (job : Job)
         → takes recline (map (λ w. w.now) words.entry.now) ≡ true
         → AsksFor (map (λ w. w.now) words.entry.now) job → fault ≡ WordsFault.OutOfMemory) }
