@@ -4,8 +4,8 @@ ghost use Rattle.line_cli.specs.Status.{status_of, status_of_drill, status_of_se
 
 use line_service::Outcome;
 
-/// The status that goes with a fault of a text, by its number: 3 for out of memory (0), a source
-/// (36), a sink (37) or a thread (39) that failed, and 2 for the others.
+/// The status that goes with a fault of a text, by its number: 3 where memory is out (0), or a
+/// source (36), a sink (37) or a thread (39) failed, and 2 for the others.
 pub fn status_of_fault(code: u32) -> u8
     ensures { result ≡ status_of code }
 {
@@ -27,8 +27,8 @@ pub fn status_of_service(outcome: Outcome) -> u8
     }
 }
 
-/// The status that goes with a drill that was refused, by its number: 3 for out of memory (0) or a
-/// thread (39), and 1 for the others.
+/// The status that goes with a drill that was refused, by its number: 3 where memory is out (0), or
+/// a thread could not be started (39), and 1 for the others.
 pub fn status_of_drill(code: u32) -> u8
     ensures { result ≡ status_of_drill code }
 {

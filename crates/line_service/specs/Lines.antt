@@ -1,5 +1,6 @@
 -- The lines that a service hears, as their bytes come, and the records that they are.
-use Rattle.std.specs.Prelude.{◌≡◌, ◌<◌, ℕ, ◌+◌, ◌==◌, drop, take, nat_le, not, Bool, true, false, List, [], ◌∷◌, ◌++◌, length, Result, Ok, Err, if◌then◌else◌}
+use Rattle.std.specs.Prelude.{◌≡◌, ◌<◌, ℕ, ◌+◌, ◌==◌, drop, take, nat_le, not, Bool, true, false}
+use Rattle.std.specs.Prelude.{List, [], ◌∷◌, ◌++◌, length, Result, Ok, Err, if◌then◌else◌}
 use Rattle.std.specs.List.{list_all}
 use Rattle.line_fields.specs.declared.faults.Fault.{Fault}
 use Rattle.line_fields.specs.declared.faults.Fault.TheVariants.{BadRecord}
@@ -14,26 +15,31 @@ pub data Pending : Type 0 where
 
 -- a line with more bytes
 abbrev pub longer : Pending → List ℕ → Pending
-longer (Kept own) bytes = if nat_le (length own + length bytes) MOST_LINE then Kept (own ++ bytes) else Dropped
+longer (Kept own) bytes =
+    if nat_le (length own + length bytes) MOST_LINE then Kept (own ++ bytes) else Dropped
 longer Dropped bytes = Dropped
 
 -- the lines that end within bytes that come, each at a line feed
 unfoldable pub lines_in : Pending → List ℕ → List Pending
 lines_in pending [] = []
-lines_in pending (byte ∷ rest) = if byte == 10 then pending ∷ lines_in (Kept []) rest else lines_in (longer pending (byte ∷ [])) rest
+lines_in pending (byte ∷ rest) = if byte == 10 then pending ∷ lines_in (Kept []) rest
+    else lines_in (longer pending (byte ∷ [])) rest
 
 -- what is pending when they have come
 unfoldable pub pending_after : Pending → List ℕ → Pending
 pending_after pending [] = pending
-pending_after pending (byte ∷ rest) = if byte == 10 then pending_after (Kept []) rest else pending_after (longer pending (byte ∷ [])) rest
+pending_after pending (byte ∷ rest) = if byte == 10 then pending_after (Kept []) rest
+    else pending_after (longer pending (byte ∷ [])) rest
 
--- the record of a line, its fields parted by commas, or its fault where its bytes are not allowed; a line without a byte is none
+-- the record of a line, its fields parted by commas, or its fault where its bytes are not allowed;
+-- a line without a byte is none
 abbrev pub record_of : Bool → List ℕ → List (Result Record Fault)
 record_of false line = Err BadRecord ∷ []
 record_of true [] = []
 record_of true (byte ∷ rest) = Ok (parts 44 (byte ∷ rest)) ∷ []
 
--- the record of a line that a line feed ended, where a carriage return directly before that one doesn't count
+-- the record of a line that a line feed ended, where a carriage return directly before that one
+-- doesn't count
 abbrev pub ended_record : Pending → List (Result Record Fault)
 ended_record (Kept bytes) = record_of (is_input_text (bytes ++ 10 ∷ [])) (without 13 bytes)
 ended_record Dropped = Err BadRecord ∷ []

@@ -9,7 +9,8 @@ use Rattle.line_service.specs.Services.{Answer, Began, Replied, Serves, Standing
 use Rattle.line_world.specs.Machine.{Machine, start}
 
 -- two pieces of an input are answered one after the other
-pub record ServesBoth (old : Standing) (bytes more : List ℕ) (answers : List Answer) (new : Standing) : Type 0 where
+pub record ServesBoth (old : Standing) (bytes more : List ℕ) (answers : List Answer)
+    (new : Standing) : Type 0 where
   pub first : List Answer
   pub rest : List Answer
   pub all : answers ≡ first ++ rest
@@ -21,7 +22,8 @@ pub record ServesBoth (old : Standing) (bytes more : List ℕ) (answers : List A
 abbrev pub HasShortLines : List ℕ → Type 0
 HasShortLines text = AllByRecursion (λ line. length line ≤ MOST_LINE) (parts 10 text)
 
--- the machine of a script runs its commands, and what they are told are the answers behind that to its first record
+-- the machine of a script runs its commands, and what they are told are the answers after that to
+-- its first record
 pub record IsRunOf (script : Script) (answers : List Answer) (new : Option Machine) : Type 0 where
   pub told : List Told
   pub end : Machine

@@ -1,5 +1,6 @@
 -- What a service answers to the records that it hears.
-use Rattle.std.specs.Prelude.{◌≡◌, ℕ, ◌++◌, List, [], ◌∷◌, fold, length, Option, Some, None, Result, Ok, if◌then◌else◌, codes, decimal}
+use Rattle.std.specs.Prelude.{◌≡◌, ℕ, ◌++◌, List, [], ◌∷◌, fold, length, Option, Some, None, Result}
+use Rattle.std.specs.Prelude.{Ok, if◌then◌else◌, codes, decimal}
 use Rattle.std.specs.List.{flat_map}
 use Rattle.line_answers.specs.Answers.{Told, Tells, is_refused, told_records}
 use Rattle.line_claims.specs.Faults.{name_of}
@@ -15,10 +16,12 @@ use Rattle.line_scripts.specs.declared.commands.Command.{Command}
 use Rattle.line_scripts.specs.Scripts.{command_of, world_of}
 use Rattle.line_service.specs.declared.outcomes.Outcome.{Outcome}
 use Rattle.line_service.specs.declared.outcomes.Outcome.TheVariants as outcomes
-use Rattle.line_service.specs.Lines.{Pending, Kept, ended_record, last_record, lines_in, pending_after}
+use Rattle.line_service.specs.Lines.{Pending, Kept, ended_record, last_record, lines_in}
+use Rattle.line_service.specs.Lines.{pending_after}
 use Rattle.line_world.specs.Machine.{Machine, start}
 
--- what a record is answered: the machine began, it was not done for its fault or for want of memory, or its command was told something
+-- what a record is answered: the machine began; it was not done, since it has a fault or memory is
+-- out; or its command was told something
 pub data Answer : Type 0 where
   Began : Answer
   Faulted : ReadError → Answer
@@ -49,7 +52,8 @@ answers_text answers = flat_map answer_text answers
 
 -- before there is a machine, a record may be answered so: the first good one begins it
 abbrev pub Begins : Result (ℕ × Mode) Fault → Answer → Option Machine → Type 0
-Begins read Began new = (world : ℕ × Mode) × (read ≡ Ok world) × (new ≡ Some (start world.0 world.1))
+Begins read Began new = (world : ℕ × Mode) × (read ≡ Ok world)
+    × (new ≡ Some (start world.0 world.1))
 Begins read (Faulted error) new = Fails error read × (new ≡ None)
 Begins read (Replied told) new = ⊥
 
@@ -57,17 +61,22 @@ Begins read (Replied told) new = ⊥
 abbrev pub Obeys : Machine → Result Command Fault → Answer → Option Machine → Type 0
 Obeys old read Began new = ⊥
 Obeys old read (Faulted error) new = Fails error read × (new ≡ Some old)
-Obeys old read (Replied told) new = (command : Command) × (read ≡ Ok command) × (later : Machine) × Tells old command told later × (new ≡ Some later)
+Obeys old read (Replied told) new = (command : Command) × (read ≡ Ok command) × (later : Machine)
+    × Tells old command told later × (new ≡ Some later)
 
--- a record, or the fault of a line that is none, may be answered so, with a machine or without, and leaves new
+-- a record, or the fault of a line that is none, may be answered so, with a machine or without, and
+-- leaves new
 abbrev pub Hears : Option Machine → Result Record Fault → Answer → Option Machine → Type 0
 Hears None one answer new = Begins (one >>= world_of) answer new
-Hears (Some machine) one answer new = Obeys machine (one >>= command_of (length machine.history)) answer new
+Hears (Some machine) one answer new =
+    Obeys machine (one >>= command_of (length machine.history)) answer new
 
 -- records may be answered these, one after another
-abbrev pub HearsAll : Option Machine → List (Result Record Fault) → List Answer → Option Machine → Type 0
+abbrev pub HearsAll : Option Machine → List (Result Record Fault) → List Answer → Option Machine
+    → Type 0
 HearsAll old [] [] new = new ≡ old
-HearsAll old (one ∷ others) (answer ∷ answers) new = (mid : Option Machine) × Hears old one answer mid × HearsAll mid others answers new
+HearsAll old (one ∷ others) (answer ∷ answers) new = (mid : Option Machine)
+    × Hears old one answer mid × HearsAll mid others answers new
 HearsAll old [] (answer ∷ answers) new = ⊥
 HearsAll old (one ∷ others) [] new = ⊥
 
@@ -88,7 +97,8 @@ outcome_of (Replied told) = if is_refused told then outcomes.Refused else outcom
 abbrev pub worst : Outcome → List Answer → Outcome
 worst outcome answers = fold (λ so_far answer. worse so_far (outcome_of answer)) outcome answers
 
--- where a service is: its machine, once a first record was good, what was read of a line that has not ended, and the worst outcome so far
+-- where a service is: its machine, once a first record was good, what was read of a line that has
+-- not ended, and the worst outcome so far
 pub record Standing : Type 0 where
   pub machine : Option Machine
   pub pending : Pending
@@ -103,7 +113,8 @@ abbrev pub records_of : List ℕ → List (Result Record Fault)
 records_of text = records_in (Kept []) text ++ last_record (pending_after (Kept []) text)
 
 -- bytes that come may be answered so: all lines that end within them, and no other
-pub record Serves (old : Standing) (bytes : List ℕ) (answers : List Answer) (new : Standing) : Type 0 where
+pub record Serves (old : Standing) (bytes : List ℕ) (answers : List Answer)
+    (new : Standing) : Type 0 where
   pub heard : HearsAll old.machine (records_in old.pending bytes) answers new.machine
   pub pending : new.pending ≡ pending_after old.pending bytes
   pub outcome : new.outcome ≡ worst old.outcome answers

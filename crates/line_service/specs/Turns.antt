@@ -1,5 +1,6 @@
 -- What the calls of a service put, where all goes well and where the sink fails.
-use Rattle.std.specs.Prelude.{◌≡◌, ◌⊎◌, ◌<◌, ℕ, ◌+◌, ◌++◌, Bool, true, false, List, [], Option, None, Some, length, take, Result, Ok, Err}
+use Rattle.std.specs.Prelude.{◌≡◌, ◌⊎◌, ◌<◌, ℕ, ◌+◌, ◌++◌, Bool, true, false, List, [], Option}
+use Rattle.std.specs.Prelude.{None, Some, length, take, Result, Ok, Err}
 use Rattle.line_devices.specs.Devices.{Fills, FillsFront, Puts, PutsFront, one_more}
 use Rattle.line_fields.specs.declared.faults.Fault.{Fault}
 use Rattle.line_fields.specs.Records.{Record}
@@ -8,11 +9,13 @@ use Rattle.line_service.specs.declared.faults.ServeError.TheVariants as errors
 use Rattle.line_service.specs.declared.outcomes.Outcome.{Outcome}
 use Rattle.line_service.specs.declared.outcomes.Outcome.TheVariants as outcomes
 use Rattle.line_service.specs.Lines.{Kept}
-use Rattle.line_service.specs.Services.{Answer, Ends, HearsAll, Serves, ServesText, Standing, answers_text, fresh, records_in, records_of, worst}
+use Rattle.line_service.specs.Services.{Answer, Ends, HearsAll, Serves, ServesText, Standing}
+use Rattle.line_service.specs.Services.{answers_text, fresh, records_in, records_of, worst}
 use Rattle.line_world.specs.Machine.{Machine}
 
 -- bytes that came were answered, and the text of the answers was put
-pub record PutsAnswers (old : Standing) (bytes : List ℕ) (new : Standing) (taken now : Option (List ℕ)) : Type 0 where
+pub record PutsAnswers (old : Standing) (bytes : List ℕ) (new : Standing)
+    (taken now : Option (List ℕ)) : Type 0 where
   pub answers : List Answer
   pub serves : Serves old bytes answers new
   pub put : Puts taken now (answers_text answers)
@@ -23,21 +26,24 @@ pub record PutsLast (old : Standing) (new : Standing) (taken now : Option (List 
   pub ends : Ends old answers new
   pub put : Puts taken now (answers_text answers)
 
--- of what was held, and the text of the answers to the first of some records, a front was put
-pub record PutsAnswersFront (old : Option Machine) (held : List ℕ) (records : List (Result Record Fault)) (taken now : Option (List ℕ)) : Type 0 where
+-- of what was held, and the text of the answers to the first of some records, a prefix was put
+pub record PutsAnswersFront (old : Option Machine) (held : List ℕ)
+    (records : List (Result Record Fault)) (taken now : Option (List ℕ)) : Type 0 where
   pub done : ℕ
   pub answers : List Answer
   pub machine : Option Machine
   pub heard : HearsAll old (take done records) answers machine
   pub put : PutsFront taken now (held ++ answers_text answers)
 
--- a source gave these bytes, and not a byte else; where it tells what is left, they were all of it, and nothing is left
+-- a source gave these bytes, and not a byte else; where it tells what is left, they were all of it,
+-- and nothing is left
 pub record GivesText (text : List ℕ) (old new : Option (List ℕ)) (given later : ℕ) : Type 0 where
   pub counted : later ≡ given + length text
   pub told : (xs : List ℕ) → old ≡ Some xs → (text ≡ xs) × (new ≡ Some [])
 
 -- a whole input was answered, this was the worst outcome, and the text of the answers was put
-pub record AnswersText (text : List ℕ) (outcome : Outcome) (taken now : Option (List ℕ)) : Type 0 where
+pub record AnswersText (text : List ℕ) (outcome : Outcome)
+    (taken now : Option (List ℕ)) : Type 0 where
   pub answers : List Answer
   pub machine : Option Machine
   pub serves : ServesText text answers machine
@@ -50,8 +56,10 @@ code_of errors.OutOfMemory = 0
 code_of errors.Read = 36
 code_of errors.Write = 37
 
--- a source gave some bytes, or none where nothing is left, which were answered, and the text of the answers was put
-pub record TakesTurn (old new : Standing) (left later : Option (List ℕ)) (given counted : ℕ) (taken now : Option (List ℕ)) (more : Bool) : Type 0 where
+-- a source gave some bytes, or none where nothing is left, which were answered, and the text of the
+-- answers was put
+pub record TakesTurn (old new : Standing) (left later : Option (List ℕ)) (given counted : ℕ)
+    (taken now : Option (List ℕ)) (more : Bool) : Type 0 where
   pub bytes : List ℕ
   pub fills : Fills left later bytes
   pub count : counted ≡ given + length bytes
@@ -59,22 +67,27 @@ pub record TakesTurn (old new : Standing) (left later : Option (List ℕ)) (give
   pub some : more ≡ true → 0 < length bytes
   pub none : more ≡ false → bytes ≡ []
 
--- a source gave some bytes, and a front of the text of their answers was put
-pub record BreaksTurn (old : Standing) (left later : Option (List ℕ)) (given counted : ℕ) (taken now : Option (List ℕ)) : Type 0 where
+-- a source gave some bytes, and a prefix of the text of their answers was put
+pub record BreaksTurn (old : Standing) (left later : Option (List ℕ)) (given counted : ℕ)
+    (taken now : Option (List ℕ)) : Type 0 where
   pub bytes : List ℕ
   pub fills : Fills left later bytes
   pub count : counted ≡ given + length bytes
   pub answered : PutsAnswersFront old.machine [] (records_in old.pending bytes) taken now
 
--- a source gave this text to its end, all lines that ended in it were answered, and the text of the answers was put
-pub record AnswersLines (new : Standing) (left later : Option (List ℕ)) (given counted : ℕ) (taken now : Option (List ℕ)) : Type 0 where
+-- a source gave this text to its end, all lines that ended in it were answered, and the text of the
+-- answers was put
+pub record AnswersLines (new : Standing) (left later : Option (List ℕ)) (given counted : ℕ)
+    (taken now : Option (List ℕ)) : Type 0 where
   pub text : List ℕ
   pub gives : GivesText text left later given counted
   pub fills : Fills left later text
   pub answered : PutsAnswers fresh text new taken now
 
--- a source gave this text before it failed or its calls were too many, and all lines that ended in it were answered
-pub record AnswersUntilFailure (left later : Option (List ℕ)) (given counted : ℕ) (taken now : Option (List ℕ)) : Type 0 where
+-- a source gave this text before it failed or its calls were too many, and all lines that ended in
+-- it were answered
+pub record AnswersUntilFailure (left later : Option (List ℕ)) (given counted : ℕ)
+    (taken now : Option (List ℕ)) : Type 0 where
   pub text : List ℕ
   pub mid : Option (List ℕ)
   pub new : Standing
@@ -83,19 +96,24 @@ pub record AnswersUntilFailure (left later : Option (List ℕ)) (given counted :
   pub count : counted ≡ given + length text
   pub answered : PutsAnswers fresh text new taken now
 
--- a source gave this text, and a front of the text of its answers was put
-pub record BreaksOff (left later : Option (List ℕ)) (given counted : ℕ) (taken now : Option (List ℕ)) : Type 0 where
+-- a source gave this text, and a prefix of the text of its answers was put
+pub record BreaksOff (left later : Option (List ℕ)) (given counted : ℕ)
+    (taken now : Option (List ℕ)) : Type 0 where
   pub text : List ℕ
   pub fills : Fills left later text
   pub count : counted ≡ given + length text
   pub answered : PutsAnswersFront None [] (records_in (Kept []) text) taken now
 
--- a source gave this text, and a front of the text of the answers was put: to the lines that ended in it, or to all of it where it was the whole input
-pub record AnswersFrontOf (left later : Option (List ℕ)) (given counted : ℕ) (taken now : Option (List ℕ)) : Type 0 where
+-- a source gave this text, and a prefix of the text of the answers was put: to the lines that ended
+-- in it, or to all of it where it was the whole input
+pub record AnswersFrontOf (left later : Option (List ℕ)) (given counted : ℕ)
+    (taken now : Option (List ℕ)) : Type 0 where
   pub text : List ℕ
   pub fills : Fills left later text
   pub count : counted ≡ given + length text
-  pub answered : PutsAnswersFront None [] (records_in (Kept []) text) taken now ⊎ (GivesText text left later given counted × PutsAnswersFront None [] (records_of text) taken now)
+  pub answered : PutsAnswersFront None [] (records_in (Kept []) text) taken now
+      ⊎ (GivesText text left later given counted
+      × PutsAnswersFront None [] (records_of text) taken now)
 
 -- a source that failed gave nothing, and may have lost some bytes
 pub record LosesBytes (left later : Option (List ℕ)) (given counted : ℕ) : Type 0 where

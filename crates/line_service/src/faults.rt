@@ -27,7 +27,7 @@ pub enum ServeError {
 }
 
 impl ServeError {
-    /// The number of the fault: that of want of memory, or of a source or a sink that failed.
+    /// The number of the fault: 0 where memory is out, 36 or 37 where a source or a sink failed.
     pub fn code(self) -> u32
         ensures { result ≡ code_of self }
     {
@@ -39,7 +39,7 @@ impl ServeError {
     }
 }
 
-// The number of a fault; 0 where memory ran out.
+/// The number of a fault; 0 where memory ran out.
 fn error_code(error: ReadError) -> u32
     ensures { result ≡ error_code error }
 {
@@ -49,14 +49,15 @@ fn error_code(error: ReadError) -> u32
     }
 }
 
-/// Writes the answer to a record with this fault behind what a writer holds: `fault,CODE,NAME`, and
+/// Writes the answer to a record with this fault after what a writer holds: `fault,CODE,NAME`, and
 /// an empty line.
 pub(crate) fn put_fault<K: Sink>(
     sink: &mut K,
     writer: &mut RecordWriter,
     error: ReadError,
 ) -> Result<(), DeviceFault>
-    ensures { Outputs result (K.taken sink.old) (K.taken sink.new) (K.faults sink.old) (K.faults sink.new) writer.new (writer.old ++ answer_text (Faulted error)) }
+    ensures { Outputs result (K.taken sink.old) (K.taken sink.new) (K.faults sink.old)
+        (K.faults sink.new) writer.new (writer.old ++ answer_text (Faulted error)) }
 {
     let code = error_code(error);
     let name = name_of(code).as_bytes();

@@ -3,21 +3,25 @@
 ghost use Rattle.std.specs.Prelude.{◌≡◌, [], true, IfOk, OnErr, OnOk};
 ghost use Rattle.line_devices.specs.Devices.{Puts, PutsFront, one_more};
 ghost use Rattle.line_fields.specs.Bytes.{is_input_text, is_line_text};
-ghost use Rattle.line_service.specs.Lines.{IsFirstFeed, Kept, ended_record, has_no_feed, last_record, pending_after, record_of};
+ghost use Rattle.line_service.specs.Lines.{IsFirstFeed, Kept, ended_record, has_no_feed};
+ghost use Rattle.line_service.specs.Lines.{last_record, pending_after, record_of};
 ghost use Rattle.line_service.specs.Progress as spec;
 ghost use Rattle.line_service.specs.Services.{records_in};
 ghost use Rattle.line_service.specs.Turns.{PutsAnswersFront};
 
 use crate::limits::MOST_LINE;
-use crate::lines::{PendingLine, feed_behind, first_feed, without_return};
+use crate::lines::{PendingLine, feed_after, first_feed, without_return};
 use crate::seats::{Seat, answer_fault, answer_record};
 use line_devices::{DeviceFault, Sink, put_all};
 use line_fields::{Fault, ReadError, RecordWriter, is_plain};
 
-// Answers the record of a line that is given without what ends it.
+/// Answers the record of a line that is given without what ends it.
 fn answer_text<K: Sink>(seat: &mut Seat, line: &[u8], sink: &mut K) -> Result<(), DeviceFault>
-    ensures ok { OnOk result (spec.Answers (spec.spot seat.old) (record_of (is_line_text line.now) line.now) (spec.spot seat.new) (K.taken sink.old) (K.taken sink.new)) }
-    ensures err { OnErr result (PutsAnswersFront seat.old.world seat.old.writer (record_of (is_line_text line.now) line.now) (K.taken sink.old) (K.taken sink.new)) }
+    ensures ok { OnOk result (spec.Answers (spec.spot seat.old)
+        (record_of (is_line_text line.now) line.now) (spec.spot seat.new) (K.taken sink.old)
+        (K.taken sink.new)) }
+    ensures err { OnErr result (PutsAnswersFront seat.old.world seat.old.writer
+        (record_of (is_line_text line.now) line.now) (K.taken sink.old) (K.taken sink.new)) }
     ensures sound { OnOk result (K.faults sink.new ≡ K.faults sink.old) }
     ensures failed { OnErr result (K.faults sink.new ≡ one_more (K.faults sink.old)) }
 {
@@ -31,22 +35,27 @@ fn answer_text<K: Sink>(seat: &mut Seat, line: &[u8], sink: &mut K) -> Result<()
     }
 }
 
-// Answers the record of a line that a line feed ended, with as many bytes as a line may have.
+/// Answers the record of a line that a line feed ended, with as many bytes as a line may have.
 fn answer_line<K: Sink>(seat: &mut Seat, line: &[u8], sink: &mut K) -> Result<(), DeviceFault>
     requires { has_no_feed line.now ≡ true }
-    ensures ok { OnOk result (spec.Answers (spec.spot seat.old) (ended_record (Kept line.now)) (spec.spot seat.new) (K.taken sink.old) (K.taken sink.new)) }
-    ensures err { OnErr result (PutsAnswersFront seat.old.world seat.old.writer (ended_record (Kept line.now)) (K.taken sink.old) (K.taken sink.new)) }
+    ensures ok { OnOk result (spec.Answers (spec.spot seat.old) (ended_record (Kept line.now))
+        (spec.spot seat.new) (K.taken sink.old) (K.taken sink.new)) }
+    ensures err { OnErr result (PutsAnswersFront seat.old.world seat.old.writer
+        (ended_record (Kept line.now)) (K.taken sink.old) (K.taken sink.new)) }
     ensures sound { OnOk result (K.faults sink.new ≡ K.faults sink.old) }
     ensures failed { OnErr result (K.faults sink.new ≡ one_more (K.faults sink.old)) }
 {
     answer_text(seat, without_return(line), sink)
 }
 
-// Answers the record of a line that stands whole among bytes that came.
+/// Answers the record of a line that stands whole among bytes that came.
 fn answer_whole<K: Sink>(seat: &mut Seat, line: &[u8], sink: &mut K) -> Result<(), DeviceFault>
     requires { has_no_feed line.now ≡ true }
-    ensures ok { OnOk result (spec.Answers (spec.spot seat.old) (ended_record (pending_after (Kept []) line.now)) (spec.spot seat.new) (K.taken sink.old) (K.taken sink.new)) }
-    ensures err { OnErr result (PutsAnswersFront seat.old.world seat.old.writer (ended_record (pending_after (Kept []) line.now)) (K.taken sink.old) (K.taken sink.new)) }
+    ensures ok { OnOk result (spec.Answers (spec.spot seat.old)
+        (ended_record (pending_after (Kept []) line.now)) (spec.spot seat.new) (K.taken sink.old)
+        (K.taken sink.new)) }
+    ensures err { OnErr result (PutsAnswersFront seat.old.world seat.old.writer
+        (ended_record (pending_after (Kept []) line.now)) (K.taken sink.old) (K.taken sink.new)) }
     ensures sound { OnOk result (K.faults sink.new ≡ K.faults sink.old) }
     ensures failed { OnErr result (K.faults sink.new ≡ one_more (K.faults sink.old)) }
 {
@@ -56,14 +65,16 @@ fn answer_whole<K: Sink>(seat: &mut Seat, line: &[u8], sink: &mut K) -> Result<(
     answer_line(seat, line, sink)
 }
 
-// Answers the record of a line that was pending and has ended.
+/// Answers the record of a line that was pending and has ended.
 fn answer_pending<K: Sink>(
     pending: &PendingLine,
     seat: &mut Seat,
     sink: &mut K,
 ) -> Result<(), DeviceFault>
-    ensures ok { OnOk result (spec.Answers (spec.spot seat.old) (ended_record pending.now) (spec.spot seat.new) (K.taken sink.old) (K.taken sink.new)) }
-    ensures err { OnErr result (PutsAnswersFront seat.old.world seat.old.writer (ended_record pending.now) (K.taken sink.old) (K.taken sink.new)) }
+    ensures ok { OnOk result (spec.Answers (spec.spot seat.old) (ended_record pending.now)
+        (spec.spot seat.new) (K.taken sink.old) (K.taken sink.new)) }
+    ensures err { OnErr result (PutsAnswersFront seat.old.world seat.old.writer
+        (ended_record pending.now) (K.taken sink.old) (K.taken sink.new)) }
     ensures sound { OnOk result (K.faults sink.new ≡ K.faults sink.old) }
     ensures failed { OnErr result (K.faults sink.new ≡ one_more (K.faults sink.old)) }
 {
@@ -73,7 +84,7 @@ fn answer_pending<K: Sink>(
     }
 }
 
-// Answers the record of the line that was pending, whose last bytes these are.
+/// Answers the record of the line that was pending, whose last bytes these are.
 fn answer_first<K: Sink>(
     pending: &mut PendingLine,
     seat: &mut Seat,
@@ -82,8 +93,12 @@ fn answer_first<K: Sink>(
 ) -> Result<(), DeviceFault>
     requires { has_no_feed bytes.now ≡ true }
     ensures none_pending { OnOk result (pending.new ≡ Kept []) }
-    ensures ok { OnOk result (spec.Answers (spec.spot seat.old) (ended_record (pending_after pending.old bytes.now)) (spec.spot seat.new) (K.taken sink.old) (K.taken sink.new)) }
-    ensures err { OnErr result (PutsAnswersFront seat.old.world seat.old.writer (ended_record (pending_after pending.old bytes.now)) (K.taken sink.old) (K.taken sink.new)) }
+    ensures ok { OnOk result (spec.Answers (spec.spot seat.old)
+        (ended_record (pending_after pending.old bytes.now)) (spec.spot seat.new) (K.taken sink.old)
+        (K.taken sink.new)) }
+    ensures err { OnErr result (PutsAnswersFront seat.old.world seat.old.writer
+        (ended_record (pending_after pending.old bytes.now)) (K.taken sink.old)
+        (K.taken sink.new)) }
     ensures sound { OnOk result (K.faults sink.new ≡ K.faults sink.old) }
     ensures failed { OnErr result (K.faults sink.new ≡ one_more (K.faults sink.old)) }
 {
@@ -96,15 +111,17 @@ fn answer_first<K: Sink>(
     Ok(())
 }
 
-// Answers the first line of bytes that came, where it ends within them, and says where its line
-// feed stands.
+/// Answers the first line of bytes that came, where it ends within them, and says where its line
+/// feed stands.
 fn answer_next<K: Sink>(
     seat: &mut Seat,
     bytes: &[u8],
     sink: &mut K,
 ) -> Result<Option<usize>, DeviceFault>
-    ensures ok { IfOk result (λ at. spec.AnswersNext (spec.spot seat.old) bytes.now at (spec.spot seat.new) (K.taken sink.old) (K.taken sink.new)) }
-    ensures err { OnErr result (PutsAnswersFront seat.old.world seat.old.writer (records_in (Kept []) bytes.now) (K.taken sink.old) (K.taken sink.new)) }
+    ensures ok { IfOk result (λ at. spec.AnswersNext (spec.spot seat.old) bytes.now at
+        (spec.spot seat.new) (K.taken sink.old) (K.taken sink.new)) }
+    ensures err { OnErr result (PutsAnswersFront seat.old.world seat.old.writer
+        (records_in (Kept []) bytes.now) (K.taken sink.old) (K.taken sink.new)) }
     ensures sound { OnOk result (K.faults sink.new ≡ K.faults sink.old) }
     ensures failed { OnErr result (K.faults sink.new ≡ one_more (K.faults sink.old)) }
 {
@@ -117,16 +134,19 @@ fn answer_next<K: Sink>(
     }
 }
 
-// Answers the record that was read into the row, of a line of so many bytes with the carriage return
-// at its end, and of so many without.
+/// Answers the record that was read into the row, of a line of so many bytes with the carriage
+/// return at its end, and of so many without.
 fn answer_row<K: Sink>(
     seat: &mut Seat,
     len: usize,
     bare: usize,
     sink: &mut K,
 ) -> Result<(), DeviceFault>
-    ensures ok { OnOk result (spec.Answers (spec.spot seat.old) (spec.row_records len bare seat.old.row) (spec.spot seat.new) (K.taken sink.old) (K.taken sink.new)) }
-    ensures err { OnErr result (PutsAnswersFront seat.old.world seat.old.writer (spec.row_records len bare seat.old.row) (K.taken sink.old) (K.taken sink.new)) }
+    ensures ok { OnOk result (spec.Answers (spec.spot seat.old)
+        (spec.row_records len bare seat.old.row) (spec.spot seat.new) (K.taken sink.old)
+        (K.taken sink.new)) }
+    ensures err { OnErr result (PutsAnswersFront seat.old.world seat.old.writer
+        (spec.row_records len bare seat.old.row) (K.taken sink.old) (K.taken sink.new)) }
     ensures sound { OnOk result (K.faults sink.new ≡ K.faults sink.old) }
     ensures failed { OnErr result (K.faults sink.new ≡ one_more (K.faults sink.old)) }
 {
@@ -139,16 +159,18 @@ fn answer_row<K: Sink>(
     answer_record(seat, sink)
 }
 
-// The same as `answer_next` of bytes that are known to be plain, which are then looked at many at a
-// time.
+/// The same as `answer_next` of bytes that are known to be plain, which are then looked at many at
+/// a time.
 fn answer_plain<K: Sink>(
     seat: &mut Seat,
     bytes: &[u8],
     sink: &mut K,
 ) -> Result<Option<usize>, DeviceFault>
     requires { is_input_text bytes.now ≡ true }
-    ensures ok { IfOk result (λ at. spec.AnswersNext (spec.spot seat.old) bytes.now at (spec.spot seat.new) (K.taken sink.old) (K.taken sink.new)) }
-    ensures err { OnErr result (PutsAnswersFront seat.old.world seat.old.writer (records_in (Kept []) bytes.now) (K.taken sink.old) (K.taken sink.new)) }
+    ensures ok { IfOk result (λ at. spec.AnswersNext (spec.spot seat.old) bytes.now at
+        (spec.spot seat.new) (K.taken sink.old) (K.taken sink.new)) }
+    ensures err { OnErr result (PutsAnswersFront seat.old.world seat.old.writer
+        (records_in (Kept []) bytes.now) (K.taken sink.old) (K.taken sink.new)) }
     ensures sound { OnOk result (K.faults sink.new ≡ K.faults sink.old) }
     ensures failed { OnErr result (K.faults sink.new ≡ one_more (K.faults sink.old)) }
 {
@@ -157,7 +179,7 @@ fn answer_plain<K: Sink>(
             if end == bytes.len() {
                 return Ok(None);
             }
-            let at = feed_behind(bytes, end);
+            let at = feed_after(bytes, end);
             answer_row(seat, at, end, sink)?;
             Ok(Some(at))
         }
@@ -165,7 +187,7 @@ fn answer_plain<K: Sink>(
     }
 }
 
-// The one or the other.
+/// The one or the other.
 fn answer_either<K: Sink>(
     seat: &mut Seat,
     bytes: &[u8],
@@ -173,8 +195,10 @@ fn answer_either<K: Sink>(
     sink: &mut K,
 ) -> Result<Option<usize>, DeviceFault>
     requires { plain ≡ true → is_input_text bytes.now ≡ true }
-    ensures ok { IfOk result (λ at. spec.AnswersNext (spec.spot seat.old) bytes.now at (spec.spot seat.new) (K.taken sink.old) (K.taken sink.new)) }
-    ensures err { OnErr result (PutsAnswersFront seat.old.world seat.old.writer (records_in (Kept []) bytes.now) (K.taken sink.old) (K.taken sink.new)) }
+    ensures ok { IfOk result (λ at. spec.AnswersNext (spec.spot seat.old) bytes.now at
+        (spec.spot seat.new) (K.taken sink.old) (K.taken sink.new)) }
+    ensures err { OnErr result (PutsAnswersFront seat.old.world seat.old.writer
+        (records_in (Kept []) bytes.now) (K.taken sink.old) (K.taken sink.new)) }
     ensures sound { OnOk result (K.faults sink.new ≡ K.faults sink.old) }
     ensures failed { OnErr result (K.faults sink.new ≡ one_more (K.faults sink.old)) }
 {
@@ -185,16 +209,18 @@ fn answer_either<K: Sink>(
     }
 }
 
-// Answers the lines that stand whole among bytes that came, where no line was pending, and answers
-// what is left behind the last of them.
+/// Answers the lines that stand whole among bytes that came, where no line was pending, and answers
+/// what is left after the last of them.
 fn answer_lines<'a, K: Sink>(
     seat: &mut Seat,
     bytes: &'a [u8],
     sink: &mut K,
 ) -> Result<&'a [u8], DeviceFault>
-    ensures ok { IfOk result (λ left. spec.AnswersWhole (spec.spot seat.old) bytes.now left.now (spec.spot seat.new) (K.taken sink.old) (K.taken sink.new)) }
+    ensures ok { IfOk result (λ left. spec.AnswersWhole (spec.spot seat.old) bytes.now left.now
+        (spec.spot seat.new) (K.taken sink.old) (K.taken sink.new)) }
     ensures left { IfOk result (λ left. has_no_feed left.now ≡ true) }
-    ensures err { OnErr result (PutsAnswersFront seat.old.world seat.old.writer (records_in (Kept []) bytes.now) (K.taken sink.old) (K.taken sink.new)) }
+    ensures err { OnErr result (PutsAnswersFront seat.old.world seat.old.writer
+        (records_in (Kept []) bytes.now) (K.taken sink.old) (K.taken sink.new)) }
     ensures sound { OnOk result (K.faults sink.new ≡ K.faults sink.old) }
     ensures failed { OnErr result (K.faults sink.new ≡ one_more (K.faults sink.old)) }
 {
@@ -208,8 +234,8 @@ fn answer_lines<'a, K: Sink>(
     }
 }
 
-// Answers the lines that stand whole among bytes that came, where no line was pending, and keeps what
-// is left of them.
+/// Answers the lines that stand whole among bytes that came, where no line was pending, and keeps
+/// what is left of them.
 fn hear_rest<K: Sink>(
     pending: &mut PendingLine,
     seat: &mut Seat,
@@ -218,8 +244,10 @@ fn hear_rest<K: Sink>(
 ) -> Result<(), DeviceFault>
     requires { pending.old ≡ Kept [] }
     ensures pending { OnOk result (pending.new ≡ pending_after (Kept []) bytes.now) }
-    ensures ok { OnOk result (spec.Answers (spec.spot seat.old) (records_in (Kept []) bytes.now) (spec.spot seat.new) (K.taken sink.old) (K.taken sink.new)) }
-    ensures err { OnErr result (PutsAnswersFront seat.old.world seat.old.writer (records_in (Kept []) bytes.now) (K.taken sink.old) (K.taken sink.new)) }
+    ensures ok { OnOk result (spec.Answers (spec.spot seat.old) (records_in (Kept []) bytes.now)
+        (spec.spot seat.new) (K.taken sink.old) (K.taken sink.new)) }
+    ensures err { OnErr result (PutsAnswersFront seat.old.world seat.old.writer
+        (records_in (Kept []) bytes.now) (K.taken sink.old) (K.taken sink.new)) }
     ensures sound { OnOk result (K.faults sink.new ≡ K.faults sink.old) }
     ensures failed { OnErr result (K.faults sink.new ≡ one_more (K.faults sink.old)) }
 {
@@ -228,7 +256,7 @@ fn hear_rest<K: Sink>(
     Ok(())
 }
 
-// Answers the line that was pending, which ends at the first line feed, there, and then the others.
+/// Answers the line that was pending, which ends at the first line feed, and then the others.
 fn hear_lines<K: Sink>(
     pending: &mut PendingLine,
     seat: &mut Seat,
@@ -238,8 +266,10 @@ fn hear_lines<K: Sink>(
 ) -> Result<(), DeviceFault>
     requires { IsFirstFeed bytes.now end }
     ensures pending { OnOk result (pending.new ≡ pending_after pending.old bytes.now) }
-    ensures ok { OnOk result (spec.Answers (spec.spot seat.old) (records_in pending.old bytes.now) (spec.spot seat.new) (K.taken sink.old) (K.taken sink.new)) }
-    ensures err { OnErr result (PutsAnswersFront seat.old.world seat.old.writer (records_in pending.old bytes.now) (K.taken sink.old) (K.taken sink.new)) }
+    ensures ok { OnOk result (spec.Answers (spec.spot seat.old) (records_in pending.old bytes.now)
+        (spec.spot seat.new) (K.taken sink.old) (K.taken sink.new)) }
+    ensures err { OnErr result (PutsAnswersFront seat.old.world seat.old.writer
+        (records_in pending.old bytes.now) (K.taken sink.old) (K.taken sink.new)) }
     ensures sound { OnOk result (K.faults sink.new ≡ K.faults sink.old) }
     ensures failed { OnErr result (K.faults sink.new ≡ one_more (K.faults sink.old)) }
 {
@@ -247,8 +277,8 @@ fn hear_lines<K: Sink>(
     hear_rest(pending, seat, &bytes[end + 1..], sink)
 }
 
-// Answers the records of the lines that end within bytes that came, and keeps what is left of them
-// with the line that is pending. What is not put yet is held.
+/// Answers the records of the lines that end within bytes that came, and keeps what is left of them
+/// with the line that is pending. What is not put yet is held.
 fn hear_bytes<K: Sink>(
     pending: &mut PendingLine,
     seat: &mut Seat,
@@ -256,8 +286,10 @@ fn hear_bytes<K: Sink>(
     sink: &mut K,
 ) -> Result<(), DeviceFault>
     ensures pending { OnOk result (pending.new ≡ pending_after pending.old bytes.now) }
-    ensures ok { OnOk result (spec.Answers (spec.spot seat.old) (records_in pending.old bytes.now) (spec.spot seat.new) (K.taken sink.old) (K.taken sink.new)) }
-    ensures err { OnErr result (PutsAnswersFront seat.old.world seat.old.writer (records_in pending.old bytes.now) (K.taken sink.old) (K.taken sink.new)) }
+    ensures ok { OnOk result (spec.Answers (spec.spot seat.old) (records_in pending.old bytes.now)
+        (spec.spot seat.new) (K.taken sink.old) (K.taken sink.new)) }
+    ensures err { OnErr result (PutsAnswersFront seat.old.world seat.old.writer
+        (records_in pending.old bytes.now) (K.taken sink.old) (K.taken sink.new)) }
     ensures sound { OnOk result (K.faults sink.new ≡ K.faults sink.old) }
     ensures failed { OnErr result (K.faults sink.new ≡ one_more (K.faults sink.old)) }
 {
@@ -270,14 +302,16 @@ fn hear_bytes<K: Sink>(
     }
 }
 
-// Answers the record of what is pending where the input ends.
+/// Answers the record of what is pending where the input ends.
 fn hear_end<K: Sink>(
     pending: &PendingLine,
     seat: &mut Seat,
     sink: &mut K,
 ) -> Result<(), DeviceFault>
-    ensures ok { OnOk result (spec.Answers (spec.spot seat.old) (last_record pending.now) (spec.spot seat.new) (K.taken sink.old) (K.taken sink.new)) }
-    ensures err { OnErr result (PutsAnswersFront seat.old.world seat.old.writer (last_record pending.now) (K.taken sink.old) (K.taken sink.new)) }
+    ensures ok { OnOk result (spec.Answers (spec.spot seat.old) (last_record pending.now)
+        (spec.spot seat.new) (K.taken sink.old) (K.taken sink.new)) }
+    ensures err { OnErr result (PutsAnswersFront seat.old.world seat.old.writer
+        (last_record pending.now) (K.taken sink.old) (K.taken sink.new)) }
     ensures sound { OnOk result (K.faults sink.new ≡ K.faults sink.old) }
     ensures failed { OnErr result (K.faults sink.new ≡ one_more (K.faults sink.old)) }
 {
@@ -287,7 +321,7 @@ fn hear_end<K: Sink>(
     }
 }
 
-// Puts all of these bytes, and lets them out.
+/// Puts all of these bytes, and lets them out.
 fn put<K: Sink>(sink: &mut K, bytes: &[u8]) -> Result<(), DeviceFault>
     ensures ok { OnOk result (Puts (K.taken sink.old) (K.taken sink.new) bytes.now) }
     ensures err { OnErr result (PutsFront (K.taken sink.old) (K.taken sink.new) bytes.now) }
@@ -298,7 +332,7 @@ fn put<K: Sink>(sink: &mut K, bytes: &[u8]) -> Result<(), DeviceFault>
     sink.finish()
 }
 
-// Puts what is held, and lets it out.
+/// Puts what is held, and lets it out.
 fn put_held<K: Sink>(writer: &mut RecordWriter, sink: &mut K) -> Result<(), DeviceFault>
     ensures cleared { writer.new ≡ [] }
     ensures ok { OnOk result (Puts (K.taken sink.old) (K.taken sink.new) writer.old) }
@@ -321,8 +355,10 @@ pub(crate) fn answer_bytes<K: Sink>(
     requires { seat.old.writer ≡ [] }
     ensures cleared { seat.new.writer ≡ [] }
     ensures pending { OnOk result (pending.new ≡ pending_after pending.old bytes.now) }
-    ensures ok { OnOk result (spec.PutsAll (spec.spot seat.old) (records_in pending.old bytes.now) (spec.spot seat.new) (K.taken sink.old) (K.taken sink.new)) }
-    ensures err { OnErr result (PutsAnswersFront seat.old.world [] (records_in pending.old bytes.now) (K.taken sink.old) (K.taken sink.new)) }
+    ensures ok { OnOk result (spec.PutsAll (spec.spot seat.old) (records_in pending.old bytes.now)
+        (spec.spot seat.new) (K.taken sink.old) (K.taken sink.new)) }
+    ensures err { OnErr result (PutsAnswersFront seat.old.world []
+        (records_in pending.old bytes.now) (K.taken sink.old) (K.taken sink.new)) }
     ensures sound { OnOk result (K.faults sink.new ≡ K.faults sink.old) }
     ensures failed { OnErr result (K.faults sink.new ≡ one_more (K.faults sink.old)) }
 {
@@ -344,8 +380,10 @@ pub(crate) fn answer_end<K: Sink>(
     requires { seat.old.writer ≡ [] }
     ensures cleared { seat.new.writer ≡ [] }
     ensures pending { OnOk result (pending.new ≡ Kept []) }
-    ensures ok { OnOk result (spec.PutsAll (spec.spot seat.old) (last_record pending.old) (spec.spot seat.new) (K.taken sink.old) (K.taken sink.new)) }
-    ensures err { OnErr result (PutsAnswersFront seat.old.world [] (last_record pending.old) (K.taken sink.old) (K.taken sink.new)) }
+    ensures ok { OnOk result (spec.PutsAll (spec.spot seat.old) (last_record pending.old)
+        (spec.spot seat.new) (K.taken sink.old) (K.taken sink.new)) }
+    ensures err { OnErr result (PutsAnswersFront seat.old.world [] (last_record pending.old)
+        (K.taken sink.old) (K.taken sink.new)) }
     ensures sound { OnOk result (K.faults sink.new ≡ K.faults sink.old) }
     ensures failed { OnErr result (K.faults sink.new ≡ one_more (K.faults sink.old)) }
 {

@@ -1,6 +1,7 @@
 //! Laws of the definitions, each the contract of a function that does nothing.
 
-ghost use Rattle.std.specs.Prelude.{◌≡◌, ◌≢◌, ◌↔◌, ◌++◌, ◌∷◌, ℕ, List, Option, None, Some, Ok, Result, map};
+ghost use Rattle.std.specs.Prelude.{◌≡◌, ◌≢◌, ◌↔◌, ◌++◌, ◌∷◌, ℕ, List, Option, None, Some, Ok};
+ghost use Rattle.std.specs.Prelude.{Result, map};
 ghost use Rattle.std.specs.List.{flat_map};
 ghost use Rattle.line_answers.specs.Answers.{Told, text_of};
 ghost use Rattle.line_fields.specs.declared.faults.Fault.{Fault};
@@ -10,7 +11,8 @@ ghost use Rattle.line_fields.specs.Texts.{records_text};
 ghost use Rattle.line_scripts.specs.Scripts.{Script, script_of_text};
 ghost use Rattle.line_service.specs.declared.outcomes.Outcome.TheVariants as outcomes;
 ghost use Rattle.line_service.specs.Pieces.{HasShortLines, IsRunOf, ServesBoth};
-ghost use Rattle.line_service.specs.Services.{Answer, Began, Faulted, Hears, Replied, Serves, ServesText, Standing, answer_records, worst};
+ghost use Rattle.line_service.specs.Services.{Answer, Began, Faulted, Hears, Replied, Serves};
+ghost use Rattle.line_service.specs.Services.{ServesText, Standing, answer_records, worst};
 ghost use Rattle.line_world.specs.Machine.{Machine};
 
 /// However an input is cut into pieces, its answers are the same: what two pieces may be answered,
@@ -21,19 +23,26 @@ pub fn pieces_are_answered_alike()
 {}
 
 /// A text that spells a script, and has no line that is too long, is served as it is run: where no
-/// fault is answered, not even want of memory, its commands are told what a run may tell them, and
-/// what any run may tell them is what they may be told. Without the empty lines the text of the
+/// fault is answered, not even that memory is out, its commands are told what a run may tell them,
+/// and what any run may tell them is what they may be told. Without the empty lines the text of the
 /// answers is that of the run.
 pub fn scripts_are_served_as_they_run()
-    ensures served { (text : List ℕ) (script : Script) (answers : List Answer) (new : Option Machine) → script_of_text text ≡ Ok script → HasShortLines text
-        → ServesText text answers new → worst outcomes.Done answers ≢ outcomes.Faulted → IsRunOf script answers new }
-    ensures run { (text : List ℕ) (script : Script) (answers : List Answer) (new : Option Machine) → script_of_text text ≡ Ok script → HasShortLines text
-        → IsRunOf script answers new → ServesText text answers new × (worst outcomes.Done answers ≢ outcomes.Faulted) }
-    ensures texts { (told : List Told) → records_text (flat_map answer_records (Began ∷ map Replied told)) ≡ text_of told }
+    ensures served { (text : List ℕ) (script : Script) (answers : List Answer)
+        (new : Option Machine)
+        → script_of_text text ≡ Ok script → HasShortLines text
+        → ServesText text answers new → worst outcomes.Done answers ≢ outcomes.Faulted
+        → IsRunOf script answers new }
+    ensures run { (text : List ℕ) (script : Script) (answers : List Answer) (new : Option Machine)
+        → script_of_text text ≡ Ok script → HasShortLines text
+        → IsRunOf script answers new → ServesText text answers new
+        × (worst outcomes.Done answers ≢ outcomes.Faulted) }
+    ensures texts { (told : List Told)
+        → records_text (flat_map answer_records (Began ∷ map Replied told)) ≡ text_of told }
 {}
 
-/// A record that is answered by a fault, want of memory among them, changes nothing: the machine is
-/// the one that there was, or there is still none.
+/// A record that is answered by a fault, or by `OutOfMemory`, changes nothing: the machine is the
+/// one that there was, or there is still none.
 pub fn faults_change_nothing()
-    ensures { (old new : Option Machine) (one : Result Record Fault) (error : ReadError) → Hears old one (Faulted error) new → new ≡ old }
+    ensures { (old new : Option Machine) (one : Result Record Fault) (error : ReadError)
+        → Hears old one (Faulted error) new → new ≡ old }
 {}

@@ -1,6 +1,7 @@
 //! The line that has not ended, as far as its bytes have come, and where lines end.
 
-ghost use Rattle.std.specs.Prelude.{◌≡◌, ◌≤◌, ◌↔◌, ◌++◌, ◌∷◌, [], true, IfNone, IfOk, IfSome, IsTrue, length, take, ◌<◌};
+ghost use Rattle.std.specs.Prelude.{◌≡◌, ◌≤◌, ◌↔◌, ◌++◌, ◌∷◌, [], true, IfNone, IfOk, IfSome};
+ghost use Rattle.std.specs.Prelude.{IsTrue, length, take, ◌<◌};
 ghost use Rattle.line_fields.specs.Bytes.{is_input_text, is_line_text};
 ghost use Rattle.line_fields.specs.Records.{without};
 ghost use Rattle.line_fields.specs.Rows.{IsLineEnd};
@@ -31,7 +32,8 @@ impl Model for PendingLine {
 
     ghost view = { λ s. if s.dropped then Dropped else Kept s.bytes.items };
 
-    ghost invariant = { λ s. (vec_len s.bytes ≤ MOST_LINE) × (MOST_LINE ≤ vec_capacity s.bytes) × (has_no_feed s.bytes.items ≡ true) };
+    ghost invariant = { λ s. (vec_len s.bytes ≤ MOST_LINE) × (MOST_LINE ≤ vec_capacity s.bytes)
+        × (has_no_feed s.bytes.items ≡ true) };
 }
 
 impl PendingLine {
@@ -117,9 +119,9 @@ pub(crate) fn without_return(line: &[u8]) -> &[u8]
     &line[..last]
 }
 
-/// Where the line feed stands behind the end of the first line of a plain text, which may be a
+/// Where the line feed stands after the first line of a plain text, which ends there or at a
 /// carriage return.
-pub(crate) fn feed_behind(text: &[u8], end: usize) -> usize
+pub(crate) fn feed_after(text: &[u8], end: usize) -> usize
     requires input { is_input_text text.now ≡ true }
     requires line { IsLineEnd text.now end }
     requires within { end < length text.now }

@@ -1,6 +1,7 @@
 //! The machine of a service, and what reads a record and writes its answer.
 
-ghost use Rattle.std.specs.Prelude.{◌≡◌, ◌++◌, ◌∷◌, [], None, Some, Ok, Result, if◌then◌else◌, IfErr, IfOk, OnErr, OnOk};
+ghost use Rattle.std.specs.Prelude.{◌≡◌, ◌++◌, ◌∷◌, [], None, Some, Ok, Result, if◌then◌else◌};
+ghost use Rattle.std.specs.Prelude.{IfErr, IfOk, OnErr, OnOk};
 ghost use Rattle.line_devices.specs.Devices.{one_more};
 ghost use Rattle.line_fields.specs.declared.faults.Fault.{Fault};
 ghost use Rattle.line_fields.specs.Records.{Record};
@@ -44,7 +45,7 @@ pub(crate) enum Stop {
     Write,
 }
 
-// Begins the machine, as a first record says.
+/// Begins the machine, as a first record says.
 #[inline(never)]
 fn begin(alloc: Global, world: &mut Option<World>, row: &Row) -> Result<(), ReadError>
     requires { world.old ≡ None }
@@ -65,7 +66,7 @@ fn begin(alloc: Global, world: &mut Option<World>, row: &Row) -> Result<(), Read
     }
 }
 
-// What came of a command that was refused, or was not.
+/// What came of a command that was refused, or was not.
 fn outcome_of(refused: bool) -> Outcome
     ensures { result ≡ (if refused then outcomes.Refused else outcomes.Done) }
 {
@@ -76,7 +77,7 @@ fn outcome_of(refused: bool) -> Outcome
     }
 }
 
-// Does a command, and writes what it is told.
+/// Does a command, and writes what it is told.
 fn tell<K: Sink>(
     alloc: Global,
     world: &mut World,
@@ -85,10 +86,13 @@ fn tell<K: Sink>(
     sink: &mut K,
 ) -> Result<Outcome, Stop>
     requires { HasShortBody command.now }
-    ensures ok { IfOk result (λ outcome. spec.TellsOne world.old (shown command.now) world.new (K.taken sink.old) (K.taken sink.new) writer.old writer.new outcome) }
-    ensures err { IfErr result (λ stop. spec.TellsNone stop world.old (shown command.now) world.new (K.taken sink.old) (K.taken sink.new) writer.old writer.new) }
+    ensures ok { IfOk result (λ outcome. spec.TellsOne world.old (shown command.now) world.new
+        (K.taken sink.old) (K.taken sink.new) writer.old writer.new outcome) }
+    ensures err { IfErr result (λ stop. spec.TellsNone stop world.old (shown command.now) world.new
+        (K.taken sink.old) (K.taken sink.new) writer.old writer.new) }
     ensures sound { OnOk result (K.faults sink.new ≡ K.faults sink.old) }
-    ensures blamed { IfErr result (λ stop. spec.Blames stop (K.faults sink.old) (K.faults sink.new)) }
+    ensures blamed { IfErr result (λ stop. spec.Blames stop (K.faults sink.old)
+        (K.faults sink.new)) }
 {
     match do_command(alloc, world, sink, writer, command) {
         Ok(refused) => Ok(outcome_of(refused)),
@@ -97,7 +101,7 @@ fn tell<K: Sink>(
     }
 }
 
-// Does the command that a record spells, and writes what it is told.
+/// Does the command that a record spells, and writes what it is told.
 fn obey<K: Sink>(
     alloc: Global,
     world: &mut World,
@@ -106,10 +110,13 @@ fn obey<K: Sink>(
     writer: &mut RecordWriter,
     sink: &mut K,
 ) -> Result<Outcome, Stop>
-    ensures ok { IfOk result (λ outcome. spec.AnswersOne (Some world.old) (Ok row.now) (Some world.new) (K.taken sink.old) (K.taken sink.new) writer.old writer.new outcome) }
-    ensures err { IfErr result (λ stop. spec.StopsOne stop (Some world.old) (Ok row.now) (Some world.new) (K.taken sink.old) (K.taken sink.new) writer.old writer.new) }
+    ensures ok { IfOk result (λ outcome. spec.AnswersOne (Some world.old) (Ok row.now)
+        (Some world.new) (K.taken sink.old) (K.taken sink.new) writer.old writer.new outcome) }
+    ensures err { IfErr result (λ stop. spec.StopsOne stop (Some world.old) (Ok row.now)
+        (Some world.new) (K.taken sink.old) (K.taken sink.new) writer.old writer.new) }
     ensures sound { OnOk result (K.faults sink.new ≡ K.faults sink.old) }
-    ensures blamed { IfErr result (λ stop. spec.Blames stop (K.faults sink.old) (K.faults sink.new)) }
+    ensures blamed { IfErr result (λ stop. spec.Blames stop (K.faults sink.old)
+        (K.faults sink.new)) }
 {
     let n = world.history().n();
     match command.read(n, row) {
@@ -118,7 +125,7 @@ fn obey<K: Sink>(
     }
 }
 
-// Answers a record, but for the empty line.
+/// Answers a record, but for the empty line.
 fn answer_one<K: Sink>(
     alloc: Global,
     world: &mut Option<World>,
@@ -127,10 +134,13 @@ fn answer_one<K: Sink>(
     writer: &mut RecordWriter,
     sink: &mut K,
 ) -> Result<Outcome, Stop>
-    ensures ok { IfOk result (λ outcome. spec.AnswersOne world.old (Ok row.now) world.new (K.taken sink.old) (K.taken sink.new) writer.old writer.new outcome) }
-    ensures err { IfErr result (λ stop. spec.StopsOne stop world.old (Ok row.now) world.new (K.taken sink.old) (K.taken sink.new) writer.old writer.new) }
+    ensures ok { IfOk result (λ outcome. spec.AnswersOne world.old (Ok row.now) world.new
+        (K.taken sink.old) (K.taken sink.new) writer.old writer.new outcome) }
+    ensures err { IfErr result (λ stop. spec.StopsOne stop world.old (Ok row.now) world.new
+        (K.taken sink.old) (K.taken sink.new) writer.old writer.new) }
     ensures sound { OnOk result (K.faults sink.new ≡ K.faults sink.old) }
-    ensures blamed { IfErr result (λ stop. spec.Blames stop (K.faults sink.old) (K.faults sink.new)) }
+    ensures blamed { IfErr result (λ stop. spec.Blames stop (K.faults sink.old)
+        (K.faults sink.new)) }
 {
     match world {
         Some(world) => obey(alloc, world, row, command, writer, sink),
@@ -147,10 +157,14 @@ pub(crate) fn answer_fault<K: Sink>(
     error: ReadError,
     sink: &mut K,
 ) -> Result<(), DeviceFault>
-    ensures ok { (one : Result Record Fault) → Hears seat.old.world one (Faulted error) seat.old.world
-        → OnOk result (spec.Answers (spec.spot seat.old) (one ∷ []) (spec.spot seat.new) (K.taken sink.old) (K.taken sink.new)) }
-    ensures err { (one : Result Record Fault) → Hears seat.old.world one (Faulted error) seat.old.world
-        → OnErr result (PutsAnswersFront seat.old.world seat.old.writer (one ∷ []) (K.taken sink.old) (K.taken sink.new)) }
+    ensures ok { (one : Result Record Fault)
+        → Hears seat.old.world one (Faulted error) seat.old.world
+        → OnOk result (spec.Answers (spec.spot seat.old) (one ∷ []) (spec.spot seat.new)
+        (K.taken sink.old) (K.taken sink.new)) }
+    ensures err { (one : Result Record Fault)
+        → Hears seat.old.world one (Faulted error) seat.old.world
+        → OnErr result (PutsAnswersFront seat.old.world seat.old.writer (one ∷ [])
+        (K.taken sink.old) (K.taken sink.new)) }
     ensures sound { OnOk result (K.faults sink.new ≡ K.faults sink.old) }
     ensures failed { OnErr result (K.faults sink.new ≡ one_more (K.faults sink.old)) }
 {
@@ -160,8 +174,10 @@ pub(crate) fn answer_fault<K: Sink>(
 
 /// Answers the record whose fields the row has.
 pub(crate) fn answer_record<K: Sink>(seat: &mut Seat, sink: &mut K) -> Result<(), DeviceFault>
-    ensures ok { OnOk result (spec.Answers (spec.spot seat.old) (Ok seat.old.row ∷ []) (spec.spot seat.new) (K.taken sink.old) (K.taken sink.new)) }
-    ensures err { OnErr result (PutsAnswersFront seat.old.world seat.old.writer (Ok seat.old.row ∷ []) (K.taken sink.old) (K.taken sink.new)) }
+    ensures ok { OnOk result (spec.Answers (spec.spot seat.old) (Ok seat.old.row ∷ [])
+        (spec.spot seat.new) (K.taken sink.old) (K.taken sink.new)) }
+    ensures err { OnErr result (PutsAnswersFront seat.old.world seat.old.writer
+        (Ok seat.old.row ∷ []) (K.taken sink.old) (K.taken sink.new)) }
     ensures sound { OnOk result (K.faults sink.new ≡ K.faults sink.old) }
     ensures failed { OnErr result (K.faults sink.new ≡ one_more (K.faults sink.old)) }
 {

@@ -18,8 +18,8 @@ use std::marker::Model;
 
 /// A machine that is told what its processes do, record by record.
 ///
-/// It keeps the machine and what was read of a line that has not ended, and neither the text nor its
-/// records. So its memory follows the history and what is in transit.
+/// It keeps the machine and what was read of a line that has not ended, and neither the text nor
+/// its records. So its memory follows the history and what is in transit.
 #[derive(Drop)]
 pub struct Service {
     pending: PendingLine,
@@ -33,7 +33,11 @@ impl Model for Service {
 
     ghost use Rattle.std.specs.Prelude.{◌≡◌, []};
 
-    ghost view = { λ s. record { machine = s.seat.world; pending = s.pending; outcome = s.seat.outcome } };
+    ghost view = { λ s. record {
+      machine = s.seat.world;
+      pending = s.pending;
+      outcome = s.seat.outcome;
+    } };
 
     ghost invariant = { λ s. s.seat.writer ≡ [] };
 }
@@ -62,23 +66,28 @@ impl Service {
     /// Answers the records of the lines that end within these bytes, puts the answers and lets them
     /// out. What is left of the bytes waits for its line's end.
     ///
-    /// A line that stands whole among the bytes is read where it stands. Want of memory for a record
-    /// is the answer to it, and leaves the machine as it was. Once the sink has failed the service is
-    /// not to be asked any more: then it may have gone on by a record whose answer was not put.
+    /// A line that stands whole among the bytes is read where it stands. Want of memory for a
+    /// record is the answer to it, and leaves the machine as it was. Once the sink has failed the
+    /// service is not to be asked any more: then it may have gone on by a record whose answer was
+    /// not put.
     pub fn hear<K: Sink>(&mut self, bytes: &[u8], sink: &mut K) -> Result<(), DeviceFault>
-        ensures ok { OnOk result (PutsAnswers self.old bytes.now self.new (K.taken sink.old) (K.taken sink.new)) }
-        ensures err { OnErr result (PutsAnswersFront self.old.machine [] (records_in self.old.pending bytes.now) (K.taken sink.old) (K.taken sink.new)) }
+        ensures ok { OnOk result (PutsAnswers self.old bytes.now self.new (K.taken sink.old)
+            (K.taken sink.new)) }
+        ensures err { OnErr result (PutsAnswersFront self.old.machine []
+            (records_in self.old.pending bytes.now) (K.taken sink.old) (K.taken sink.new)) }
         ensures sound { OnOk result (K.faults sink.new ≡ K.faults sink.old) }
         ensures failed { OnErr result (K.faults sink.new ≡ one_more (K.faults sink.old)) }
     {
         answer_bytes(&mut self.pending, &mut self.seat, bytes, sink)
     }
 
-    /// Answers what is pending, as the last line of an input that has ended without a line feed, puts
-    /// the answer and lets it out.
+    /// Answers what is pending, as the last line of an input that has ended without a line feed,
+    /// puts the answer and lets it out.
     pub fn end<K: Sink>(&mut self, sink: &mut K) -> Result<(), DeviceFault>
-        ensures ok { OnOk result (PutsLast self.old self.new (K.taken sink.old) (K.taken sink.new)) }
-        ensures err { OnErr result (PutsAnswersFront self.old.machine [] (last_record self.old.pending) (K.taken sink.old) (K.taken sink.new)) }
+        ensures ok { OnOk result (PutsLast self.old self.new (K.taken sink.old)
+            (K.taken sink.new)) }
+        ensures err { OnErr result (PutsAnswersFront self.old.machine []
+            (last_record self.old.pending) (K.taken sink.old) (K.taken sink.new)) }
         ensures sound { OnOk result (K.faults sink.new ≡ K.faults sink.old) }
         ensures failed { OnErr result (K.faults sink.new ≡ one_more (K.faults sink.old)) }
     {

@@ -5,12 +5,13 @@ use line_devices::{MemSink, MemSource};
 use std::alloc::Global;
 use std::test::Fail;
 
-// The conversation of docs/FORMATS.md: what is written to a service, and what it answers.
+/// The conversation of docs/FORMATS.md: what is written to a service, and what it answers.
 const SAID: &[u8] =
     b"world,1,2,fifo\nsend,0,1,61\ndeliver,0,1,5,\ndeliver,0,1,0,\nsned,0,1,61\nrecover,0\n";
 
 const ANSWERED: &[u8] =
-    b"\nsent,0,0,0\n\nrefused,19,BadPick\n\ntook,0,0,0,-\n\nfault,32,BadRecord\n\nrecovered,2,1,0\nline,0,0,1,\nline,1,0,1,\npass,1,now,0,0,0\n\n";
+    b"\nsent,0,0,0\n\nrefused,19,BadPick\n\ntook,0,0,0,-\n\nfault,32,BadRecord\n\n\
+      recovered,2,1,0\nline,0,0,1,\nline,1,0,1,\npass,1,now,0,0,0\n\n";
 
 /// What comes of an input, so many bytes at a time, and what is put for it.
 fn served(
@@ -86,8 +87,7 @@ fn answers_each_line(rt: HostRuntime) -> Result<(), Fail> {
     Ok(())
 }
 
-/// A record of so many bytes that asks for a recovery, behind one of a world, and one more behind
-/// it.
+/// A record of so many bytes that asks for a recovery, after one of a world, and one more after it.
 fn with_recovery(alloc: Global, first: &[u8], others: usize) -> Result<Vec<u8>, Fail> {
     let mut said = b"world,1,2,fifo\n".to_vec(alloc)?;
     said.extend_from_slice(first)?;

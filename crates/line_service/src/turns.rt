@@ -1,7 +1,8 @@
 //! A conversation: bytes are read as they come, and all that was read is answered before more is
 //! asked for.
 
-ghost use Rattle.std.specs.Prelude.{◌≡◌, ◌<◌, ◌≤◌, ◌+◌, ◌-◌, ◌^◌, ◌⊎◌, ℕ, List, true, false, Err, IfErr, IfOk, OnErr, OnOk, length};
+ghost use Rattle.std.specs.Prelude.{◌≡◌, ◌<◌, ◌≤◌, ◌+◌, ◌-◌, ◌^◌, ◌⊎◌, ℕ, List, true, false, Err};
+ghost use Rattle.std.specs.Prelude.{IfErr, IfOk, OnErr, OnOk, length};
 ghost use Rattle.line_devices.specs.Devices.{IsDone, one_more};
 ghost use Rattle.line_service.specs.declared.faults.ServeError.TheVariants as errors;
 ghost use Rattle.line_service.specs.Services.{fresh};
@@ -14,7 +15,7 @@ use crate::services::Service;
 use line_devices::{Sink, Source};
 use std::alloc::Global;
 
-// How many bytes are asked for at a time.
+/// How many bytes are asked for at a time.
 const CHUNK: usize = 65_536;
 
 /// Asks the source once for bytes, into this room, and answers all records whose lines end within
@@ -27,17 +28,26 @@ pub fn serve_turn<S: Source, K: Sink>(
     source: &mut S,
     sink: &mut K,
 ) -> Result<bool, ServeError>
-    ensures ok { IfOk result (λ more. spec.TakesTurn service.old service.new (S.left source.old) (S.left source.new) (S.given source.old) (S.given source.new) (K.taken sink.old) (K.taken sink.new) more) }
-    ensures end { IfOk result (λ more. more ≡ false → 0 < length room.old → IsDone (S.left source.old)) }
+    ensures ok { IfOk result (λ more. spec.TakesTurn service.old service.new (S.left source.old)
+        (S.left source.new) (S.given source.old) (S.given source.new) (K.taken sink.old)
+        (K.taken sink.new) more) }
+    ensures end { IfOk result
+        (λ more. more ≡ false → 0 < length room.old → IsDone (S.left source.old)) }
 
     // A source that fails changes nothing, but for what it loses.
-    ensures read { result ≡ Err errors.Read → (service.new ≡ service.old) × (sink.new ≡ sink.old) × spec.LosesBytes (S.left source.old) (S.left source.new) (S.given source.old) (S.given source.new) }
-    ensures write { result ≡ Err errors.Write → spec.BreaksTurn service.old (S.left source.old) (S.left source.new) (S.given source.old) (S.given source.new) (K.taken sink.old) (K.taken sink.new) }
+    ensures read { result ≡ Err errors.Read → (service.new ≡ service.old) × (sink.new ≡ sink.old)
+        × spec.LosesBytes (S.left source.old) (S.left source.new) (S.given source.old)
+        (S.given source.new) }
+    ensures write { result ≡ Err errors.Write
+        → spec.BreaksTurn service.old (S.left source.old) (S.left source.new) (S.given source.old)
+        (S.given source.new) (K.taken sink.old) (K.taken sink.new) }
 
     // No other fault comes, a device that is sound is not blamed, and no failure is passed over.
     ensures codes { result ≡ Err errors.OutOfMemory → ⊥ }
-    ensures faults { spec.BlamesDevice result (S.faults source.old) (S.faults source.new) (K.faults sink.old) (K.faults sink.new) }
-    ensures ended { IfOk result (λ more. S.ends source.new ≡ spec.ends_if more (S.ends source.old)) }
+    ensures faults { spec.BlamesDevice result (S.faults source.old) (S.faults source.new)
+        (K.faults sink.old) (K.faults sink.new) }
+    ensures ended { IfOk result
+        (λ more. S.ends source.new ≡ spec.ends_if more (S.ends source.old)) }
     ensures unended { OnErr result (S.ends source.new ≡ S.ends source.old) }
 {
     let count = match source.fill(room) {
@@ -53,7 +63,7 @@ pub fn serve_turn<S: Source, K: Sink>(
     }
 }
 
-// Serves until nothing is left of the source. What is pending then is not answered yet.
+/// Serves until nothing is left of the source. What is pending then is not answered yet.
 fn serve_lines<S: Source, K: Sink>(
     service: &mut Service,
     room: &mut [u8],
@@ -62,15 +72,23 @@ fn serve_lines<S: Source, K: Sink>(
 ) -> Result<(), ServeError>
     requires fresh { service.old ≡ fresh }
     requires room { 0 < length room.old }
-    ensures ok { OnOk result (spec.AnswersLines service.new (S.left source.old) (S.left source.new) (S.given source.old) (S.given source.new) (K.taken sink.old) (K.taken sink.new)) }
-    ensures read { result ≡ Err errors.Read → spec.AnswersUntilFailure (S.left source.old) (S.left source.new) (S.given source.old) (S.given source.new) (K.taken sink.old) (K.taken sink.new) }
-    ensures cause { result ≡ Err errors.Read → (S.faults source.new ≡ one_more (S.faults source.old)) ⊎ (S.given source.old + (2 ^ 64 - 1) ≤ S.given source.new) }
-    ensures write { result ≡ Err errors.Write → spec.BreaksOff (S.left source.old) (S.left source.new) (S.given source.old) (S.given source.new) (K.taken sink.old) (K.taken sink.new) }
+    ensures ok { OnOk result (spec.AnswersLines service.new (S.left source.old) (S.left source.new)
+        (S.given source.old) (S.given source.new) (K.taken sink.old) (K.taken sink.new)) }
+    ensures read { result ≡ Err errors.Read → spec.AnswersUntilFailure (S.left source.old)
+        (S.left source.new) (S.given source.old) (S.given source.new) (K.taken sink.old)
+        (K.taken sink.new) }
+    ensures cause { result ≡ Err errors.Read
+        → (S.faults source.new ≡ one_more (S.faults source.old))
+        ⊎ (S.given source.old + (2 ^ 64 - 1) ≤ S.given source.new) }
+    ensures write { result ≡ Err errors.Write
+        → spec.BreaksOff (S.left source.old) (S.left source.new) (S.given source.old)
+        (S.given source.new) (K.taken sink.old) (K.taken sink.new) }
     ensures codes { result ≡ Err errors.OutOfMemory → ⊥ }
     ensures heard { OnOk result (S.faults source.new ≡ S.faults source.old) }
     ensures sound { OnOk result (K.faults sink.new ≡ K.faults sink.old) }
     ensures kept { result ≡ Err errors.Read → K.faults sink.new ≡ K.faults sink.old }
-    ensures blamed { result ≡ Err errors.Write → (S.faults source.new ≡ S.faults source.old) × (K.faults sink.new ≡ one_more (K.faults sink.old)) }
+    ensures blamed { result ≡ Err errors.Write → (S.faults source.new ≡ S.faults source.old)
+        × (K.faults sink.new ≡ one_more (K.faults sink.old)) }
     ensures ended { OnOk result (S.ends source.new ≡ one_more (S.ends source.old)) }
     ensures unended { OnErr result (S.ends source.new ≡ S.ends source.old) }
 {
@@ -98,24 +116,34 @@ pub fn serve<S: Source, K: Sink>(
     sink: &mut K,
 ) -> Result<Outcome, ServeError>
     // What the source gave, to its end, was answered, and this is the worst of the answers.
-    ensures done { IfOk result (λ outcome. (text : List ℕ) × GivesText text (S.left source.old) (S.left source.new) (S.given source.old) (S.given source.new)
+    ensures done { IfOk result (λ outcome. (text : List ℕ)
+        × GivesText text (S.left source.old) (S.left source.new) (S.given source.old)
+        (S.given source.new)
         × spec.AnswersText text outcome (K.taken sink.old) (K.taken sink.new)) }
 
-    // For want of memory nothing begins.
-    ensures memory { result ≡ Err errors.OutOfMemory → (source.new ≡ source.old) × (sink.new ≡ sink.old) }
+    // Where memory is out, nothing begins.
+    ensures memory { result ≡ Err errors.OutOfMemory → (source.new ≡ source.old)
+        × (sink.new ≡ sink.old) }
 
     // Where the source failed, all lines that ended before are answered.
-    ensures read { result ≡ Err errors.Read → spec.AnswersUntilFailure (S.left source.old) (S.left source.new) (S.given source.old) (S.given source.new) (K.taken sink.old) (K.taken sink.new) }
-    ensures cause { result ≡ Err errors.Read → (S.faults source.new ≡ one_more (S.faults source.old)) ⊎ (S.given source.old + (2 ^ 64 - 1) ≤ S.given source.new) }
+    ensures read { result ≡ Err errors.Read → spec.AnswersUntilFailure (S.left source.old)
+        (S.left source.new) (S.given source.old) (S.given source.new) (K.taken sink.old)
+        (K.taken sink.new) }
+    ensures cause { result ≡ Err errors.Read
+        → (S.faults source.new ≡ one_more (S.faults source.old))
+        ⊎ (S.given source.old + (2 ^ 64 - 1) ≤ S.given source.new) }
 
-    // Where the sink failed, what it took is a front of the answers.
-    ensures write { result ≡ Err errors.Write → spec.AnswersFrontOf (S.left source.old) (S.left source.new) (S.given source.old) (S.given source.new) (K.taken sink.old) (K.taken sink.new) }
+    // Where the sink failed, what it took is a prefix of the answers.
+    ensures write { result ≡ Err errors.Write
+        → spec.AnswersFrontOf (S.left source.old) (S.left source.new) (S.given source.old)
+        (S.given source.new) (K.taken sink.old) (K.taken sink.new) }
 
     // No failure is passed over, and a device that is sound is not blamed.
     ensures heard { OnOk result (S.faults source.new ≡ S.faults source.old) }
     ensures sound { OnOk result (K.faults sink.new ≡ K.faults sink.old) }
     ensures kept { result ≡ Err errors.Read → K.faults sink.new ≡ K.faults sink.old }
-    ensures blamed { result ≡ Err errors.Write → (S.faults source.new ≡ S.faults source.old) × (K.faults sink.new ≡ one_more (K.faults sink.old)) }
+    ensures blamed { result ≡ Err errors.Write → (S.faults source.new ≡ S.faults source.old)
+        × (K.faults sink.new ≡ one_more (K.faults sink.old)) }
 
     // Once the source said that nothing is left, it is asked no more.
     ensures ended { OnOk result (S.ends source.new ≡ one_more (S.ends source.old)) }

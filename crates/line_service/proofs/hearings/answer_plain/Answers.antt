@@ -10,7 +10,7 @@ returns-then-end-bytes-clause-ok g c = (no_feed_whole _ _ c.in-Ok.ensures.line c
 pub returns-in_err-answer_row-in-Ok-clause-err : goal.returns-in_err-answer_row-in-Ok-clause-err
 returns-in_err-answer_row-in-Ok-clause-err g c =
     let passed_on = err_from_is_err_and c.from_residual.result c.from_residual.ensures.1 in
-    rw passed_on.1 (first_front _ _ _ _ _ _ _ c.feed_behind-at.ensures.feed (other_front _ _ _ _ _ _ (row_is _ _ _ _ c.feed_behind-at.ensures.feed c.in-Ok.ensures.line.within c.feed_behind-at.ensures.allowed c.feed_behind-at.ensures.bare c.in-Ok.ensures.ok) c.in_err-answer_row-in-Ok.ensures.err))
+    rw passed_on.1 (first_front _ _ _ _ _ _ _ c.feed_after-at.ensures.feed (other_front _ _ _ _ _ _ (row_is _ _ _ _ c.feed_after-at.ensures.feed c.in-Ok.ensures.line.within c.feed_after-at.ensures.allowed c.feed_after-at.ensures.bare c.in-Ok.ensures.ok) c.in_err-answer_row-in-Ok.ensures.err))
 
 pub returns-in_ok-answer_row-in-Ok-clause-ok : goal.returns-in_ok-answer_row-in-Ok-clause-ok
-returns-in_ok-answer_row-in-Ok-clause-ok g c = (c.feed_behind-at.ensures.feed, other_answers _ _ _ _ _ _ (row_is _ _ _ _ c.feed_behind-at.ensures.feed c.in-Ok.ensures.line.within c.feed_behind-at.ensures.allowed c.feed_behind-at.ensures.bare c.in-Ok.ensures.ok) c.in_ok-answer_row-in-Ok.ensures.ok)
+returns-in_ok-answer_row-in-Ok-clause-ok g c = (c.feed_after-at.ensures.feed, other_answers _ _ _ _ _ _ (row_is _ _ _ _ c.feed_after-at.ensures.feed c.in-Ok.ensures.line.within c.feed_after-at.ensures.allowed c.feed_after-at.ensures.bare c.in-Ok.ensures.ok) c.in_ok-answer_row-in-Ok.ensures.ok)

@@ -1,5 +1,5 @@
 use Rattle.line_service.proofs.PlainLemmas.{allowed_to, bare_behind, bare_here, first_behind, first_here}
-use Rattle.line_service.proofs.lines.feed_behind.Goals as goal
+use Rattle.line_service.proofs.lines.feed_after.Goals as goal
 
 pub returns-then-text-end-eq13-clause-feed : goal.returns-then-text-end-eq13-clause-feed
 returns-then-text-end-eq13-clause-feed c = first_behind _ _ c.requires.input c.requires.line c.requires.within c.if-text-end-eq13.true
