@@ -116,7 +116,7 @@ fn drill(
 /// Shows a text that was asked for, and says how that went.
 fn show(rt: &(impl Print + Eprint), text: &str) -> u8 {
     if print!(rt; "{text}").is_err() {
-        let _ = eprintln!(rt; "recline: record 0: 37 WriteFault");
+        let _ = eprintln!(rt; "recline: 37 WriteFault");
         return status_of_fault(37);
     }
     0
