@@ -25,6 +25,7 @@ use Rattle.line_posts.proofs.GatherLemmas.{own_tape, own_past, in_list, tape_pas
 use Rattle.line_posts.proofs.MeetLemmas.{there}
 use Rattle.line_posts.proofs.SameLemmas.{same_self, same_then, same_sent, same_taken, same_alone}
 use Rattle.line_posts.proofs.ReplayLemmas.{take_next}
+use Rattle.line_posts.proofs.WholeLemmas.{incarnation_start}
 use Rattle.line_drills.specs.declared.orders.Order.{Order}
 use Rattle.line_drills.specs.declared.orders.Order.TheVariants.{Send, Receive, Check}
 use Rattle.line_drills.specs.Followed.{AreDrilled, Follows, HasDone, HasReceivedFrom}
@@ -120,11 +121,6 @@ drilled_same scripts old new h = record { count = h.count; each = λ i a b ha hb
 -- the workers of a first generation
 abbrev pub AreFirst : ℕ → List PostView → Type 0
 AreFirst n posts = (p : ℕ) (post : PostView) → slice_get posts p ≡ Some post → IsOpening post × (post.opening ≡ replicate n fresh)
-
-pub incarnation_start : (n p : ℕ) → incarnation_at (replicate n fresh) p ≡ 0
-incarnation_start zero p = refl
-incarnation_start (suc n) zero = refl
-incarnation_start (suc n) (suc p) = incarnation_start n p
 
 -- a worker that began with nothing has the tape of its script
 pub follows_all : (scripts : List (List Order)) (n : ℕ) (old new : List PostView) → AreFirst n old → AreDrilled scripts old new → length scripts ≡ length old

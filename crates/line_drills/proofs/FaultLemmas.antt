@@ -1,16 +1,12 @@
 -- Why a drill does not end well, and where.
-use Rattle.std.proofs.Common.{cond, suc, true, ◌≡◌, ◌∙◌, ◌+◌, ◌≤◌, ◌<◌, ◌++◌, ◌∷◌, [], ℕ, List, Some, length, replicate, take, get_or, refl, sym, ap, inl, inr, arith, subst}
-use Rattle.std.specs.Prelude.{◌==◌, ◌≢◌, slice_get, Bool, false}
-use Rattle.std.proofs.lemmas.Bool.{false≢true}
+use Rattle.std.proofs.Common.{cond, suc, true, ◌≡◌, ◌∙◌, ◌+◌, ◌≤◌, ◌<◌, ◌++◌, ◌∷◌, [], ℕ, List, Some, length, replicate, take, refl, sym, ap, inl, inr, arith, subst}
+use Rattle.std.specs.Prelude.{◌==◌, ◌≢◌, slice_get, false}
 use Rattle.std.proofs.lemmas.List.{length-take-le}
-use Rattle.std.proofs.lemmas.Option.{same_Some, slice_get_within, slice_get-get_or}
-use Rattle.line_names.specs.Sets.{is_member}
+use Rattle.std.proofs.lemmas.Option.{same_Some, slice_get_within}
 use Rattle.line_tape.specs.declared.events.Event.{Event}
 use Rattle.line_tape.specs.History.{fresh, tape_at}
 use Rattle.line_tape.proofs.SpentLemmas.{tape_start}
-use Rattle.line_posts.specs.Collected.{CollectorView}
-use Rattle.line_posts.specs.Gathered.{AreBelow}
-use Rattle.line_posts.specs.Generations.{AreInOrder, AreSamePosts, AreWhole}
+use Rattle.line_posts.specs.Generations.{AreInOrder}
 use Rattle.line_posts.specs.Openings.{HasSlots}
 use Rattle.line_posts.specs.Parcels.{parcels_sent}
 use Rattle.line_posts.specs.Posts.{PostView, IsPost, incarnation_of_post, opening_tape}
@@ -119,19 +115,3 @@ ring_filled turns capacity n scripts posts e first order slots (inr (q, post, th
     let enough = filled_by n capacity to p (take j (script_at scripts q)) post now known done bare begun (slots q post there) may.process may.other filled in
     subst (λ x. capacity ≤ length (names_ordered p to 0 (take x (script_at scripts p)))) place
     (subst (λ x. capacity ≤ length (names_ordered p to 0 (take j (script_at scripts x)))) who enough)
-
-pub none_below : (n : ℕ) (failed : List Bool) → ((q : ℕ) → is_member failed q ≡ false) → AreBelow n failed
-none_below n failed none q is = absurd (false≢true (sym (none q) ∙ is))
-
-pub whole_kept : (collector : CollectorView) (old new : List PostView) → AreSamePosts old new → AreWhole collector old → AreWhole collector new
-whole_kept collector old new s (long, order) = (
-  s.count ∙ long,
-  λ p b hb.
-      let c = s.count in
-      let w = slice_get_within new p b hb in
-      let a = get_or old p b in
-      let ha = slice_get-get_or old p b (omega (arith, w, c)) in
-      let h = s.each p a b ha hb in
-      let o = order p a ha in
-      (h.number ∙ o.0, ap length h.opening ∙ (o.1 ∙ sym s.count)),
-)

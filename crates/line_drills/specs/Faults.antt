@@ -1,9 +1,9 @@
 -- Why a drill does not end well, and where.
-use Rattle.std.specs.Prelude.{◌≡◌, ◌≢◌, ◌<◌, ◌≤◌, ◌+◌, ◌⊎◌, ℕ, List, [], ◌∷◌, ◌++◌, length}
-use Rattle.std.specs.Prelude.{Option, Some, None}
+use Rattle.std.specs.Prelude.{◌≡◌, ◌≢◌, ◌<◌, ◌≤◌, ◌+◌, ◌⊎◌, ℕ, List, [], ◌∷◌, length}
+use Rattle.std.specs.Prelude.{Bool, Option, Some, None}
 use Rattle.std.specs.Prelude.{codes, slice_get, take}
 use Rattle.line_tape.specs.declared.limits.TheConstants.{MOST_EVENTS, MOST_STATE}
-use Rattle.line_rings.specs.Ends.{items_at, row_at}
+use Rattle.line_rings.specs.Ends.{row_at}
 use Rattle.line_posts.specs.declared.parcels.Parcel.{Parcel}
 use Rattle.line_posts.specs.declared.parcels.Parcel.TheVariants.{Marker}
 use Rattle.line_posts.specs.declared.refusals.FleetError.{FleetError}
@@ -12,6 +12,7 @@ use Rattle.line_posts.specs.declared.refusals.FleetError.TheVariants.{BadCount a
 use Rattle.line_posts.specs.declared.refusals.FleetError.TheVariants.{BadCapacity as fleet_capacity}
 use Rattle.line_posts.specs.declared.refusals.SendWhy.TheVariants.{RingFull}
 use Rattle.line_posts.specs.Posts.{PostView, IsPost}
+use Rattle.line_posts.specs.Receipts.{HasMarked, HasOnlySeen}
 use Rattle.line_posts.specs.Refusals.{IsNotSent}
 use Rattle.line_drills.specs.declared.orders.Order.{Order}
 use Rattle.line_drills.specs.declared.orders.Order.TheVariants.{Send, Receive, Check}
@@ -65,11 +66,11 @@ stored_by (Send to body) = []
 stored_by (Receive from) = []
 stored_by (Check state) = state
 
--- a marker came from process q: the worker popped it last, or sees it next
-abbrev pub HasMetMarker : PostView → ℕ → Type 0
-HasMetMarker post q = (round : ℕ) × (others : List Parcel)
-    × ((items_at post.ins q ≡ others ++ Marker round ∷ [])
-    ⊎ (row_at post.seen q ≡ Marker round ∷ others))
+-- a marker came from process q: the worker took it, or only looked, and sees it next
+abbrev pub HasMetMarker : PostView → ℕ → PostView → Type 0
+HasMetMarker old q new = (round : ℕ)
+    × (((forced : Bool) × HasMarked old q [] round forced new)
+    ⊎ ((rest : List Parcel) × (row_at new.seen q ≡ Marker round ∷ rest) × HasOnlySeen old new))
 
 -- the cause of a fault of an order of process p, of n processes, where so many events are on its
 -- tape
@@ -81,7 +82,8 @@ IsCause n p events order StateTooLong = MOST_STATE < length (stored_by order)
 IsCause n p events order BadCount = ⊥
 IsCause n p events order ToSelf = other_of order ≡ Some p
 IsCause n p events order WrongMode = (q : ℕ) × (order ≡ Receive q)
-    × (met : PostView) × (met.number ≡ p) × HasMetMarker met q
+    × (now : PostView) × (met : PostView) × IsPost now × (length now.opening ≡ n)
+    × (now.number ≡ p) × (length now.tape ≡ events) × HasMetMarker now q met
 IsCause n p events order HeldOut = Unit {0}
 IsCause n p events order WaitedOut = (q : ℕ) × (other_of order ≡ Some q)
 IsCause n p events order BadCapacity = ⊥

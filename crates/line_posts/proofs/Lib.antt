@@ -19,3 +19,4 @@ pub mod GatheringLemmas
 pub mod OwnLemmas
 pub mod ExtensionLemmas
 pub mod RestartLemmas
+pub mod WholeLemmas

@@ -1,4 +1,4 @@
-use Rattle.std.proofs.Common.{◌∙◌, ◌≡◌, length, ap, sym, inl, inr, arith}
+use Rattle.std.proofs.Common.{◌∙◌, ◌≡◌, length, ap, refl, sym, inl, inr, arith}
 use Rattle.std.proofs.lemmas.List.{length-map, length-replicate}
 use Rattle.std.proofs.lemmas.Result.{err_from_is_err_and}
 use Rattle.line_tape.specs.History.{fresh, incarnation_at}
@@ -7,8 +7,9 @@ use Rattle.line_posts.specs.Generations.{own_history}
 use Rattle.line_posts.proofs.OwnLemmas.{none_lost}
 use Rattle.line_posts.proofs.SameLemmas.{generation_kept, lined_kept}
 use Rattle.line_drills.specs.Scripts.{scripts_of}
-use Rattle.line_drills.proofs.DrillLemmas.{drilled_same, drill_makes, first_begun, floor_of, incarnation_start, some_of}
-use Rattle.line_drills.proofs.FaultLemmas.{fault_of, none_below, ring_filled, whole_kept}
+use Rattle.line_posts.proofs.WholeLemmas.{incarnation_start, none_below, whole_kept}
+use Rattle.line_drills.proofs.DrillLemmas.{drilled_same, drill_makes, first_begun, floor_of, some_of}
+use Rattle.line_drills.proofs.FaultLemmas.{fault_of, ring_filled}
 use Rattle.line_drills.proofs.drills.drill.Goals as goal
 
 pub gather-requires-clause-generation : goal.gather-requires-clause-generation
@@ -31,7 +32,7 @@ unreachable-requires g c =
     let opened = c.in_ok-collector.ensures.opened in
     let drilled = drilled_same (scripts_of c.args.scripts.now) c.in_ok-collector.posts.items c.in_ok-back.back.items c.in_ok-back.ensures.drilled in
     let opening = ap (λ (x : CollectorView). x.opening) c.in_ok-collector.ensures.collector in
-    let whole = whole_kept v c.in_ok-collector.posts.items c.in_ok-back.back.items drilled (opened.count ∙ ap length (sym opening), opened.order) in
+    let whole = whole_kept v v c.in_ok-collector.posts.items c.in_ok-back.back.items refl drilled (opened.count ∙ ap length (sym opening), opened.order) in
     elim c.in-NoSuchProcess.is [
       | inl e ↦ c.in-Err.ensures.process.0 e (none_below (length v.opening) c.empty.result c.empty.ensures.none)
       | inr e ↦ (c.in-Err.ensures.unfinished.0 e).1 whole

@@ -1,4 +1,4 @@
-use Rattle.std.proofs.Common.{◌∙◌, ◌<◌, ℕ, length, ap, refl, arith, subst}
+use Rattle.std.proofs.Common.{◌∙◌, ◌<◌, ℕ, length, ap, refl, subst}
 use Rattle.line_tape.specs.declared.limits.TheConstants.{MOST_EVENTS}
 use Rattle.line_posts.specs.declared.refusals.ReceiveWhy.{ReceiveWhy}
 use Rattle.line_posts.specs.Refusals.{IsNotReceived}
@@ -15,10 +15,8 @@ pub returns-in-Ok-Marked-clause-cause : goal.returns-in-Ok-Marked-clause-cause
 returns-in-Ok-Marked-clause-cause c =
     let old = c.args.post.now in
     let new = c.receive.new.self in
-    let process = c.in-Ok-Marked.ensures.may.process in
-    let count = c.tape.ensures.known.in_count in
     let marked = subst (λ (r : Received). HasReceived old c.args.from c.of.result r new) c.in-Ok-Marked.field-0-is c.in-Ok-Marked.ensures.ok in
-    (c.args.from, refl, new, c.receive.ensures.same.number, marker_taken old new c.args.from c.in-Ok-Marked.field-0-0 c.of.result c.in-Ok-Marked.field-0-1 (omega (arith, process, count)) marked)
+    (c.args.from, refl, old, new, c.tape.ensures.known, refl, refl, refl, marker_taken old new c.args.from c.in-Ok-Marked.field-0-0 c.of.result c.in-Ok-Marked.field-0-1 (c.of.ensures ∙ c.new.ensures.items) marked)
 
 pub returns-else-is_full-clause-cause : goal.returns-else-is_full-clause-cause
 returns-else-is_full-clause-cause c =
@@ -26,4 +24,4 @@ returns-else-is_full-clause-cause c =
     let new = c.receive.new.self in
     let few = subst (λ (n : ℕ). n < MOST_EVENTS) (c.len.ensures.value ∙ ap length c.tape.ensures.value) c.if-is_full.false in
     let full = subst (λ (why : ReceiveWhy). IsNotReceived old (row_at new.seen c.args.from) c.args.from c.of.result why) c.in-TapeFull.is c.in-Err.ensures.why in
-    (c.args.from, refl, new, c.receive.ensures.same.number, marker_seen old new c.args.from c.of.result full few)
+    (c.args.from, refl, old, new, c.tape.ensures.known, refl, refl, refl, marker_seen old new c.args.from c.of.result full few c.in-Err.ensures.err)
