@@ -1,7 +1,6 @@
 -- Commands with all their bytes: one more behind the others, and the first one out.
 use Rattle.std.proofs.Common.{◌≡◌, ◌≤◌, ℕ, ◌+◌, ◌-◌, List, [], ◌∷◌, ◌++◌, drop, get_or, length, take, sym, ap, ◌∙◌, subst, arith, reverse, length-append, length-drop}
 use Rattle.std.specs.List.{copy_within}
-use lib.Seq.{paste}
 use Rattle.std.proofs.lemmas.List.{take_more, take_all, take-append-drop, take-append-le, drop-append-le, reverse-append}
 use Rattle.std.proofs.lemmas.List.Edits.{take-paste}
 use Rattle.std.proofs.Math.Seq.{take-length, drop-length}
