@@ -2,7 +2,7 @@
 use Rattle.std.specs.Prelude.{◌≡◌, ◌==◌, ◌-◌, ◌++◌, ◌∷◌, [], ℕ, zero, suc, List, if◌then◌else◌}
 use Rattle.std.specs.Prelude.{length, map}
 use Rattle.std.specs.List.{range_with_len}
-use Rattle.line_tape.specs.History.{Process, tape_at}
+use Rattle.line_tape.specs.History.{Process, tape_at, incarnation_at}
 use Rattle.line_fields.specs.Texts.{records_text}
 use Rattle.line_claims.specs.Records.{history_records}
 use Rattle.line_drills.specs.declared.orders.Order.{Order}
@@ -31,9 +31,11 @@ orders_of n p (suc rounds) = orders_of n p rounds ++ round_of n p
 abbrev pub drill_scripts : ℕ → ℕ → List (List Order)
 drill_scripts workers rounds = map (λ p. orders_of workers p rounds) (range_with_len 0 workers)
 
--- the text of a history in which each tape is the one that the scripts of the drill make
+-- the text of a history in which each process is in its incarnation 0, and its tape the one that
+-- the scripts of the drill make
 pub record IsDrillText (workers rounds : ℕ) (text : List ℕ) : Type 0 where
   pub processes : List Process
   pub text_is : text ≡ records_text (history_records processes)
   pub count : length processes ≡ workers
+  pub incarnations : (p : ℕ) → incarnation_at processes p ≡ 0
   pub tapes : (p : ℕ) → IsScripted (drill_scripts workers rounds) p (tape_at processes p)

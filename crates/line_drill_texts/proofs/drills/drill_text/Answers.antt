@@ -25,5 +25,6 @@ returns-in-Ok-write_history-clause-ok g c =
       processes = processes;
       text_is = c.in-Ok-write_history.ensures.text ∙ ap (λ (ps : List Process). records_text (history_records ps)) c.history.ensures.value;
       count = c.in_ok-gathered.ensures.count ∙ as_many;
+      incarnations = c.in_ok-gathered.ensures.incarnations;
       tapes = λ p. subst (λ (all : List (List Order)). IsScripted all p (tape_at processes p)) scripts_are (c.in_ok-gathered.ensures.scripted p);
     }

@@ -3,7 +3,8 @@ use Rattle.line_tape.specs.History.{incarnation_at}
 use Rattle.line_posts.specs.Collected.{CollectorView}
 use Rattle.line_posts.specs.declared.refusals.GatherWhy.{GatherWhy}
 use Rattle.line_posts.specs.declared.refusals.GatherWhy.TheVariants.{OutOfMemory}
-use Rattle.line_workers.proofs.RunLemmas.{incarnation_start, memory_alone, none_below, whole_kept}
+use Rattle.line_posts.proofs.WholeLemmas.{incarnation_start, none_below, whole_kept}
+use Rattle.line_workers.proofs.RunLemmas.{memory_alone}
 use Rattle.line_workers.proofs.runs.run.Goals as goal
 
 pub gather-requires-clause-generation : goal.gather-requires-clause-generation
