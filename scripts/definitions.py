@@ -27,7 +27,10 @@ PARTS = {
     "line_fields", "line_claims", "line_scripts", "line_replies",
 }
 # Crates of tests and of examples.
-EXAMPLES = {"line_bench", "line_stress", "line_tests", "line_two_sums", "line_uses"}
+EXAMPLES = {
+    "line_bench", "line_stress", "line_tests", "line_text_tests", "line_two_sums", "line_uses",
+    "line_worker_tests",
+}
 
 HEAD = re.compile(
     r"(?:\s*(?:abbrev|unfoldable)(?: pub)?|\s*pub (?:record|data)|record|data) ([^\s:(]+)")
@@ -203,7 +206,7 @@ def source_of(crate: str) -> Source:
     values: dict[str, set[Name]] = {}
     folder = ROOT / "crates" / crate / "src"
     for path in sorted(folder.rglob("*.rt")):
-        if "tests" in path.parts or path.name == "tests.rt":
+        if "tests" in path.relative_to(folder).parts or path.name == "tests.rt":
             continue
         text = without_words(path.read_text(encoding="utf-8"))
         scope = imports(text)

@@ -14,11 +14,18 @@ first_life p k = record { from = p; inc = 0; number = k }
 abbrev pub living : List Event → Process
 living tape = record { incarnation = 0; tape = tape }
 
--- a was sent to 1 and received there, b to 0 and received there, c to 1 and received there, with checks between
+-- a was sent to 1 and received there, b to 0 and received there, c to 1 and received there, with
+-- checks between
 abbrev pub domino_history : List Process
 domino_history =
-    living (Send 1 0 (0x61 ∷ []) ∷ Recv (first_life 1 0) ∷ Check (0xa1 ∷ []) None ∷ Send 1 0 (0x63 ∷ []) ∷ []) ∷
-    living (Recv (first_life 0 0) ∷ Check (0xb1 ∷ []) None ∷ Send 0 0 (0x62 ∷ []) ∷ Recv (first_life 0 1) ∷ Check (0xb2 ∷ []) None ∷ []) ∷ []
+    living
+    (Send 1 0 (0x61 ∷ []) ∷ Recv (first_life 1 0) ∷ Check (0xa1 ∷ []) None
+    ∷ Send 1 0 (0x63 ∷ []) ∷ [])
+    ∷
+    living
+    (Recv (first_life 0 0) ∷ Check (0xb1 ∷ []) None ∷ Send 0 0 (0x62 ∷ [])
+    ∷ Recv (first_life 0 1) ∷ Check (0xb2 ∷ []) None ∷ [])
+    ∷ []
 
 -- each sent to the other, both received, both took a check
 abbrev pub crossed_history : List Process
@@ -37,13 +44,20 @@ replay_history = living (Send 1 0 (0x61 ∷ []) ∷ Check (0xa1 ∷ []) None ∷
 -- 1 has received it
 abbrev pub received_history : List Process
 received_history =
-    living (Send 1 0 (0x61 ∷ []) ∷ Check (0xa1 ∷ []) None ∷ []) ∷ living (Recv (first_life 0 0) ∷ []) ∷ []
+    living (Send 1 0 (0x61 ∷ []) ∷ Check (0xa1 ∷ []) None ∷ [])
+    ∷ living (Recv (first_life 0 0) ∷ []) ∷ []
 
 -- a round of checks, and then the domino
 abbrev pub round_history : List Process
 round_history =
-    living (Check (0xa1 ∷ []) (Some 1) ∷ Mark 1 1 ∷ Send 1 0 (0x61 ∷ []) ∷ Recv (first_life 1 0) ∷ Check (0xa2 ∷ []) None ∷ Send 1 0 (0x63 ∷ []) ∷ []) ∷
-    living (Check (0xb1 ∷ []) (Some 1) ∷ Mark 0 1 ∷ Recv (first_life 0 0) ∷ Check (0xb2 ∷ []) None ∷ Send 0 0 (0x62 ∷ []) ∷ Recv (first_life 0 1) ∷ Check (0xb3 ∷ []) None ∷ []) ∷ []
+    living
+    (Check (0xa1 ∷ []) (Some 1) ∷ Mark 1 1 ∷ Send 1 0 (0x61 ∷ []) ∷ Recv (first_life 1 0)
+    ∷ Check (0xa2 ∷ []) None ∷ Send 1 0 (0x63 ∷ []) ∷ [])
+    ∷
+    living
+    (Check (0xb1 ∷ []) (Some 1) ∷ Mark 0 1 ∷ Recv (first_life 0 0) ∷ Check (0xb2 ∷ []) None
+    ∷ Send 0 0 (0x62 ∷ []) ∷ Recv (first_life 0 1) ∷ Check (0xb3 ∷ []) None ∷ [])
+    ∷ []
 
 -- no check is damaged, and no process is barred
 abbrev pub unmarked : MarksView

@@ -1,9 +1,8 @@
-//! The tests of all crates that have none of their own, and histories worked by hand.
+//! The tests of the core, and histories worked by hand.
 //!
-//! A test shows what no clause says and no text reaches: the core and the texts called as the
-//! program does not call them, devices that fail, workers step by step and in threads, drills. Each
-//! test, and each law that is computed in the logic, is named for what it shows. The crate has no
-//! edits, so that the gate proves each test once.
+//! A test shows what no clause says and no text reaches: the core called as the program does not
+//! call it. Each test, and each law that is computed in the logic, is named for what it shows. The
+//! crate has no edits, so that the gate proves each test once.
 #![tactic(auto)]
 
 mod worked;

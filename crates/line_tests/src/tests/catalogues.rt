@@ -1,11 +1,11 @@
 //! Catalogues: what they take, refuse and show.
 use crate::tests::build::{catalogue_of, failed, history_of, process};
-use crate::tests::{DOMINO, ROUND, passed};
+use crate::tests::{DOMINO, ROUND, passed, reads};
 use line_catalogue::{AddError, Catalogue, CatalogueError, DamageError, Row};
-use line_names::{Body, Choice, MsgName, ProcId, ProcSet};
-use line_plan::{Plan, PlanError, plan};
+use line_names::{Body, Choice, Line, MsgName, Passed, ProcId, ProcSet};
+use line_plan::{PlanError, plan};
 use line_tape::{BarError, Event, History, Marks};
-use std::alloc::Global;
+use std::alloc::{AllocError, Global};
 use std::process::Abort;
 use std::test::Fail;
 
@@ -71,19 +71,36 @@ fn fed_event_by_event(rt: HostRuntime) -> Result<(), Fail> {
     Ok(())
 }
 
-/// The plan for a history of two processes without marks, where these failed.
-fn planned(rt: &impl Abort, alloc: Global, all: &History, lost: &ProcSet) -> Result<Plan, Fail> {
-    let catalogue = made_of(rt, alloc, all)?;
-    Ok(plan(alloc, &catalogue, lost)?)
+/// The choices of a line of two processes.
+fn pair_of(line: &Line) -> Option<(Choice, Choice)> {
+    match line.choices() {
+        [first, second] => Some((*first, *second)),
+        _ => None,
+    }
+}
+
+/// What a plan comes to: its line, and how many sweeps, entries and replays it has.
+type Outcome = (Option<(Choice, Choice)>, u32, usize, usize);
+
+/// What the plan for a catalogue comes to, where these failed.
+fn planned(alloc: Global, catalogue: &Catalogue, lost: &ProcSet) -> Result<Outcome, Fail> {
+    let plan = plan(alloc, catalogue, lost)?;
+    let line = pair_of(&plan.line);
+    Ok((
+        line,
+        plan.sweeps,
+        plan.certificate.len(),
+        plan.replays.len(),
+    ))
 }
 
 #[test]
 fn plans_of_both_are_the_same(rt: HostRuntime) -> Result<(), Fail> {
+    let lost = failed(&[0])?;
     let history = history_of(rt.alloc(), &DOMINO)?;
-    let plan = planned(&rt, rt.alloc(), &history, &failed(&[0])?)?;
-    let back = [Choice::Check(0), Choice::Check(0)];
-    assert_eq!(rt; plan.line.choices(), back.as_slice());
-    assert_eq!(rt; (plan.certificate.len(), plan.sweeps), (4, 3));
+    let catalogue = made_of(&rt, rt.alloc(), &history)?;
+    let back = Some((Choice::Check(0), Choice::Check(0)));
+    assert_eq!(rt; planned(rt.alloc(), &catalogue, &lost)?, (back, 3, 4, 0));
     Ok(())
 }
 
@@ -119,22 +136,37 @@ fn names_that_disagree(rt: HostRuntime) -> Result<(), Fail> {
     Ok(())
 }
 
+/// A send of the first process is received by the second one under another incarnation.
+fn disagree(history: &mut History) -> Result<(), Fail> {
+    history.push(process(0)?, send(0)?)?;
+    history.push(process(1)?, receipt(1, 0)?)?;
+    Ok(())
+}
+
+/// Why no catalogue is made of a history of two processes with these marks, where none is.
+fn why_not(alloc: Global, history: &History, marks: &Marks) -> Option<CatalogueError> {
+    if history.n() != 2 || marks.processes() != 2 {
+        return None;
+    }
+    Catalogue::of(alloc, history, marks).err()
+}
+
+/// The same where there are no marks, and where one is on a check that there is not.
+fn why_not_twice(alloc: Global, history: &History) -> Result<[Option<CatalogueError>; 2], Fail> {
+    let first = process(0)?;
+    let mut marks = Marks::new(alloc, 2)?;
+    let unmarked = why_not(alloc, history, &marks);
+    marks.mark(first, 1)?;
+    Ok([unmarked, why_not(alloc, history, &marks)])
+}
+
 #[test]
 fn a_history_that_disagrees(rt: HostRuntime) -> Result<(), Fail> {
     let mut history = History::new(rt.alloc(), 2)?;
-    history.push(process(0)?, send(0)?)?;
-    history.push(process(1)?, receipt(1, 0)?)?;
-    assert_eq!(rt; history.n(), 2);
-    let mut marks = Marks::new(rt.alloc(), 2)?;
-    assert_eq!(rt;
-        Catalogue::of(rt.alloc(), &history, &marks).err(),
-        Some(CatalogueError::NamesDisagree)
-    );
-    marks.mark(process(0)?, 1)?;
-    assert_eq!(rt;
-        Catalogue::of(rt.alloc(), &history, &marks).err(),
-        Some(CatalogueError::NoSuchCheck)
-    );
+    disagree(&mut history)?;
+    let names = Some(CatalogueError::NamesDisagree);
+    let check = Some(CatalogueError::NoSuchCheck);
+    assert_eq!(rt; why_not_twice(rt.alloc(), &history)?, [names, check]);
     Ok(())
 }
 
@@ -146,15 +178,21 @@ fn received_the_greatest(alloc: Global) -> Result<History, Fail> {
     Ok(history)
 }
 
+/// Whether the plan for a catalogue, where nobody failed, has these entries.
+fn has_entries(alloc: Global, catalogue: &Catalogue, entries: &[Passed]) -> Result<bool, Fail> {
+    let plan = plan(alloc, catalogue, &ProcSet::empty())?;
+    Ok(plan.certificate.as_slice() == entries)
+}
+
 #[test]
 fn plans_with_the_greatest_number(rt: HostRuntime) -> Result<(), Fail> {
+    let entry = passed(1, Choice::Now, 0, 4_294_967_295)?;
     let history = received_the_greatest(rt.alloc())?;
-    let plan = planned(&rt, rt.alloc(), &history, &ProcSet::empty())?;
-    let line = [Choice::Now, Choice::Check(0)];
-    assert_eq!(rt; plan.line.choices(), line.as_slice());
-    let entries = [passed(1, Choice::Now, 0, 4_294_967_295)?];
-    assert_eq!(rt; plan.certificate.as_slice(), entries.as_slice());
-    assert_eq!(rt; (plan.sweeps, plan.replays.len()), (2, 0));
+    let catalogue = made_of(&rt, rt.alloc(), &history)?;
+    let line = Some((Choice::Now, Choice::Check(0)));
+    let told = planned(rt.alloc(), &catalogue, &ProcSet::empty())?;
+    assert_eq!(rt; told, (line, 2, 1, 0));
+    assert!(rt; has_entries(rt.alloc(), &catalogue, &[entry])?);
     Ok(())
 }
 
@@ -211,25 +249,16 @@ fn barred_domino(alloc: Global) -> Result<(Catalogue, [Option<BarError>; 3]), Fa
 #[test]
 fn a_barred_process_goes_back(rt: HostRuntime) -> Result<(), Fail> {
     let (catalogue, refused) = barred_domino(rt.alloc())?;
-    assert_eq!(rt;
-        refused,
-        [
-            Some(BarError::NoSuchCheck),
-            None,
-            Some(BarError::BarNotLower)
-        ]
-    );
-    let plan = plan(rt.alloc(), &catalogue, &failed(&[])?)?;
-    assert_eq!(rt;
-        plan.line.choices(),
-        [Choice::Check(0), Choice::Check(0)].as_slice()
-    );
-    assert_eq!(rt; (plan.sweeps, plan.certificate.len()), (2, 3));
-    let bars = format!(in rt.alloc(); "{}; {}", BarError::NoSuchCheck, BarError::BarNotLower)?;
-    assert_eq!(rt;
-        bars.as_str(),
-        "the process has no such check; the process is barred at that check or an earlier one already"
-    );
+    let missing = Some(BarError::NoSuchCheck);
+    let again = Some(BarError::BarNotLower);
+    assert_eq!(rt; refused, [missing, None, again]);
+    let back = Some((Choice::Check(0), Choice::Check(0)));
+    let told = planned(rt.alloc(), &catalogue, &ProcSet::empty())?;
+    assert_eq!(rt; told, (back, 2, 3, 0));
+    let missing = "the process has no such check";
+    assert!(rt; reads(rt.alloc(), &BarError::NoSuchCheck, missing)?);
+    let again = "the process is barred at that check or an earlier one already";
+    assert!(rt; reads(rt.alloc(), &BarError::BarNotLower, again)?);
     Ok(())
 }
 
@@ -254,31 +283,25 @@ fn rows_of_a_damaged_check(rt: HostRuntime) -> Result<(), Fail> {
 }
 
 #[test]
-fn refusals_of_catalogues_read_well(rt: HostRuntime) -> Result<(), Fail> {
-    let made = format!(in rt.alloc();
-        "{}; {}",
-        CatalogueError::NoSuchCheck,
-        CatalogueError::NamesDisagree
-    )?;
-    assert_eq!(rt;
-        made.as_str(),
-        "a mark or a bar is on a check that its tape does not have; a received message has a name that its sender did not give it"
+fn refusals_of_catalogues_read_well(rt: HostRuntime) -> Result<(), AllocError> {
+    let alloc = rt.alloc();
+    let mark = "a mark or a bar is on a check that its tape does not have";
+    assert!(rt; reads(alloc, &CatalogueError::NoSuchCheck, mark)?);
+    let received = "a received message has a name that its sender did not give it";
+    assert!(rt; reads(alloc, &CatalogueError::NamesDisagree, received)?);
+    let full = "the tape has no room under 1000000 events";
+    assert!(rt; reads(alloc, &AddError::TapeFull, full)?);
+    let named = "the event has a name that its sender did not give it";
+    assert!(rt; reads(alloc, &AddError::NamesDisagree, named)?);
+    let missing = "the tape has no such check";
+    assert!(rt; reads(alloc, &DamageError::NoSuchCheck, missing)?);
+    assert!(rt;
+        reads(
+            alloc,
+            &DamageError::AlreadyDamaged,
+            "the check is marked already"
+        )?
     );
-    let added = format!(in rt.alloc(); "{}; {}", AddError::TapeFull, AddError::NamesDisagree)?;
-    assert_eq!(rt;
-        added.as_str(),
-        "the tape has no room under 1000000 events; the event has a name that its sender did not give it"
-    );
-    let marked = format!(in rt.alloc();
-        "{}; {}",
-        DamageError::NoSuchCheck,
-        DamageError::AlreadyDamaged
-    )?;
-    assert_eq!(rt;
-        marked.as_str(),
-        "the tape has no such check; the check is marked already"
-    );
-    let planned = format!(in rt.alloc(); "{}", PlanError::OutOfMemory)?;
-    assert_eq!(rt; planned.as_str(), "out of memory");
+    assert!(rt; reads(alloc, &PlanError::OutOfMemory, "out of memory")?);
     Ok(())
 }

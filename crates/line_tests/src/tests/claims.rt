@@ -1,10 +1,10 @@
 //! What the checker says of claims.
 use crate::tests::build::{Did, failed, history_of, process};
-use crate::tests::{DOMINO, passed};
+use crate::tests::{DOMINO, passed, reads};
 use line_check::{CertFault, FaultCode, LineFault, check_certificate, check_consistent};
 use line_names::{Choice, Line, Passed, ProcId, ProcSet};
 use line_tape::Marks;
-use std::alloc::Global;
+use std::alloc::{AllocError, Global};
 use std::test::Fail;
 
 /// Both processes back at their initial states.
@@ -169,19 +169,21 @@ fn tested_lines(rt: HostRuntime) -> Result<(), Fail> {
 }
 
 #[test]
-fn faults_read_well(rt: HostRuntime) -> Result<(), Fail> {
+fn faults_read_well(rt: HostRuntime) -> Result<(), AllocError> {
+    let alloc = rt.alloc();
     let of_an_entry = CertFault {
         entry: Some(3),
         code: FaultCode::NotTop,
     };
+    let ceiling = "entry 3: the choice is not the present ceiling of its process";
+    assert!(rt; reads(alloc, &of_an_entry, ceiling)?);
     let of_the_claim = CertFault {
         entry: None,
         code: FaultCode::LineDiffers,
     };
-    let words = format!(in rt.alloc(); "{of_an_entry}; {of_the_claim}; {}", LineFault::BadShape)?;
-    assert_eq!(rt;
-        words.as_str(),
-        "entry 3: the choice is not the present ceiling of its process; the entries lead to another line; the line names what the history does not have"
-    );
+    let line = "the entries lead to another line";
+    assert!(rt; reads(alloc, &of_the_claim, line)?);
+    let shape = "the line names what the history does not have";
+    assert!(rt; reads(alloc, &LineFault::BadShape, shape)?);
     Ok(())
 }

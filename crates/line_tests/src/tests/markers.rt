@@ -1,8 +1,10 @@
 //! The two rules at work, with memory enough.
 ghost use Rattle.std.specs.Prelude.{◌≡◌, ◌<◌, ◌≤◌, IfOk, OnOk};
 
+use crate::tests::reads;
 use line_marker::{BeginError, Effect, Marker, MarkerError};
 use line_names::{MsgName, ProcId};
+use std::alloc::AllocError;
 use std::test::Fail;
 
 /// One of three processes.
@@ -92,11 +94,11 @@ fn a_marker_forces_a_round(rt: HostRuntime) -> Result<(), Fail> {
 }
 
 #[test]
-fn refusals_have_their_numbers(rt: HostRuntime) -> Result<(), Fail> {
-    let begin = format!(in rt.alloc(); "{}", BeginError::RoundNotNew)?;
-    assert_eq!(rt; begin.as_str(), "the round is not greater than those known");
-    let marker = format!(in rt.alloc(); "{}", MarkerError::MarkerRepeated)?;
-    assert_eq!(rt; marker.as_str(), "that channel of that round is closed");
+fn refusals_have_their_numbers(rt: HostRuntime) -> Result<(), AllocError> {
+    let begin = "the round is not greater than those known";
+    assert!(rt; reads(rt.alloc(), &BeginError::RoundNotNew, begin)?);
+    let marker = "that channel of that round is closed";
+    assert!(rt; reads(rt.alloc(), &MarkerError::MarkerRepeated, marker)?);
     assert_eq!(rt; BeginError::RoundNotNew.code(), 9);
     assert_eq!(rt; MarkerError::MarkerRepeated.code(), 10);
     Ok(())

@@ -1,8 +1,9 @@
 //! Steps in one run.
+use crate::tests::reads;
 use line_names::{Body, ProcId};
 use line_tape::State;
 use line_world::{Answer, Mode, Reply, RunStopped, Step, StepError, World};
-use std::alloc::Global;
+use std::alloc::{AllocError, Global};
 use std::test::Fail;
 
 /// What an answer tells, a message by its number.
@@ -25,7 +26,7 @@ fn seen(answer: &Answer) -> Told {
     }
 }
 
-/// A message from process 0 to process 1 that is delivered, and a check behind it.
+/// A message from process 0 to process 1 that is delivered, and a check after it.
 fn a_message_and_a_check(alloc: Global) -> Result<Vec<Step>, Fail> {
     let (from, to) = (ProcId::try_new(0, 2)?, ProcId::try_new(1, 2)?);
     let body = Body::try_new(b"a")?;
@@ -90,40 +91,38 @@ fn a_run_goes_on_after_a_refusal(rt: HostRuntime) -> Result<(), Fail> {
 }
 
 #[test]
-fn refusals_of_steps_read_well(rt: HostRuntime) -> Result<(), Fail> {
-    let links = format!(in rt.alloc();
-        "{}; {}; {}",
-        StepError::ToSelf,
-        StepError::LinkEmpty,
-        StepError::BadPick
-    )?;
-    assert_eq!(rt;
-        links.as_str(),
-        "a process has no link to itself; the link holds nothing; the link has nothing to take at that place"
-    );
-    let rounds = format!(in rt.alloc();
-        "{}; {}; {}",
-        StepError::RoundOpen,
-        StepError::NothingToTurn,
-        StepError::WrongMode
-    )?;
-    assert_eq!(rt;
-        rounds.as_str(),
-        "the last round begun is not completed; no round is open of which the process has no check; links of this kind have no such step"
-    );
-    let ends = format!(in rt.alloc();
-        "{}; {}",
-        StepError::NoMoreRounds,
-        StepError::NoMoreIncarnations
-    )?;
-    assert_eq!(rt;
-        ends.as_str(),
-        "the last round begun has number 65535; a process that goes back has incarnation 65535"
-    );
+fn refusals_of_steps_read_well(rt: HostRuntime) -> Result<(), AllocError> {
+    let alloc = rt.alloc();
+    for (error, words) in [
+        (StepError::ToSelf, "a process has no link to itself"),
+        (StepError::LinkEmpty, "the link holds nothing"),
+        (
+            StepError::BadPick,
+            "the link has nothing to take at that place",
+        ),
+        (
+            StepError::RoundOpen,
+            "the last round begun is not completed",
+        ),
+        (
+            StepError::NothingToTurn,
+            "no round is open of which the process has no check",
+        ),
+        (StepError::WrongMode, "links of this kind have no such step"),
+        (
+            StepError::NoMoreRounds,
+            "the last round begun has number 65535",
+        ),
+        (
+            StepError::NoMoreIncarnations,
+            "a process that goes back has incarnation 65535",
+        ),
+    ] {
+        assert!(rt; reads(alloc, &error, words)?, "{words}");
+    }
     let stopped = RunStopped {
-        done: Vec::new(rt.alloc()),
+        done: Vec::new(alloc),
     };
-    let words = format!(in rt.alloc(); "{stopped}")?;
-    assert_eq!(rt; words.as_str(), "out of memory after 0 steps");
+    assert!(rt; reads(alloc, &stopped, "out of memory after 0 steps")?);
     Ok(())
 }

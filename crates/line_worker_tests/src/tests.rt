@@ -1,0 +1,3 @@
+//! Workers, and drills of them.
+mod drills;
+mod workers;
