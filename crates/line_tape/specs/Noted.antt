@@ -1,6 +1,7 @@
 -- How the receipts of a tape are kept, so that the first of each message is found.
 use Rattle.std.specs.Prelude.{◌≡◌, ◌≢◌, ℕ, zero, suc, ◌+◌, ◌*◌, ◌/◌, ◌%◌, ◌<◌, ◌≤◌, ◌⊎◌, ◌==◌, Bool}
 use Rattle.std.specs.Prelude.{if◌then◌else◌, List, map, length, slice_index_or}
+use Rattle.std.specs.Int.{w32, reverse_bits, rotate_left}
 use Rattle.line_names.specs.declared.limits.TheConstants.{MOST_PROCESSES}
 use Rattle.line_tape.specs.declared.limits.TheConstants.{MOST_EVENTS}
 use Rattle.line_names.specs.declared.messages.MsgName.{MsgName}
@@ -75,9 +76,14 @@ abbrev pub next_down : List Receipt → ℕ → ℕ → Bool → ℕ
 next_down receipts root zero far = 0
 next_down receipts root (suc i) far = seated receipts root (suc i) far
 
+-- the bits of a number in another order: the twentieth and those below it downwards, then those
+-- above it
+abbrev pub high_bits_first : ℕ → ℕ
+high_bits_first number = reverse_bits w32 (rotate_left w32 number 12)
+
 -- the number whose bits, the lowest first, lead to a message
 abbrev pub key_of : MsgName → ℕ
-key_of message = (message.inc * 256 + message.from) * 4294967296 + message.number
+key_of message = (message.inc * 256 + message.from) * 4294967296 + high_bits_first message.number
 
 -- the key with its d lowest bits gone
 abbrev pub rest_of_key : ℕ → ℕ → ℕ

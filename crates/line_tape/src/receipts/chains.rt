@@ -47,12 +47,17 @@ impl Receipt {
         self.from == other.from && self.inc == other.inc && self.number == other.number
     }
 
-    /// The number whose bits, the lowest first, lead to it in the tree: those of the number, of the
-    /// sender and of the incarnation. Receipts differ soonest in the bits of the number.
+    /// The number whose bits, the lowest first, lead to it in the tree: those of the number from
+    /// its twentieth down, which are all that a tape's sends have, then those above, and those of
+    /// the sender and of the incarnation.
+    ///
+    /// So messages of about one time share most of their way, and what a receipt passes was passed
+    /// by those just before it.
     pub fn key(&self) -> u64
         ensures { result ≡ key_of (message_of self.now) }
     {
-        (u64::from(self.inc) * 256 + u64::from(self.from)) * 4_294_967_296 + u64::from(self.number)
+        let number = self.number.rotate_left(12).reverse_bits();
+        (u64::from(self.inc) * 256 + u64::from(self.from)) * 4_294_967_296 + u64::from(number)
     }
 }
 

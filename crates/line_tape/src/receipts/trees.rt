@@ -30,8 +30,8 @@ pub fn link_at(receipts: &[Receipt], root: u32, seat: Seat) -> u32
 /// The seat that a receipt of the message has in the tree, or the empty one that the next such
 /// would have.
 ///
-/// It takes at most one step more than a key has bits, and with numbers in a row a logarithm of how
-/// many receipts are in the tree.
+/// It takes at most one step more than a key has bits, and with one sender's numbers in a row one
+/// more than the twenty bits of a number that a tape can have.
 pub fn seat_of(receipts: &[Receipt], root: u32, wanted: &Receipt) -> Seat
     requires tree { AreInTree receipts.now root }
     ensures { IsSeatOf receipts.now root (message_of wanted.now) result.above result.far }
