@@ -22,24 +22,14 @@ use Rattle.line_turns.proofs.TurningLemmas.{IsTurning-checked}
 use Rattle.line_turns.specs.Channels.{channels_at}
 use Rattle.line_turns.specs.Tables.{between, IsTable}
 use Rattle.line_turns.specs.Turning.{TurningView, IsLastLine, IsTurning}
-use Rattle.line_moves.specs.declared.modes.Mode.{Mode}
 use Rattle.line_moves.specs.declared.modes.Mode.TheVariants.{Unordered}
 use Rattle.line_moves.specs.Listed.{Listed, channel, channel_table, is_begun, is_completed, listed}
-use Rattle.line_moves.specs.Openings.{OpenView, opened, opened_by, opened_turning, AreInTransit, IsOpenTurning}
+use Rattle.line_moves.specs.Openings.{opened_by, opened_turning, AreInTransit, IsOpenTurning}
 use Rattle.line_moves.specs.Worlds.{AreRounds}
 use Rattle.line_moves.proofs.FateLemmas.{same_test}
 use Rattle.line_moves.proofs.LinkLemmas.{length-with_event}
 use Rattle.line_moves.proofs.OpenFacts.{map_cells}
 use Rattle.line_moves.proofs.OpeningLemmas.{is_checked_now, open_told, table_cell}
-
--- where links keep no order, the round of colours is the one that is kept as open
-pub turned_rounds : (mode : Mode) (history : List Process) (last : ℕ) (running : Option OpenView) (turning : Option TurningView) (rounds : List Listed) → mode ≡ Unordered
-    → AreRounds mode history last (opened mode running turning) rounds → AreRounds Unordered history last (opened_turning turning) rounds
-turned_rounds mode history last running turning rounds e are = subst (λ (m : Mode). AreRounds m history last (opened m running turning) rounds) e are
-
-pub opened_rounds : (mode : Mode) (history : List Process) (last : ℕ) (running : Option OpenView) (turning : Option TurningView) (rounds : List Listed) → mode ≡ Unordered
-    → AreRounds Unordered history last (opened_turning turning) rounds → AreRounds mode history last (opened mode running turning) rounds
-opened_rounds mode history last running turning rounds e are = subst (λ (m : Mode). AreRounds m history last (opened m running turning) rounds) (sym e) are
 
 -- the last round begun is the one that is kept as open, where one has to be
 pub open_is : (history : List Process) (last : ℕ) (turning : Option TurningView) (rounds : List Listed) → AreRounds Unordered history last (opened_turning turning) rounds

@@ -196,11 +196,6 @@ pub record IsSettled (history : List Process) (r : ℕ) (before : List Listed)
   pub listed : rounds ≡ before ++ newly_closed Unordered history (Some (opened_by round))
   pub left : opened_turning turning ≡ left_open Unordered history (Some (opened_by round))
 
--- the round that is kept as open in each mode
-abbrev pub opened : Mode → Option OpenView → Option TurningView → Option OpenView
-opened Fifo running turning = running
-opened Unordered running turning = opened_turning turning
-
 -- the channels of a round that is completed, between n processes: by the markers, or as they were
 -- counted
 abbrev pub channels_kept : Option (List (List (List MsgName))) → ℕ → List MarkerView → ℕ

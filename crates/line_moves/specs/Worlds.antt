@@ -89,8 +89,3 @@ pub record AreRounds (mode : Mode) (history : List Process) (last : ℕ)
 pub record IsPainted (history : List Process) (colours : List Turned) : Type 0 where
   pub turned : AreTurned history colours
   pub coloured : AreColoured history
-
--- what a world keeps true of colours: links in order need none
-abbrev pub ArePainted : Mode → List Process → List Turned → Type 0
-ArePainted Fifo history colours = Unit {0}
-ArePainted Unordered history colours = IsPainted history colours

@@ -3,8 +3,8 @@
 //!
 //! All room is made first: if memory runs out, the tapes and the marks are as they were, and the
 //! links hold what they held.
-ghost use Rattle.std.specs.Prelude.{◌≡◌, ◌≢◌, ◌<◌, ◌≤◌, ◌+◌, ◌++◌, ◌∷◌, [], length, slice_index_or};
-ghost use Rattle.std.specs.Prelude.{IfOk, OnOk, OnErr, Option, None};
+ghost use Rattle.std.specs.Prelude.{◌≡◌, ◌≢◌, ◌<◌, ◌≤◌, ◌+◌, ◌++◌, ◌∷◌, [], length, IfOk, OnOk};
+ghost use Rattle.std.specs.Prelude.{OnErr, None};
 ghost use Rattle.line_tape.specs.declared.events.Event.TheVariants.{Send as SendEvent};
 ghost use Rattle.line_tape.specs.declared.events.Event.TheVariants.{Recv as RecvEvent};
 ghost use Rattle.line_tape.specs.declared.events.Event.TheVariants.{Check as CheckEvent};
@@ -14,19 +14,17 @@ ghost use Rattle.line_tape.specs.History.{tape_at, incarnation_at, with_event};
 ghost use Rattle.line_tape.specs.Spent.{next_name};
 ghost use Rattle.line_catalogue.specs.Agreement.{AgreesNext};
 ghost use Rattle.line_catalogue.specs.Views.{room_at};
-ghost use Rattle.line_turns.specs.Turning.{TurningView};
 ghost use Rattle.line_moves.specs.declared.modes.Mode.TheVariants.{Fifo};
 ghost use Rattle.line_moves.specs.Moves.{next_check};
-ghost use Rattle.line_moves.specs.Openings.{open_number, opened, IsOpening};
+ghost use Rattle.line_moves.specs.Openings.{open_number, IsOpening};
 ghost use Rattle.line_moves.specs.Queues.{taken_off};
 ghost use Rattle.line_turns.specs.Tables.{between, with_list, IsTable};
 
 use crate::links::Links;
-use crate::modes::Mode;
 use crate::openings::{OpenRound, note};
 use line_catalogue::Catalogue;
 use line_names::{MOST_BODY, MsgName, ProcId};
-use line_tape::{Event, History, Item, MOST_EVENTS, MOST_STATE, State};
+use line_tape::{Event, Item, MOST_EVENTS, MOST_STATE, State};
 use std::alloc::AllocError;
 
 /// Adds an event to a tape that has room for it.
@@ -80,55 +78,11 @@ pub fn put_message(
     Ok(MsgName { from, inc, number })
 }
 
-/// Takes the first item off a link that keeps its order. A copy stays.
-fn take_off(mode: Mode, links: &mut Links, from: ProcId, to: ProcId)
-    requires from { from < length links.old }
-    requires to { to < length (slice_index_or links.old from []) }
-    ensures { links.new ≡ taken_off mode links.old from to }
-{
-    match mode {
-        Mode::Fifo => links.drop_first(from, to),
-        Mode::Unordered => {}
-    }
-}
-
-/// Has the open round of markers note a message. Where links keep no order there is none.
-fn note_message(
-    mode: Mode,
-    running: &mut Option<OpenRound>,
-    history: &History,
-    to: ProcId,
-    message: &MsgName,
-) -> Result<(), AllocError>
-    requires from { message.now.from < length history.now.processes }
-    requires to { to < length history.now.processes }
-    requires other { message.now.from ≢ to }
-    requires opening { mode ≡ Fifo → IsOpening Fifo history.now.processes running.old }
-    ensures number { (turning : Option TurningView)
-        → open_number (opened mode running.new turning)
-        ≡ open_number (opened mode running.old turning) }
-    ensures ok { OnOk result
-        ((turning : Option TurningView)
-        → IsOpening mode history.now.processes (opened mode running.old turning)
-        → IsOpening mode (with_event history.now.processes to (RecvEvent message.now))
-        (opened mode running.new turning)) }
-    ensures err { OnErr result
-        ((turning : Option TurningView)
-        → IsOpening mode history.now.processes (opened mode running.old turning)
-        → IsOpening mode history.now.processes (opened mode running.new turning)) }
-{
-    match mode {
-        Mode::Fifo => note(running, history, to, message),
-        Mode::Unordered => Ok(()),
-    }
-}
-
-/// Takes a message that forces no check: the event goes on the receiver's tape, the item comes off
-/// a link that keeps its order, and the open round of markers notes the message.
+/// Takes a message where links keep their order: the event goes on the receiver's tape, the item
+/// comes off the link, and the open round notes the message.
 ///
 /// It costs a push for each, and what `Catalogue::reserve` costs.
 pub fn take_message(
-    mode: Mode,
     catalogue: &mut Catalogue,
     links: &mut Links,
     running: &mut Option<OpenRound>,
@@ -144,23 +98,39 @@ pub fn take_message(
     requires held { Holds (tape_at catalogue.old.processes message.now.from) message.now.inc
         message.now.number }
     requires few { length (tape_at catalogue.old.processes to) < MOST_EVENTS }
-    requires opening { mode ≡ Fifo → IsOpening Fifo catalogue.old.processes running.old }
+    requires opening { IsOpening Fifo catalogue.old.processes running.old }
     ensures taken { OnOk result
         (catalogue.new.processes ≡ with_event catalogue.old.processes to (RecvEvent message.now)) }
-    ensures off { OnOk result (links.new ≡ taken_off mode links.old from to) }
+    ensures off { OnOk result (links.new ≡ taken_off Fifo links.old from to) }
+    ensures opening { IsOpening Fifo catalogue.new.processes running.new }
+    ensures number { open_number running.new ≡ open_number running.old }
     ensures err { OnErr result (catalogue.new.processes ≡ catalogue.old.processes) }
     ensures marks { catalogue.new.marks ≡ catalogue.old.marks }
     ensures kept { OnErr result (links.new ≡ links.old) }
-    ensures opening { (turning : Option TurningView)
-        → IsOpening mode catalogue.old.processes (opened mode running.old turning)
-        → IsOpening mode catalogue.new.processes (opened mode running.new turning) }
-    ensures number { (turning : Option TurningView)
-        → open_number (opened mode running.new turning)
-        ≡ open_number (opened mode running.old turning) }
 {
     catalogue.reserve(to, 1)?;
-    note_message(mode, running, catalogue.history(), to, message)?;
-    take_off(mode, links, from, to);
+    note(running, catalogue.history(), to, message)?;
+    links.drop_first(from, to);
+    add_receipt(catalogue, to, message);
+    Ok(())
+}
+
+/// Takes the copy of a message that forces no check: the event goes on the receiver's tape, and the
+/// copy stays on its link.
+///
+/// It costs a push, and what `Catalogue::reserve` costs.
+pub fn take_copy(catalogue: &mut Catalogue, to: ProcId, message: &MsgName) -> Result<(), AllocError>
+    requires to { to < length catalogue.old.processes }
+    requires from { message.now.from < length catalogue.old.processes }
+    requires held { Holds (tape_at catalogue.old.processes message.now.from) message.now.inc
+        message.now.number }
+    requires few { length (tape_at catalogue.old.processes to) < MOST_EVENTS }
+    ensures taken { OnOk result
+        (catalogue.new.processes ≡ with_event catalogue.old.processes to (RecvEvent message.now)) }
+    ensures err { OnErr result (catalogue.new.processes ≡ catalogue.old.processes) }
+    ensures marks { catalogue.new.marks ≡ catalogue.old.marks }
+{
+    catalogue.reserve(to, 1)?;
     add_receipt(catalogue, to, message);
     Ok(())
 }

@@ -5,12 +5,10 @@ ghost use Rattle.line_tape.specs.declared.items.Item.TheVariants.{Message};
 ghost use Rattle.line_tape.specs.History.{Process};
 ghost use Rattle.line_tape.specs.Transit.{goes_between, in_transit, in_transit_between};
 ghost use Rattle.line_turns.specs.Tables.{between};
-ghost use Rattle.line_moves.specs.Modes.{copies_in};
 ghost use Rattle.line_moves.specs.Rooms.{items_of, queue_at, AreCounted, AreUncounted, HaveRoom};
 ghost use Rattle.line_moves.specs.Worlds.{AreQueues};
 
 use crate::links::{Links, Row};
-use crate::modes::Mode;
 use line_names::{Line, MsgName};
 use line_tape::{History, Item};
 use std::alloc::AllocError;
@@ -69,23 +67,6 @@ fn clear_rows(rows: &mut Vec<Row>)
     }
 }
 
-/// Leaves on the links what stays there through a restart: nothing where links keep their order,
-/// and else the copies.
-fn keep_copies(mode: Mode, rows: &mut Vec<Row>)
-    ensures kept { (p q : ℕ)
-        → between (map items_of rows.new.items) p q
-        ≡ between (copies_in mode (map items_of rows.old.items)) p q }
-    ensures queued { (history : List Process) → AreQueues history (map items_of rows.old.items)
-        → AreQueues history (map items_of rows.new.items) }
-    ensures room { (p q : ℕ)
-        → (queue_at rows.old.items p q).room ≤ (queue_at rows.new.items p q).room }
-{
-    match mode {
-        Mode::Fifo => clear_rows(rows),
-        Mode::Unordered => {}
-    }
-}
-
 /// Puts each message at the end of the link to the process that its send names, in order, in room
 /// made for it.
 fn put_messages(history: &History, messages: &[MsgName], rows: &mut Vec<Row>)
@@ -106,13 +87,12 @@ fn put_messages(history: &History, messages: &[MsgName], rows: &mut Vec<Row>)
     }
 }
 
-/// Has the links hold what is in transit at a line, after the copies that they held before. If
-/// memory runs out, they hold what they held.
+/// Has links that keep their order hold what is in transit at a line. If memory runs out, they hold
+/// what they held.
 ///
-/// It looks three times at each message in transit, and moves no copy. Of the links in order it
-/// empties those from each process that put something on one since they were last emptied.
+/// It looks three times at each message in transit. It empties the links from each process that put
+/// something on one since they were last emptied.
 pub fn restart_links(
-    mode: Mode,
     history: &History,
     links: &mut Links,
     _line: &Line,
@@ -121,16 +101,40 @@ pub fn restart_links(
     requires transit { messages.now ≡ in_transit history.now.processes _line.now }
     requires queued { AreQueues history.now.processes links.old }
     ensures queued { OnOk result (AreQueues history.now.processes links.new) }
-    ensures put { OnOk result
-        ((p q : ℕ) → p < length history.now.processes → q < length history.now.processes
+    ensures put { OnOk result ((p q : ℕ)
+        → p < length history.now.processes → q < length history.now.processes
         → between links.new p q
-        ≡ between (copies_in mode links.old) p q
-        ++ map (λ m. Message m) (in_transit_between history.now.processes _line.now p q)) }
+        ≡ map (λ m. Message m) (in_transit_between history.now.processes _line.now p q)) }
     ensures err { OnErr result (links.new ≡ links.old) }
 {
     count_none(history, messages, &mut links.rows);
     count_messages(history, messages, &mut links.rows)?;
-    keep_copies(mode, &mut links.rows);
+    clear_rows(&mut links.rows);
     put_messages(history, messages, &mut links.rows);
+    Ok(())
+}
+
+/// Has links without an order hold one more copy of what is in transit at a line. If memory runs
+/// out, they hold what they held.
+///
+/// It looks three times at each message in transit, and moves no copy.
+pub fn restart_copies(
+    history: &History,
+    links: &mut Links,
+    _line: &Line,
+    copies: &[MsgName],
+) -> Result<(), AllocError>
+    requires transit { copies.now ≡ in_transit history.now.processes _line.now }
+    requires queued { AreQueues history.now.processes links.old }
+    ensures queued { OnOk result (AreQueues history.now.processes links.new) }
+    ensures put { OnOk result ((p q : ℕ)
+        → p < length history.now.processes → q < length history.now.processes
+        → between links.new p q ≡ between links.old p q
+        ++ map (λ m. Message m) (in_transit_between history.now.processes _line.now p q)) }
+    ensures err { OnErr result (links.new ≡ links.old) }
+{
+    count_none(history, copies, &mut links.rows);
+    count_messages(history, copies, &mut links.rows)?;
+    put_messages(history, copies, &mut links.rows);
     Ok(())
 }

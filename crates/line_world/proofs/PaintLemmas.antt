@@ -1,28 +1,29 @@
--- What a world keeps true of colours, step by step.
+-- How what is kept of colours and of received messages follows the tapes, step by step.
 use Rattle.std.proofs.Common.{◌≡◌, ℕ, ◌<◌, ◌≤◌, cond, List, length, Some, None, refl, ap, arith, inl, inr}
 use Rattle.std.proofs.lemmas.Bool.{cases_lt, lt-ltb, le-ltb}
-use Rattle.line_names.specs.declared.choices.Choice.{Choice}
 use Rattle.line_names.specs.declared.messages.MsgName.{MsgName}
 use Rattle.line_tape.specs.declared.events.Event.{Event}
 use Rattle.line_tape.specs.declared.events.Event.TheVariants.{Send, Recv, Check}
 use Rattle.line_tape.specs.Colours.{colour, message_colour, AreColoured, IsNextColoured}
 use Rattle.line_tape.specs.Fit.{IsFitUnordered, IsNextUnordered}
 use Rattle.line_tape.specs.History.{Process, tape_at, incarnation_at, with_event}
-use Rattle.line_tape.specs.Restart.{restarted}
 use Rattle.line_tape.specs.Rounds.{checked_round}
-use Rattle.line_tape.proofs.ColourRounds.{coloured_event, coloured_restarted}
+use Rattle.line_tape.proofs.ColourRounds.{coloured_event}
 use Rattle.line_turns.specs.Kept.{Turned, AreTurned}
 use Rattle.line_turns.proofs.TurnedLemmas.{AreTurned-kept}
 use Rattle.line_moves.specs.declared.fates.Fate.TheVariants.{Taken}
 use Rattle.std.specs.List.{slice_get}
 use Rattle.line_tape.specs.declared.items.Item.{Item}
 use Rattle.line_tape.specs.declared.items.Item.TheVariants.{Message}
-use Rattle.line_moves.specs.declared.modes.Mode.{Mode}
-use Rattle.line_moves.specs.declared.modes.Mode.TheVariants.{Fifo, Unordered}
+use Rattle.line_moves.specs.declared.modes.Mode.TheVariants.{Unordered}
 use Rattle.line_moves.specs.Fates.{fate_of, forced_round}
 use Rattle.line_turns.specs.Tables.{between}
-use Rattle.line_moves.specs.Worlds.{ArePainted, IsPainted, IsWorld}
+use Rattle.line_moves.specs.Worlds.{IsPainted, IsWorld}
 use Rattle.line_moves.proofs.WorldLemmas.{next_receipt}
+use Rattle.line_turns.proofs.FlagLemmas.{AreFlagged-other}
+use Rattle.line_world.specs.declared.protocols.Protocol.{Protocol}
+use Rattle.line_world.specs.declared.protocols.Protocol.TheVariants.{Markers, Colours}
+use Rattle.line_world.specs.Protocols.{mode_of, IsFollowing}
 
 -- an event that is no check of a round
 pub painted_event : (history : List Process) (at : ℕ) (e : Event) (colours : List Turned) → at < length history → IsFitUnordered history → checked_round e ≡ None → IsNextUnordered history at e → IsNextColoured history at e
@@ -61,27 +62,21 @@ forced_by history p message r e = elim (cases_lt (colour (tape_at history p)) (m
       absurd (cc)
 ]
 
-module _ (history : List Process) (queues : List (List (List Item))) (colours : List Turned) where
-  pub ArePainted-send : (mode : Mode) → IsWorld mode history queues → (at to : ℕ) (body : List ℕ) → at < length history → ArePainted mode history colours
-      → ArePainted mode (with_event history at (Send to (incarnation_at history at) body)) colours
-  ArePainted-send Fifo world at to body within is = tt
-  ArePainted-send Unordered world at to body within is = painted_event history at (Send to (incarnation_at history at) body) colours within world.linked.fit refl refl tt is
+-- a message is sent
+pub painted_send : (history : List Process) (colours : List Turned) → IsFitUnordered history → IsPainted history colours → (at to : ℕ) (body : List ℕ) → at < length history
+    → IsPainted (with_event history at (Send to (incarnation_at history at) body)) colours
+painted_send history colours fit is at to body within = painted_event history at (Send to (incarnation_at history at) body) colours within fit refl refl tt is
 
-  pub ArePainted-check : (mode : Mode) → IsWorld mode history queues → (at : ℕ) (state : List ℕ) → at < length history → ArePainted mode history colours → ArePainted mode (with_event history at (Check state None)) colours
-  ArePainted-check Fifo world at state within is = tt
-  ArePainted-check Unordered world at state within is = painted_event history at (Check state None) colours within world.linked.fit refl tt tt is
+-- a message that forces no check is taken
+pub painted_take : (history : List Process) (queues : List (List (List Item))) (colours : List Turned) (from to : ℕ) → from < length history → to < length history → (message : MsgName) → message.from ≡ from
+    → (pick : ℕ) → slice_get (between queues from to) pick ≡ Some (Message message) → IsWorld Unordered history queues → fate_of Unordered history to message ≡ Taken → forced_round Unordered history to message ≡ None
+    → IsPainted history colours → IsPainted (with_event history to (Recv message)) colours
+painted_take history queues colours from to from_within to_within message named pick at world taken none is =
+    painted_event history to (Recv message) colours to_within world.linked.fit refl (next_receipt history queues from to from_within to_within message named pick at world taken) (unforced history to message none) is
 
-module _ (history : List Process) (queues : List (List (List Item))) (colours : List Turned) (from to : ℕ) (from_within : from < length history) (to_within : to < length history)
-    (message : MsgName) (named : message.from ≡ from) (pick : ℕ) (at : slice_get (between queues from to) pick ≡ Some (Message message)) where
-  -- a message that forces no check
-  pub ArePainted-take : (mode : Mode) → IsWorld mode history queues → fate_of mode history to message ≡ Taken → forced_round mode history to message ≡ None → ArePainted mode history colours
-      → ArePainted mode (with_event history to (Recv message)) colours
-  ArePainted-take Fifo world taken none is = tt
-  ArePainted-take Unordered world taken none is =
-      painted_event history to (Recv message) colours to_within world.linked.fit refl (next_receipt history queues from to from_within to_within message named pick at world taken) (unforced history to message none) is
-
--- after a restart
-pub ArePainted-restart : (mode : Mode) (history : List Process) (line : List Choice) (old new : List Turned) → length line ≡ length history → (AreTurned history old → AreTurned (restarted history line) new)
-    → ArePainted mode history old → ArePainted mode (restarted history line) new
-ArePainted-restart Fifo history line old new size turned is = tt
-ArePainted-restart Unordered history line old new size turned is = record { turned = turned is.turned; coloured = coloured_restarted history line size }
+-- a check without a round
+pub IsFollowing-check : (history : List Process) (queues : List (List (List Item))) (protocol : Protocol) → IsWorld (mode_of protocol) history queues → (at : ℕ) (state : List ℕ) → at < length history → IsFollowing history protocol
+    → IsFollowing (with_event history at (Check state None)) protocol
+IsFollowing-check history queues (Markers running) world at state within is = tt
+IsFollowing-check history queues (Colours turning colours received) world at state within is =
+    (painted_event history at (Check state None) colours within world.linked.fit refl tt tt is.0, AreFlagged-other history at (Check state None) received within world.linked.fit refl refl is.1)

@@ -1,5 +1,5 @@
 -- What a world keeps true holds where nothing was done yet.
-use Rattle.std.proofs.Common.{◌≡◌, ℕ, ◌<◌, List, [], length, drop, get_or, replicate, Option, None, refl, sym, ap, ◌∙◌, subst, arith, inl, inr}
+use Rattle.std.proofs.Common.{◌≡◌, ℕ, ◌<◌, List, [], length, drop, get_or, replicate, None, refl, sym, ap, ◌∙◌, subst, arith, inl, inr}
 use Rattle.std.specs.List.{All, filter_map}
 use Rattle.std.proofs.lemmas.Bool.{both_ways, cases_lt}
 use Rattle.std.proofs.lemmas.List.Elements.{All-nil}
@@ -9,18 +9,15 @@ use Rattle.line_tape.specs.declared.events.Event.{Event}
 use Rattle.line_tape.specs.declared.items.Item.{Item}
 use Rattle.line_tape.specs.Fit.{items_sent, item_received, IsPrefix, AreDistinct, MarksFollow}
 use Rattle.line_tape.specs.History.{Process, fresh, tape_at}
-use Rattle.line_tape.proofs.ColourRounds.{coloured_start}
 use Rattle.line_tape.proofs.CopyLemmas.{unordered_start}
 use Rattle.line_tape.specs.Rounds.{has_check_of, rounds_checked}
 use Rattle.line_moves.specs.declared.modes.Mode.{Mode}
 use Rattle.line_moves.specs.declared.modes.Mode.TheVariants.{Fifo, Unordered}
 use Rattle.line_turns.specs.Tables.{between, IsTable}
-use Rattle.line_turns.specs.Kept.{Turned, AreTurned}
 use Rattle.line_moves.specs.Modes.{copies_in}
-use Rattle.line_moves.specs.Openings.{OpenView, opened}
 use Rattle.line_moves.proofs.WorldLemmas.{names-at, names-shape}
 use Rattle.line_turns.proofs.TableLemmas.{between-none, table_of-all, IsTable-none}
-use Rattle.line_moves.specs.Worlds.{IsItemOf, message_of, messages_at, names_on, AreQueues, ArePainted, AreRounds, HoldMessages, IsOrderedWorld, IsLinked, IsMessage, IsWorld}
+use Rattle.line_moves.specs.Worlds.{IsItemOf, message_of, messages_at, names_on, AreQueues, AreRounds, HoldMessages, IsOrderedWorld, IsLinked, IsMessage, IsWorld}
 use Rattle.line_moves.specs.Listed.{Listed, IsSnapshotOf}
 
 get_or-replicate_self : {X : Type 0} (n i : ℕ) (x : X) → get_or (replicate n x) i x ≡ x
@@ -28,11 +25,6 @@ get_or-replicate_self n i x = elim (cases_lt i n) [
   | inl below ↦ get_or-replicate n i x x below
   | inr past ↦ get_or_past (replicate n x) i x (omega (arith, past, length-replicate n x))
 ]
-
--- no round is kept as open
-pub none_opened : (mode : Mode) → opened mode None None ≡ None
-none_opened Fifo = refl
-none_opened Unordered = refl
 
 module _ (n : ℕ) where
   pub tape-start : (p : ℕ) → tape_at (replicate n fresh) p ≡ []
@@ -90,16 +82,11 @@ module _ (n : ℕ) where
       ∙ sym (table_of-all n (λ p q. none) (replicate n (replicate n [])) (IsTable-none n) (λ p q p_within q_within. between-none n p q))
 
   -- no round was begun
-  pub AreRounds-start : (mode : Mode) → AreRounds mode (replicate n fresh) 0 (opened mode None None) []
-  AreRounds-start mode = subst (λ (o : Option OpenView). AreRounds mode (replicate n fresh) 0 o []) (sym (none_opened mode)) (record {
+  pub AreRounds-start : (mode : Mode) → AreRounds mode (replicate n fresh) 0 None []
+  AreRounds-start mode = record {
     numbers = λ p r has. absurd (both_ways (has_check_of r (tape_at (replicate n fresh) p)) (ap (has_check_of r) (tape-start p)) has);
     opening = λ p r has. absurd (both_ways (has_check_of r (tape_at (replicate n fresh) p)) (ap (has_check_of r) (tape-start p)) has);
     unfinished = tt;
     snapshots = All-nil (IsSnapshotOf (replicate n fresh));
     numbered = record { earlier = All-nil (λ (round : Listed). round.number < 1); ascending = λ i j d near far. absurd (omega (arith, far)) };
-  })
-
-  -- and all colours are 0
-  pub ArePainted-start : (mode : Mode) (colours : List Turned) → AreTurned (replicate n fresh) colours → ArePainted mode (replicate n fresh) colours
-  ArePainted-start Fifo colours turned = tt
-  ArePainted-start Unordered colours turned = record { turned = turned; coloured = coloured_start n }
+  }

@@ -5,5 +5,5 @@ pub mod Steps
 pub mod Runs
 pub mod Marked
 pub mod Sound
-pub mod Flagged
 pub mod Shown
+pub mod Protocols

@@ -10,7 +10,7 @@
 #![tactic(auto)]
 
 mod laws;
-mod received;
+mod protocols;
 mod replies;
 mod steps;
 mod worlds;

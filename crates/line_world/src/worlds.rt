@@ -16,15 +16,14 @@ mod recoveries;
 mod refusals;
 mod rounds;
 
-use crate::received::reserve_flag;
+use crate::protocols::Protocol;
 use crate::replies::{Answer, Reply, RunStopped, StepError};
 use crate::steps::{Step, StepRef};
 use line_catalogue::Catalogue;
-use line_moves::{Links, Listing, Mode, OpenRound, Round, add_check, put_message};
+use line_moves::{Links, Listing, Mode, Round, add_check, put_message};
 use line_names::{MOST_BODY, MOST_PROCESSES, ProcId, ProcSet};
 use line_plan::Plan;
 use line_tape::{CountError, History, Item, Marks, State};
-use line_turns::{Colours, ReceivedSends, Turning};
 use std::alloc::Global;
 use std::marker::Model;
 
@@ -36,20 +35,13 @@ use std::marker::Model;
 /// for which memory runs out, changes nothing.
 #[derive(Drop)]
 pub struct World {
-    mode: Mode,
     catalogue: Catalogue,
     links: Links,
     /// The number of the last round begun; 0 where none was.
     last_round: u32,
-    /// The open round of markers, where links keep their order.
-    running: Option<OpenRound>,
-    /// The open round of colours, where links keep no order.
-    turning: Option<Turning>,
-    /// The colours of the processes, where links keep no order.
-    colours: Colours,
-    /// Which messages are received, where links keep no order.
-    received: ReceivedSends,
     rounds: Listing,
+    /// The open round, and which messages are received, as this kind of links needs it.
+    protocol: Protocol,
 }
 
 impl Model for World {
@@ -58,24 +50,22 @@ impl Model for World {
     ghost Value = { Machine };
 
     ghost use Rattle.line_moves.specs.Modes.{copies_in};
-    ghost use Rattle.line_moves.specs.Openings.{opened};
-    ghost use Rattle.line_moves.specs.Worlds.{names_on, ArePainted, AreRounds, IsWorld};
-    ghost use Rattle.line_world.specs.Flagged.{AreFlaggedIn};
+    ghost use Rattle.line_moves.specs.Worlds.{names_on, AreRounds, IsWorld};
+    ghost use Rattle.line_world.specs.Protocols.{mode_of, opened, IsFollowing};
 
     ghost view = { λ w. record {
-      mode = w.mode;
+      mode = mode_of w.protocol;
       history = w.catalogue.processes;
       marks = w.catalogue.marks;
       last_round = w.last_round;
       rounds = w.rounds.items;
-      copies = names_on (copies_in w.mode w.links);
+      copies = names_on (copies_in (mode_of w.protocol) w.links);
     } };
 
-    ghost invariant = { λ w. IsWorld w.mode w.catalogue.processes w.links
-        × AreRounds w.mode w.catalogue.processes w.last_round (opened w.mode w.running w.turning)
+    ghost invariant = { λ w. IsWorld (mode_of w.protocol) w.catalogue.processes w.links
+        × AreRounds (mode_of w.protocol) w.catalogue.processes w.last_round (opened w.protocol)
         w.rounds.items
-        × ArePainted w.mode w.catalogue.processes w.colours
-        × AreFlaggedIn w.mode w.catalogue.processes w.received };
+        × IsFollowing w.catalogue.processes w.protocol };
 }
 
 impl World {
@@ -88,18 +78,13 @@ impl World {
     {
         let catalogue = Catalogue::new(alloc, n)?;
         let links = Links::new(alloc, n)?;
-        let colours = Colours::new(alloc, n)?;
-        let received = ReceivedSends::new(alloc, n)?;
+        let protocol = Protocol::new(alloc, n, mode)?;
         Ok(World {
-            mode,
             catalogue,
             links,
             last_round: 0,
-            running: None,
-            turning: None,
-            colours,
-            received,
             rounds: Listing::new(alloc),
+            protocol,
         })
     }
 
@@ -176,7 +161,7 @@ impl World {
             return Err(e);
         }
         let history = self.catalogue.history();
-        reserve_flag(self.mode, history, &mut self.received, from)?;
+        self.protocol.reserve_flag(history, from)?;
         let message = put_message(&mut self.catalogue, &mut self.links, from, to, body)?;
         Ok(Reply::Sent { message })
     }

@@ -7,9 +7,8 @@ ghost use Rattle.line_world.specs.Runs.{Takes};
 ghost use Rattle.line_world.specs.Steps.{IsPlan, Recovers};
 
 use super::World;
-use crate::received::restart_flags;
 use crate::replies::{Reply, StepError};
-use line_moves::{restart_links, restarted_incarnations, restored_states};
+use line_moves::{restarted_incarnations, restored_states};
 use line_names::ProcSet;
 use line_plan::Plan;
 use line_tape::State;
@@ -54,12 +53,9 @@ impl World {
         let states = restored_states(alloc, history, &plan.line)?;
         let incarnations = restarted_incarnations(alloc, history, &plan.line)?;
         let left = Vec::from_slice(alloc, plan.replays.as_slice())?;
-        restart_links(self.mode, history, &mut self.links, &plan.line, &left)?;
-        restart_flags(self.mode, history, &mut self.received, &plan.line, &left);
+        self.protocol
+            .restart(history, &mut self.links, &plan.line, &left)?;
         self.catalogue.restart_with(&plan.line, left);
-        self.running = None;
-        self.turning = None;
-        self.colours.clear();
         self.rounds.keep(&plan.line);
         Ok((states, incarnations))
     }

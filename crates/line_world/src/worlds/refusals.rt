@@ -1,5 +1,6 @@
 //! What refuses a step of a world.
-ghost use Rattle.std.specs.Prelude.{◌≡◌, ◌≢◌, ◌<◌, ◌≤◌, ℕ, List, Some, length};
+ghost use Rattle.std.specs.Prelude.{◌≡◌, ◌≢◌, ◌<◌, ◌≤◌, ◌+◌, ℕ, List, Some, length, nat_lt};
+ghost use Rattle.line_tape.specs.History.{tape_at};
 ghost use Rattle.line_moves.specs.declared.modes.Mode.TheVariants.{Unordered};
 ghost use Rattle.line_world.specs.declared.steps.Step.TheVariants.{Send, Check, Begin, Turn};
 ghost use Rattle.line_world.specs.Refusals.{first_cause, link_causes, may_turn, refusal_of};
@@ -7,19 +8,29 @@ ghost use Rattle.line_world.specs.Refusals.{has_stranger, is_bad_pick, is_full};
 ghost use Rattle.line_world.specs.Machine.{is_open, items_on};
 
 use super::World;
+use crate::protocols::Protocol;
 use crate::replies::StepError;
 use line_moves::Mode;
 use line_names::{ProcId, ProcSet};
-use line_tape::{LAST_ROUND, MOST_EVENTS, MOST_STATE};
+use line_tape::{History, LAST_ROUND, MOST_EVENTS, MOST_STATE};
+
+/// Whether the tape of a process has no room for so many more events.
+pub(super) fn lacks_room(history: &History, p: ProcId, events: usize) -> bool
+    requires process { p < length history.now.processes }
+    requires few { events ≤ MOST_EVENTS }
+    ensures { result ≡ nat_lt MOST_EVENTS (length (tape_at history.now.processes p) + events) }
+{
+    history.tape(p).len() as usize > MOST_EVENTS - events
+}
 
 impl World {
     /// Whether the tape of a process has no room for so many events.
-    pub(super) fn is_full(&self, p: ProcId, events: usize) -> bool
+    fn is_full(&self, p: ProcId, events: usize) -> bool
         requires process { p < length self.now.history }
         requires few { events ≤ MOST_EVENTS }
         ensures { result ≡ is_full self.now p events }
     {
-        self.catalogue.history().tape(p).len() as usize > MOST_EVENTS - events
+        lacks_room(self.catalogue.history(), p, events)
     }
 
     /// Why a process may not send to another now.
@@ -46,7 +57,7 @@ impl World {
         requires other { from ≢ to }
         ensures { result ≡ is_bad_pick self.now.mode (items_on self.now from to) pick }
     {
-        match self.mode {
+        match self.protocol.mode() {
             Mode::Fifo => pick != 0,
             Mode::Unordered => pick >= self.links.len(from, to) as u64,
         }
@@ -101,10 +112,7 @@ impl World {
     fn is_open(&self) -> bool
         ensures { result ≡ is_open self.now }
     {
-        match self.mode {
-            Mode::Fifo => self.running.is_some(),
-            Mode::Unordered => self.turning.is_some(),
-        }
+        self.protocol.is_open()
     }
 
     /// Why a process may not begin a round now.
@@ -135,9 +143,12 @@ impl World {
         requires mode { self.now.mode ≡ Unordered }
         ensures { result ≡ may_turn self.now at }
     {
-        match &self.turning {
-            Some(turning) => !turning.has_check(at),
-            None => false,
+        match &self.protocol {
+            Protocol::Markers { .. } => false,
+            Protocol::Colours { turning, .. } => match turning {
+                Some(round) => !round.has_check(at),
+                None => false,
+            },
         }
     }
 
@@ -148,7 +159,7 @@ impl World {
         if at.get() >= self.catalogue.n() {
             return Some(StepError::NoSuchProcess);
         }
-        if self.mode.is_fifo() {
+        if self.protocol.mode().is_fifo() {
             return Some(StepError::WrongMode);
         }
         if state.len() > MOST_STATE {

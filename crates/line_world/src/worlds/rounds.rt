@@ -2,83 +2,18 @@
 ghost use Rattle.std.specs.Prelude.{◌≡◌, ◌≢◌, None, IfOk, IfErr, IsErrOf};
 ghost use Rattle.line_world.specs.declared.replies.Answer.TheVariants.{Done, Refused};
 ghost use Rattle.line_world.specs.declared.steps.Step.TheVariants.{Begin, Turn};
-ghost use Rattle.line_moves.specs.declared.modes.Mode.TheVariants.{Fifo, Unordered};
 ghost use Rattle.line_world.specs.Refusals.{refusal_of};
 ghost use Rattle.line_world.specs.Runs.{Takes};
 
 use super::World;
+use crate::protocols::Protocol;
 use crate::replies::{Reply, StepError};
-use line_moves::{Mode, begin_round, list_completed, turn_round};
+use line_moves::{begin_round, list_completed, turn_round};
 use line_names::ProcId;
 use line_turns::Turning;
 use std::alloc::Global;
 
 impl World {
-    /// Begins a round of markers.
-    fn begin_markers(&mut self, alloc: Global, at: ProcId, state: &[u8]) -> Result<Reply, StepError>
-        requires mode { self.old.mode ≡ Fifo }
-        requires passed { refusal_of self.old (Begin at state.now) ≡ None }
-        ensures done { IfOk result
-            (λ reply. Takes self.old (Begin at state.now) (Done reply) self.new) }
-        ensures refused { IfErr result
-            (λ e. e ≢ StepError.OutOfMemory
-            → Takes self.old (Begin at state.now) (Refused e) self.new) }
-        ensures memory { IsErrOf result StepError.OutOfMemory → self.new ≡ self.old }
-        ensures unrefused { IsErrOf result StepError.OutOfMemory
-            → refusal_of self.old (Begin at state.now) ≡ None }
-    {
-        self.rounds.reserve()?;
-        let (begun, check) = begin_round(
-            alloc,
-            &mut self.catalogue,
-            &mut self.links,
-            at,
-            state,
-            self.last_round,
-        )?;
-        self.last_round += 1;
-        self.running = Some(begun);
-        let history = self.catalogue.history();
-        list_completed(alloc, &mut self.running, history, &mut self.rounds);
-        Ok(Reply::Begun {
-            at,
-            check,
-            round: self.last_round,
-        })
-    }
-
-    /// Begins a round of colours.
-    fn begin_colours(&mut self, alloc: Global, at: ProcId, state: &[u8]) -> Result<Reply, StepError>
-        requires mode { self.old.mode ≡ Unordered }
-        requires passed { refusal_of self.old (Begin at state.now) ≡ None }
-        ensures done { IfOk result
-            (λ reply. Takes self.old (Begin at state.now) (Done reply) self.new) }
-        ensures refused { IfErr result
-            (λ e. e ≢ StepError.OutOfMemory
-            → Takes self.old (Begin at state.now) (Refused e) self.new) }
-        ensures memory { IsErrOf result StepError.OutOfMemory → self.new ≡ self.old }
-        ensures unrefused { IsErrOf result StepError.OutOfMemory
-            → refusal_of self.old (Begin at state.now) ≡ None }
-    {
-        let n = self.catalogue.n();
-        let round = self.last_round + 1;
-        let mut turning = Some(Turning::new(alloc, n, round)?);
-        let check = turn_round(
-            alloc,
-            &mut self.catalogue,
-            &mut self.colours,
-            &mut turning,
-            &mut self.rounds,
-            at,
-            state,
-            round,
-            0,
-        )?;
-        self.last_round = round;
-        self.turning = turning;
-        Ok(Reply::Begun { at, check, round })
-    }
-
     /// Begins a round.
     pub(super) fn begin(
         &mut self,
@@ -98,9 +33,50 @@ impl World {
         if let Some(e) = self.begin_refusal(at, state) {
             return Err(e);
         }
-        match self.mode {
-            Mode::Fifo => self.begin_markers(alloc, at, state),
-            Mode::Unordered => self.begin_colours(alloc, at, state),
+        match &mut self.protocol {
+            Protocol::Markers { running } => {
+                self.rounds.reserve()?;
+                let (begun, check) = begin_round(
+                    alloc,
+                    &mut self.catalogue,
+                    &mut self.links,
+                    at,
+                    state,
+                    self.last_round,
+                )?;
+                self.last_round += 1;
+                *running = Some(begun);
+                let history = self.catalogue.history();
+                list_completed(alloc, running, history, &mut self.rounds);
+                Ok(Reply::Begun {
+                    at,
+                    check,
+                    round: self.last_round,
+                })
+            }
+            Protocol::Colours {
+                turning,
+                colours,
+                ..
+            } => {
+                let n = self.catalogue.n();
+                let round = self.last_round + 1;
+                let mut begun = Some(Turning::new(alloc, n, round)?);
+                let check = turn_round(
+                    alloc,
+                    &mut self.catalogue,
+                    colours,
+                    &mut begun,
+                    &mut self.rounds,
+                    at,
+                    state,
+                    round,
+                    0,
+                )?;
+                self.last_round = round;
+                *turning = begun;
+                Ok(Reply::Begun { at, check, round })
+            }
         }
     }
 
@@ -123,21 +99,30 @@ impl World {
         if let Some(e) = self.turn_refusal(at, state) {
             return Err(e);
         }
-        let check = turn_round(
-            alloc,
-            &mut self.catalogue,
-            &mut self.colours,
-            &mut self.turning,
-            &mut self.rounds,
-            at,
-            state,
-            self.last_round,
-            0,
-        )?;
-        Ok(Reply::Turned {
-            at,
-            check,
-            round: self.last_round,
-        })
+        match &mut self.protocol {
+            Protocol::Markers { .. } => Err(StepError::WrongMode),
+            Protocol::Colours {
+                turning,
+                colours,
+                ..
+            } => {
+                let check = turn_round(
+                    alloc,
+                    &mut self.catalogue,
+                    colours,
+                    turning,
+                    &mut self.rounds,
+                    at,
+                    state,
+                    self.last_round,
+                    0,
+                )?;
+                Ok(Reply::Turned {
+                    at,
+                    check,
+                    round: self.last_round,
+                })
+            }
+        }
     }
 }

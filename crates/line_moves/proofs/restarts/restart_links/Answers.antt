@@ -1,5 +1,5 @@
 -- What goes between two processes, of all that is in transit, is in transit between them.
-use Rattle.std.proofs.Common.{◌≡◌, ◌++◌, Bool, List, filter, map, ap, ◌∙◌}
+use Rattle.std.proofs.Common.{◌++◌, Bool, List, filter, map, ap, ◌∙◌}
 use Rattle.line_names.specs.declared.choices.Choice.{Choice}
 use Rattle.line_names.specs.declared.messages.MsgName.{MsgName}
 use Rattle.line_tape.specs.declared.items.Item.{Item}
@@ -7,9 +7,6 @@ use Rattle.line_tape.specs.declared.items.Item.TheVariants.{Message}
 use Rattle.line_tape.specs.History.{Process}
 use Rattle.line_tape.specs.Transit.{goes_between}
 use Rattle.line_tape.proofs.LetterLemmas.{open_are, parts}
-use Rattle.line_turns.specs.Tables.{between}
-use Rattle.line_moves.specs.Modes.{copies_in}
-use Rattle.line_moves.specs.Rooms.{items_of}
 use Rattle.line_moves.proofs.restarts.restart_links.Goals as goal
 
 pub returns-clause-put : goal.returns-clause-put
@@ -18,9 +15,7 @@ returns-clause-put c = λ p q p_within q_within.
     let line : List Choice = c.args._line.now in
     let goes : MsgName → Bool = goes_between history p q in
     let shown : List MsgName → List Item = λ ms. map (λ m. Message m) (filter goes ms) in
-    let held : List (List (List Item)) → List Item = λ links. between (copies_in c.args.mode links) p q in
-    let same : map items_of c.count_messages.new.rows.items ≡ c.args.links.now = c.in_ok-count_messages.ensures.same ∙ c.count_none.ensures.same ∙ c.links.view_is in
     c.put_messages.ensures.put p q p_within q_within
-    ∙ ap (λ (items : List Item). items ++ shown c.args.messages.now) (c.keep_copies.ensures.kept p q ∙ ap held same)
-    ∙ ap (λ (ms : List MsgName). held c.args.links.now ++ shown ms) c.requires.transit
-    ∙ ap (λ (ms : List MsgName). held c.args.links.now ++ map (λ m. Message m) ms) (parts history line history (open_are history line) p q)
+    ∙ ap (λ (items : List Item). items ++ shown c.args.messages.now) (c.clear_rows.ensures.empty p q)
+    ∙ ap shown c.requires.transit
+    ∙ ap (λ (ms : List MsgName). map (λ m. Message m) ms) (parts history line history (open_are history line) p q)

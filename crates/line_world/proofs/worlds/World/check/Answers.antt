@@ -10,13 +10,13 @@ use Rattle.line_moves.specs.Listed.{Listed}
 use Rattle.line_world.specs.Machine.{Machine}
 use Rattle.line_world.specs.Refusals.{refusal_of}
 use Rattle.line_world.specs.Steps.{Does}
-use Rattle.line_moves.specs.Openings.{OpenView, opened}
-use Rattle.line_moves.specs.Worlds.{ArePainted, AreRounds, IsWorld}
+use Rattle.line_moves.specs.Openings.{OpenView}
 use Rattle.line_world.proofs.DeliverLemmas.{quiet_seen}
 use Rattle.line_moves.proofs.OpeningLemmas.{AreRounds-kept, IsOpening-kept, none_listed}
-use Rattle.line_world.proofs.FlaggedLemmas.{AreFlaggedIn-other}
-use Rattle.line_world.proofs.PaintLemmas.{ArePainted-check}
-use Rattle.line_world.specs.Flagged.{AreFlaggedIn}
+use Rattle.line_world.specs.declared.worlds.World.TheInside.{Inside}
+use Rattle.line_world.specs.Protocols.{mode_of, opened}
+use Rattle.line_world.proofs.KnownFacts.{kept_with}
+use Rattle.line_world.proofs.PaintLemmas.{IsFollowing-check}
 use Rattle.line_world.proofs.StepLemmas.{may_check}
 use Rattle.line_moves.proofs.WorldLemmas.{IsWorld-check}
 use Rattle.line_world.proofs.SeenLemmas.{seen}
@@ -24,29 +24,25 @@ use Rattle.line_world.proofs.worlds.World.check.Goals as goal
 
 pub invariant_of-self-2 : goal.invariant_of-self-2
 invariant_of-self-2 c =
-    let running : Option OpenView = opened c.self.inside.mode c.self.inside.running c.self.inside.turning in
+    let w : Inside = c.self.inside in
+    let running : Option OpenView = opened w.protocol in
     let may = may_check c.args.self.now c.args.at c.args.state.now (sym c.check_refusal.ensures ∙ c.in_default.is) in
-    let history : List Process = c.self.inside.catalogue.processes in
-    let mode : Mode = c.self.inside.mode in
+    let history : List Process = w.catalogue.processes in
+    let mode : Mode = mode_of w.protocol in
     let e : Event = CheckEvent c.of.result None in
-    let within : c.args.at < length history = omega (arith, may.within, ap (λ (m : Machine). length m.history) c.self.view_is) in (
-      subst (λ (h : List Process). IsWorld mode h c.self.inside.links) (sym c.in_ok-check.ensures.checked)
-          (IsWorld-check history c.self.inside.links mode c.self.invariant.0 c.args.at c.of.result within),
-      subst (λ (h : List Process). AreRounds mode h c.self.inside.last_round running c.self.inside.rounds.items) (sym c.in_ok-check.ensures.checked)
-          (AreRounds-kept history c.args.at e within (λ r. refl) (λ r p. refl) mode c.self.inside.last_round running running c.self.inside.rounds.items refl
-          (IsOpening-kept history c.args.at e within (λ r. refl) mode running (λ r p. refl) (λ r p. refl) c.self.invariant.1.opening) c.self.invariant.1),
-      subst (λ (h : List Process). ArePainted mode h c.self.inside.colours) (sym c.in_ok-check.ensures.checked)
-          (ArePainted-check history c.self.inside.links c.self.inside.colours mode c.self.invariant.0 c.args.at c.of.result within c.self.invariant.2),
-      subst (λ (h : List Process). AreFlaggedIn mode h c.self.inside.received) (sym c.in_ok-check.ensures.checked)
-          (AreFlaggedIn-other mode history c.self.inside.links c.args.at e c.self.inside.received c.self.invariant.0 within refl refl c.self.invariant.3),
-    )
+    let within : c.args.at < length history = omega (arith, may.within, ap (λ (m : Machine). length m.history) c.self.view_is) in
+    kept_with mode running w.protocol refl refl c.add_check.new.catalogue.processes (with_event history c.args.at e) c.in_ok-check.ensures.checked w.links w.last_round w.rounds.items
+    (IsWorld-check history w.links mode c.self.invariant.0 c.args.at c.of.result within)
+    (AreRounds-kept history c.args.at e within (λ r. refl) (λ r p. refl) mode w.last_round running running w.rounds.items refl
+    (IsOpening-kept history c.args.at e within (λ r. refl) mode running (λ r p. refl) (λ r p. refl) c.self.invariant.1.opening) c.self.invariant.1)
+    (IsFollowing-check history w.links w.protocol c.self.invariant.0 c.args.at c.of.result within c.self.invariant.2)
 
 pub returns-clause-done : goal.returns-clause-done
 returns-clause-done c =
     let none : refusal_of c.args.self.now (Check c.args.at c.args.state.now) ≡ None = sym c.check_refusal.ensures ∙ c.in_default.is in
     let may = may_check c.args.self.now c.args.at c.args.state.now none in
     let history : List Process = c.self.inside.catalogue.processes in
-    let mode : Mode = c.self.inside.mode in
+    let mode : Mode = mode_of c.self.inside.protocol in
     let last : ℕ = c.self.inside.last_round in
     let rounds : List Listed = c.self.inside.rounds.items in
     let e : Event = CheckEvent c.args.state.now None in

@@ -1,5 +1,5 @@
 -- All go on from the latest line, or it takes back a process that has no further incarnation.
-use Rattle.std.proofs.Common.{◌≡◌, ◌<◌, ◌++◌, ℕ, List, length, map, Option, None, refl, sym, ap, ◌∙◌, subst}
+use Rattle.std.proofs.Common.{◌≡◌, ◌<◌, ◌++◌, ℕ, List, length, map, None, refl, sym, ap, ◌∙◌, subst}
 use Rattle.std.proofs.lemmas.Bool.{both_ways}
 use Rattle.line_names.specs.declared.choices.Choice.{Choice}
 use Rattle.line_names.specs.declared.messages.MsgName.{MsgName}
@@ -16,14 +16,13 @@ use Rattle.line_moves.specs.declared.modes.Mode.{Mode}
 use Rattle.line_world.specs.Machine.{Machine}
 use Rattle.line_moves.specs.Modes.{copies_in}
 use Rattle.line_turns.specs.Tables.{between}
-use Rattle.line_world.specs.Flagged.{AreFlaggedIn}
+use Rattle.line_world.specs.declared.worlds.World.TheInside.{Inside}
+use Rattle.line_world.specs.Protocols.{mode_of, opened, IsFollowing}
+use Rattle.line_world.proofs.KnownFacts.{kept_with}
 use Rattle.line_world.specs.Refusals.{refusal_of, IsRefused}
 use Rattle.line_moves.specs.Restarts.{restored_states}
 use Rattle.line_world.specs.Steps.{restarted_machine}
-use Rattle.line_moves.specs.Openings.{OpenView, opened}
-use Rattle.line_world.proofs.PaintLemmas.{ArePainted-restart}
-use Rattle.line_world.proofs.StartLemmas.{none_opened}
-use Rattle.line_moves.specs.Worlds.{ArePainted, AreRounds, IsWorld, AreQueues}
+use Rattle.line_moves.specs.Worlds.{AreRounds, IsWorld, AreQueues}
 use Rattle.std.specs.List.{filter}
 use Rattle.line_moves.specs.Listed.{Listed, stays}
 use Rattle.line_moves.proofs.OpeningLemmas.{AreRounds-restarted}
@@ -57,8 +56,8 @@ pub restarted_incarnations-requires-clause-line : goal.restarted_incarnations-re
 restarted_incarnations-requires-clause-line c =
     c.requires.plan.latest.recoverable.length_is ∙ ap (λ (m : Machine). length m.history) (sym c.self.view_is) ∙ ap (λ (h : List Process). length h) (sym c.history-history.ensures.processes)
 
-pub restart_links-requires-clause-transit : goal.restart_links-requires-clause-transit
-restart_links-requires-clause-transit c =
+pub restart-requires-clause-transit : goal.restart-requires-clause-transit
+restart-requires-clause-transit c =
     let same : c.history-history.result.now.processes ≡ c.args.self.now.history = c.history-history.ensures.processes ∙ ap (λ (m : Machine). m.history) c.self.view_is in
     c.deref.ensures.value
     ∙ c.in_ok-left.ensures.items
@@ -66,8 +65,8 @@ restart_links-requires-clause-transit c =
     ∙ c.requires.plan.replays
     ∙ ap (λ (h : List Process). in_transit h c.args.plan.now.line) (sym same)
 
-pub restart_links-requires-clause-queued : goal.restart_links-requires-clause-queued
-restart_links-requires-clause-queued c =
+pub restart-requires-clause-queued : goal.restart-requires-clause-queued
+restart-requires-clause-queued c =
     subst (λ (h : List Process). AreQueues h c.self.inside.links) (sym c.history-history.ensures.processes) c.self.invariant.0.queued
 
 pub restart_with-requires-clause-line : goal.restart_with-requires-clause-line
@@ -87,72 +86,60 @@ pub restart_with-requires-clause-left : goal.restart_with-requires-clause-left
 restart_with-requires-clause-left c =
     c.in_ok-left.ensures.items ∙ c.as_slice.ensures.value ∙ c.requires.plan.replays ∙ ap (λ (m : Machine). in_transit m.history c.args.plan.now.line) (sym c.self.view_is)
 
-pub restart_flags-requires-clause-line : goal.restart_flags-requires-clause-line
-restart_flags-requires-clause-line c =
+pub restart-requires-clause-line : goal.restart-requires-clause-line
+restart-requires-clause-line c =
     let same : c.history-history.result.now.processes ≡ c.args.self.now.history = c.history-history.ensures.processes ∙ ap (λ (m : Machine). m.history) c.self.view_is in
     subst (λ (h : List Process). IsLine h c.args.plan.now.line) (sym same)
     (IsLine-latest c.args.self.now.history c.args.self.now.marks c.args._failed.now c.args.plan.now.line c.requires.plan.latest)
 
-pub restart_flags-requires-clause-transit : goal.restart_flags-requires-clause-transit
-restart_flags-requires-clause-transit c =
-    let same : c.history-history.result.now.processes ≡ c.args.self.now.history = c.history-history.ensures.processes ∙ ap (λ (m : Machine). m.history) c.self.view_is in
-    c.deref-2.ensures.value
-    ∙ c.in_ok-left.ensures.items
-    ∙ c.as_slice.ensures.value
-    ∙ c.requires.plan.replays
-    ∙ ap (λ (h : List Process). in_transit h c.args.plan.now.line) (sym same)
-
-pub restart_flags-requires-clause-flagged : goal.restart_flags-requires-clause-flagged
-restart_flags-requires-clause-flagged c =
-    subst (λ (h : List Process). AreFlaggedIn c.self.inside.mode h c.self.inside.received) (sym c.history-history.ensures.processes) c.self.invariant.3
+pub restart-requires-clause-following : goal.restart-requires-clause-following
+restart-requires-clause-following c = subst (λ (h : List Process). IsFollowing h c.self.inside.protocol) (sym c.history-history.ensures.processes) c.self.invariant.2
 
 pub invariant_of-self-2 : goal.invariant_of-self-2
 invariant_of-self-2 c =
-    let mode : Mode = c.self.inside.mode in
-    let old : List Process = c.self.inside.catalogue.processes in
-    let links : List (List (List Item)) = c.self.inside.links in
-    let new : List (List (List Item)) = c.restart_links.new.links in
+    let w : Inside = c.self.inside in
+    let mode : Mode = mode_of w.protocol in
+    let old : List Process = w.catalogue.processes in
+    let new : List (List (List Item)) = c.restart.new.links in
     let line : List Choice = c.args.plan.now.line in
     let size : length line ≡ length old = c.requires.plan.latest.recoverable.length_is ∙ ap (λ (m : Machine). length m.history) (sym c.self.view_is) in
     let consistent : IsConsistent old line = subst (λ (m : Machine). IsConsistent m.history line) (sym c.self.view_is) c.requires.plan.latest.recoverable.consistent in
-    let queued : AreQueues old new = subst (λ (h : List Process). AreQueues h new) c.history-history.ensures.processes c.in_ok-restart_links.ensures.queued in (
-      subst (λ (h : List Process). IsWorld mode h new) (sym c.restart_with.ensures.processes)
-          (IsWorld-restart old links new line size consistent queued mode c.self.invariant.0
-          (subst (λ (h : List Process). (p q : ℕ) → p < length h → q < length h → between new p q ≡ between (copies_in mode links) p q ++ map (λ m. Message m) (in_transit_between h line p q)) c.history-history.ensures.processes c.in_ok-restart_links.ensures.put)),
-      subst (λ (h : List Process). AreRounds mode h c.self.inside.last_round (opened mode None None) c.keep.new.self.items) (sym c.restart_with.ensures.processes)
-          (subst (λ (rounds : List Listed). AreRounds mode (restarted old line) c.self.inside.last_round (opened mode None None) rounds) (sym c.keep.ensures)
-          (subst (λ (o : Option OpenView). AreRounds mode (restarted old line) c.self.inside.last_round o (filter (stays line) c.self.inside.rounds.items)) (sym (none_opened mode))
-          (AreRounds-restarted mode old line c.self.inside.last_round (opened mode c.self.inside.running c.self.inside.turning) c.self.inside.rounds.items size c.self.invariant.1))),
-      subst (λ (h : List Process). ArePainted mode h c.clear.new.self) (sym c.restart_with.ensures.processes)
-          (ArePainted-restart mode old line c.self.inside.colours c.clear.new.self size (c.clear.ensures.restart old line size) c.self.invariant.2),
-      subst (λ (h : List Process). AreFlaggedIn mode h c.restart_flags.new.received) (sym c.restart_with.ensures.processes)
-          (subst (λ (h : List Process). AreFlaggedIn mode (restarted h line) c.restart_flags.new.received) c.history-history.ensures.processes c.restart_flags.ensures),
-    )
+    let queued : AreQueues old new = subst (λ (h : List Process). AreQueues h new) c.history-history.ensures.processes c.in_ok-restart.ensures.queued in
+    kept_with mode None c.restart.new.self c.restart.ensures.mode c.in_ok-restart.ensures.closed c.restart_with.new.self.processes (restarted old line) c.restart_with.ensures.processes new w.last_round c.keep.new.self.items
+    (IsWorld-restart old w.links new line size consistent queued mode c.self.invariant.0
+    (subst (λ (h : List Process). (p q : ℕ) → p < length h → q < length h → between new p q ≡ between (copies_in mode w.links) p q ++ map (λ m. Message m) (in_transit_between h line p q)) c.history-history.ensures.processes c.in_ok-restart.ensures.put))
+    (subst (λ (rounds : List Listed). AreRounds mode (restarted old line) w.last_round None rounds) (sym c.keep.ensures)
+    (AreRounds-restarted mode old line w.last_round (opened w.protocol) w.rounds.items size c.self.invariant.1))
+    (subst (λ (h : List Process). IsFollowing (restarted h line) c.restart.new.self) c.history-history.ensures.processes c.in_ok-restart.ensures.following)
 
 pub invariant_of-self : goal.invariant_of-self
 invariant_of-self c =
-    let mode : Mode = c.self.inside.mode in
-    let old : List Process = c.self.inside.catalogue.processes in
-    (subst (λ (queues : List (List (List Item))). IsWorld mode old queues) (sym c.in_err-restart_links.ensures.err) c.self.invariant.0, c.self.invariant.1, c.self.invariant.2, c.self.invariant.3)
+    let w : Inside = c.self.inside in
+    let old : List Process = w.catalogue.processes in
+    let kept : c.restart.new.self ≡ w.protocol = c.in_err-restart.ensures.kept in
+    kept_with (mode_of w.protocol) (opened w.protocol) c.restart.new.self (ap mode_of kept) (ap opened kept) old old refl c.restart.new.links w.last_round w.rounds.items
+    (subst (λ (queues : List (List (List Item))). IsWorld (mode_of w.protocol) old queues) (sym c.in_err-restart.ensures.err) c.self.invariant.0) c.self.invariant.1
+    (subst (IsFollowing old) (sym kept) c.self.invariant.2)
 
-pub returns-in_err-restart_links-clause-memory : goal.returns-in_err-restart_links-clause-memory
-returns-in_err-restart_links-clause-memory c = λ _.
-    let last : ℕ = c.self.inside.last_round in
-    ap (λ (queues : List (List (List Item))). seen c.self.inside.mode c.self.inside.catalogue.processes c.self.inside.catalogue.marks last c.self.inside.rounds.items queues) c.in_err-restart_links.ensures.err
+pub returns-in_err-restart-clause-memory : goal.returns-in_err-restart-clause-memory
+returns-in_err-restart-clause-memory c = λ _.
+    let w : Inside = c.self.inside in
+    ap (λ (m : Mode). seen m w.catalogue.processes w.catalogue.marks w.last_round w.rounds.items c.restart.new.links) c.restart.ensures.mode
+    ∙ ap (λ (queues : List (List (List Item))). seen (mode_of w.protocol) w.catalogue.processes w.catalogue.marks w.last_round w.rounds.items queues) c.in_err-restart.ensures.err
     ∙ c.self.view_is
 
 pub returns-clause-done : goal.returns-clause-done
 returns-clause-done c =
-    let mode : Mode = c.self.inside.mode in
+    let mode : Mode = mode_of c.self.inside.protocol in
     let old : List Process = c.self.inside.catalogue.processes in
     let marks : MarksView = c.self.inside.catalogue.marks in
     let last : ℕ = c.self.inside.last_round in
     let links : List (List (List Item)) = c.self.inside.links in
-    let new : List (List (List Item)) = c.restart_links.new.links in
+    let new : List (List (List Item)) = c.restart.new.links in
     let line : List Choice = c.args.plan.now.line in
     let size : length line ≡ length old = c.requires.plan.latest.recoverable.length_is ∙ ap (λ (m : Machine). length m.history) (sym c.self.view_is) in
     let consistent : IsConsistent old line = subst (λ (m : Machine). IsConsistent m.history line) (sym c.self.view_is) c.requires.plan.latest.recoverable.consistent in
-    let queued : AreQueues old new = subst (λ (h : List Process). AreQueues h new) c.history-history.ensures.processes c.in_ok-restart_links.ensures.queued in
+    let queued : AreQueues old new = subst (λ (h : List Process). AreQueues h new) c.history-history.ensures.processes c.in_ok-restart.ensures.queued in
     let same : c.history-history.result.now.processes ≡ c.args.self.now.history = c.history-history.ensures.processes ∙ ap (λ (m : Machine). m.history) c.self.view_is in
     record {
       plan_is = c.requires.plan;
@@ -160,11 +147,12 @@ returns-clause-done c =
       states_are = c.in_ok-states.ensures ∙ ap (λ (h : List Process). restored_states h line) same;
       incarnations_are = c.in_ok-incarnations.ensures ∙ ap (λ (h : List Process). map (λ (process : Process). process.incarnation) (restarted h line)) c.history-history.ensures.processes
           ∙ ap (λ (h : List Process). map (λ (process : Process). process.incarnation) h) (sym c.restart_with.ensures.processes);
-      new_is = ap (λ (h : List Process). seen mode h c.restart_with.new.self.marks last c.keep.new.self.items new) c.restart_with.ensures.processes
+      new_is = ap (λ (m : Mode). seen m c.restart_with.new.self.processes c.restart_with.new.self.marks last c.keep.new.self.items new) c.restart.ensures.mode
+          ∙ ap (λ (h : List Process). seen mode h c.restart_with.new.self.marks last c.keep.new.self.items new) c.restart_with.ensures.processes
           ∙ ap (λ (v : MarksView). seen mode (restarted old line) v last c.keep.new.self.items new) c.restart_with.ensures.marks
           ∙ ap (λ (rounds : List Listed). seen mode (restarted old line) (restarted_marks marks line) last rounds new) c.keep.ensures
           ∙ ap (λ (copies : List (List (List MsgName))). let m : Machine = record { mode = mode; history = restarted old line; marks = restarted_marks marks line; last_round = last; rounds = filter (stays line) c.self.inside.rounds.items; copies = copies } in m)
           (seen-restart old links new line size consistent queued mode
-          (subst (λ (h : List Process). (p q : ℕ) → p < length h → q < length h → between new p q ≡ between (copies_in mode links) p q ++ map (λ m. Message m) (in_transit_between h line p q)) c.history-history.ensures.processes c.in_ok-restart_links.ensures.put))
+          (subst (λ (h : List Process). (p q : ℕ) → p < length h → q < length h → between new p q ≡ between (copies_in mode links) p q ++ map (λ m. Message m) (in_transit_between h line p q)) c.history-history.ensures.processes c.in_ok-restart.ensures.put))
           ∙ ap (λ (m : Machine). restarted_machine m line) c.self.view_is;
     }

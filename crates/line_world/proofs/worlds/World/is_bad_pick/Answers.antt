@@ -12,7 +12,7 @@ use Rattle.line_world.proofs.worlds.World.is_bad_pick.Goals as goal
 pub returns-in-Unordered : goal.returns-in-Unordered
 returns-in-Unordered c =
     let machine : Machine = c.args.self.now in
-    let unordered : machine.mode ≡ Unordered = ap (λ (v : Machine). v.mode) (sym c.self.view_is) ∙ c.in-Unordered.is in
+    let unordered : machine.mode ≡ Unordered = ap (λ (v : Machine). v.mode) (sym c.self.view_is) ∙ sym c.mode.ensures ∙ c.in-Unordered.is in
     let held = shows c.self.inside c.args.self.now c.self.view_is c.self.invariant c.args.from c.args.to c.requires.from c.requires.to c.requires.other in
     ap (λ (k : ℕ). nat_le k c.args.pick) (c.len.ensures ∙ ap (λ (items : List Item). length items) held)
     ∙ sym (ap (λ (v : Mode). is_bad_pick v (items_on machine c.args.from c.args.to) c.args.pick) unordered)

@@ -1,0 +1,143 @@
+//! What a world keeps of rounds and of received messages for its kind of links.
+ghost use Rattle.std.specs.Prelude.{◌≡◌, ◌<◌, ◌++◌, ℕ, List, None, length, map, replicate, IfOk};
+ghost use Rattle.std.specs.Prelude.{OnOk, OnErr};
+ghost use Rattle.std.specs.Option.{is_some};
+ghost use Rattle.line_tape.specs.declared.events.Event.TheVariants.{Send};
+ghost use Rattle.line_tape.specs.declared.items.Item.TheVariants.{Message};
+ghost use Rattle.line_tape.specs.History.{fresh, incarnation_at, with_event};
+ghost use Rattle.line_tape.specs.Line.{IsLine};
+ghost use Rattle.line_tape.specs.Restart.{restarted};
+ghost use Rattle.line_tape.specs.Transit.{in_transit, in_transit_between};
+ghost use Rattle.line_turns.specs.Tables.{between};
+ghost use Rattle.line_moves.specs.Modes.{copies_in, IsFitIn};
+ghost use Rattle.line_moves.specs.Worlds.{AreQueues};
+ghost use Rattle.line_world.specs.Protocols.{mode_of, opened, IsFollowing};
+
+use line_moves::{Links, Mode, OpenRound, restart_copies, restart_links};
+use line_names::{Line, MsgName, ProcId};
+use line_tape::History;
+use line_turns::{Colours, ReceivedSends, Turning};
+use std::alloc::{AllocError, Global};
+
+/// What is kept of rounds and of received messages for each kind of links.
+#[derive(Drop)]
+pub(crate) enum Protocol {
+    /// Links keep their order, and rounds are of markers (Chandy and Lamport, ACM TOCS 3(1), 1985).
+    Markers {
+        /// The open round.
+        running: Option<OpenRound>,
+    },
+    /// Links keep no order, and rounds are of colours (Lai and Yang, Information Processing Letters
+    /// 25(3), 1987).
+    Colours {
+        /// The open round.
+        turning: Option<Turning>,
+        /// The colours of the processes.
+        colours: Colours,
+        /// Which messages are received.
+        received: ReceivedSends,
+    },
+}
+
+impl Protocol {
+    /// For `n` processes that have done nothing yet.
+    pub(crate) fn new(alloc: Global, n: u32, mode: Mode) -> Result<Protocol, AllocError>
+        ensures mode { IfOk result (λ protocol. mode_of protocol ≡ mode) }
+        ensures closed { IfOk result (λ protocol. opened protocol ≡ None) }
+        ensures following { IfOk result (λ protocol. IsFollowing (replicate n fresh) protocol) }
+    {
+        match mode {
+            Mode::Fifo => Ok(Protocol::Markers { running: None }),
+            Mode::Unordered => Ok(Protocol::Colours {
+                turning: None,
+                colours: Colours::new(alloc, n)?,
+                received: ReceivedSends::new(alloc, n)?,
+            }),
+        }
+    }
+
+    /// The kind of links that it is for.
+    pub(crate) fn mode(&self) -> Mode
+        ensures { result ≡ mode_of self.now }
+    {
+        match self {
+            Protocol::Markers { .. } => Mode::Fifo,
+            Protocol::Colours { .. } => Mode::Unordered,
+        }
+    }
+
+    /// Whether a round is open.
+    pub(crate) fn is_open(&self) -> bool
+        ensures { result ≡ is_some (opened self.now) }
+    {
+        match self {
+            Protocol::Markers { running } => running.is_some(),
+            Protocol::Colours { turning, .. } => turning.is_some(),
+        }
+    }
+
+    /// Makes room for the flag of what a process sends next, if sends have flags.
+    pub(crate) fn reserve_flag(&mut self, history: &History, from: ProcId) -> Result<(), AllocError>
+        requires from { from < length history.now.processes }
+        requires fit { IsFitIn (mode_of self.old) history.now.processes }
+        requires following { IsFollowing history.now.processes self.old }
+        ensures mode { mode_of self.new ≡ mode_of self.old }
+        ensures opened { opened self.new ≡ opened self.old }
+        ensures same { IsFollowing history.now.processes self.new }
+        ensures ok { OnOk result ((to : ℕ) (body : List ℕ) → IsFollowing
+            (with_event history.now.processes from
+            (Send to (incarnation_at history.now.processes from) body)) self.new) }
+    {
+        match self {
+            Protocol::Markers { .. } => Ok(()),
+            Protocol::Colours { received, .. } => {
+                received.reserve(from, history.tape(from).sends())
+            }
+        }
+    }
+
+    /// Has this and the links follow the processes, which go on from a line where these messages
+    /// are in transit. No round is open then.
+    pub(crate) fn restart(
+        &mut self,
+        history: &History,
+        links: &mut Links,
+        line: &Line,
+        messages: &[MsgName],
+    ) -> Result<(), AllocError>
+        requires line { IsLine history.now.processes line.now }
+        requires transit { messages.now ≡ in_transit history.now.processes line.now }
+        requires queued { AreQueues history.now.processes links.old }
+        requires following { IsFollowing history.now.processes self.old }
+        ensures mode { mode_of self.new ≡ mode_of self.old }
+        ensures queued { OnOk result (AreQueues history.now.processes links.new) }
+        ensures put { OnOk result ((p q : ℕ)
+            → p < length history.now.processes → q < length history.now.processes
+            → between links.new p q ≡ between (copies_in (mode_of self.old) links.old) p q
+            ++ map (λ m. Message m) (in_transit_between history.now.processes line.now p q)) }
+        ensures closed { OnOk result (opened self.new ≡ None) }
+        ensures following { OnOk result
+            (IsFollowing (restarted history.now.processes line.now) self.new) }
+        ensures err { OnErr result (links.new ≡ links.old) }
+        ensures kept { OnErr result (self.new ≡ self.old) }
+    {
+        match self {
+            Protocol::Markers { running } => {
+                restart_links(history, links, line, messages)?;
+                *running = None;
+                Ok(())
+            }
+            Protocol::Colours {
+                turning,
+                colours,
+                received,
+            } => {
+                restart_copies(history, links, line, messages)?;
+                received.restart(history, line, messages);
+                colours.clear();
+                *turning = None;
+                Ok(())
+            }
+        }
+    }
+}
