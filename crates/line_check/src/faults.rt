@@ -1,15 +1,17 @@
 //! What is wrong with a line or with a claim.
 ghost use Rattle.std.specs.Prelude.{◌≡◌};
 
-use std::error::Error;
 use std::fmt;
+use thiserror::Error;
 
 /// Why a line is refused.
-#[derive(Clone, Copy, Debug, PartialEq, Eq, Hash)]
+#[derive(Clone, Copy, Debug, PartialEq, Eq, Hash, Error)]
 pub enum LineFault {
     /// It has not one choice for each process, or a choice of a check that is not there.
+    #[error("the line names what the history does not have")]
     BadShape,
     /// A message is received before it that is not sent before it.
+    #[error("a message is received before the line and not sent before it")]
     NotConsistent,
 }
 
@@ -26,33 +28,26 @@ impl LineFault {
     }
 }
 
-impl fmt::Display for LineFault {
-    fn fmt<W: fmt::Write>(&self, f: &mut fmt::Formatter<W>) -> fmt::Result {
-        f.write_str(match self {
-            LineFault::BadShape => "the line names what the history does not have",
-            LineFault::NotConsistent => {
-                "a message is received before the line and not sent before it"
-            }
-        })
-    }
-}
-
-impl Error for LineFault {}
-
 /// What is wrong with a claim, or with one of its entries.
-#[derive(Clone, Copy, Debug, PartialEq, Eq, Hash)]
+#[derive(Clone, Copy, Debug, PartialEq, Eq, Hash, Error)]
 pub enum FaultCode {
     /// The entry's choice is not the present ceiling of its process.
+    #[error("the choice is not the present ceiling of its process")]
     NotTop,
     /// The entry's message is not received before its choice.
+    #[error("the message is not received before the choice")]
     NotReceived,
     /// The entry's message is sent before the present ceiling of its sender.
+    #[error("the message is sent before the present ceiling of its sender")]
     NotOrphan,
     /// The entries lead to another line.
+    #[error("the entries lead to another line")]
     LineDiffers,
     /// A message is received before the line that is not sent before it.
+    #[error("a message is received before the line and not sent before it")]
     NotConsistent,
     /// The claim names what the history does not have.
+    #[error("the claim names what the history does not have")]
     BadShape,
 }
 
@@ -77,36 +72,23 @@ impl FaultCode {
     }
 }
 
-impl fmt::Display for FaultCode {
-    fn fmt<W: fmt::Write>(&self, f: &mut fmt::Formatter<W>) -> fmt::Result {
-        f.write_str(match self {
-            FaultCode::NotTop => "the choice is not the present ceiling of its process",
-            FaultCode::NotReceived => "the message is not received before the choice",
-            FaultCode::NotOrphan => "the message is sent before the present ceiling of its sender",
-            FaultCode::LineDiffers => "the entries lead to another line",
-            FaultCode::NotConsistent => {
-                "a message is received before the line and not sent before it"
-            }
-            FaultCode::BadShape => "the claim names what the history does not have",
-        })
-    }
-}
-
 /// Why a claim is refused: the first thing that is wrong with it.
-#[derive(Clone, Copy, Debug, PartialEq, Eq, Hash)]
+#[derive(Clone, Copy, Debug, PartialEq, Eq, Hash, Error)]
+#[error(fmt = write_fault)]
 pub struct CertFault {
     /// The entry that is wrong, counted from 0; none where the fault is no entry's.
     pub entry: Option<u32>,
     pub code: FaultCode,
 }
 
-impl fmt::Display for CertFault {
-    fn fmt<W: fmt::Write>(&self, f: &mut fmt::Formatter<W>) -> fmt::Result {
-        match self.entry {
-            Some(entry) => write!(f, "entry {entry}: {}", self.code),
-            None => write!(f, "{}", self.code),
-        }
+// Writes what is wrong, after the entry that it is wrong with.
+fn write_fault<W: fmt::Write>(
+    entry: &Option<u32>,
+    code: &FaultCode,
+    f: &mut fmt::Formatter<W>,
+) -> fmt::Result {
+    match entry {
+        Some(entry) => write!(f, "entry {entry}: {code}"),
+        None => write!(f, "{code}"),
     }
 }
-
-impl Error for CertFault {}

@@ -4,9 +4,8 @@ ghost use Rattle.std.specs.Prelude.{IsErrOf};
 ghost use Rattle.std.specs.Option.{SomeIff};
 ghost use Rattle.line_colour.specs.Colours.{colour_of};
 
-use std::error::Error;
-use std::fmt;
 use std::marker::Model;
+use thiserror::Error;
 
 /// The colour of a process: the greatest round number of its checks, or 0.
 ///
@@ -78,9 +77,10 @@ impl Colour {
 }
 
 /// Why a process did not turn to a round.
-#[derive(Clone, Copy, Debug, PartialEq, Eq, Hash)]
+#[derive(Clone, Copy, Debug, PartialEq, Eq, Hash, Error)]
 pub enum ColourError {
     /// The round is not greater than those known.
+    #[error("the round is not greater than those known")]
     RoundNotNew,
 }
 
@@ -94,13 +94,3 @@ impl ColourError {
         }
     }
 }
-
-impl fmt::Display for ColourError {
-    fn fmt<W: fmt::Write>(&self, f: &mut fmt::Formatter<W>) -> fmt::Result {
-        match self {
-            ColourError::RoundNotNew => { f.write_str("the round is not greater than those known") }
-        }
-    }
-}
-
-impl Error for ColourError {}

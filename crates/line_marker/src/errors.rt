@@ -2,15 +2,16 @@
 ghost use Rattle.std.specs.Prelude.{◌≡◌};
 
 use std::alloc::AllocError;
-use std::error::Error;
-use std::fmt;
+use thiserror::Error;
 
 /// Why a round was not begun.
-#[derive(Clone, Copy, Debug, PartialEq, Eq, Hash)]
+#[derive(Clone, Copy, Debug, PartialEq, Eq, Hash, Error)]
 pub enum BeginError {
     /// Memory was refused.
+    #[error("out of memory")]
     OutOfMemory,
     /// The round is not greater than those known.
+    #[error("the round is not greater than those known")]
     RoundNotNew,
 }
 
@@ -27,17 +28,6 @@ impl BeginError {
     }
 }
 
-impl fmt::Display for BeginError {
-    fn fmt<W: fmt::Write>(&self, f: &mut fmt::Formatter<W>) -> fmt::Result {
-        f.write_str(match self {
-            BeginError::OutOfMemory => "out of memory",
-            BeginError::RoundNotNew => "the round is not greater than those known",
-        })
-    }
-}
-
-impl Error for BeginError {}
-
 impl From<AllocError> for BeginError {
     ghost use Rattle.std.specs.Prelude.{◌≡◌};
     ghost use Rattle.line_marker.specs.declared.errors.BeginError.TheVariants.{OutOfMemory};
@@ -50,11 +40,13 @@ impl From<AllocError> for BeginError {
 }
 
 /// Why a marker was not taken.
-#[derive(Clone, Copy, Debug, PartialEq, Eq, Hash)]
+#[derive(Clone, Copy, Debug, PartialEq, Eq, Hash, Error)]
 pub enum MarkerError {
     /// Memory was refused.
+    #[error("out of memory")]
     OutOfMemory,
     /// A marker of this round came from this process before.
+    #[error("that channel of that round is closed")]
     MarkerRepeated,
 }
 
@@ -70,17 +62,6 @@ impl MarkerError {
         }
     }
 }
-
-impl fmt::Display for MarkerError {
-    fn fmt<W: fmt::Write>(&self, f: &mut fmt::Formatter<W>) -> fmt::Result {
-        f.write_str(match self {
-            MarkerError::OutOfMemory => "out of memory",
-            MarkerError::MarkerRepeated => "that channel of that round is closed",
-        })
-    }
-}
-
-impl Error for MarkerError {}
 
 impl From<AllocError> for MarkerError {
     ghost use Rattle.std.specs.Prelude.{◌≡◌};

@@ -3,9 +3,8 @@ ghost use Rattle.std.specs.Prelude.{◌≡◌, ◌≤◌, length, OkIff};
 
 use crate::limits::MOST_BODY;
 use arrayvec::ArrayVec;
-use std::error::Error;
-use std::fmt;
 use std::marker::Model;
+use thiserror::Error;
 
 /// The bytes that a message carries: at most `MOST_BODY` of them, kept in the value itself.
 #[derive(Debug, PartialEq, Eq, Drop)]
@@ -54,9 +53,10 @@ impl Body {
 }
 
 /// Why bytes are no body.
-#[derive(Clone, Copy, Debug, PartialEq, Eq, Hash)]
+#[derive(Clone, Copy, Debug, PartialEq, Eq, Hash, Error)]
 pub enum BodyError {
     /// The body is longer than a message may have.
+    #[error("the body is longer than {MOST_BODY} bytes")]
     BodyTooLong,
 }
 
@@ -70,13 +70,3 @@ impl BodyError {
         }
     }
 }
-
-impl fmt::Display for BodyError {
-    fn fmt<W: fmt::Write>(&self, f: &mut fmt::Formatter<W>) -> fmt::Result {
-        match self {
-            BodyError::BodyTooLong => write!(f, "the body is longer than {MOST_BODY} bytes"),
-        }
-    }
-}
-
-impl Error for BodyError {}

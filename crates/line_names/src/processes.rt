@@ -4,9 +4,8 @@ ghost use Rattle.std.specs.Int.{bit_at};
 ghost use Rattle.line_names.specs.Sets.{nobody, with_member, is_member};
 
 use crate::limits::MOST_PROCESSES;
-use std::error::Error;
-use std::fmt;
 use std::marker::Model;
+use thiserror::Error;
 
 /// The number of a process, from 0.
 ///
@@ -53,9 +52,10 @@ impl ProcId {
 }
 
 /// Why there is no such name of a process.
-#[derive(Clone, Copy, Debug, PartialEq, Eq, Hash)]
+#[derive(Clone, Copy, Debug, PartialEq, Eq, Hash, Error)]
 pub enum ProcIdError {
     /// A process number is not below the number of processes.
+    #[error("the number is not below the number of processes")]
     NoSuchProcess,
 }
 
@@ -69,18 +69,6 @@ impl ProcIdError {
         }
     }
 }
-
-impl fmt::Display for ProcIdError {
-    fn fmt<W: fmt::Write>(&self, f: &mut fmt::Formatter<W>) -> fmt::Result {
-        match self {
-            ProcIdError::NoSuchProcess => {
-                f.write_str("the number is not below the number of processes")
-            }
-        }
-    }
-}
-
-impl Error for ProcIdError {}
 
 /// How many words a set of processes has.
 const WORDS: usize = 4;

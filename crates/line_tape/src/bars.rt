@@ -3,9 +3,8 @@ ghost use Rattle.std.specs.Prelude.{◌≡◌, ◌<◌, ℕ, length, map, replic
 ghost use Rattle.std.specs.Prelude.{IfOk, None, Some};
 
 use std::alloc::{AllocError, Global};
-use std::error::Error;
-use std::fmt;
 use std::marker::Model;
+use thiserror::Error;
 
 /// The check that each process is barred at, if it is.
 #[derive(Drop)]
@@ -73,11 +72,13 @@ impl Bars {
 }
 
 /// Why a process was not barred at a check.
-#[derive(Clone, Copy, Debug, PartialEq, Eq, Hash)]
+#[derive(Clone, Copy, Debug, PartialEq, Eq, Hash, Error)]
 pub enum BarError {
     /// The process has no such check.
+    #[error("the process has no such check")]
     NoSuchCheck,
     /// The process is barred at that check or an earlier one already.
+    #[error("the process is barred at that check or an earlier one already")]
     BarNotLower,
 }
 
@@ -93,15 +94,3 @@ impl BarError {
         }
     }
 }
-
-impl fmt::Display for BarError {
-    fn fmt<W: fmt::Write>(&self, f: &mut fmt::Formatter<W>) -> fmt::Result {
-        f.write_str(match self {
-            BarError::NoSuchCheck => "the process has no such check",
-            BarError::BarNotLower =>
-                "the process is barred at that check or an earlier one already",
-        })
-    }
-}
-
-impl Error for BarError {}

@@ -16,9 +16,8 @@ use crate::limits::{MOST_EVENTS, MOST_STATE};
 use crate::tapes::{Tape, TapeError};
 use line_names::{MOST_PROCESSES, MsgName, ProcId};
 use std::alloc::{AllocError, Global};
-use std::error::Error;
-use std::fmt;
 use std::marker::Model;
+use thiserror::Error;
 
 /// One process: its present incarnation and its tape.
 #[derive(Drop)]
@@ -201,11 +200,13 @@ impl History {
 }
 
 /// Why there is no history of so many processes.
-#[derive(Clone, Copy, Debug, PartialEq, Eq, Hash)]
+#[derive(Clone, Copy, Debug, PartialEq, Eq, Hash, Error)]
 pub enum CountError {
     /// Memory was refused.
+    #[error("out of memory")]
     OutOfMemory,
     /// The number of processes is not one that a history may have.
+    #[error("the number of processes is not from 1 to {MOST_PROCESSES}")]
     BadCount,
 }
 
@@ -222,22 +223,6 @@ impl CountError {
     }
 }
 
-impl fmt::Display for CountError {
-    fn fmt<W: fmt::Write>(&self, f: &mut fmt::Formatter<W>) -> fmt::Result {
-        match self {
-            CountError::OutOfMemory => f.write_str("out of memory"),
-            CountError::BadCount => {
-                write!(
-                    f,
-                    "the number of processes is not from 1 to {MOST_PROCESSES}"
-                )
-            }
-        }
-    }
-}
-
-impl Error for CountError {}
-
 impl From<AllocError> for CountError {
     ghost use Rattle.std.specs.Prelude.{◌≡◌};
     ghost use Rattle.line_tape.specs.declared.histories.CountError.TheVariants.{OutOfMemory};
@@ -250,15 +235,19 @@ impl From<AllocError> for CountError {
 }
 
 /// Why an event was not added to a history.
-#[derive(Clone, Copy, Debug, PartialEq, Eq, Hash)]
+#[derive(Clone, Copy, Debug, PartialEq, Eq, Hash, Error)]
 pub enum HistoryError {
     /// Memory was refused.
+    #[error("out of memory")]
     OutOfMemory,
     /// A process number is not below the number of processes.
+    #[error("a process number is not below the number of processes")]
     NoSuchProcess,
     /// The state is longer than a check may store.
+    #[error("the state is longer than {MOST_STATE} bytes")]
     StateTooLong,
     /// The tape has as many events as a tape may have.
+    #[error("the tape has no room under {MOST_EVENTS} events")]
     TapeFull,
 }
 
@@ -278,21 +267,6 @@ impl HistoryError {
         }
     }
 }
-
-impl fmt::Display for HistoryError {
-    fn fmt<W: fmt::Write>(&self, f: &mut fmt::Formatter<W>) -> fmt::Result {
-        match self {
-            HistoryError::OutOfMemory => f.write_str("out of memory"),
-            HistoryError::NoSuchProcess => {
-                f.write_str("a process number is not below the number of processes")
-            }
-            HistoryError::StateTooLong => write!(f, "the state is longer than {MOST_STATE} bytes"),
-            HistoryError::TapeFull => write!(f, "the tape has no room under {MOST_EVENTS} events"),
-        }
-    }
-}
-
-impl Error for HistoryError {}
 
 impl From<TapeError> for HistoryError {
     ghost use Rattle.std.specs.Prelude.{◌≡◌};

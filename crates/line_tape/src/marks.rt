@@ -13,9 +13,8 @@ use crate::bars::{BarError, Bars};
 use line_names::{Choice, Line, ProcId};
 use std::alloc::{AllocError, Global};
 use std::collections::BTreeMap;
-use std::error::Error;
-use std::fmt;
 use std::marker::Model;
+use thiserror::Error;
 
 /// The damaged checks of one process, each with the number of its mark: marks are numbered in the
 /// order in which they are made.
@@ -289,13 +288,16 @@ impl Marks {
 }
 
 /// Why a check was not marked.
-#[derive(Clone, Copy, Debug, PartialEq, Eq, Hash)]
+#[derive(Clone, Copy, Debug, PartialEq, Eq, Hash, Error)]
 pub enum MarkError {
     /// Memory was refused.
+    #[error("out of memory")]
     OutOfMemory,
     /// The check is the initial state, which is never damaged.
+    #[error("the initial state of a process cannot be damaged")]
     InitialDamage,
     /// The check is marked already.
+    #[error("the check is marked already")]
     AlreadyDamaged,
 }
 
@@ -313,18 +315,6 @@ impl MarkError {
         }
     }
 }
-
-impl fmt::Display for MarkError {
-    fn fmt<W: fmt::Write>(&self, f: &mut fmt::Formatter<W>) -> fmt::Result {
-        f.write_str(match self {
-            MarkError::OutOfMemory => "out of memory",
-            MarkError::InitialDamage => "the initial state of a process cannot be damaged",
-            MarkError::AlreadyDamaged => "the check is marked already",
-        })
-    }
-}
-
-impl Error for MarkError {}
 
 impl From<AllocError> for MarkError {
     ghost use Rattle.std.specs.Prelude.{◌≡◌};

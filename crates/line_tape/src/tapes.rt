@@ -24,9 +24,8 @@ use crate::receipts::Receipts;
 use line_names::{Choice, MOST_BODY, MsgName, ProcId};
 use rooms::has_room_beside;
 use std::alloc::{AllocError, Global};
-use std::error::Error;
-use std::fmt;
 use std::marker::Model;
+use thiserror::Error;
 
 /// Where a check stands: how many events, sends and receipts are before the choice of it.
 #[derive(Clone, Copy)]
@@ -345,13 +344,16 @@ impl Tape {
 }
 
 /// Why an event was not added to a tape.
-#[derive(Clone, Copy, Debug, PartialEq, Eq, Hash)]
+#[derive(Clone, Copy, Debug, PartialEq, Eq, Hash, Error)]
 pub enum TapeError {
     /// Memory was refused.
+    #[error("out of memory")]
     OutOfMemory,
     /// The state is longer than a check may store.
+    #[error("the state is longer than {MOST_STATE} bytes")]
     StateTooLong,
     /// The tape has as many events as a tape may have.
+    #[error("the tape has no room under {MOST_EVENTS} events")]
     TapeFull,
 }
 
@@ -369,18 +371,6 @@ impl TapeError {
         }
     }
 }
-
-impl fmt::Display for TapeError {
-    fn fmt<W: fmt::Write>(&self, f: &mut fmt::Formatter<W>) -> fmt::Result {
-        match self {
-            TapeError::OutOfMemory => f.write_str("out of memory"),
-            TapeError::StateTooLong => write!(f, "the state is longer than {MOST_STATE} bytes"),
-            TapeError::TapeFull => write!(f, "the tape has no room under {MOST_EVENTS} events"),
-        }
-    }
-}
-
-impl Error for TapeError {}
 
 impl From<AllocError> for TapeError {
     ghost use Rattle.std.specs.Prelude.{◌≡◌};
