@@ -3,17 +3,19 @@ ghost use Rattle.std.specs.Prelude.{◌≡◌};
 
 use line_tape::{MOST_EVENTS, MOST_STATE, MarkError};
 use std::alloc::AllocError;
-use std::error::Error;
-use std::fmt;
+use thiserror::Error;
 
 /// Why there is no catalogue of a history and its marks.
-#[derive(Clone, Copy, Debug, PartialEq, Eq, Hash)]
+#[derive(Clone, Copy, Debug, PartialEq, Eq, Hash, Error)]
 pub enum CatalogueError {
     /// Memory was refused.
+    #[error("out of memory")]
     OutOfMemory,
     /// The process has no such check.
+    #[error("a mark or a bar is on a check that its tape does not have")]
     NoSuchCheck,
     /// A message has a name that its sender did not give it.
+    #[error("a received message has a name that its sender did not give it")]
     NamesDisagree,
 }
 
@@ -32,21 +34,6 @@ impl CatalogueError {
     }
 }
 
-impl fmt::Display for CatalogueError {
-    fn fmt<W: fmt::Write>(&self, f: &mut fmt::Formatter<W>) -> fmt::Result {
-        f.write_str(match self {
-            CatalogueError::OutOfMemory => "out of memory",
-            CatalogueError::NoSuchCheck =>
-                "a mark or a bar is on a check that its tape does not have",
-            CatalogueError::NamesDisagree => {
-                "a received message has a name that its sender did not give it"
-            }
-        })
-    }
-}
-
-impl Error for CatalogueError {}
-
 impl From<AllocError> for CatalogueError {
     ghost use Rattle.std.specs.Prelude.{◌≡◌};
     ghost use Rattle.line_catalogue.specs.declared.refusals.CatalogueError.TheVariants.{OutOfMemory};
@@ -59,17 +46,22 @@ impl From<AllocError> for CatalogueError {
 }
 
 /// Why an event was not added to a catalogue.
-#[derive(Clone, Copy, Debug, PartialEq, Eq, Hash)]
+#[derive(Clone, Copy, Debug, PartialEq, Eq, Hash, Error)]
 pub enum AddError {
     /// Memory was refused.
+    #[error("out of memory")]
     OutOfMemory,
     /// A process number is not below the number of processes.
+    #[error("a process number is not below the number of processes")]
     NoSuchProcess,
     /// The state is longer than a check may store.
+    #[error("the state is longer than {MOST_STATE} bytes")]
     StateTooLong,
     /// The tape has as many events as a tape may have.
+    #[error("the tape has no room under {MOST_EVENTS} events")]
     TapeFull,
     /// A message has a name that its sender did not give it.
+    #[error("the event has a name that its sender did not give it")]
     NamesDisagree,
 }
 
@@ -92,24 +84,6 @@ impl AddError {
     }
 }
 
-impl fmt::Display for AddError {
-    fn fmt<W: fmt::Write>(&self, f: &mut fmt::Formatter<W>) -> fmt::Result {
-        match self {
-            AddError::OutOfMemory => f.write_str("out of memory"),
-            AddError::NoSuchProcess => {
-                f.write_str("a process number is not below the number of processes")
-            }
-            AddError::StateTooLong => write!(f, "the state is longer than {MOST_STATE} bytes"),
-            AddError::TapeFull => write!(f, "the tape has no room under {MOST_EVENTS} events"),
-            AddError::NamesDisagree => {
-                f.write_str("the event has a name that its sender did not give it")
-            }
-        }
-    }
-}
-
-impl Error for AddError {}
-
 impl From<AllocError> for AddError {
     ghost use Rattle.std.specs.Prelude.{◌≡◌};
     ghost use Rattle.line_catalogue.specs.declared.refusals.AddError.TheVariants.{OutOfMemory};
@@ -122,15 +96,19 @@ impl From<AllocError> for AddError {
 }
 
 /// Why a check was not marked as damaged.
-#[derive(Clone, Copy, Debug, PartialEq, Eq, Hash)]
+#[derive(Clone, Copy, Debug, PartialEq, Eq, Hash, Error)]
 pub enum DamageError {
     /// Memory was refused.
+    #[error("out of memory")]
     OutOfMemory,
     /// The process has no such check.
+    #[error("the tape has no such check")]
     NoSuchCheck,
     /// The check is the initial state, which is never damaged.
+    #[error("the initial state of a process cannot be damaged")]
     InitialDamage,
     /// The check is marked already.
+    #[error("the check is marked already")]
     AlreadyDamaged,
 }
 
@@ -150,19 +128,6 @@ impl DamageError {
         }
     }
 }
-
-impl fmt::Display for DamageError {
-    fn fmt<W: fmt::Write>(&self, f: &mut fmt::Formatter<W>) -> fmt::Result {
-        f.write_str(match self {
-            DamageError::OutOfMemory => "out of memory",
-            DamageError::NoSuchCheck => "the tape has no such check",
-            DamageError::InitialDamage => "the initial state of a process cannot be damaged",
-            DamageError::AlreadyDamaged => "the check is marked already",
-        })
-    }
-}
-
-impl Error for DamageError {}
 
 impl From<MarkError> for DamageError {
     ghost use Rattle.std.specs.Prelude.{◌≡◌};
