@@ -1,23 +1,26 @@
 //! Histories, read record by record.
 
 ghost use Rattle.std.specs.Prelude.{◌≡◌, ◌≤◌, ◌<◌, Ok, Err, codes, length, replicate, IfErr, IfOk};
-ghost use Rattle.std.specs.Prelude.{OnOk};
+ghost use Rattle.std.specs.Prelude.{OnOk, nat_lt};
 ghost use Rattle.line_names.specs.declared.limits.TheConstants.{MOST_PROCESSES};
+ghost use Rattle.line_fields.specs.declared.faults.Fault.TheVariants as faults;
+ghost use Rattle.line_fields.specs.Fields as fields;
 ghost use Rattle.line_fields.specs.Records.{field};
-ghost use Rattle.line_tape.specs.History.{fresh};
+ghost use Rattle.line_tape.specs.History.{fresh, tape_at};
+ghost use Rattle.line_tape.specs.Views.{room_at};
 ghost use Rattle.line_claims.specs.Events.{is_event, kind_text};
 ghost use Rattle.line_claims.specs.Histories as spec;
 ghost use Rattle.line_claims.specs.Parts.{Leaves, many, one};
 ghost use Rattle.line_claims.specs.Reads.{Steps};
 
 use crate::cursors::Cursor;
-use crate::events::{Kind, event_of};
+use crate::events::{Kind, check_of, mark_of, recv_of, send_of};
 use crate::faults::{TextError, error_at, fault_at};
 use crate::numbers::{incarnation, plain, want};
 use crate::versions::{LAST_VERSION, most_in};
 use line_fields::{Fault, ReadError, Row};
 use line_names::ProcId;
-use line_tape::{CountError, History, HistoryError, MOST_EVENTS};
+use line_tape::{CountError, Event, History, MOST_EVENTS};
 use std::alloc::Global;
 
 /// The version and the number of processes that `history,V,N` announces.
@@ -53,8 +56,90 @@ fn tape_of(history: &mut History, at: ProcId, row: &Row) -> Result<(), Fault>
     Ok(())
 }
 
-// Adds the event of a record to the tape of a process.
+// Makes room for one more event of a process, where its tape may have one.
+fn make_room(history: &mut History, at: ProcId) -> Result<(), ReadError>
+    requires { at < length history.old.processes }
+    ensures exact { Steps result
+        (fields.want (nat_lt (length (tape_at history.old.processes at)) MOST_EVENTS)
+        faults.TapeFull) tt }
+    ensures same { history.new.processes ≡ history.old.processes }
+    ensures few { OnOk result (length (tape_at history.old.processes at) < MOST_EVENTS) }
+    ensures room { OnOk result (0 < room_at history.new at) }
+{
+    let events = history.tape(at).len();
+    want((events as usize) < MOST_EVENTS, Fault::TapeFull)?;
+    history.reserve(at, 1)?;
+    Ok(())
+}
+
+// Adds the send of a record to the tape of a process. The bytes of the message take the place of
+// those of a list.
 #[tactic(auto, unfolding(crate::specs::Histories::event_at))]
+fn send_at(
+    history: &mut History,
+    at: ProcId,
+    row: &Row,
+    bytes: &mut Vec<u8>,
+) -> Result<(), ReadError>
+    requires there { at < length history.old.processes }
+    requires kind { field row.now 0 ≡ codes "send" }
+    ensures exact { Steps result (spec.event_at at history.old.processes row.now)
+        history.new.processes }
+    ensures same { length history.new.processes ≡ length history.old.processes }
+{
+    let (to, inc) = send_of(history.n(), row, bytes)?;
+    make_room(history, at)?;
+    history.append_send(at, to, inc, bytes.as_slice());
+    Ok(())
+}
+
+// Adds the receipt of a record to the tape of a process.
+#[tactic(auto, unfolding(crate::specs::Histories::event_at))]
+fn recv_at(history: &mut History, at: ProcId, row: &Row) -> Result<(), ReadError>
+    requires there { at < length history.old.processes }
+    requires kind { field row.now 0 ≡ codes "recv" }
+    ensures exact { Steps result (spec.event_at at history.old.processes row.now)
+        history.new.processes }
+    ensures same { length history.new.processes ≡ length history.old.processes }
+{
+    let message = recv_of(history.n(), row)?;
+    make_room(history, at)?;
+    history.append_receipt(at, &message);
+    Ok(())
+}
+
+// Adds the check of a record to the tape of a process. It stands apart: its event is large.
+#[inline(never)]
+#[tactic(auto, unfolding(crate::specs::Histories::event_at))]
+fn check_at(alloc: Global, history: &mut History, at: ProcId, row: &Row) -> Result<(), ReadError>
+    requires there { at < length history.old.processes }
+    requires kind { field row.now 0 ≡ codes "check" }
+    ensures exact { Steps result (spec.event_at at history.old.processes row.now)
+        history.new.processes }
+    ensures same { length history.new.processes ≡ length history.old.processes }
+{
+    let (state, round) = check_of(alloc, row)?;
+    make_room(history, at)?;
+    history.append(at, Event::Check { state, round });
+    Ok(())
+}
+
+// Adds the receipt of a marker of a record to the tape of a process.
+#[tactic(auto, unfolding(crate::specs::Histories::event_at))]
+fn mark_at(history: &mut History, at: ProcId, row: &Row) -> Result<(), ReadError>
+    requires there { at < length history.old.processes }
+    requires kind { field row.now 0 ≡ codes "mark" }
+    ensures exact { Steps result (spec.event_at at history.old.processes row.now)
+        history.new.processes }
+    ensures same { length history.new.processes ≡ length history.old.processes }
+{
+    let (from, round) = mark_of(history.n(), row)?;
+    make_room(history, at)?;
+    history.append_mark(at, from, round);
+    Ok(())
+}
+
+// Adds the event of a record to the tape of a process, by its parts.
 fn event_at(
     alloc: Global,
     history: &mut History,
@@ -69,13 +154,11 @@ fn event_at(
         history.new.processes }
     ensures same { length history.new.processes ≡ length history.old.processes }
 {
-    let event = event_of(alloc, history.n(), kind, row, bytes)?;
-    let events = history.tape(at).len();
-    want((events as usize) < MOST_EVENTS, Fault::TapeFull)?;
-    match history.push(at, event) {
-        Ok(()) => Ok(()),
-        Err(HistoryError::OutOfMemory) => Err(ReadError::OutOfMemory),
-        Err(_) => unreachable!(),
+    match kind {
+        Kind::Send => send_at(history, at, row, bytes),
+        Kind::Recv => recv_at(history, at, row),
+        Kind::Check => check_at(alloc, history, at, row),
+        Kind::Mark => mark_at(history, at, row),
     }
 }
 
