@@ -1,9 +1,9 @@
 -- The bytes of an input text, place by place, and how many records a text has.
-use Rattle.std.proofs.Common.{◌≡◌, [], ◌∷◌, ℕ, List, Bool, true, false, not, ◌==◌, ◌&&◌, ◌||◌, ◌<◌, ◌≤◌, ◌+◌, ◌-◌, length, take, drop, get_or, refl, ap, inl, inr, arith}
+use Rattle.std.proofs.Common.{◌≡◌, [], ◌∷◌, ℕ, zero, suc, List, Bool, true, false, not, ◌==◌, ◌&&◌, ◌||◌, ◌<◌, ◌≤◌, ◌+◌, ◌-◌, length, take, drop, get_or, refl, sym, ap, ◌∙◌, inl, inr, arith}
 use Rattle.std.specs.Prelude.{filter, nat_le}
 use Rattle.std.proofs.lemmas.List.{drop_all, drop_more, take_all, length-drop, length-map}
 use Rattle.std.proofs.lemmas.List.Filters.{length-filter_both}
-use Rattle.std.proofs.lemmas.Bool.{and_parts, cases_Bool}
+use Rattle.std.proofs.lemmas.Bool.{and_parts, cases_Bool, eqb-true}
 use Rattle.std.specs.List.{list_all}
 use Rattle.line_fields.specs.Bytes.{begins_with_feed, is_allowed, is_common, is_input_text}
 use Rattle.line_fields.specs.Records.{without, cut, parts, is_line, records_of_text}
@@ -17,10 +17,36 @@ pub plain_at : (xs : List ℕ) (i : ℕ) → i < length xs → is_input_text (dr
 unfolding is_input_text
 plain_at xs i lt = ap is_input_text (drop_more xs i 0 lt)
 
--- past the end it is plain
-pub plain_end : (xs : List ℕ) (i : ℕ) → length xs ≤ i → is_input_text (drop i xs) ≡ true
+and_assoc : (a b c : Bool) → (a && (b && c)) ≡ ((a && b) && c)
+and_assoc true b c = refl
+and_assoc false b c = refl
+
+and_true : (b : Bool) → (b && true) ≡ b
+and_true true = refl
+and_true false = refl
+
+or_false : (a b : Bool) → (a || (b && false)) ≡ a
+or_false true b = refl
+or_false false true = refl
+or_false false false = refl
+
+-- the bytes up to a place were judged, and the next byte is, by the one behind it
+pub plain_more : (xs : List ℕ) (i : ℕ) (before now : Bool) → i + 1 < length xs → is_input_text xs ≡ (before && is_input_text (drop i xs))
+    → ((rest : List ℕ) → now ≡ is_allowed (get_or xs i 0) (get_or xs (i + 1) 0 ∷ rest)) → is_input_text xs ≡ ((before && now) && is_input_text (drop (i + 1) xs))
+plain_more xs i before now lt so is =
+    let others : Bool = is_input_text (drop (i + 1) xs) in
+    let next : drop (i + 1) xs ≡ get_or xs (i + 1) 0 ∷ drop (i + 1 + 1) xs = drop_more xs (i + 1) 0 lt in
+    let judged : is_allowed (get_or xs i 0) (drop (i + 1) xs) ≡ now = ap (is_allowed (get_or xs i 0)) next ∙ sym (is (drop (i + 1 + 1) xs)) in
+    so ∙ ap (λ (b : Bool). before && b) (plain_at xs i (omega (arith, lt)) ∙ ap (λ (b : Bool). b && others) judged) ∙ and_assoc before now others
+
+-- nothing stands behind the last byte
+pub plain_last : (xs : List ℕ) (i : ℕ) (before now : Bool) → length xs ≡ i + 1 → now ≡ is_common (get_or xs i 0) → (before && is_input_text (drop i xs)) ≡ (before && now)
 unfolding is_input_text
-plain_end xs i le = ap is_input_text (drop_all i xs le)
+plain_last xs i before now long is =
+    let none : drop (i + 1) xs ≡ [] = drop_all (i + 1) xs (omega (arith, long)) in
+    let last : drop i xs ≡ get_or xs i 0 ∷ [] = drop_more xs i 0 (omega (arith, long)) ∙ ap (λ (ys : List ℕ). get_or xs i 0 ∷ ys) none in
+    let judged : is_input_text (get_or xs i 0 ∷ []) ≡ is_common (get_or xs i 0) = and_true (is_allowed (get_or xs i 0) []) ∙ or_false (is_common (get_or xs i 0)) (get_or xs i 0 == 13) in
+    ap (λ (b : Bool). before && b) (ap is_input_text last ∙ judged ∙ sym is)
 
 -- a third way in which a test may hold takes nothing from the first two
 or_more : (a b c : Bool) → (a || b) ≡ true → (a || b || c) ≡ true
@@ -34,13 +60,17 @@ common_is_allowed byte rest h =
     or_more (nat_le 32 byte && nat_le byte 126 && not (byte == 34)) (byte == 10)
     ((byte == 13) && begins_with_feed rest) h
 
--- a text of such bytes alone is plain
-pub common_is_input : (xs : List ℕ) → list_all is_common xs ≡ true → is_input_text xs ≡ true
+-- such bytes in front of a text change nothing
+front_is_common : (n : ℕ) (xs : List ℕ) → list_all is_common (take n xs) ≡ true → is_input_text xs ≡ is_input_text (drop n xs)
 unfolding is_input_text
-common_is_input [] h = refl
-common_is_input (byte ∷ rest) h =
-    let p = and_parts (is_common byte) (list_all is_common rest) h in
-    rw (common_is_allowed byte rest p.0, common_is_input rest p.1) refl
+front_is_common zero xs h = refl
+front_is_common (suc n) [] h = refl
+front_is_common (suc n) (byte ∷ rest) h =
+    let p = and_parts (is_common byte) (list_all is_common (take n rest)) h in
+    rw (common_is_allowed byte rest p.0) (front_is_common n rest p.1)
+
+pub common_front : (xs : List ℕ) (n : ℕ) → list_all is_common (take n xs) ≡ true → is_input_text (take (length xs - n) (drop n xs)) ≡ is_input_text xs
+common_front xs n h = ap is_input_text (rest_is xs n) ∙ sym (front_is_common n xs h)
 
 -- fewer bytes stay without a mark
 length-without : (mark : ℕ) (xs : List ℕ) → length (without mark xs) ≤ length xs
@@ -72,6 +102,10 @@ length-records_of_text xs =
 pub empty_is_input : is_input_text [] ≡ true
 unfolding is_input_text
 empty_is_input = refl
+
+pub empty_is_plain : (xs : List ℕ) → (length xs == 0) ≡ true → is_input_text xs ≡ true
+empty_is_plain [] h = empty_is_input
+empty_is_plain (c ∷ rest) h = let none : length (c ∷ rest) ≡ 0 = eqb-true (length (c ∷ rest)) 0 h in absurd (omega (arith, none))
 
 pub records_of_nothing : records_of_text [] ≡ []
 unfolding cut without

@@ -1,24 +1,12 @@
 //! Which bytes an input text may have.
 
-ghost use Rattle.std.specs.Prelude.{◌≡◌};
+ghost use Rattle.std.specs.Prelude.{◌≡◌, ◌∷◌, ℕ, List};
 ghost use Rattle.std.specs.List.{list_all};
-ghost use Rattle.line_fields.specs.Bytes.{begins_with_feed, is_allowed, is_common, is_input_text};
-ghost use Rattle.line_fields.specs.Bytes.{is_line_byte, is_line_text};
+ghost use Rattle.line_fields.specs.Bytes.{is_allowed, is_common, is_input_text, is_line_byte};
+ghost use Rattle.line_fields.specs.Bytes.{is_line_text};
 
-// Whether a byte may stand in an input text, before these.
-fn is_allowed(byte: u8, others: &[u8]) -> bool
-    ensures { result ≡ is_allowed byte others.now }
-{
-    (b' ' <= byte && byte <= b'~' && byte != b'"')
-        || byte == b'\n'
-        || (byte == b'\r' && begins_with_feed(others))
-}
-
-fn begins_with_feed(bytes: &[u8]) -> bool
-    ensures { result ≡ begins_with_feed bytes.now }
-{
-    !bytes.is_empty() && bytes[0] == b'\n'
-}
+// Bytes that may stand anywhere are looked for in blocks of so many.
+const BLOCK: usize = 4096;
 
 // Whether a byte may stand anywhere in an input text.
 fn is_common(byte: u8) -> bool
@@ -39,27 +27,43 @@ fn are_common(text: &[u8]) -> bool
     common
 }
 
-// Whether each byte may stand where it does.
+// Whether a byte may stand before another.
+fn is_allowed_before(byte: u8, next: u8) -> bool
+    ensures { (rest : List ℕ) → result ≡ is_allowed byte (next ∷ rest) }
+{
+    is_common(byte) || (byte == b'\r' && next == b'\n')
+}
+
+// Whether each byte may stand where it does. It always looks at all of them, each with the next, so
+// that it is compiled to look at many at once.
 fn are_allowed(text: &[u8]) -> bool
     ensures { result ≡ is_input_text text.now }
 {
-    for i in 0..text.len() {
-        if !is_allowed(text[i], &text[i + 1..]) {
-            return false;
-        }
+    if text.is_empty() {
+        return true;
     }
-    true
+    let last = text.len() - 1;
+    let mut allowed = true;
+    for i in 0..last {
+        allowed &= is_allowed_before(text[i], text[i + 1]);
+    }
+    allowed & is_common(text[last])
 }
 
 /// Whether a text has only the bytes that an input text may have: those from the blank to the tilde
 /// but the double quote, line feeds, and carriage returns directly before a line feed.
 ///
-/// It looks at each byte once, many at a time, and once more, one by one, in a text that has a
-/// carriage return or is refused.
+/// It looks at many bytes at a time, and at each once, but twice at those of one block: in blocks,
+/// up to the first one with a byte that may not stand anywhere, and from its beginning on at each
+/// byte with the next.
 pub fn is_plain(text: &[u8]) -> bool
     ensures { result ≡ is_input_text text.now }
 {
-    are_common(text) || are_allowed(text)
+    let mut rest = text;
+    while rest.len() >= BLOCK && are_common(&rest[..BLOCK]) {
+        rest = &rest[BLOCK..];
+    }
+    are_allowed(rest)
 }
 
 // Whether a byte may stand in a line.

@@ -207,7 +207,6 @@ impl Row {
             ((rows_left reader.old ≡ []) × (self.new ≡ []))) }
         ensures err { OnErr result (self.new ≡ []) }
     {
-        self.clear();
         match read(reader, &mut self.record) {
             Ok(true) => {
                 self.by_csv = true;
@@ -307,8 +306,7 @@ fn let_go(_error: Error) -> AllocError {
 
 // The next record of what `csv` reads, or the end, after which nothing is left to it.
 fn read_or_close(reader: &mut Option<Reader<&[u8]>>, row: &mut Row) -> Result<bool, AllocError>
-    requires reading { IsReadingOn reader.old }
-    requires empty { row.old ≡ [] }
+    requires { IsReadingOn reader.old }
     ensures reading { IsReadingOn reader.new }
     ensures ok { IfOk result
         (λ found. MatchBool found (rows_left_in reader.old ≡ row.new ∷ rows_left_in reader.new)
@@ -316,6 +314,7 @@ fn read_or_close(reader: &mut Option<Reader<&[u8]>>, row: &mut Row) -> Result<bo
     ensures err { OnErr result ((rows_left_in reader.new ≡ []) × (row.new ≡ [])) }
 {
     let Some(left) = reader else {
+        row.clear();
         return Ok(false);
     };
     match row.read_record(left) {
@@ -358,13 +357,13 @@ impl<'a> RecordReader<'a> {
             ((self.old ≡ []) × (self.new ≡ []) × (row.new ≡ []))) }
         ensures err { OnErr result ((self.new ≡ []) × (row.new ≡ [])) }
     {
-        row.clear();
         if self.reader.is_some() {
             return read_or_close(&mut self.reader, row);
         }
         let rest = without_feeds(self.rest);
         self.rest = b"";
         if rest.is_empty() {
+            row.clear();
             return Ok(false);
         }
         if begins_with_return(rest) {

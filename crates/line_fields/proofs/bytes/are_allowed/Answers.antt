@@ -1,21 +1,22 @@
-use Rattle.std.proofs.Common.{◌∙◌, ◌+◌, sym, ap, refl, get_or, arith}
-use Rattle.line_fields.specs.Bytes.{is_allowed}
-use Rattle.line_fields.proofs.TextLemmas.{plain_at, plain_end, rest_is}
+use Rattle.std.proofs.Common.{◌≡◌, ◌-◌, ◌&&◌, ◌∙◌, ℕ, ap, arith, drop, length, sym}
+use Rattle.std.proofs.lemmas.Bool.{eqb-false}
+use Rattle.line_fields.specs.Bytes.{is_input_text}
+use Rattle.line_fields.proofs.TextLemmas.{empty_is_plain, plain_last, plain_more}
 use Rattle.line_fields.proofs.bytes.are_allowed.Goals as goal
 
-pub returns-then-not-is_allowed : goal.returns-then-not-is_allowed
-returns-then-not-is_allowed c =
-    let xs = c.args.text.now in
-    let i = c.loop-i.i in
-    let said = ap (is_allowed (get_or xs i 0)) (sym (rest_is xs (i + 1))) ∙ (sym c.is_allowed.ensures ∙ c.if-not-is_allowed.true) in
-    sym (c.loop-i.invariant ∙ (plain_at xs i (omega arith) ∙ rw said refl))
+pub returns-then-is_empty : goal.returns-then-is_empty
+returns-then-is_empty c = sym (empty_is_plain c.args.text.now (sym c.is_empty.ensures ∙ c.if-is_empty.true))
 
 pub loop-i-preserved : goal.loop-i-preserved
 loop-i-preserved c =
-    let xs = c.args.text.now in
-    let i = c.loop-i.i in
-    let said = ap (is_allowed (get_or xs i 0)) (sym (rest_is xs (i + 1))) ∙ (sym c.is_allowed.ensures ∙ c.if-not-is_allowed.false) in
-    c.loop-i.invariant ∙ (plain_at xs i (omega arith) ∙ rw said refl)
+    plain_more c.args.text.now c.loop-i.i c.loop-i.allowed c.is_allowed_before-allowed.result (omega arith) c.loop-i.invariant
+    c.is_allowed_before-allowed.ensures
 
 pub returns : goal.returns
-returns c = sym (c.loop-i.invariant ∙ plain_end c.args.text.now c.loop-i.i c.loop-i-test.false)
+returns c =
+    let xs = c.args.text.now in
+    let some = eqb-false (length xs) 0 (sym c.is_empty.ensures ∙ c.if-is_empty.false) in
+    let at : c.loop-i.i ≡ length xs - 1 = omega (arith, some) in
+    sym
+    (c.loop-i.invariant ∙ ap (λ (i : ℕ). c.loop-i.allowed && is_input_text (drop i xs)) at
+    ∙ plain_last xs (length xs - 1) c.loop-i.allowed c.is_common.result (omega (arith, some)) c.is_common.ensures)

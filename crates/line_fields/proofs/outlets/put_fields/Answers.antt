@@ -1,4 +1,4 @@
-use Rattle.std.proofs.Common.{◌++◌, ◌∷◌, ◌∙◌, [], List, ℕ, ap, append_assoc, map, refl}
+use Rattle.std.proofs.Common.{◌++◌, ◌∷◌, ◌∙◌, [], List, ℕ, ap, append_assoc, refl}
 use Rattle.std.specs.List.{flat_map}
 use Rattle.line_devices.proofs.OutputLemmas.{outputs_front, outputs_on}
 use Rattle.line_fields.specs.declared.outlets.Field.{Field}
