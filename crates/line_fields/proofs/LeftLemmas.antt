@@ -1,5 +1,6 @@
 -- What is left of a text, to the reader of lines or to `csv`.
 use Rattle.std.proofs.Common.{◌≡◌, ◌∙◌, ◌∷◌, [], ℕ, List, Bool, true, false, Option, Some, None, Bor, refl, sym, ap}
+use Rattle.std.specs.Global.{Box}
 use Rattle.std.specs.Prelude.{Err, IfOk, MatchBool, Ok, OnErr, Result, is_some}
 use Rattle.csv.specs.declared.reader.Reader.{Reader}
 use Rattle.line_fields.specs.Bytes.{is_input_text}
@@ -8,28 +9,28 @@ use Rattle.line_fields.specs.Rows.{IsLeft, IsReadingOn, records_left, rows_left_
 use Rattle.line_fields.proofs.TextLemmas.{empty_is_input, records_of_nothing}
 
 -- where nothing stands apart, what is left is what `csv` has left
-pub left_to_csv : (o : Option (Reader (Bor (List ℕ)))) (rest : List ℕ) → rest ≡ [] → records_left o rest ≡ rows_left_in o
+pub left_to_csv : (o : Option (Box (Reader (Bor (List ℕ))))) (rest : List ℕ) → rest ≡ [] → records_left o rest ≡ rows_left_in o
 left_to_csv None rest none = ap records_of_text none ∙ records_of_nothing
 left_to_csv (Some r) rest none = refl
 
-pub is_left : (o : Option (Reader (Bor (List ℕ)))) (rest : List ℕ) → rest ≡ [] → IsReadingOn o → IsLeft o rest
+pub is_left : (o : Option (Box (Reader (Bor (List ℕ))))) (rest : List ℕ) → rest ≡ [] → IsReadingOn o → IsLeft o rest
 is_left None rest none on = ap is_input_text none ∙ empty_is_input
 is_left (Some r) rest none on = (on, none)
 
-pub rest_is_none : (o : Option (Reader (Bor (List ℕ)))) (rest : List ℕ) → is_some o ≡ true → IsLeft o rest → rest ≡ []
+pub rest_is_none : (o : Option (Box (Reader (Bor (List ℕ))))) (rest : List ℕ) → is_some o ≡ true → IsLeft o rest → rest ≡ []
 rest_is_none None rest on left = cc on
 rest_is_none (Some r) rest on left = left.1
 
-pub is_reading_on : (o : Option (Reader (Bor (List ℕ)))) (rest : List ℕ) → IsLeft o rest → IsReadingOn o
+pub is_reading_on : (o : Option (Box (Reader (Bor (List ℕ))))) (rest : List ℕ) → IsLeft o rest → IsReadingOn o
 is_reading_on None rest left = tt
 is_reading_on (Some r) rest left = left.0
 
 -- where `csv` doesn't read, what is left is the text
-pub left_in_lines : (o : Option (Reader (Bor (List ℕ)))) (rest : List ℕ) → is_some o ≡ false → records_left o rest ≡ records_of_text rest
+pub left_in_lines : (o : Option (Box (Reader (Bor (List ℕ))))) (rest : List ℕ) → is_some o ≡ false → records_left o rest ≡ records_of_text rest
 left_in_lines None rest off = refl
 left_in_lines (Some r) rest off = cc off
 
-pub is_left_in_lines : (o : Option (Reader (Bor (List ℕ)))) (rest : List ℕ) → is_some o ≡ false → is_input_text rest ≡ true → IsLeft o rest
+pub is_left_in_lines : (o : Option (Box (Reader (Bor (List ℕ))))) (rest : List ℕ) → is_some o ≡ false → is_input_text rest ≡ true → IsLeft o rest
 is_left_in_lines None rest off input = input
 is_left_in_lines (Some r) rest off input = cc off
 

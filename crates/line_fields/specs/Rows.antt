@@ -3,6 +3,7 @@ use Rattle.std.specs.Prelude.{◌≡◌, ◌≤◌, ◌<◌, ◌==◌, ◌||◌,
 use Rattle.std.specs.Prelude.{slice_index_or, ℕ, zero, suc, List, [], ◌∷◌, drop, length, map, take}
 use Rattle.std.specs.Prelude.{Option, Some, None, if◌then◌else◌, IsSome, ⊤}
 use Rattle.std.specs.Borrow.{Bor}
+use Rattle.std.specs.Global.{Box}
 use Rattle.std.specs.List.{list_all}
 use Rattle.csv.specs.Machine.{step, is_end as ends_row, fields_after, field_after, ends_at_end}
 use Rattle.csv.specs.Reading.{default_config, source_of, Ready, reader_trim, reader_config}
@@ -103,21 +104,21 @@ pub record IsReading (r : Reader (Bor (List ℕ))) : Type 0 where
   pub known : IsSome (source_of (λ (s : Bor (List ℕ)). Some s.now) r)
 
 -- the rows that are left to `csv`, where it reads
-abbrev pub rows_left_in : Option (Reader (Bor (List ℕ))) → List Record
+abbrev pub rows_left_in : Option (Box (Reader (Bor (List ℕ)))) → List Record
 rows_left_in None = []
-rows_left_in (Some r) = rows_left r
+rows_left_in (Some r) = rows_left r.value
 
 -- where `csv` reads, its next read is of a row
-abbrev pub IsReadingOn : Option (Reader (Bor (List ℕ))) → Type 0
+abbrev pub IsReadingOn : Option (Box (Reader (Bor (List ℕ)))) → Type 0
 IsReadingOn None = ⊤
-IsReadingOn (Some r) = IsReading r
+IsReadingOn (Some r) = IsReading r.value
 
 -- the records that are left: of a text, or where `csv` reads of what it has left
-abbrev pub records_left : Option (Reader (Bor (List ℕ))) → List ℕ → List Record
+abbrev pub records_left : Option (Box (Reader (Bor (List ℕ)))) → List ℕ → List Record
 records_left None rest = records_of_text rest
-records_left (Some r) rest = rows_left r
+records_left (Some r) rest = rows_left r.value
 
 -- what is left is an input text, of which nothing stands apart where `csv` reads it
-abbrev pub IsLeft : Option (Reader (Bor (List ℕ))) → List ℕ → Type 0
+abbrev pub IsLeft : Option (Box (Reader (Bor (List ℕ)))) → List ℕ → Type 0
 IsLeft None rest = is_input_text rest ≡ true
-IsLeft (Some r) rest = IsReading r × (rest ≡ [])
+IsLeft (Some r) rest = IsReading r.value × (rest ≡ [])

@@ -131,8 +131,9 @@ pub struct RecordReader<'a> {
     alloc: Global,
     // What is left of the text, as far as it is not left to `csv`.
     rest: &'a [u8],
-    // From the first carriage return on, what reads the text.
-    reader: Option<Reader<&'a [u8]>>,
+    // From the first carriage return on, what reads the text. It is large, and a reader of records
+    // is moved.
+    reader: Option<Box<Reader<&'a [u8]>>>,
 }
 
 impl<'a> Model for RecordReader<'a> {
@@ -291,12 +292,14 @@ fn read(reader: &mut Reader<&[u8]>, row: &mut ByteRecord) -> Result<bool, Error>
 // no room of a reader's size among its own variables.
 #[cold]
 #[inline(never)]
-fn hand_over<'a>(alloc: Global, rest: &'a [u8], reader: &mut Option<Reader<&'a [u8]>>)
+fn hand_over<'a>(alloc: Global, rest: &'a [u8]) -> Result<Box<Reader<&'a [u8]>>, AllocError>
     requires { IsTrue (is_input_text rest.now) }
-    ensures reading { IsReadingOn reader.new }
-    ensures rows { rows_left_in reader.new ≡ records_of_text rest.entry.now }
+    ensures reading { IfOk result (λ reader. IsReading reader.value) }
+    ensures rows { IfOk result
+        (λ reader. rows_left reader.value ≡ records_of_text rest.entry.now) }
 {
-    *reader = Some(reader_over(alloc, rest));
+    let reader = Box::new(alloc, reader_over(alloc, rest)).map_err(AllocError::from)?;
+    Ok(reader)
 }
 
 // An error of `csv` on a plain text, over memory, is answered as out of memory.
@@ -305,7 +308,7 @@ fn let_go(_error: Error) -> AllocError {
 }
 
 // The next record of what `csv` reads, or the end, after which nothing is left to it.
-fn read_or_close(reader: &mut Option<Reader<&[u8]>>, row: &mut Row) -> Result<bool, AllocError>
+fn read_or_close(reader: &mut Option<Box<Reader<&[u8]>>>, row: &mut Row) -> Result<bool, AllocError>
     requires { IsReadingOn reader.old }
     ensures reading { IsReadingOn reader.new }
     ensures ok { IfOk result
@@ -350,7 +353,8 @@ impl<'a> RecordReader<'a> {
     ///
     /// After the last record, and once it was out of memory, nothing is left and the row has no
     /// fields. An error of `csv` is answered as out of memory. It takes time in proportion to the
-    /// bytes read.
+    /// bytes read. At the first carriage return it asks for the memory of a reader of `csv`, some
+    /// 16 KiB.
     pub fn next_row(&mut self, row: &mut Row) -> Result<bool, AllocError>
         ensures ok { IfOk result
             (λ found. MatchBool found (self.old ≡ row.new ∷ self.new)
@@ -369,7 +373,8 @@ impl<'a> RecordReader<'a> {
         if begins_with_return(rest) {
             // What the longest line took is given back.
             *row = Row::new(self.alloc);
-            hand_over(self.alloc, rest, &mut self.reader);
+            let reader = hand_over(self.alloc, rest)?;
+            self.reader = Some(reader);
             return read_or_close(&mut self.reader, row);
         }
         self.rest = read_first(rest, row)?;

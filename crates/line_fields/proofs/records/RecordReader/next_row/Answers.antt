@@ -32,6 +32,16 @@ returns-then-is_empty-clause-ok c =
       search rules,
     )
 
+pub invariant_of-self-in_err-reader : goal.invariant_of-self-in_err-reader
+invariant_of-self-in_err-reader c =
+    let off : is_some c.self.inside.reader ≡ false = sym c.is_some.ensures ∙ c.if-is_some.false in
+    is_left_in_lines c.self.inside.reader [] off empty_is_input
+
+pub returns-in_err-reader-clause-err : goal.returns-in_err-reader-clause-err
+returns-in_err-reader-clause-err c =
+    let off : is_some c.self.inside.reader ≡ false = sym c.is_some.ensures ∙ c.if-is_some.false in
+    on_any_err c.from_residual.result _ (left_in_lines c.self.inside.reader [] off ∙ records_of_nothing, c.new.ensures)
+
 pub invariant_of-self-then-begins_with_return : goal.invariant_of-self-then-begins_with_return
 invariant_of-self-then-begins_with_return c =
     is_left c.read_or_close-then-begins_with_return.new.reader [] refl c.read_or_close-then-begins_with_return.ensures.reading
@@ -40,7 +50,7 @@ pub returns-then-begins_with_return-clause-ok : goal.returns-then-begins_with_re
 returns-then-begins_with_return-clause-ok c =
     let off : is_some c.self.inside.reader ≡ false = sym c.is_some.ensures ∙ c.if-is_some.false in
     told c.read_or_close-then-begins_with_return.result _ _ _ _ _
-    (sym c.self.view_is ∙ left_in_lines c.self.inside.reader c.self.inside.rest.now off ∙ sym c.without_feeds-rest.ensures.same ∙ sym c.hand_over.ensures.rows)
+    (sym c.self.view_is ∙ left_in_lines c.self.inside.reader c.self.inside.rest.now off ∙ sym c.without_feeds-rest.ensures.same ∙ sym c.in_ok-reader.ensures.rows)
     (left_to_csv c.read_or_close-then-begins_with_return.new.reader [] refl) c.read_or_close-then-begins_with_return.ensures.ok
 
 pub returns-then-begins_with_return-clause-err : goal.returns-then-begins_with_return-clause-err
@@ -56,4 +66,4 @@ invariant_of-self-in_err-self-inside c =
 pub returns-in_err-self-inside-clause-err : goal.returns-in_err-self-inside-clause-err
 returns-in_err-self-inside-clause-err c =
     let off : is_some c.self.inside.reader ≡ false = sym c.is_some.ensures ∙ c.if-is_some.false in
-    on_any_err c.from_residual.result _ (left_in_lines c.self.inside.reader [] off ∙ records_of_nothing, c.in_err-self-inside.ensures.err)
+    on_any_err c.from_residual-in_err-self-inside.result _ (left_in_lines c.self.inside.reader [] off ∙ records_of_nothing, c.in_err-self-inside.ensures.err)
