@@ -38,7 +38,7 @@ EVENTS, PUT = {"send", "recv", "check", "mark"}, ("line_claims", "Histories", "e
 # Faults that each record can have, and that of a text which begins otherwise.
 OF_ALL = {"BadRecord", "BadNumber"}
 ENUM = re.compile(r"pub enum (\w+) \{\n(.*?)\n\}", re.S)
-VARIANT = re.compile(r"((?:^ *(?:///|#\[).*\n)+)^    ([A-Z]\w*)(?:\(.*\))?,?$", re.M)
+VARIANT = re.compile(r"((?:^ *(?:///|#\[).*\n)+)^    ([A-Z]\w*)(?:\(.*\)| = (\d+))?,?$", re.M)
 MESSAGE = re.compile(r'#\[error\("([^"]*)"\)\]')
 CODE = re.compile(r"pub fn code\(self\) -> u32\n.*?\n    \{\n(.*?)\n    \}\n", re.S)
 STEP = re.compile(r"^refusal_of machine \((\w+).*?\) =\n(.*?)(?=^\S)", re.S | re.M)
@@ -89,7 +89,9 @@ def refusals_of(error: str, body: str, text: str) -> Iterator[Refusal]:
     code = CODE.search(impl[1]) if impl else None
     numbers = dict(re.findall(rf"{error}::(\w+) => (\d+),", code[1])) if code else {}
     by_hand = written_by_hand(error, text)
-    for above, variant in VARIANT.findall(body):
+    for above, variant, number in VARIANT.findall(body):
+        if number and code:
+            numbers[variant] = number
         if variant in numbers:
             message = MESSAGE.search(above)
             said = shown(message[1] if message else by_hand.get(variant, ""))
