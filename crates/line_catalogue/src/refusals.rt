@@ -10,13 +10,13 @@ use thiserror::Error;
 pub enum CatalogueError {
     /// Memory was refused.
     #[error("out of memory")]
-    OutOfMemory,
+    OutOfMemory = 0,
     /// The process has no such check.
     #[error("a mark or a bar is on a check that its tape does not have")]
-    NoSuchCheck,
+    NoSuchCheck = 4,
     /// A message has a name that its sender did not give it.
     #[error("a received message has a name that its sender did not give it")]
-    NamesDisagree,
+    NamesDisagree = 38,
 }
 
 impl CatalogueError {
@@ -26,11 +26,7 @@ impl CatalogueError {
         ensures check { self ≡ CatalogueError.NoSuchCheck → result ≡ 4 }
         ensures names { self ≡ CatalogueError.NamesDisagree → result ≡ 38 }
     {
-        match self {
-            CatalogueError::OutOfMemory => 0,
-            CatalogueError::NoSuchCheck => 4,
-            CatalogueError::NamesDisagree => 38,
-        }
+        self as u32
     }
 }
 
@@ -50,19 +46,19 @@ impl From<AllocError> for CatalogueError {
 pub enum AddError {
     /// Memory was refused.
     #[error("out of memory")]
-    OutOfMemory,
+    OutOfMemory = 0,
     /// A process number is not below the number of processes.
     #[error("a process number is not below the number of processes")]
-    NoSuchProcess,
+    NoSuchProcess = 1,
     /// The state is longer than a check may store.
     #[error("the state is longer than {MOST_STATE} bytes")]
-    StateTooLong,
+    StateTooLong = 5,
     /// The tape has as many events as a tape may have.
     #[error("the tape has no room under {MOST_EVENTS} events")]
-    TapeFull,
+    TapeFull = 3,
     /// A message has a name that its sender did not give it.
     #[error("the event has a name that its sender did not give it")]
-    NamesDisagree,
+    NamesDisagree = 38,
 }
 
 impl AddError {
@@ -74,13 +70,7 @@ impl AddError {
         ensures full { self ≡ AddError.TapeFull → result ≡ 3 }
         ensures names { self ≡ AddError.NamesDisagree → result ≡ 38 }
     {
-        match self {
-            AddError::OutOfMemory => 0,
-            AddError::NoSuchProcess => 1,
-            AddError::StateTooLong => 5,
-            AddError::TapeFull => 3,
-            AddError::NamesDisagree => 38,
-        }
+        self as u32
     }
 }
 
@@ -100,16 +90,16 @@ impl From<AllocError> for AddError {
 pub enum DamageError {
     /// Memory was refused.
     #[error("out of memory")]
-    OutOfMemory,
+    OutOfMemory = 0,
     /// The process has no such check.
     #[error("the tape has no such check")]
-    NoSuchCheck,
+    NoSuchCheck = 4,
     /// The check is the initial state, which is never damaged.
     #[error("the initial state of a process cannot be damaged")]
-    InitialDamage,
+    InitialDamage = 7,
     /// The check is marked already.
     #[error("the check is marked already")]
-    AlreadyDamaged,
+    AlreadyDamaged = 8,
 }
 
 impl DamageError {
@@ -120,12 +110,7 @@ impl DamageError {
         ensures initial { self ≡ DamageError.InitialDamage → result ≡ 7 }
         ensures already { self ≡ DamageError.AlreadyDamaged → result ≡ 8 }
     {
-        match self {
-            DamageError::OutOfMemory => 0,
-            DamageError::NoSuchCheck => 4,
-            DamageError::InitialDamage => 7,
-            DamageError::AlreadyDamaged => 8,
-        }
+        self as u32
     }
 }
 

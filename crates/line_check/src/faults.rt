@@ -9,10 +9,10 @@ use thiserror::Error;
 pub enum LineFault {
     /// It has not one choice for each process, or a choice of a check that is not there.
     #[error("the line names what the history does not have")]
-    BadShape,
+    BadShape = 16,
     /// A message is received before it that is not sent before it.
     #[error("a message is received before the line and not sent before it")]
-    NotConsistent,
+    NotConsistent = 15,
 }
 
 impl LineFault {
@@ -21,10 +21,7 @@ impl LineFault {
         ensures shape { self ≡ LineFault.BadShape → result ≡ 16 }
         ensures consistent { self ≡ LineFault.NotConsistent → result ≡ 15 }
     {
-        match self {
-            LineFault::BadShape => 16,
-            LineFault::NotConsistent => 15,
-        }
+        self as u32
     }
 }
 
@@ -33,22 +30,22 @@ impl LineFault {
 pub enum FaultCode {
     /// The entry's choice is not the present ceiling of its process.
     #[error("the choice is not the present ceiling of its process")]
-    NotTop,
+    NotTop = 11,
     /// The entry's message is not received before its choice.
     #[error("the message is not received before the choice")]
-    NotReceived,
+    NotReceived = 12,
     /// The entry's message is sent before the present ceiling of its sender.
     #[error("the message is sent before the present ceiling of its sender")]
-    NotOrphan,
+    NotOrphan = 13,
     /// The entries lead to another line.
     #[error("the entries lead to another line")]
-    LineDiffers,
+    LineDiffers = 14,
     /// A message is received before the line that is not sent before it.
     #[error("a message is received before the line and not sent before it")]
-    NotConsistent,
+    NotConsistent = 15,
     /// The claim names what the history does not have.
     #[error("the claim names what the history does not have")]
-    BadShape,
+    BadShape = 16,
 }
 
 impl FaultCode {
@@ -61,14 +58,7 @@ impl FaultCode {
         ensures consistent { self ≡ FaultCode.NotConsistent → result ≡ 15 }
         ensures shape { self ≡ FaultCode.BadShape → result ≡ 16 }
     {
-        match self {
-            FaultCode::NotTop => 11,
-            FaultCode::NotReceived => 12,
-            FaultCode::NotOrphan => 13,
-            FaultCode::LineDiffers => 14,
-            FaultCode::NotConsistent => 15,
-            FaultCode::BadShape => 16,
-        }
+        self as u32
     }
 }
 

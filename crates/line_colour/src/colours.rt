@@ -81,7 +81,7 @@ impl Colour {
 pub enum ColourError {
     /// The round is not greater than those known.
     #[error("the round is not greater than those known")]
-    RoundNotNew,
+    RoundNotNew = 9,
 }
 
 impl ColourError {
@@ -89,8 +89,6 @@ impl ColourError {
     pub fn code(self) -> u32
         ensures { result ≡ 9 }
     {
-        match self {
-            ColourError::RoundNotNew => 9,
-        }
+        self as u32
     }
 }

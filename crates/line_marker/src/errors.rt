@@ -9,10 +9,10 @@ use thiserror::Error;
 pub enum BeginError {
     /// Memory was refused.
     #[error("out of memory")]
-    OutOfMemory,
+    OutOfMemory = 0,
     /// The round is not greater than those known.
     #[error("the round is not greater than those known")]
-    RoundNotNew,
+    RoundNotNew = 9,
 }
 
 impl BeginError {
@@ -21,10 +21,7 @@ impl BeginError {
         ensures memory { self ≡ BeginError.OutOfMemory → result ≡ 0 }
         ensures not_new { self ≡ BeginError.RoundNotNew → result ≡ 9 }
     {
-        match self {
-            BeginError::OutOfMemory => 0,
-            BeginError::RoundNotNew => 9,
-        }
+        self as u32
     }
 }
 
@@ -44,10 +41,10 @@ impl From<AllocError> for BeginError {
 pub enum MarkerError {
     /// Memory was refused.
     #[error("out of memory")]
-    OutOfMemory,
+    OutOfMemory = 0,
     /// A marker of this round came from this process before.
     #[error("that channel of that round is closed")]
-    MarkerRepeated,
+    MarkerRepeated = 10,
 }
 
 impl MarkerError {
@@ -56,10 +53,7 @@ impl MarkerError {
         ensures memory { self ≡ MarkerError.OutOfMemory → result ≡ 0 }
         ensures repeated { self ≡ MarkerError.MarkerRepeated → result ≡ 10 }
     {
-        match self {
-            MarkerError::OutOfMemory => 0,
-            MarkerError::MarkerRepeated => 10,
-        }
+        self as u32
     }
 }
 

@@ -57,7 +57,7 @@ impl Body {
 pub enum BodyError {
     /// The body is longer than a message may have.
     #[error("the body is longer than {MOST_BODY} bytes")]
-    BodyTooLong,
+    BodyTooLong = 2,
 }
 
 impl BodyError {
@@ -65,8 +65,6 @@ impl BodyError {
     pub fn code(self) -> u32
         ensures { result ≡ 2 }
     {
-        match self {
-            BodyError::BodyTooLong => 2,
-        }
+        self as u32
     }
 }

@@ -56,7 +56,7 @@ impl ProcId {
 pub enum ProcIdError {
     /// A process number is not below the number of processes.
     #[error("the number is not below the number of processes")]
-    NoSuchProcess,
+    NoSuchProcess = 1,
 }
 
 impl ProcIdError {
@@ -64,9 +64,7 @@ impl ProcIdError {
     pub fn code(self) -> u32
         ensures { result ≡ 1 }
     {
-        match self {
-            ProcIdError::NoSuchProcess => 1,
-        }
+        self as u32
     }
 }
 

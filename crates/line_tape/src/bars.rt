@@ -76,10 +76,10 @@ impl Bars {
 pub enum BarError {
     /// The process has no such check.
     #[error("the process has no such check")]
-    NoSuchCheck,
+    NoSuchCheck = 4,
     /// The process is barred at that check or an earlier one already.
     #[error("the process is barred at that check or an earlier one already")]
-    BarNotLower,
+    BarNotLower = 40,
 }
 
 impl BarError {
@@ -88,9 +88,6 @@ impl BarError {
         ensures check { self ≡ BarError.NoSuchCheck → result ≡ 4 }
         ensures lower { self ≡ BarError.BarNotLower → result ≡ 40 }
     {
-        match self {
-            BarError::NoSuchCheck => 4,
-            BarError::BarNotLower => 40,
-        }
+        self as u32
     }
 }

@@ -204,10 +204,10 @@ impl History {
 pub enum CountError {
     /// Memory was refused.
     #[error("out of memory")]
-    OutOfMemory,
+    OutOfMemory = 0,
     /// The number of processes is not one that a history may have.
     #[error("the number of processes is not from 1 to {MOST_PROCESSES}")]
-    BadCount,
+    BadCount = 6,
 }
 
 impl CountError {
@@ -216,10 +216,7 @@ impl CountError {
         ensures memory { self ≡ CountError.OutOfMemory → result ≡ 0 }
         ensures count { self ≡ CountError.BadCount → result ≡ 6 }
     {
-        match self {
-            CountError::OutOfMemory => 0,
-            CountError::BadCount => 6,
-        }
+        self as u32
     }
 }
 
@@ -239,16 +236,16 @@ impl From<AllocError> for CountError {
 pub enum HistoryError {
     /// Memory was refused.
     #[error("out of memory")]
-    OutOfMemory,
+    OutOfMemory = 0,
     /// A process number is not below the number of processes.
     #[error("a process number is not below the number of processes")]
-    NoSuchProcess,
+    NoSuchProcess = 1,
     /// The state is longer than a check may store.
     #[error("the state is longer than {MOST_STATE} bytes")]
-    StateTooLong,
+    StateTooLong = 5,
     /// The tape has as many events as a tape may have.
     #[error("the tape has no room under {MOST_EVENTS} events")]
-    TapeFull,
+    TapeFull = 3,
 }
 
 impl HistoryError {
@@ -259,12 +256,7 @@ impl HistoryError {
         ensures long { self ≡ HistoryError.StateTooLong → result ≡ 5 }
         ensures full { self ≡ HistoryError.TapeFull → result ≡ 3 }
     {
-        match self {
-            HistoryError::OutOfMemory => 0,
-            HistoryError::NoSuchProcess => 1,
-            HistoryError::StateTooLong => 5,
-            HistoryError::TapeFull => 3,
-        }
+        self as u32
     }
 }
 

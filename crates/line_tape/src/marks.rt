@@ -292,13 +292,13 @@ impl Marks {
 pub enum MarkError {
     /// Memory was refused.
     #[error("out of memory")]
-    OutOfMemory,
+    OutOfMemory = 0,
     /// The check is the initial state, which is never damaged.
     #[error("the initial state of a process cannot be damaged")]
-    InitialDamage,
+    InitialDamage = 7,
     /// The check is marked already.
     #[error("the check is marked already")]
-    AlreadyDamaged,
+    AlreadyDamaged = 8,
 }
 
 impl MarkError {
@@ -308,11 +308,7 @@ impl MarkError {
         ensures initial { self ≡ MarkError.InitialDamage → result ≡ 7 }
         ensures already { self ≡ MarkError.AlreadyDamaged → result ≡ 8 }
     {
-        match self {
-            MarkError::OutOfMemory => 0,
-            MarkError::InitialDamage => 7,
-            MarkError::AlreadyDamaged => 8,
-        }
+        self as u32
     }
 }
 

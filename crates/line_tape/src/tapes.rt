@@ -348,13 +348,13 @@ impl Tape {
 pub enum TapeError {
     /// Memory was refused.
     #[error("out of memory")]
-    OutOfMemory,
+    OutOfMemory = 0,
     /// The state is longer than a check may store.
     #[error("the state is longer than {MOST_STATE} bytes")]
-    StateTooLong,
+    StateTooLong = 5,
     /// The tape has as many events as a tape may have.
     #[error("the tape has no room under {MOST_EVENTS} events")]
-    TapeFull,
+    TapeFull = 3,
 }
 
 impl TapeError {
@@ -364,11 +364,7 @@ impl TapeError {
         ensures long { self ≡ TapeError.StateTooLong → result ≡ 5 }
         ensures full { self ≡ TapeError.TapeFull → result ≡ 3 }
     {
-        match self {
-            TapeError::OutOfMemory => 0,
-            TapeError::StateTooLong => 5,
-            TapeError::TapeFull => 3,
-        }
+        self as u32
     }
 }
 
