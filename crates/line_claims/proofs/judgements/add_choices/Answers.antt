@@ -1,4 +1,4 @@
-use Rattle.std.proofs.Common.{◌++◌, ◌+◌, ◌∷◌, ℕ, List, take, drop, arith, refl}
+use Rattle.std.proofs.Common.{◌+◌, ◌∷◌, ℕ, List, take, drop, arith, refl}
 use Rattle.std.specs.List.{flat_map}
 use Rattle.line_devices.proofs.OutputLemmas.{outputs_as, outputs_front, outputs_none, outputs_on}
 use Rattle.line_fields.proofs.OutletLemmas.{all_of, one_more_of, up_to_next}

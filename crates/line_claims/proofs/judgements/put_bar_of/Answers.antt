@@ -1,4 +1,4 @@
-use Rattle.std.proofs.Common.{ap, sym}
+use Rattle.std.proofs.Common.{sym}
 use Rattle.line_devices.proofs.OutputLemmas.{outputs_as, outputs_none}
 use Rattle.line_fields.proofs.OutletLemmas.{one_text}
 use Rattle.line_claims.specs.Records.{bar_record}

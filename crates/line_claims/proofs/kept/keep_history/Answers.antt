@@ -1,4 +1,3 @@
-use Rattle.std.proofs.Common.{◌≡◌, ◌∙◌, ◌++◌, [], List, ℕ, ap, sym}
 use Rattle.std.proofs.lemmas.Result.{on_ok_weaker}
 use Rattle.line_claims.proofs.WriteLemmas.{kept_text}
 use Rattle.line_claims.proofs.kept.keep_history.Goals as goal
