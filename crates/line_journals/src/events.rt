@@ -1,25 +1,10 @@
-//! Events, and the check of a round on a tape.
+//! Checks as events, and the check of a round on a tape.
 ghost use Rattle.std.specs.Prelude.{◌≡◌, Some, None};
-ghost use Rattle.line_tape.specs.declared.events.Event.TheVariants.{Send, Recv, Check, Mark};
+ghost use Rattle.line_tape.specs.declared.events.Event.TheVariants.{Check};
 ghost use Rattle.line_tape.specs.Rounds.{has_check_of, is_check_of};
 ghost use Rattle.line_tape.specs.Shown.{shown};
 
-use line_names::{Body, MsgName, ProcId};
 use line_tape::{Event, EventRef, State, Tape};
-
-/// The send of a body.
-pub(crate) fn send_event(to: ProcId, inc: u16, body: Body) -> Event
-    ensures { result ≡ Send to inc body }
-{
-    Event::Send { to, inc, body }
-}
-
-/// The receipt of a message.
-pub(crate) fn recv_event(message: MsgName) -> Event
-    ensures { result ≡ Recv message }
-{
-    Event::Recv { message }
-}
 
 /// A check of no round.
 pub(crate) fn check_event(state: State) -> Event
@@ -36,13 +21,6 @@ pub(crate) fn round_event(state: State, round: u32) -> Event
         state,
         round: Some(round),
     }
-}
-
-/// The marker of a round.
-pub(crate) fn mark_event(from: ProcId, round: u32) -> Event
-    ensures { result ≡ Mark from round }
-{
-    Event::Mark { from, round }
 }
 
 /// Whether an event is the check of a round.

@@ -8,7 +8,7 @@ ghost use Rattle.line_tape.specs.Event.{sends};
 ghost use Rattle.line_tape.specs.Rounds.{has_check_of, rounds_checked};
 ghost use Rattle.line_journals.specs.Journals.{rounds_by, IsOpen, IsRecorded, IsSameJournal};
 
-use crate::events::{check_event, has_check, mark_event, recv_event, round_event, send_event};
+use crate::events::{check_event, has_check, round_event};
 use line_marker::Marker;
 use line_names::{Body, MsgName, ProcId};
 use line_tape::{MOST_EVENTS, MOST_STATE, State, Tape};
@@ -166,16 +166,15 @@ impl Journal {
     }
 
     /// A message was sent.
-    pub fn send(&mut self, to: ProcId, inc: u16, body: Body)
+    pub fn send(&mut self, to: ProcId, inc: u16, body: &Body)
         requires few { length self.old.tape < MOST_EVENTS }
         requires room { 0 < self.old.room }
-        ensures tape { self.new.tape ≡ self.old.tape ++ Send to inc body ∷ [] }
+        ensures tape { self.new.tape ≡ self.old.tape ++ Send to inc body.now ∷ [] }
         ensures rounds { self.new.rounds ≡ self.old.rounds }
         ensures same { IsSameJournal self.old self.new }
         ensures spent { (self.old.room ≤ self.new.room + 1) × (self.new.ready ≡ self.old.ready) }
     {
-        let event = send_event(to, inc, body);
-        self.tape.append(event);
+        self.tape.append_send(to, inc, body.bytes());
     }
 
     /// A check of no round was taken.
@@ -213,8 +212,7 @@ impl Journal {
         };
         self.tape.reserve(1)?;
         self.marker.note(message)?;
-        let event = recv_event(name);
-        self.tape.append(event);
+        self.tape.append_receipt(&name);
         Ok(())
     }
 
@@ -250,8 +248,7 @@ impl Journal {
         ensures same { IsSameJournal self.old self.new }
         ensures spent { self.old.room ≤ self.new.room + 1 }
     {
-        let event = mark_event(from, round);
-        self.tape.append(event);
+        self.tape.append_mark(from, round);
         let _ = self.marker.on_marker(from, round);
     }
 
@@ -277,8 +274,7 @@ impl Journal {
     {
         let check = round_event(state, round);
         self.tape.append(check);
-        let mark = mark_event(from, round);
-        self.tape.append(mark);
+        self.tape.append_mark(from, round);
         let _ = self.marker.on_marker(from, round);
     }
 }

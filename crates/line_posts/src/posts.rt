@@ -224,7 +224,7 @@ impl Post {
         let number = self.journal.sends();
         let parcel = message(inc, number, &body);
         push_known(&mut self.outs, to.get() as usize, parcel);
-        self.journal.send(to, inc, body);
+        self.journal.send(to, inc, &body);
         Ok(name_of(self.me, inc, number))
     }
 

@@ -24,10 +24,9 @@ invariant_of-self c =
     let other = subst (λ (j : JournalView). c.args.from ≢ j.me) (sym v) c.requires.other in
     let unchecked = subst (λ (j : JournalView). has_check_of c.args.round j.tape ≡ false) (sym v) c.requires.unchecked in
     let first = c.append.ensures.events in
-    let second = c.append-2.ensures.events in
+    let second = c.append_mark.ensures.events in
     let check = c.round_event-check.ensures in
-    let mark = c.mark_event-mark.ensures in
-    let both : c.append-2.new.self.events ≡ (t ++ Check c.args.state (Some c.args.round) ∷ []) ++ Mark c.args.from c.args.round ∷ [] = cc (first, second, check, mark) in
+    let both : c.append_mark.new.self.events ≡ (t ++ Check c.args.state (Some c.args.round) ∷ []) ++ Mark c.args.from c.args.round ∷ [] = cc (first, second, check) in
     journal_forced c.self.inside.marker c.on_marker.new.self _ t _ c.args.from c.args.round c.args.state c.self.invariant within other unchecked c.on_marker.ensures.same both (forced c)
 
 pub returns-clause-rounds : goal.returns-clause-rounds

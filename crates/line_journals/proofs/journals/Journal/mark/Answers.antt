@@ -1,7 +1,6 @@
-use Rattle.std.proofs.Common.{◌≡◌, ◌≢◌, ◌∙◌, ◌++◌, ◌∷◌, [], ◌<◌, true, ap, sym, subst}
+use Rattle.std.proofs.Common.{◌≡◌, ◌≢◌, ◌∙◌, ◌<◌, true, ap, sym, subst}
 use Rattle.line_marker.specs.Recording.{with_marker}
 use Rattle.line_tape.specs.Rounds.{has_check_of}
-use Rattle.line_tape.specs.declared.events.Event.{Event}
 use Rattle.line_journals.specs.Journals.{JournalView}
 use Rattle.line_journals.proofs.MarkerLemmas.{journal_next, heard_by_marker}
 use Rattle.line_journals.proofs.journals.Journal.mark.Goals as goal
@@ -23,8 +22,8 @@ invariant_of-self c =
     let within = subst (λ (j : JournalView). c.args.from < j.n) (sym v) c.requires.process in
     let other = subst (λ (j : JournalView). c.args.from ≢ j.me) (sym v) c.requires.other in
     let checked = subst (λ (j : JournalView). has_check_of c.args.round j.tape ≡ true) (sym v) c.requires.checked in
-    let pushed = c.append.ensures.events in
-    journal_next c.self.inside.marker c.on_marker.new.self _ t _ _ c.self.invariant (within, other, checked) c.on_marker.ensures.same (pushed ∙ ap (λ (e : Event). t ++ e ∷ []) c.mark_event-event.ensures) (heard c)
+    let pushed = c.append_mark.ensures.events in
+    journal_next c.self.inside.marker c.on_marker.new.self _ t _ _ c.self.invariant (within, other, checked) c.on_marker.ensures.same pushed (heard c)
 
 pub returns-clause-rounds : goal.returns-clause-rounds
 returns-clause-rounds c = heard c ∙ ap (λ (j : JournalView). with_marker j.rounds c.args.from c.args.round) c.self.view_is

@@ -10,8 +10,7 @@ invariant_of-self-2 c =
     let v = c.self.view_is in
     let within = subst (λ (j : JournalView). c.args.message.from < j.n) (sym v) c.requires.process in
     let other = subst (λ (j : JournalView). c.args.message.from ≢ j.me) (sym v) c.requires.other in
-    let pushed = c.append.ensures.events in
-    let event = c.recv_event-event.ensures in
+    let pushed = c.append_receipt.ensures.events in
     let same = c.reserve.ensures.same in
     journal_next c.self.inside.marker c.note.new.self _ t _ (Recv c.args.message) c.self.invariant (within, other)
-    c.note.ensures.same (cc (pushed, event, same)) c.in_ok-note.ensures.ok
+    c.note.ensures.same (cc (pushed, same)) c.in_ok-note.ensures.ok
