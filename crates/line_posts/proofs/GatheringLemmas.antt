@@ -1,6 +1,6 @@
 -- What workers have and the collector has not, and how it is added.
 use Rattle.std.proofs.Common.{◌≡◌, ◌≢◌, ◌∙◌, ◌+◌, ◌<◌, ◌≤◌, ◌++◌, ◌∷◌, [], ℕ, true, false, Bool, List, Some, length, take, drop, get_or, refl, sym, ap, inl, inr, arith, subst}
-use Rattle.std.specs.Prelude.{slice_get, All, Result, Ok, Err, IsOk}
+use Rattle.std.specs.Prelude.{slice_get, All}
 use Rattle.std.proofs.lemmas.Bool.{cases_lt, cases_eq}
 use Rattle.std.proofs.lemmas.List.{append_assoc, append-nil, length-append, length-take-le, take-take, take-append-le, take-append-drop, drop-take, take_all, length-set, length_push, get_or-set_same, get_or-set_other, get_or_past, get_or_push, get_or_append_left}
 use Rattle.std.proofs.lemmas.List.Elements.{filter_map-append}
@@ -13,8 +13,6 @@ use Rattle.line_tape.specs.Event.{sends, incarnations_sent, incarnation_of, Hold
 use Rattle.line_tape.specs.History.{Process, process_at, tape_at, incarnation_at, with_event, IsProcess}
 use Rattle.line_tape.proofs.NextLemmas.{tape_same, tape_other}
 use Rattle.line_tape.proofs.SpentLemmas.{incarnation_event, tape_grows}
-use Rattle.line_catalogue.specs.declared.refusals.AddError.{AddError}
-use Rattle.line_catalogue.specs.declared.refusals.AddError.TheVariants.{OutOfMemory, NoSuchProcess, StateTooLong, TapeFull, NamesDisagree}
 use Rattle.line_catalogue.specs.Agreement.{AgreesNext, IsSentAsNow}
 use Rattle.line_rings.specs.Ends.{row_at}
 use Rattle.line_posts.specs.Posts.{opening_tape, IsPost, PostView}
@@ -146,15 +144,6 @@ module _ (history : List Process) (further : List (List Event)) (own : List Proc
           present = sent_now history p e (λ inc is. may.present p (sends (tape_at history p)) inc (omega arith) (subst (λ t. Holds t inc (sends (tape_at history p))) (sym own_is) (held_here (tape_at history p) more e inc is)) ∙ sym (may.incarnations p));
         };
       }
-
--- what is refused for no reason is added
-pub added : (r : Result (Unit {0}) AddError) → (r ≡ Err OutOfMemory → ⊥) → (r ≡ Err NoSuchProcess → ⊥) → (r ≡ Err StateTooLong → ⊥) → (r ≡ Err TapeFull → ⊥) → (r ≡ Err NamesDisagree → ⊥) → IsOk r
-added (Ok x) memory process long full names = refl
-added (Err OutOfMemory) memory process long full names = absurd (memory refl)
-added (Err NoSuchProcess) memory process long full names = absurd (process refl)
-added (Err StateTooLong) memory process long full names = absurd (long refl)
-added (Err TapeFull) memory process long full names = absurd (full refl)
-added (Err NamesDisagree) memory process long full names = absurd (names refl)
 
 -- on the way
 pub way_then : (a b c : List Process) (fa fb fc : List (List Event)) (rb rc : List ℕ) → IsOnWay a fa b rb fb → IsOnWay b fb c rc fc → IsOnWay a fa c rc fc

@@ -121,7 +121,7 @@ fn add_next(catalogue: &mut Catalogue, further: &mut Vec<VecDeque<Event>>, p: Pr
         return false;
     }
     let event = take_kept(further, at);
-    catalogue.add(p, event).unwrap();
+    catalogue.append(p, event);
     true
 }
 
