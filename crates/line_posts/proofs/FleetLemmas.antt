@@ -10,7 +10,7 @@ use Rattle.line_tape.specs.Rounds.{rounds_checked}
 use Rattle.line_tape.proofs.SpentLemmas.{tape_start}
 use Rattle.line_tape.proofs.NextLemmas.{slice_get_push}
 use Rattle.line_rings.specs.Ends.{End, items_at, items_of, ring_at, row_at, slots_at, AreFresh, AreLinked, HaveSlots}
-use Rattle.line_posts.specs.declared.parcels.Letter.{Letter}
+use Rattle.line_posts.specs.declared.parcels.Packet.{Packet}
 use Rattle.line_posts.specs.declared.parcels.Parcel.{Parcel}
 use Rattle.line_posts.specs.Posts.{post_of, PostView}
 use Rattle.line_posts.specs.Collected.{collector_of, CollectorView}
@@ -29,7 +29,7 @@ next_row [] (suc q) row rest e = cc e
 next_row (x ∷ xs) zero row rest e = (cc e, cc e)
 next_row (x ∷ xs) (suc q) row rest e = next_row xs q row rest e
 
-pub opening_of : (opening : List Process) (q me n : ℕ) (tape : List Event) (kept : List (List Letter)) (outs ins : List (List (End Parcel))) (lines in_lines : List (List (End Event)))
+pub opening_of : (opening : List Process) (q me n : ℕ) (tape : List Event) (kept : List (List Packet)) (outs ins : List (List (End Parcel))) (lines in_lines : List (List (End Event)))
     (out in_ : List (End Parcel)) (seen : List (List Parcel)) (line : End Event) (floor : ℕ) (rounds : List Recorded)
     → me ≡ q → q < n → n ≡ length opening → tape ≡ tape_at opening me → AreReplays opening me kept → AreLinked n n outs ins → AreLinked n 1 lines in_lines
     → out ≡ row_at outs q → in_ ≡ row_at ins q → line ∷ [] ≡ row_at lines q
@@ -72,7 +72,7 @@ made_more opening floor outs ins lines q lo li lo' li' ll ll' posts posts' post 
   lines_left = sym ((next_row lines q line ll' (sym el ∙ h.lines_left)).1) ∙ ap (λ k. drop k lines) (sym (add-one q));
 }
 
-pub made_of : (opening : List Process) (floor : ℕ) (outs ins : List (List (End Parcel))) (lines : List (List (End Event))) (q me : ℕ) (tape : List Event) (kept : List (List Letter)) (out in_ : List (End Parcel)) (seen : List (List Parcel)) (line : End Event) (base : ℕ) (rounds : List Recorded) (post : PostView)
+pub made_of : (opening : List Process) (floor : ℕ) (outs ins : List (List (End Parcel))) (lines : List (List (End Event))) (q me : ℕ) (tape : List Event) (kept : List (List Packet)) (out in_ : List (End Parcel)) (seen : List (List Parcel)) (line : End Event) (base : ℕ) (rounds : List Recorded) (post : PostView)
     → post ≡ post_of me opening tape kept out in_ seen line base rounds → me ≡ q → IsOpening (post_of me opening tape kept out in_ seen line base rounds) → base ≡ floor → rounds ≡ [] → out ≡ row_at outs q → in_ ≡ row_at ins q → line ∷ [] ≡ row_at lines q → IsMade opening floor outs ins lines q post
 made_of opening floor outs ins lines q me tape kept out in_ seen line base rounds post e em o ef er eo ei el = rw e (record { number = em; opened = refl; opens = o; begun = (ef, er); outs_are = eo; ins_are = ei; line_is = el })
 

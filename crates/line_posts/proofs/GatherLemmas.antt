@@ -13,7 +13,7 @@ use Rattle.line_tape.specs.Rounds.{rounds_checked}
 use Rattle.line_tape.proofs.NextLemmas.{prefix_from}
 use Rattle.line_rings.specs.Ends.{End, items_at, items_of, row_at}
 use Rattle.line_posts.specs.declared.parcels.Parcel.{Parcel}
-use Rattle.line_posts.specs.Parcels.{item_of, items_of_letters, items_of_parcels, parcels_sent}
+use Rattle.line_posts.specs.Parcels.{item_of, items_of_packets, items_of_parcels, parcels_sent}
 use Rattle.line_posts.specs.Posts.{opening_tape, IsPost, PostView}
 use Rattle.line_posts.specs.Generations.{own_history, own_process, AreAccounted, AreInOrder}
 use Rattle.line_posts.specs.Generations.{IsGeneration}
@@ -39,7 +39,7 @@ regroup s i r = sym (append_assoc s i r)
 -- of two workers
 pair_accounted : (from to : PostView) → IsPost from → IsPost to → from.opening ≡ to.opening → from.number ≢ to.number → (rest : List Parcel)
     → items_at to.ins from.number ++ rest ≡ items_at from.outs to.number
-    → (filter_map (item_received from.number) to.tape ++ items_of_letters from.number (row_at to.kept from.number)) ++ items_of_parcels from.number rest ≡ items_sent from.number to.number 0 from.tape
+    → (filter_map (item_received from.number) to.tape ++ items_of_packets from.number (row_at to.kept from.number)) ++ items_of_parcels from.number rest ≡ items_sent from.number to.number 0 from.tape
 pair_accounted from to a b same apart rest met =
     let p = from.number in
     let q = to.number in
@@ -68,7 +68,7 @@ alone_begins post h =
     let k = length (incarnations_sent (opening_tape post)) in
     let I : List Parcel → List Item = items_of_parcels p in
     let later = post.line.items ++ h.reports.0 in
-    let kept = items_of_letters p (row_at post.kept p) in
+    let kept = items_of_packets p (row_at post.kept p) in
     let got : filter_map (item_received p) post.tape ++ kept ≡ sent post.opening p p =
     h.receipts_are p ∙ (ap (λ t. sent post.opening p p ++ I t) h.alone ∙ append-nil (sent post.opening p p)) in
     let tape_is : post.tape ≡ opening_tape post ++ later = h.reports.1 ∙ append_assoc (opening_tape post) post.line.items h.reports.0 in
@@ -91,12 +91,12 @@ module _ (posts : List PostView) (all : AreAll posts) (gen : IsGeneration posts)
       let (a, np, lp) = all.each p from hp in
       let (b, nq, lq) = all.each q to hq in
       let (rest, e) = met p q from to hp hq in
-      let P : ℕ → ℕ → Type 0 = λ x y. (filter_map (item_received x) to.tape ++ items_of_letters x (row_at to.kept x)) ++ items_of_parcels x rest ≡ items_sent x y 0 from.tape in
+      let P : ℕ → ℕ → Type 0 = λ x y. (filter_map (item_received x) to.tape ++ items_of_packets x (row_at to.kept x)) ++ items_of_parcels x rest ≡ items_sent x y 0 from.tape in
       let M : ℕ → ℕ → Type 0 = λ x y. items_at to.ins x ++ rest ≡ items_at from.outs y in
       let here : P from.number to.number =
       pair_accounted from to a b ((gen p q from to hp hq).0) (λ e. apart (sym np ∙ (e ∙ nq))) rest e in
       let there : P p q = subst (λ y. P p y) nq (subst (λ x. P x to.number) np here) in
-      (rest, subst (λ y. M p y) nq (subst (λ x. M x to.number) np e), ap (λ t. (filter_map (item_received p) t ++ items_of_letters p (row_at to.kept p)) ++ items_of_parcels p rest) (own_tape posts q to hq) ∙ (there ∙ ap (items_sent p q 0) (sym (own_tape posts p from hp))))
+      (rest, subst (λ y. M p y) nq (subst (λ x. M x to.number) np e), ap (λ t. (filter_map (item_received p) t ++ items_of_packets p (row_at to.kept p)) ++ items_of_parcels p rest) (own_tape posts q to hq) ∙ (there ∙ ap (items_sent p q 0) (sym (own_tape posts p from hp))))
 
   ordered : (p q : ℕ) → IsPrefix (received (own_history posts) q p) (sent (own_history posts) p q)
   ordered p q = elim (cases_lt q (length posts)) [
@@ -121,7 +121,7 @@ module _ (posts : List PostView) (all : AreAll posts) (gen : IsGeneration posts)
             | inr apart ↦
                 let (from, hp) = in_list posts p ltp in
                 let (rest, met_is, e) = accounted p q from to hp hq apart in
-                prefix_from _ _ (items_of_letters p (row_at to.kept p) ++ items_of_parcels p rest) (sym e ∙ append_assoc (received (own_history posts) q p) (items_of_letters p (row_at to.kept p)) (items_of_parcels p rest))
+                prefix_from _ _ (items_of_packets p (row_at to.kept p) ++ items_of_parcels p rest) (sym e ∙ append_assoc (received (own_history posts) q p) (items_of_packets p (row_at to.kept p)) (items_of_parcels p rest))
           ]
         ]
   ]

@@ -11,7 +11,7 @@ use Rattle.line_tape.specs.Rounds.{has_check_of}
 use Rattle.line_rings.specs.Ends.{End, HasFilled, StillKnow, in_ends, items_at, known_at, known_rows, row_at, with_item}
 use Rattle.line_rings.proofs.EndLemmas.{knows_self, prefix_self, rows_known}
 use Rattle.std.proofs.lemmas.List.{append-nil}
-use Rattle.line_posts.specs.declared.parcels.Letter.{Letter}
+use Rattle.line_posts.specs.declared.parcels.Packet.{Packet}
 use Rattle.line_posts.specs.declared.parcels.Parcel.{Parcel}
 use Rattle.line_posts.specs.declared.parcels.Parcel.TheVariants.{Message, Marker}
 use Rattle.line_posts.specs.declared.refusals.ReceiveWhy.TheVariants.{OutOfMemory, TapeFull, RingFull}
@@ -39,9 +39,9 @@ prefix_none (x ∷ xs) ys (t, h) e = (let both = h ∙ e in cc both)
 pub shows_none : (rows : List (List Parcel)) (ins : List (Consumer Parcel Global AnyItems)) (at p : ℕ) → at ≡ p → StillKnow rows ins → known_at ins at ≡ [] → row_at rows p ≡ []
 shows_none rows ins at p e know none = prefix_none (row_at rows p) (known_at ins p) (know p) (subst (λ (x : ℕ). known_at ins x ≡ []) e none)
 
-begins_message : (xs : List Parcel) → BeginsWithMessage xs → (letter : Letter) × (rest : List Parcel) × (xs ≡ Message letter ∷ rest)
+begins_message : (xs : List Parcel) → BeginsWithMessage xs → (packet : Packet) × (rest : List Parcel) × (xs ≡ Message packet ∷ rest)
 begins_message [] b = absurd b
-begins_message (Message letter ∷ rest) b = (letter, rest, refl)
+begins_message (Message packet ∷ rest) b = (packet, rest, refl)
 begins_message (Marker round ∷ rest) b = absurd b
 
 begins_marker : (round : ℕ) (xs : List Parcel) → BeginsWithMarker round xs → (rest : List Parcel) × (xs ≡ Marker round ∷ rest)
@@ -77,10 +77,10 @@ module _ (S V : Vec (Consumer Parcel Global AnyItems) Global) (same : S ≡ V) w
     )
 
     pub full_message : BeginsWithMessage (known_at V.items at) → MOST_EVENTS ≤ length post.tape → IsNotReceived post (row_at (known_rows S.items) from) from state TapeFull
-    full_message b many = (let (letter, rest, e) = begins_message (known_at V.items at) b in (may, Message letter, comes (Message letter) rest e, omega (arith, many)))
+    full_message b many = (let (packet, rest, e) = begins_message (known_at V.items at) b in (may, Message packet, comes (Message packet) rest e, omega (arith, many)))
 
     pub lack_message : BeginsWithMessage (known_at V.items at) → length post.tape < MOST_EVENTS → IsNotReceived post (row_at (known_rows S.items) from) from state OutOfMemory
-    lack_message b few = (let (letter, rest, e) = begins_message (known_at V.items at) b in (may, Message letter, comes (Message letter) rest e, omega (arith, few)))
+    lack_message b few = (let (packet, rest, e) = begins_message (known_at V.items at) b in (may, Message packet, comes (Message packet) rest e, omega (arith, few)))
 
     pub full_marker : (round : ℕ) (checked : Bool) → BeginsWithMarker round (known_at V.items at) → has_check_of round post.tape ≡ checked → MOST_EVENTS < length post.tape + cond checked 1 2 → IsNotReceived post (row_at (known_rows S.items) from) from state TapeFull
     full_marker round checked b is many =
@@ -96,15 +96,15 @@ module _ (S V : Vec (Consumer Parcel Global AnyItems) Global) (same : S ≡ V) w
     ring_marker round b is few filled = (let (rest, e) = begins_marker round (known_at V.items at) b in (may, bare, round, comes (Marker round) rest e, is, few, filled))
 
 -- the first of the replays comes next, whatever the ring shows
-replay_next : (post : PostView) (shown : List Parcel) (from : ℕ) (kept : List Letter) → row_at post.kept from ≡ kept → 0 < length kept → (letter : Letter) × ComesNext post shown from (Message letter)
+replay_next : (post : PostView) (shown : List Parcel) (from : ℕ) (kept : List Packet) → row_at post.kept from ≡ kept → 0 < length kept → (packet : Packet) × ComesNext post shown from (Message packet)
 replay_next post shown from [] e some = absurd (omega (arith, some))
-replay_next post shown from (letter ∷ rest) e some = (letter, (parcels_of rest ++ shown, ap (λ t. parcels_of t ++ shown) e))
+replay_next post shown from (packet ∷ rest) e some = (packet, (parcels_of rest ++ shown, ap (λ t. parcels_of t ++ shown) e))
 
 pub full_replay : (post : PostView) (shown : List Parcel) (from : ℕ) (state : List ℕ) → MayReceive post from state → 0 < length (row_at post.kept from) → MOST_EVENTS ≤ length post.tape → IsNotReceived post shown from state TapeFull
-full_replay post shown from state may some many = (let (letter, next) = replay_next post shown from (row_at post.kept from) refl some in (may, Message letter, next, omega (arith, many)))
+full_replay post shown from state may some many = (let (packet, next) = replay_next post shown from (row_at post.kept from) refl some in (may, Message packet, next, omega (arith, many)))
 
 pub lack_replay : (post : PostView) (shown : List Parcel) (from : ℕ) (state : List ℕ) → MayReceive post from state → 0 < length (row_at post.kept from) → length post.tape < MOST_EVENTS → IsNotReceived post shown from state OutOfMemory
-lack_replay post shown from state may some few = (let (letter, next) = replay_next post shown from (row_at post.kept from) refl some in (may, Message letter, next, omega (arith, few)))
+lack_replay post shown from state may some few = (let (packet, next) = replay_next post shown from (row_at post.kept from) refl some in (may, Message packet, next, omega (arith, few)))
 
 pub err_part : {T E : Type 0} (r : Result T E) (P : Type 0) → is_err r ≡ true → OnErr r P → P
 err_part (Ok x) P e p = cc e

@@ -20,7 +20,7 @@ use Rattle.line_tape.proofs.CompletionLemmas.{contains_round}
 use Rattle.line_tape.proofs.GrowthLemmas.{has_check_push}
 use Rattle.line_posts.specs.declared.parcels.Parcel.{Parcel}
 use Rattle.line_posts.specs.declared.parcels.Parcel.TheVariants.{Marker}
-use Rattle.line_posts.specs.Parcels.{items_of_letters}
+use Rattle.line_posts.specs.Parcels.{items_of_packets}
 use Rattle.line_posts.specs.Posts.{IsPost, PostView}
 use Rattle.line_posts.specs.Markers.{and_item, with_others}
 use Rattle.line_posts.proofs.StepLemmas.{IsStep, stepped, post_step}
@@ -153,7 +153,7 @@ check_step post state r h none =
       in_count = refl;
       kept_count = refl;
       put = λ q within other. items_others post.outs post.number q (Marker r) (omega (arith, within, c)) other;
-      got = λ p. ([], sym (append-nil (items_at post.ins p)), append-nil (items_of_letters p (row_at post.kept p)));
+      got = λ p. ([], sym (append-nil (items_at post.ins p)), append-nil (items_of_packets p (row_at post.kept p)));
       replays = h.replays;
       alone = h.alone;
       named = tt;
@@ -176,15 +176,15 @@ mark_step post from r h lt ne bare checked =
         | inl e ↦ (
           Marker r ∷ [],
           items_same post.ins from p (Marker r) (omega (arith, lt, c)) e,
-          ap (λ t. items_of_letters p t ++ item_marker r ∷ []) (ap (row_at post.kept) e ∙ bare)
+          ap (λ t. items_of_packets p t ++ item_marker r ∷ []) (ap (row_at post.kept) e ∙ bare)
               ∙ (sym (append-nil (item_marker r ∷ []))
-              ∙ (ap (λ t. (item_marker r ∷ []) ++ items_of_letters p t) (sym (ap (row_at post.kept) e ∙ bare))
-              ∙ ap (λ t. t ++ items_of_letters p (row_at post.kept p)) (sym (mark_here p from r e)))),
+              ∙ (ap (λ t. (item_marker r ∷ []) ++ items_of_packets p t) (sym (ap (row_at post.kept) e ∙ bare))
+              ∙ ap (λ t. t ++ items_of_packets p (row_at post.kept p)) (sym (mark_here p from r e)))),
         )
         | inr apart ↦ (
           [],
           items_other post.ins from p (Marker r) apart ∙ sym (append-nil (items_at post.ins p)),
-          append-nil (items_of_letters p (row_at post.kept p)) ∙ ap (λ t. t ++ items_of_letters p (row_at post.kept p)) (sym (mark_apart p from r apart)),
+          append-nil (items_of_packets p (row_at post.kept p)) ∙ ap (λ t. t ++ items_of_packets p (row_at post.kept p)) (sym (mark_apart p from r apart)),
         )
       ];
       replays = λ p. elim (cases_eq p from) [

@@ -9,20 +9,20 @@ use Rattle.line_tape.specs.Fit.{item_received, sent, received, link, IsFitFifo, 
 use Rattle.line_tape.specs.History.{tape_at}
 use Rattle.line_tape.specs.Rounds.{rounds_checked}
 use Rattle.line_rings.specs.Ends.{row_at}
-use Rattle.line_posts.specs.Parcels.{items_of_letters, items_of_parcels, parcels_of, parcels_sent}
+use Rattle.line_posts.specs.Parcels.{items_of_packets, items_of_parcels, parcels_of, parcels_sent}
 use Rattle.line_posts.specs.Posts.{IsPost, PostView}
 use Rattle.line_posts.specs.Openings.{parcels_left, IsOpening}
-use Rattle.line_posts.specs.declared.parcels.Letter.{Letter}
-use Rattle.line_posts.specs.Parcels.{item_of, letter_name}
+use Rattle.line_posts.specs.declared.parcels.Packet.{Packet}
+use Rattle.line_posts.specs.Parcels.{item_of, packet_name}
 use Rattle.line_tape.specs.declared.items.Item.{Item}
 use Rattle.line_tape.specs.declared.items.Item.TheVariants.{Message as item_message}
 use Rattle.line_tape.specs.History.{Process}
 use Rattle.line_posts.proofs.ParcelLemmas.{parcels_names}
 
--- letters as items, and as what a ring carries
-letters_items : (p : ℕ) (letters : List Letter) → items_of_letters p letters ≡ items_of_parcels p (parcels_of letters)
-letters_items p [] = refl
-letters_items p (l ∷ ls) = ap (λ (t : List Item). item_message (letter_name p l) ∷ t) (letters_items p ls)
+-- packets as items, and as what a ring carries
+packets_items : (p : ℕ) (packets : List Packet) → items_of_packets p packets ≡ items_of_parcels p (parcels_of packets)
+packets_items p [] = refl
+packets_items p (l ∷ ls) = ap (λ (t : List Item). item_message (packet_name p l) ∷ t) (packets_items p ls)
 
 drop_map : {X Y : Type 0} (f : X → Y) (n : ℕ) (xs : List X) → map f (drop n xs) ≡ drop n (map f xs)
 drop_map f zero xs = refl
@@ -36,9 +36,9 @@ left_items history p q =
     ∙ ap (drop (length (received history q p))) (parcels_names p q 0 (tape_at history p))
 
 -- what is kept are the items of the link
-pub kept_items : (history : List Process) (p q : ℕ) (letters : List Letter) → parcels_of letters ≡ parcels_left history p q → items_of_letters p letters ≡ link history p q
-kept_items history p q letters h =
-    letters_items p letters ∙ (ap (items_of_parcels p) h ∙ left_items history p q)
+pub kept_items : (history : List Process) (p q : ℕ) (packets : List Packet) → parcels_of packets ≡ parcels_left history p q → items_of_packets p packets ≡ link history p q
+kept_items history p q packets h =
+    packets_items p packets ∙ (ap (items_of_parcels p) h ∙ left_items history p q)
 
 pub opens : (post : PostView) → IsOpening post → IsFitFifo post.opening → All (NamesBelow (length post.opening)) (tape_at post.opening post.number) → IsPost post
 opens post o fit named =
@@ -52,7 +52,7 @@ opens post o fit named =
       reports = ([], o.tape ∙ (sym (append-nil T) ∙ (sym (append-nil (T ++ [])) ∙ ap (λ t. (T ++ t) ++ []) (sym o.line))));
       sends_are = λ q lt ne. ap (parcels_sent q 0) o.tape ∙ (sym (append-nil (parcels_sent q 0 T)) ∙ ap (λ t. parcels_sent q 0 T ++ t) (sym (o.outs q)));
       receipts_are = λ p.
-          ap (λ t. filter_map (item_received p) t ++ items_of_letters p (row_at post.kept p)) o.tape
+          ap (λ t. filter_map (item_received p) t ++ items_of_packets p (row_at post.kept p)) o.tape
           ∙ (ap (λ t. received post.opening post.number p ++ t) (kept_items post.opening p post.number (row_at post.kept p) (o.kept p)) ∙ (fit.order p post.number
           ∙ (sym (append-nil (sent post.opening p post.number)) ∙ ap (λ t. sent post.opening p post.number ++ items_of_parcels p t) (sym (o.ins p)))));
       replays = λ p. inr (o.ins p);

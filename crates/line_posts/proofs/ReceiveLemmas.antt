@@ -16,10 +16,10 @@ use Rattle.line_tape.specs.declared.events.Event.TheVariants.{Recv}
 use Rattle.line_tape.specs.declared.items.Item.{Item}
 use Rattle.line_tape.specs.declared.items.Item.TheVariants.{Message as item_message}
 use Rattle.line_tape.specs.Fit.{item_received}
-use Rattle.line_posts.specs.declared.parcels.Letter.{Letter}
+use Rattle.line_posts.specs.declared.parcels.Packet.{Packet}
 use Rattle.line_posts.specs.declared.parcels.Parcel.{Parcel}
 use Rattle.line_posts.specs.declared.parcels.Parcel.TheVariants.{Message}
-use Rattle.line_posts.specs.Parcels.{items_of_letters, letter_name}
+use Rattle.line_posts.specs.Parcels.{items_of_packets, packet_name}
 use Rattle.line_posts.specs.Posts.{IsPost, PostView}
 use Rattle.line_posts.specs.Receipts.{without_first, StillSees}
 use Rattle.line_posts.proofs.StepLemmas.{IsStep, post_step}
@@ -33,45 +33,45 @@ pop_row f xs p old new x lt at is =
     let back : row_at (map f (set xs p new)) p ≡ f new = ap (λ t. row_at t p) put ∙ get_or-set_same (map f xs) p (f new) [] (omega (arith, lt, l)) in
     (row ∙ ap (λ t. x ∷ t) (sym back), put ∙ ap (λ t. set (map f xs) p t) (sym (ap (drop 1) row)))
 
--- what a receipt of a letter from process `from` takes from p
-got_here : (p from : ℕ) (letter : Letter) → p ≡ from → filter_map (item_received p) (Recv (letter_name from letter) ∷ []) ≡ item_message (letter_name p letter) ∷ []
-got_here p from letter e =
-    ap (λ b. filter_map (λ (o : Option Item). o) (cond b (Some (item_message (letter_name from letter))) None ∷ [])) (eq-eqb from p (sym e)) ∙ ap (λ x. item_message (letter_name x letter) ∷ []) (sym e)
+-- what a receipt of a packet from process `from` takes from p
+got_here : (p from : ℕ) (packet : Packet) → p ≡ from → filter_map (item_received p) (Recv (packet_name from packet) ∷ []) ≡ item_message (packet_name p packet) ∷ []
+got_here p from packet e =
+    ap (λ b. filter_map (λ (o : Option Item). o) (cond b (Some (item_message (packet_name from packet))) None ∷ [])) (eq-eqb from p (sym e)) ∙ ap (λ x. item_message (packet_name x packet) ∷ []) (sym e)
 
-got_apart : (p from : ℕ) (letter : Letter) → (p ≡ from → ⊥) → filter_map (item_received p) (Recv (letter_name from letter) ∷ []) ≡ []
-got_apart p from letter ne =
-    ap (λ b. filter_map (λ (o : Option Item). o) (cond b (Some (item_message (letter_name from letter))) None ∷ [])) (ne_eqb from p (λ e. ne (sym e)))
+got_apart : (p from : ℕ) (packet : Packet) → (p ≡ from → ⊥) → filter_map (item_received p) (Recv (packet_name from packet) ∷ []) ≡ []
+got_apart p from packet ne =
+    ap (λ b. filter_map (λ (o : Option Item). o) (cond b (Some (item_message (packet_name from packet))) None ∷ [])) (ne_eqb from p (λ e. ne (sym e)))
 
 -- the next of the ring, where no replay is kept
-pub next_step : (post : PostView) (from : ℕ) (letter : Letter) → IsPost post → from < length post.opening → from ≢ post.number → row_at post.kept from ≡ []
-    → IsStep post (Recv (letter_name from letter)) post.kept post.outs (with_item post.ins from (Message letter))
-next_step post from letter h lt ne bare =
+pub next_step : (post : PostView) (from : ℕ) (packet : Packet) → IsPost post → from < length post.opening → from ≢ post.number → row_at post.kept from ≡ []
+    → IsStep post (Recv (packet_name from packet)) post.kept post.outs (with_item post.ins from (Message packet))
+next_step post from packet h lt ne bare =
     let c = h.in_count in
     record {
       out_count = refl;
-      in_count = length_item post.ins from (Message letter);
+      in_count = length_item post.ins from (Message packet);
       kept_count = refl;
       put = λ q within other. sym (append-nil (items_at post.outs q));
       got = λ p. elim (cases_eq p from) [
         | inl e ↦ (
-          Message letter ∷ [],
-          items_same post.ins from p (Message letter) (omega (arith, lt, c)) e,
-          ap (λ t. items_of_letters p t ++ item_message (letter_name p letter) ∷ []) (ap (row_at post.kept) e ∙ bare)
-              ∙ (sym (append-nil (item_message (letter_name p letter) ∷ []))
-              ∙ (ap (λ t. (item_message (letter_name p letter) ∷ []) ++ items_of_letters p t) (sym (ap (row_at post.kept) e ∙ bare))
-              ∙ ap (λ t. t ++ items_of_letters p (row_at post.kept p)) (sym (got_here p from letter e)))),
+          Message packet ∷ [],
+          items_same post.ins from p (Message packet) (omega (arith, lt, c)) e,
+          ap (λ t. items_of_packets p t ++ item_message (packet_name p packet) ∷ []) (ap (row_at post.kept) e ∙ bare)
+              ∙ (sym (append-nil (item_message (packet_name p packet) ∷ []))
+              ∙ (ap (λ t. (item_message (packet_name p packet) ∷ []) ++ items_of_packets p t) (sym (ap (row_at post.kept) e ∙ bare))
+              ∙ ap (λ t. t ++ items_of_packets p (row_at post.kept p)) (sym (got_here p from packet e)))),
         )
         | inr apart ↦ (
           [],
-          items_other post.ins from p (Message letter) apart ∙ sym (append-nil (items_at post.ins p)),
-          append-nil (items_of_letters p (row_at post.kept p)) ∙ ap (λ t. t ++ items_of_letters p (row_at post.kept p)) (sym (got_apart p from letter apart)),
+          items_other post.ins from p (Message packet) apart ∙ sym (append-nil (items_at post.ins p)),
+          append-nil (items_of_packets p (row_at post.kept p)) ∙ ap (λ t. t ++ items_of_packets p (row_at post.kept p)) (sym (got_apart p from packet apart)),
         )
       ];
       replays = λ p. elim (cases_eq p from) [
         | inl e ↦ inl (ap (row_at post.kept) e ∙ bare)
-        | inr apart ↦ elim (h.replays p) [ inl none ↦ inl none | inr none ↦ inr (items_other post.ins from p (Message letter) apart ∙ none) ]
+        | inr apart ↦ elim (h.replays p) [ inl none ↦ inl none | inr none ↦ inr (items_other post.ins from p (Message packet) apart ∙ none) ]
       ];
-      alone = items_other post.ins from post.number (Message letter) (λ e. ne (sym e)) ∙ h.alone;
+      alone = items_other post.ins from post.number (Message packet) (λ e. ne (sym e)) ∙ h.alone;
       named = lt;
       present = λ inc e. cc e;
       rounds = λ r e. cc e;
@@ -79,9 +79,9 @@ next_step post from letter h lt ne bare =
     }
 
 -- the first of the replays
-pub replay_step : (post : PostView) (from : ℕ) (letter : Letter) (rest : List Letter) → IsPost post → from < length post.opening → row_at post.kept from ≡ letter ∷ rest
-    → IsStep post (Recv (letter_name from letter)) (without_first post.kept from) post.outs post.ins
-replay_step post from letter rest h lt first =
+pub replay_step : (post : PostView) (from : ℕ) (packet : Packet) (rest : List Packet) → IsPost post → from < length post.opening → row_at post.kept from ≡ packet ∷ rest
+    → IsStep post (Recv (packet_name from packet)) (without_first post.kept from) post.outs post.ins
+replay_step post from packet rest h lt first =
     let c = h.kept_count in
     let left : row_at (without_first post.kept from) from ≡ rest = get_or-set_same post.kept from (drop 1 (row_at post.kept from)) [] (omega (arith, lt, c)) ∙ ap (drop 1) first in
     record {
@@ -92,12 +92,12 @@ replay_step post from letter rest h lt first =
       got = λ p. (
         [],
         sym (append-nil (items_at post.ins p)),
-        append-nil (items_of_letters p (row_at post.kept p)) ∙ elim (cases_eq p from) [
-          | inl e ↦ ap (λ t. items_of_letters p t) (ap (row_at post.kept) e ∙ first)
-              ∙ (ap (λ t. (item_message (letter_name p letter) ∷ []) ++ items_of_letters p t) (sym (ap (row_at (without_first post.kept from)) e ∙ left))
-              ∙ ap (λ t. t ++ items_of_letters p (row_at (without_first post.kept from) p)) (sym (got_here p from letter e)))
-          | inr apart ↦ ap (λ t. items_of_letters p t) (sym (get_or-set_other post.kept from p (drop 1 (row_at post.kept from)) [] apart))
-              ∙ ap (λ t. t ++ items_of_letters p (row_at (without_first post.kept from) p)) (sym (got_apart p from letter apart))
+        append-nil (items_of_packets p (row_at post.kept p)) ∙ elim (cases_eq p from) [
+          | inl e ↦ ap (λ t. items_of_packets p t) (ap (row_at post.kept) e ∙ first)
+              ∙ (ap (λ t. (item_message (packet_name p packet) ∷ []) ++ items_of_packets p t) (sym (ap (row_at (without_first post.kept from)) e ∙ left))
+              ∙ ap (λ t. t ++ items_of_packets p (row_at (without_first post.kept from) p)) (sym (got_here p from packet e)))
+          | inr apart ↦ ap (λ t. items_of_packets p t) (sym (get_or-set_other post.kept from p (drop 1 (row_at post.kept from)) [] apart))
+              ∙ ap (λ t. t ++ items_of_packets p (row_at (without_first post.kept from) p)) (sym (got_apart p from packet apart))
         ],
       );
       replays = λ p. elim (cases_eq p from) [
@@ -111,13 +111,13 @@ replay_step post from letter rest h lt first =
       marks = λ f r e. cc e;
     }
 
-pub next_keeps : (post : PostView) (from : ℕ) (letter : Letter) (tape : List Event) (ins : List (End Parcel)) (floor : ℕ) (rounds : List Recorded) → IsPost post → from < length post.opening → from ≢ post.number → row_at post.kept from ≡ []
-    → tape ≡ post.tape ++ Recv (letter_name from letter) ∷ [] → ins ≡ with_item post.ins from (Message letter) → IsPost (record post { tape = tape; ins = ins; floor = floor; rounds = rounds })
-next_keeps post from letter tape ins floor rounds h lt ne bare et ei = rw (et, ei) (post_step post _ _ _ _ floor rounds h (next_step post from letter h lt ne bare))
+pub next_keeps : (post : PostView) (from : ℕ) (packet : Packet) (tape : List Event) (ins : List (End Parcel)) (floor : ℕ) (rounds : List Recorded) → IsPost post → from < length post.opening → from ≢ post.number → row_at post.kept from ≡ []
+    → tape ≡ post.tape ++ Recv (packet_name from packet) ∷ [] → ins ≡ with_item post.ins from (Message packet) → IsPost (record post { tape = tape; ins = ins; floor = floor; rounds = rounds })
+next_keeps post from packet tape ins floor rounds h lt ne bare et ei = rw (et, ei) (post_step post _ _ _ _ floor rounds h (next_step post from packet h lt ne bare))
 
-pub replay_keeps : (post : PostView) (from : ℕ) (letter : Letter) (rest : List Letter) (tape : List Event) (kept : List (List Letter)) (floor : ℕ) (rounds : List Recorded) → IsPost post → from < length post.opening → row_at post.kept from ≡ letter ∷ rest
-    → tape ≡ post.tape ++ Recv (letter_name from letter) ∷ [] → kept ≡ without_first post.kept from → IsPost (record post { tape = tape; kept = kept; floor = floor; rounds = rounds })
-replay_keeps post from letter rest tape kept floor rounds h lt first et ek = rw (et, ek) (post_step post _ _ _ _ floor rounds h (replay_step post from letter rest h lt first))
+pub replay_keeps : (post : PostView) (from : ℕ) (packet : Packet) (rest : List Packet) (tape : List Event) (kept : List (List Packet)) (floor : ℕ) (rounds : List Recorded) → IsPost post → from < length post.opening → row_at post.kept from ≡ packet ∷ rest
+    → tape ≡ post.tape ++ Recv (packet_name from packet) ∷ [] → kept ≡ without_first post.kept from → IsPost (record post { tape = tape; kept = kept; floor = floor; rounds = rounds })
+replay_keeps post from packet rest tape kept floor rounds h lt first et ek = rw (et, ek) (post_step post _ _ _ _ floor rounds h (replay_step post from packet rest h lt first))
 
 -- what was seen is next
 module _ (rows : List (List Parcel)) (old looked new : List (Consumer Parcel Global AnyItems)) (from : ℕ) (parcel : Parcel) where

@@ -13,7 +13,7 @@ use Rattle.line_tape.specs.Fit.{item_received, received}
 use Rattle.line_tape.specs.History.{Process, IsTape}
 use Rattle.line_tape.specs.Rounds.{checked_round, rounds_checked}
 use Rattle.line_tape.proofs.LineLemmas.{tape_at-past}
-use Rattle.line_posts.specs.declared.parcels.Letter.{Letter}
+use Rattle.line_posts.specs.declared.parcels.Packet.{Packet}
 use Rattle.line_posts.specs.declared.parcels.Parcel.TheVariants.{Message}
 use Rattle.line_posts.specs.Parcels.{parcels_of, parcels_sent}
 use Rattle.line_posts.specs.Fleets.{AreReplays, AreReplaysBelow}
@@ -45,11 +45,11 @@ sent_none q k state None e = refl
 sent_none q k state (Some r) e = cc e
 
 -- one event further
-pub left_more : (q s : ℕ) (tape : List Event) (event : Event) (received received' : ℕ) (letters letters' : List Letter)
-    → received ≡ s - length (parcels_sent q 0 tape) → parcels_of letters ≡ drop s (parcels_sent q 0 tape)
-    → received' ≡ received - length (parcels_sent q (sends tape) (event ∷ [])) → parcels_of letters' ≡ parcels_of letters ++ drop received (parcels_sent q (sends tape) (event ∷ []))
-    → (received' ≡ s - length (parcels_sent q 0 (tape ++ event ∷ []))) × (parcels_of letters' ≡ drop s (parcels_sent q 0 (tape ++ event ∷ [])))
-left_more q s tape event received received' letters letters' er el nr nl =
+pub left_more : (q s : ℕ) (tape : List Event) (event : Event) (received received' : ℕ) (packets packets' : List Packet)
+    → received ≡ s - length (parcels_sent q 0 tape) → parcels_of packets ≡ drop s (parcels_sent q 0 tape)
+    → received' ≡ received - length (parcels_sent q (sends tape) (event ∷ [])) → parcels_of packets' ≡ parcels_of packets ++ drop received (parcels_sent q (sends tape) (event ∷ []))
+    → (received' ≡ s - length (parcels_sent q 0 (tape ++ event ∷ []))) × (parcels_of packets' ≡ drop s (parcels_sent q 0 (tape ++ event ∷ [])))
+left_more q s tape event received received' packets packets' er el nr nl =
     let x = parcels_sent q (sends tape) (event ∷ []) in
     let zero_on : 0 + sends tape ≡ sends tape = omega arith in
     let all : parcels_sent q 0 (tape ++ event ∷ []) ≡ parcels_sent q 0 tape ++ x = parcels_append q 0 tape (event ∷ []) ∙ ap (λ n. parcels_sent q 0 tape ++ parcels_sent q n (event ∷ [])) zero_on in
@@ -72,7 +72,7 @@ pub drop_none : {X : Type 0} (n : ℕ) → drop {A = X} n [] ≡ []
 drop_none zero = refl
 drop_none (suc n) = refl
 
-pub replays_all : (history : List Process) (q n : ℕ) (kept : List (List Letter)) → n ≡ length history → AreReplaysBelow n history q kept → AreReplays history q kept
+pub replays_all : (history : List Process) (q n : ℕ) (kept : List (List Packet)) → n ≡ length history → AreReplaysBelow n history q kept → AreReplays history q kept
 replays_all history q n kept long h = record {
   count = h.count ∙ long;
   each = λ p. elim (cases_lt p n) [

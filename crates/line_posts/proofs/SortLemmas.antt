@@ -15,7 +15,7 @@ use Rattle.line_tape.specs.Fit.{item_received, received}
 use Rattle.line_tape.specs.History.{Process, tape_at}
 use Rattle.line_rings.specs.Ends.{row_at}
 use Rattle.line_rings.proofs.RowLemmas.{row_seen}
-use Rattle.line_posts.specs.declared.parcels.Letter.{Letter}
+use Rattle.line_posts.specs.declared.parcels.Packet.{Packet}
 use Rattle.line_posts.specs.declared.parcels.Parcel.{Parcel}
 use Rattle.line_posts.specs.declared.parcels.Parcel.TheVariants.{Message}
 use Rattle.line_posts.specs.Parcels.{parcels_of, parcels_sent}
@@ -86,24 +86,24 @@ taken_one n from events event taken taken' within is one none h = record {
 }
 
 -- nothing changes of others
-pub of_none : (n p : ℕ) (taken : List (List ℕ)) (letters : List (List (List Letter))) → AreSquare n taken → AreSquare n letters → AreOfSender n p taken taken letters letters
-of_none n p taken letters st sl = record { taken_square = st; letters_square = sl; taken_same = λ q k ne. refl; letters_same = λ q k ne. refl }
+pub of_none : (n p : ℕ) (taken : List (List ℕ)) (packets : List (List (List Packet))) → AreSquare n taken → AreSquare n packets → AreOfSender n p taken taken packets packets
+of_none n p taken packets st sl = record { taken_square = st; packets_square = sl; taken_same = λ q k ne. refl; packets_same = λ q k ne. refl }
 
-pub of_then : (n p : ℕ) (t t' t'' : List (List ℕ)) (l l' l'' : List (List (List Letter))) → AreOfSender n p t t' l l' → AreOfSender n p t' t'' l' l'' → AreOfSender n p t t'' l l''
+pub of_then : (n p : ℕ) (t t' t'' : List (List ℕ)) (l l' l'' : List (List (List Packet))) → AreOfSender n p t t' l l' → AreOfSender n p t' t'' l' l'' → AreOfSender n p t t'' l l''
 of_then n p t t' t'' l l' l'' a b = record {
   taken_square = b.taken_square;
-  letters_square = b.letters_square;
+  packets_square = b.packets_square;
   taken_same = λ q k ne. b.taken_same q k ne ∙ a.taken_same q k ne;
-  letters_same = λ q k ne. b.letters_same q k ne ∙ a.letters_same q k ne;
+  packets_same = λ q k ne. b.packets_same q k ne ∙ a.packets_same q k ne;
 }
 
 -- an event that sends nothing
-pub noted_none : (n p number : ℕ) (event : Event) (taken : List (List ℕ)) (letters : List (List (List Letter))) → AreSquare n taken → AreSquare n letters → ((q : ℕ) → parcels_sent q number (event ∷ []) ≡ [])
-    → IsNoted n p number event taken taken letters letters
-noted_none n p number event taken letters st sl none = record {
-  sender = of_none n p taken letters st sl;
+pub noted_none : (n p number : ℕ) (event : Event) (taken : List (List ℕ)) (packets : List (List (List Packet))) → AreSquare n taken → AreSquare n packets → ((q : ℕ) → parcels_sent q number (event ∷ []) ≡ [])
+    → IsNoted n p number event taken taken packets packets
+noted_none n p number event taken packets st sl none = record {
+  sender = of_none n p taken packets st sl;
   still = λ q lt. (let z = ap length (none q) in omega (arith, z));
-  queued = λ q lt. sym (ap (λ t. parcels_of (cell_at [] letters q p) ++ drop (cell_at 0 taken q p) t) (none q) ∙ (ap (λ t. parcels_of (cell_at [] letters q p) ++ t) (nothing (cell_at 0 taken q p)) ∙ append-nil (parcels_of (cell_at [] letters q p))));
+  queued = λ q lt. sym (ap (λ t. parcels_of (cell_at [] packets q p) ++ drop (cell_at 0 taken q p) t) (none q) ∙ (ap (λ t. parcels_of (cell_at [] packets q p) ++ t) (nothing (cell_at 0 taken q p)) ∙ append-nil (parcels_of (cell_at [] packets q p))));
 }
   where
     nothing : (k : ℕ) → drop {A = Parcel} k [] ≡ []
@@ -120,18 +120,18 @@ emptied zero = refl
 emptied (suc k) = refl
 
 -- a message that was received
-pub noted_found : (n p number to inc : ℕ) (body : List ℕ) (taken taken' : List (List ℕ)) (letters letters' : List (List (List Letter))) → to < n → p < n → AreSquare n taken → AreSquare n letters
-    → 0 < cell_at 0 taken to p → taken' ≡ with_cell taken to p (cell_at 0 taken to p - 1) → letters' ≡ letters
-    → IsNoted n p number (Send to inc body) taken taken' letters letters'
-noted_found n p number to inc body taken taken' letters letters' lt within st sl some is same =
+pub noted_found : (n p number to inc : ℕ) (body : List ℕ) (taken taken' : List (List ℕ)) (packets packets' : List (List (List Packet))) → to < n → p < n → AreSquare n taken → AreSquare n packets
+    → 0 < cell_at 0 taken to p → taken' ≡ with_cell taken to p (cell_at 0 taken to p - 1) → packets' ≡ packets
+    → IsNoted n p number (Send to inc body) taken taken' packets packets'
+noted_found n p number to inc body taken taken' packets packets' lt within st sl some is same =
     let c = st.count in
     let r = st.each to lt in
     rw (is, same) (record {
       sender = record {
         taken_square = square_cell n taken to p (cell_at 0 taken to p - 1) lt st;
-        letters_square = sl;
+        packets_square = sl;
         taken_same = λ q k ne. cell_beside 0 taken to p q k (cell_at 0 taken to p - 1) (omega (arith, c, lt)) ne;
-        letters_same = λ q k ne. refl;
+        packets_same = λ q k ne. refl;
       };
       still = λ q below. elim (cases_eq q to) [
         | inl e ↦ (
@@ -144,69 +144,69 @@ noted_found n p number to inc body taken taken' letters letters' lt within st sl
             omega (arith, x, none))
       ];
       queued = λ q below. elim (cases_eq q to) [
-        | inl e ↦ subst (λ v. parcels_of (cell_at [] letters v p) ≡ parcels_of (cell_at [] letters v p) ++ drop (cell_at 0 taken v p) (parcels_sent v number (Send to inc body ∷ []))) (sym e)
-            (sym (ap (λ t. parcels_of (cell_at [] letters to p) ++ drop (cell_at 0 taken to p) t) (sent_to to number to inc body refl)
-            ∙ (ap (λ t. parcels_of (cell_at [] letters to p) ++ t) (dropped (cell_at 0 taken to p) (Message (record { inc = inc; number = number; body = body })) some) ∙ append-nil (parcels_of (cell_at [] letters to p)))))
-        | inr apart ↦ sym (ap (λ t. parcels_of (cell_at [] letters q p) ++ drop (cell_at 0 taken q p) t) (sent_past q number to inc body (λ h. apart (sym h)))
-            ∙ (ap (λ t. parcels_of (cell_at [] letters q p) ++ t) (emptied (cell_at 0 taken q p)) ∙ append-nil (parcels_of (cell_at [] letters q p))))
+        | inl e ↦ subst (λ v. parcels_of (cell_at [] packets v p) ≡ parcels_of (cell_at [] packets v p) ++ drop (cell_at 0 taken v p) (parcels_sent v number (Send to inc body ∷ []))) (sym e)
+            (sym (ap (λ t. parcels_of (cell_at [] packets to p) ++ drop (cell_at 0 taken to p) t) (sent_to to number to inc body refl)
+            ∙ (ap (λ t. parcels_of (cell_at [] packets to p) ++ t) (dropped (cell_at 0 taken to p) (Message (record { inc = inc; number = number; body = body })) some) ∙ append-nil (parcels_of (cell_at [] packets to p)))))
+        | inr apart ↦ sym (ap (λ t. parcels_of (cell_at [] packets q p) ++ drop (cell_at 0 taken q p) t) (sent_past q number to inc body (λ h. apart (sym h)))
+            ∙ (ap (λ t. parcels_of (cell_at [] packets q p) ++ t) (emptied (cell_at 0 taken q p)) ∙ append-nil (parcels_of (cell_at [] packets q p))))
       ];
     })
 
 -- a message that was not
-pub noted_put : (n p number to inc : ℕ) (body : List ℕ) (taken taken' : List (List ℕ)) (letters letters' : List (List (List Letter))) → to < n → p < n → AreSquare n taken → AreSquare n letters
-    → cell_at 0 taken to p ≡ 0 → taken' ≡ taken → letters' ≡ with_cell letters to p (cell_at [] letters to p ++ record { inc = inc; number = number; body = body } ∷ [])
-    → IsNoted n p number (Send to inc body) taken taken' letters letters'
-noted_put n p number to inc body taken taken' letters letters' lt within st sl none same is =
+pub noted_put : (n p number to inc : ℕ) (body : List ℕ) (taken taken' : List (List ℕ)) (packets packets' : List (List (List Packet))) → to < n → p < n → AreSquare n taken → AreSquare n packets
+    → cell_at 0 taken to p ≡ 0 → taken' ≡ taken → packets' ≡ with_cell packets to p (cell_at [] packets to p ++ record { inc = inc; number = number; body = body } ∷ [])
+    → IsNoted n p number (Send to inc body) taken taken' packets packets'
+noted_put n p number to inc body taken taken' packets packets' lt within st sl none same is =
     let c = sl.count in
     let r = sl.each to lt in
-    let letter : Letter = record { inc = inc; number = number; body = body } in
-    let more = cell_at [] letters to p ++ letter ∷ [] in
+    let packet : Packet = record { inc = inc; number = number; body = body } in
+    let more = cell_at [] packets to p ++ packet ∷ [] in
     rw (is, same) (record {
       sender = record {
         taken_square = st;
-        letters_square = square_cell n letters to p more lt sl;
+        packets_square = square_cell n packets to p more lt sl;
         taken_same = λ q k ne. refl;
-        letters_same = λ q k ne. cell_beside [] letters to p q k more (omega (arith, c, lt)) ne;
+        packets_same = λ q k ne. cell_beside [] packets to p q k more (omega (arith, c, lt)) ne;
       };
       still = λ q below. elim (cases_eq q to) [
         | inl e ↦ subst (λ v. cell_at 0 taken v p ≡ cell_at 0 taken v p - length (parcels_sent v number (Send to inc body ∷ []))) (sym e) (omega (arith, none))
         | inr apart ↦ (let z = ap length (sent_past q number to inc body (λ h. apart (sym h))) in omega (arith, z))
       ];
       queued = λ q below. elim (cases_eq q to) [
-        | inl e ↦ subst (λ v. parcels_of (cell_at [] (with_cell letters to p more) v p) ≡ parcels_of (cell_at [] letters v p) ++ drop (cell_at 0 taken v p) (parcels_sent v number (Send to inc body ∷ []))) (sym e)
-            (ap parcels_of (cell_same [] letters to p more (omega (arith, c, lt)) (omega (arith, r, within)))
-            ∙ (map-append (λ (l : Letter). Message l) (cell_at [] letters to p) (letter ∷ [])
-            ∙ sym (ap (λ k. parcels_of (cell_at [] letters to p) ++ drop k (parcels_sent to number (Send to inc body ∷ []))) none
-            ∙ ap (λ t. parcels_of (cell_at [] letters to p) ++ t) (sent_to to number to inc body refl))))
-        | inr apart ↦ ap parcels_of (cell_apart [] letters to p q p more apart)
-            ∙ sym (ap (λ t. parcels_of (cell_at [] letters q p) ++ drop (cell_at 0 taken q p) t) (sent_past q number to inc body (λ h. apart (sym h)))
-            ∙ (ap (λ t. parcels_of (cell_at [] letters q p) ++ t) (emptied (cell_at 0 taken q p)) ∙ append-nil (parcels_of (cell_at [] letters q p))))
+        | inl e ↦ subst (λ v. parcels_of (cell_at [] (with_cell packets to p more) v p) ≡ parcels_of (cell_at [] packets v p) ++ drop (cell_at 0 taken v p) (parcels_sent v number (Send to inc body ∷ []))) (sym e)
+            (ap parcels_of (cell_same [] packets to p more (omega (arith, c, lt)) (omega (arith, r, within)))
+            ∙ (map-append (λ (l : Packet). Message l) (cell_at [] packets to p) (packet ∷ [])
+            ∙ sym (ap (λ k. parcels_of (cell_at [] packets to p) ++ drop k (parcels_sent to number (Send to inc body ∷ []))) none
+            ∙ ap (λ t. parcels_of (cell_at [] packets to p) ++ t) (sent_to to number to inc body refl))))
+        | inr apart ↦ ap parcels_of (cell_apart [] packets to p q p more apart)
+            ∙ sym (ap (λ t. parcels_of (cell_at [] packets q p) ++ drop (cell_at 0 taken q p) t) (sent_past q number to inc body (λ h. apart (sym h)))
+            ∙ (ap (λ t. parcels_of (cell_at [] packets q p) ++ t) (emptied (cell_at 0 taken q p)) ∙ append-nil (parcels_of (cell_at [] packets q p))))
       ];
     })
 
 -- one event further
-pub sorted_more : (history : List Process) (p k i : ℕ) (all : List Event) (event : Event) (taken taken' : List (List ℕ)) (letters letters' : List (List (List Letter))) → k ≡ sends (take i all) → take (i + 1) all ≡ take i all ++ event ∷ []
-    → AreSorted history p (take i all) taken letters → IsNoted (length history) p k event taken taken' letters letters' → AreSorted history p (take (i + 1) all) taken' letters'
-sorted_more history p k i all event taken taken' letters letters' ek next h new =
+pub sorted_more : (history : List Process) (p k i : ℕ) (all : List Event) (event : Event) (taken taken' : List (List ℕ)) (packets packets' : List (List (List Packet))) → k ≡ sends (take i all) → take (i + 1) all ≡ take i all ++ event ∷ []
+    → AreSorted history p (take i all) taken packets → IsNoted (length history) p k event taken taken' packets packets' → AreSorted history p (take (i + 1) all) taken' packets'
+sorted_more history p k i all event taken taken' packets packets' ek next h new =
     let step : (q : ℕ) → q < length history
-    → (cell_at 0 taken' q p ≡ length (received history q p) - length (parcels_sent q 0 (take i all ++ event ∷ []))) × (parcels_of (cell_at [] letters' q p) ≡ drop (length (received history q p)) (parcels_sent q 0 (take i all ++ event ∷ []))) =
-    λ q lt. left_more q (length (received history q p)) (take i all) event (cell_at 0 taken q p) (cell_at 0 taken' q p) (cell_at [] letters q p) (cell_at [] letters' q p) (h.still q lt) (h.queued q lt)
+    → (cell_at 0 taken' q p ≡ length (received history q p) - length (parcels_sent q 0 (take i all ++ event ∷ []))) × (parcels_of (cell_at [] packets' q p) ≡ drop (length (received history q p)) (parcels_sent q 0 (take i all ++ event ∷ []))) =
+    λ q lt. left_more q (length (received history q p)) (take i all) event (cell_at 0 taken q p) (cell_at 0 taken' q p) (cell_at [] packets q p) (cell_at [] packets' q p) (h.still q lt) (h.queued q lt)
     (new.still q lt ∙ ap (λ v. cell_at 0 taken q p - length (parcels_sent q v (event ∷ []))) ek)
-    (new.queued q lt ∙ ap (λ v. parcels_of (cell_at [] letters q p) ++ drop (cell_at 0 taken q p) (parcels_sent q v (event ∷ []))) ek) in
+    (new.queued q lt ∙ ap (λ v. parcels_of (cell_at [] packets q p) ++ drop (cell_at 0 taken q p) (parcels_sent q v (event ∷ []))) ek) in
     rw next (record { still = λ q lt. (step q lt).0; queued = λ q lt. (step q lt).1 })
 
 -- of another process
-pub sorted_apart : (history : List Process) (p k : ℕ) (events : List Event) (taken taken' : List (List ℕ)) (letters letters' : List (List (List Letter))) → k ≢ p → AreOfSender (length history) p taken taken' letters letters' → AreSorted history k events taken letters → AreSorted history k events taken' letters'
-sorted_apart history p k events taken taken' letters letters' ne o h = record {
+pub sorted_apart : (history : List Process) (p k : ℕ) (events : List Event) (taken taken' : List (List ℕ)) (packets packets' : List (List (List Packet))) → k ≢ p → AreOfSender (length history) p taken taken' packets packets' → AreSorted history k events taken packets → AreSorted history k events taken' packets'
+sorted_apart history p k events taken taken' packets packets' ne o h = record {
   still = λ q lt. o.taken_same q k ne ∙ h.still q lt;
-  queued = λ q lt. ap parcels_of (o.letters_same q k ne) ∙ h.queued q lt;
+  queued = λ q lt. ap parcels_of (o.packets_same q k ne) ∙ h.queued q lt;
 }
 
 -- all of them
-pub all_sorted : (history : List Process) (taken : List (List ℕ)) (letters : List (List (List Letter))) → AreSquare (length history) letters → ((p : ℕ) → p < length history → AreSorted history p (tape_at history p) taken letters) → AreAllReplays history letters
-all_sorted history taken letters s h = record {
+pub all_sorted : (history : List Process) (taken : List (List ℕ)) (packets : List (List (List Packet))) → AreSquare (length history) packets → ((p : ℕ) → p < length history → AreSorted history p (tape_at history p) taken packets) → AreAllReplays history packets
+all_sorted history taken packets s h = record {
   count = s.count;
-  each = λ q lt. replays_all history q (length history) (row_at letters q) refl (record { count = s.each q lt; each = λ p from. (h p from).queued q lt });
+  each = λ q lt. replays_all history q (length history) (row_at packets q) refl (record { count = s.each q lt; each = λ p from. (h p from).queued q lt });
 }
 
 -- what a receipt takes
@@ -248,22 +248,22 @@ taken_next n m i all event taken taken' em next h f =
     subst (λ k. AreTaken k (take (i + 1) all) taken') em (subst (λ t. AreTaken m t taken') (sym next) (f (take i all) (subst (λ k. AreTaken k (take i all) taken) (sym em) h)))
 
 -- a message to q
-pub found_at : (n p number q to inc : ℕ) (body : List ℕ) (event : Event) (taken taken' : List (List ℕ)) (letters letters' : List (List (List Letter))) → event ≡ Send to inc body → q ≡ to → NamesBelow n event → p < n → AreSquare n taken → AreSquare n letters
-    → 0 < cell_at 0 taken q p → taken' ≡ with_cell taken q p (cell_at 0 taken q p - 1) → letters' ≡ letters → IsNoted n p number event taken taken' letters letters'
-found_at n p number q to inc body event taken taken' letters letters' ee eq named within st sl some is same =
-    subst (λ (e : Event). IsNoted n p number e taken taken' letters letters') (sym ee)
-    (noted_found n p number to inc body taken taken' letters letters' (subst (NamesBelow n) ee named) within st sl (subst (λ v. 0 < cell_at 0 taken v p) eq some) (subst (λ v. taken' ≡ with_cell taken v p (cell_at 0 taken v p - 1)) eq is) same)
+pub found_at : (n p number q to inc : ℕ) (body : List ℕ) (event : Event) (taken taken' : List (List ℕ)) (packets packets' : List (List (List Packet))) → event ≡ Send to inc body → q ≡ to → NamesBelow n event → p < n → AreSquare n taken → AreSquare n packets
+    → 0 < cell_at 0 taken q p → taken' ≡ with_cell taken q p (cell_at 0 taken q p - 1) → packets' ≡ packets → IsNoted n p number event taken taken' packets packets'
+found_at n p number q to inc body event taken taken' packets packets' ee eq named within st sl some is same =
+    subst (λ (e : Event). IsNoted n p number e taken taken' packets packets') (sym ee)
+    (noted_found n p number to inc body taken taken' packets packets' (subst (NamesBelow n) ee named) within st sl (subst (λ v. 0 < cell_at 0 taken v p) eq some) (subst (λ v. taken' ≡ with_cell taken v p (cell_at 0 taken v p - 1)) eq is) same)
 
-pub put_at : (n p number q to inc : ℕ) (body : List ℕ) (event : Event) (letter : Letter) (taken taken' : List (List ℕ)) (letters letters' : List (List (List Letter))) → event ≡ Send to inc body → q ≡ to → letter ≡ record { inc = inc; number = number; body = body } → NamesBelow n event → p < n → AreSquare n taken → AreSquare n letters
-    → cell_at 0 taken q p ≡ 0 → taken' ≡ taken → letters' ≡ with_cell letters q p (cell_at [] letters q p ++ letter ∷ []) → IsNoted n p number event taken taken' letters letters'
-put_at n p number q to inc body event letter taken taken' letters letters' ee eq el named within st sl none same is =
-    subst (λ (e : Event). IsNoted n p number e taken taken' letters letters') (sym ee)
-    (noted_put n p number to inc body taken taken' letters letters' (subst (NamesBelow n) ee named) within st sl (subst (λ v. cell_at 0 taken v p ≡ 0) eq none) same
-    (subst (λ (l : Letter). letters' ≡ with_cell letters to p (cell_at [] letters to p ++ l ∷ [])) el (subst (λ v. letters' ≡ with_cell letters v p (cell_at [] letters v p ++ letter ∷ [])) eq is)))
+pub put_at : (n p number q to inc : ℕ) (body : List ℕ) (event : Event) (packet : Packet) (taken taken' : List (List ℕ)) (packets packets' : List (List (List Packet))) → event ≡ Send to inc body → q ≡ to → packet ≡ record { inc = inc; number = number; body = body } → NamesBelow n event → p < n → AreSquare n taken → AreSquare n packets
+    → cell_at 0 taken q p ≡ 0 → taken' ≡ taken → packets' ≡ with_cell packets q p (cell_at [] packets q p ++ packet ∷ []) → IsNoted n p number event taken taken' packets packets'
+put_at n p number q to inc body event packet taken taken' packets packets' ee eq el named within st sl none same is =
+    subst (λ (e : Event). IsNoted n p number e taken taken' packets packets') (sym ee)
+    (noted_put n p number to inc body taken taken' packets packets' (subst (NamesBelow n) ee named) within st sl (subst (λ v. cell_at 0 taken v p ≡ 0) eq none) same
+    (subst (λ (l : Packet). packets' ≡ with_cell packets to p (cell_at [] packets to p ++ l ∷ [])) el (subst (λ v. packets' ≡ with_cell packets v p (cell_at [] packets v p ++ packet ∷ [])) eq is)))
 
-pub noted_as : (n m p k number : ℕ) (event : Event) (taken taken' : List (List ℕ)) (letters letters' : List (List (List Letter))) → m ≡ n → k ≡ p → IsNoted m k number event taken taken' letters letters' → IsNoted n p number event taken taken' letters letters'
-noted_as n m p k number event taken taken' letters letters' em ek h =
-    subst (λ v. IsNoted n v number event taken taken' letters letters') ek (subst (λ v. IsNoted v k number event taken taken' letters letters') em h)
+pub noted_as : (n m p k number : ℕ) (event : Event) (taken taken' : List (List ℕ)) (packets packets' : List (List (List Packet))) → m ≡ n → k ≡ p → IsNoted m k number event taken taken' packets packets' → IsNoted n p number event taken taken' packets packets'
+noted_as n m p k number event taken taken' packets packets' em ek h =
+    subst (λ v. IsNoted n v number event taken taken' packets packets') ek (subst (λ v. IsNoted v k number event taken taken' packets packets') em h)
 
 -- an event of a tape names processes of its history
 pub named_at : (n m : ℕ) (tape all : List Event) (i : ℕ) (event : Event) → m ≡ n → all ≡ tape → All (NamesBelow n) tape → slice_get all i ≡ Some event → NamesBelow m event
@@ -272,7 +272,7 @@ named_at n m tape all i event em is h at =
     subst (λ k. NamesBelow k event) (sym em) (subst (NamesBelow n) (get_or_from_slice_get tape i event event there) (h i event (slice_get_within tape i event there)))
 
 -- one sender further
-pub sorted_step : (history : List Process) (r p : ℕ) (t t' : List (List ℕ)) (l l' : List (List (List Letter))) → p ≡ r → AreOfSender (length history) p t t' l l' → AreSorted history p (tape_at history p) t' l'
+pub sorted_step : (history : List Process) (r p : ℕ) (t t' : List (List ℕ)) (l l' : List (List (List Packet))) → p ≡ r → AreOfSender (length history) p t t' l l' → AreSorted history p (tape_at history p) t' l'
     → ((k : ℕ) → k < r → AreSorted history k (tape_at history k) t l) → ((k : ℕ) → r ≤ k → k < length history → AreSorted history k [] t l)
     → ((k : ℕ) → k < r + 1 → AreSorted history k (tape_at history k) t' l') × ((k : ℕ) → r + 1 ≤ k → k < length history → AreSorted history k [] t' l')
 sorted_step history r p t t' l l' e o new done left = (

@@ -18,20 +18,20 @@ use Rattle.line_tape.proofs.NextLemmas.{rounds_push, marks_push, slice_get_push}
 use Rattle.line_rings.specs.Ends.{End, items_at, row_at, with_item}
 use Rattle.line_rings.proofs.EndLemmas.{length_item, items_same, items_other}
 use Rattle.line_posts.specs.declared.parcels.Parcel.TheVariants.{Message}
-use Rattle.line_posts.specs.declared.parcels.Letter.{Letter}
+use Rattle.line_posts.specs.declared.parcels.Packet.{Packet}
 use Rattle.line_posts.specs.declared.parcels.Parcel.{Parcel}
-use Rattle.line_posts.specs.Parcels.{items_of_letters, items_of_parcels, parcels_sent}
+use Rattle.line_posts.specs.Parcels.{items_of_packets, items_of_parcels, parcels_sent}
 use Rattle.line_posts.specs.Posts.{incarnation_of_post, opening_tape, IsPost, PostView}
 use Rattle.line_posts.proofs.ParcelLemmas.{parcels_append}
 
 -- what a step by an event owes: what it puts on the rings, what it takes from them or from the replays, and what the event itself may be
-pub record IsStep (post : PostView) (event : Event) (kept : List (List Letter)) (outs ins : List (End Parcel)) : Type 0 where
+pub record IsStep (post : PostView) (event : Event) (kept : List (List Packet)) (outs ins : List (End Parcel)) : Type 0 where
   pub out_count : length outs ≡ length post.outs
   pub in_count : length ins ≡ length post.ins
   pub kept_count : length kept ≡ length post.kept
   pub put : (q : ℕ) → q < length post.opening → q ≢ post.number → items_at outs q ≡ items_at post.outs q ++ parcels_sent q (sends post.tape) (event ∷ [])
   pub got : (p : ℕ) → (popped : List Parcel) × (items_at ins p ≡ items_at post.ins p ++ popped)
-      × (items_of_letters p (row_at post.kept p) ++ items_of_parcels p popped ≡ filter_map (item_received p) (event ∷ []) ++ items_of_letters p (row_at kept p))
+      × (items_of_packets p (row_at post.kept p) ++ items_of_parcels p popped ≡ filter_map (item_received p) (event ∷ []) ++ items_of_packets p (row_at kept p))
   pub replays : (p : ℕ) → (row_at kept p ≡ []) ⊎ (items_at ins p ≡ [])
   pub alone : items_at ins post.number ≡ []
   pub named : NamesBelow (length post.opening) event
@@ -39,7 +39,7 @@ pub record IsStep (post : PostView) (event : Event) (kept : List (List Letter)) 
   pub rounds : (r : ℕ) → checked_round event ≡ Some r → has_check_of r post.tape ≡ false
   pub marks : (from r : ℕ) → event ≡ Mark from r → Contains (rounds_checked post.tape) r
 
-abbrev pub stepped : PostView → Event → List (List Letter) → List (End Parcel) → List (End Parcel) → ℕ → List Recorded → PostView
+abbrev pub stepped : PostView → Event → List (List Packet) → List (End Parcel) → List (End Parcel) → ℕ → List Recorded → PostView
 stepped post event kept outs ins floor rounds = record post { tape = post.tape ++ event ∷ []; kept = kept; outs = outs; ins = ins; floor = floor; rounds = rounds }
 
 -- the incarnation of a send on the longer tape
@@ -58,7 +58,7 @@ got_more : (r g k k' s x : List Item) (i i' : List Item) → r ++ k ≡ s ++ i �
 got_more r g k k' s x i i' e f h =
     append_assoc r g k' ∙ (ap (λ t. r ++ t) (sym h) ∙ (sym (append_assoc r k x) ∙ (ap (λ t. t ++ x) e ∙ (append_assoc s i x ∙ ap (λ t. s ++ t) (sym f)))))
 
-pub post_step : (post : PostView) (event : Event) (kept : List (List Letter)) (outs ins : List (End Parcel)) (floor : ℕ) (rounds : List Recorded) → IsPost post → IsStep post event kept outs ins → IsPost (stepped post event kept outs ins floor rounds)
+pub post_step : (post : PostView) (event : Event) (kept : List (List Packet)) (outs ins : List (End Parcel)) (floor : ℕ) (rounds : List Recorded) → IsPost post → IsStep post event kept outs ins → IsPost (stepped post event kept outs ins floor rounds)
 post_step post event kept outs ins floor rounds h s = record {
   within = h.within;
   out_count = s.out_count ∙ h.out_count;
@@ -74,8 +74,8 @@ post_step post event kept outs ins floor rounds h s = record {
       ∙ ap (λ t. parcels_sent q 0 (opening_tape post) ++ t) (sym (s.put q lt ne)))));
   receipts_are = λ p.
       let (popped, more, same) = s.got p in
-      ap (λ t. t ++ items_of_letters p (row_at kept p)) (filter_map-append (item_received p) post.tape (event ∷ []))
-      ∙ got_more (filter_map (item_received p) post.tape) (filter_map (item_received p) (event ∷ [])) (items_of_letters p (row_at post.kept p)) (items_of_letters p (row_at kept p)) (sent post.opening p post.number) (items_of_parcels p popped)
+      ap (λ t. t ++ items_of_packets p (row_at kept p)) (filter_map-append (item_received p) post.tape (event ∷ []))
+      ∙ got_more (filter_map (item_received p) post.tape) (filter_map (item_received p) (event ∷ [])) (items_of_packets p (row_at post.kept p)) (items_of_packets p (row_at kept p)) (sent post.opening p post.number) (items_of_parcels p popped)
       (items_of_parcels p (items_at post.ins p)) (items_of_parcels p (items_at ins p)) (h.receipts_are p)
       (ap (items_of_parcels p) more ∙ map-append _ (items_at post.ins p) popped) same;
   replays = s.replays;
@@ -107,7 +107,7 @@ send_step post to body h lt ne =
         | inr apart ↦ items_other post.outs to q x (λ e. apart (sym e)) ∙ (sym (append-nil (items_at post.outs q))
             ∙ ap (λ b. items_at post.outs q ++ cond b (x ∷ []) []) (sym (ne_eqb to q apart)))
       ];
-      got = λ p. ([], sym (append-nil (items_at post.ins p)), append-nil (items_of_letters p (row_at post.kept p)));
+      got = λ p. ([], sym (append-nil (items_at post.ins p)), append-nil (items_of_packets p (row_at post.kept p)));
       replays = h.replays;
       alone = h.alone;
       named = lt;
@@ -131,7 +131,7 @@ alone_step post state h = record {
   in_count = refl;
   kept_count = refl;
   put = λ q within other. sym (append-nil (items_at post.outs q));
-  got = λ p. ([], sym (append-nil (items_at post.ins p)), append-nil (items_of_letters p (row_at post.kept p)));
+  got = λ p. ([], sym (append-nil (items_at post.ins p)), append-nil (items_of_packets p (row_at post.kept p)));
   replays = h.replays;
   alone = h.alone;
   named = tt;

@@ -3,19 +3,19 @@ use Rattle.std.specs.Prelude.{◌≡◌, ◌<◌, ℕ, List, [], ◌∷◌, leng
 use Rattle.line_tape.specs.declared.events.Event.{Event}
 use Rattle.line_tape.specs.History.{Process}
 use Rattle.line_rings.specs.Ends.{End, row_at}
-use Rattle.line_posts.specs.declared.parcels.Letter.{Letter}
+use Rattle.line_posts.specs.declared.parcels.Packet.{Packet}
 use Rattle.line_posts.specs.declared.parcels.Parcel.{Parcel}
 use Rattle.line_posts.specs.Openings.{parcels_left, HasBegun, IsOpening}
 use Rattle.line_posts.specs.Parcels.{parcels_of}
 use Rattle.line_posts.specs.Posts.{PostView}
 
 -- what worker q keeps where a generation begins: for each process what its link to q holds
-pub record AreReplays (history : List Process) (q : ℕ) (kept : List (List Letter)) : Type 0 where
+pub record AreReplays (history : List Process) (q : ℕ) (kept : List (List Packet)) : Type 0 where
   pub count : length kept ≡ length history
   pub each : (p : ℕ) → parcels_of (row_at kept p) ≡ parcels_left history p q
 
 -- of the first n
-pub record AreReplaysBelow (n : ℕ) (history : List Process) (q : ℕ) (kept : List (List Letter))
+pub record AreReplaysBelow (n : ℕ) (history : List Process) (q : ℕ) (kept : List (List Packet))
     : Type 0 where
   pub count : length kept ≡ n
   pub each : (p : ℕ) → p < n → parcels_of (row_at kept p) ≡ parcels_left history p q

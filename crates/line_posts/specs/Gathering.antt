@@ -2,6 +2,7 @@
 use Rattle.std.specs.Prelude.{◌≡◌, ◌<◌, ◌≤◌, ℕ, List, ◌++◌, length, map, slice_get}
 use Rattle.std.specs.Prelude.{slice_index_or, Bool, Some}
 use Rattle.std.specs.VecDeque.{deque_items}
+use mathlib.Core.List.{IsPrefix}
 use Rattle.std.specs.declared.collections.VecDeque.{VecDeque}
 use Rattle.std.specs.declared.alloc.Global.{Global}
 use Rattle.line_names.specs.Sets.{is_member}
@@ -10,7 +11,6 @@ use Rattle.line_tape.specs.Event.{sends, Holds}
 use Rattle.line_tape.specs.Fit.{IsFitFifo}
 use Rattle.line_tape.specs.History.{Process, process_at, tape_at, incarnation_at, IsProcess, IsTape}
 use Rattle.line_rings.specs.Ends.{End, items_at, ring_at, row_at}
-use Rattle.line_posts.specs.declared.parcels.Parcel.{Parcel}
 use Rattle.line_posts.specs.Gathered.{gathered_tape}
 use Rattle.line_posts.specs.Posts.{PostView, IsPost, opening_tape}
 
@@ -26,8 +26,7 @@ pub record AreAll (posts : List PostView) : Type 0 where
 
 -- what the second popped of the first begins what the first pushed to it
 abbrev pub AreMetTwo : PostView → PostView → Type 0
-AreMetTwo from to =
-    (rest : List Parcel) × (items_at to.ins from.number ++ rest ≡ items_at from.outs to.number)
+AreMetTwo from to = IsPrefix (items_at to.ins from.number) (items_at from.outs to.number)
 
 -- for each two
 abbrev pub AreMet : List PostView → Type 0

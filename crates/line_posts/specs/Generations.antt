@@ -5,7 +5,7 @@ use Rattle.line_tape.specs.History.{Process}
 use Rattle.line_rings.specs.Ends.{items_at, ring_at, row_at}
 use Rattle.line_posts.specs.declared.parcels.Parcel.{Parcel}
 use Rattle.line_posts.specs.Collected.{CollectorView}
-use Rattle.line_posts.specs.Parcels.{items_of_letters, items_of_parcels}
+use Rattle.line_posts.specs.Parcels.{items_of_packets, items_of_parcels}
 use Rattle.line_posts.specs.Posts.{PostView, incarnation_of_post}
 
 -- the history of the workers' own tapes
@@ -50,7 +50,7 @@ abbrev pub AreAccounted : List PostView → Type 0
 AreAccounted posts = (p q : ℕ) (from to : PostView) → slice_get posts p ≡ Some from
     → slice_get posts q ≡ Some to → p ≢ q
     → (rest : List Parcel) × (items_at to.ins p ++ rest ≡ items_at from.outs q)
-    × ((received (own_history posts) q p ++ items_of_letters p (row_at to.kept p))
+    × ((received (own_history posts) q p ++ items_of_packets p (row_at to.kept p))
     ++ items_of_parcels p rest ≡ sent (own_history posts) p q)
 
 -- the worker has its number, its opening and its ends of the rings

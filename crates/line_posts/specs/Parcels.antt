@@ -6,28 +6,28 @@ use Rattle.line_tape.specs.declared.events.Event.TheVariants.{Send, Recv, Check,
 use Rattle.line_tape.specs.declared.items.Item.{Item}
 use Rattle.line_tape.specs.declared.items.Item.TheVariants.{Message as item_message}
 use Rattle.line_tape.specs.declared.items.Item.TheVariants.{Marker as item_marker}
-use Rattle.line_posts.specs.declared.parcels.Letter.{Letter}
+use Rattle.line_posts.specs.declared.parcels.Packet.{Packet}
 use Rattle.line_posts.specs.declared.parcels.Parcel.{Parcel}
 use Rattle.line_posts.specs.declared.parcels.Parcel.TheVariants.{Message, Marker}
 
--- the name of a letter from process p
-abbrev pub letter_name : ℕ → Letter → MsgName
-letter_name p letter = record { from = p; inc = letter.inc; number = letter.number }
+-- the name of a packet from process p
+abbrev pub packet_name : ℕ → Packet → MsgName
+packet_name p packet = record { from = p; inc = packet.inc; number = packet.number }
 
 -- what is sent and received by it: the message's name, or the marker
 abbrev pub item_of : ℕ → Parcel → Item
-item_of p (Message letter) = item_message (letter_name p letter)
+item_of p (Message packet) = item_message (packet_name p packet)
 item_of p (Marker round) = item_marker round
 
 abbrev pub items_of_parcels : ℕ → List Parcel → List Item
 items_of_parcels p parcels = map (item_of p) parcels
 
-abbrev pub items_of_letters : ℕ → List Letter → List Item
-items_of_letters p letters = map (λ letter. item_message (letter_name p letter)) letters
+-- these packets, as a ring carries them
+abbrev pub parcels_of : List Packet → List Parcel
+parcels_of packets = map (λ packet. Message packet) packets
 
--- these letters, as a ring carries them
-abbrev pub parcels_of : List Letter → List Parcel
-parcels_of letters = map (λ letter. Message letter) letters
+abbrev pub items_of_packets : ℕ → List Packet → List Item
+items_of_packets p packets = items_of_parcels p (parcels_of packets)
 
 -- what a process sends to q by these events, its first send having this number: its messages to q,
 -- and a marker for each check of a round

@@ -11,10 +11,10 @@ use Rattle.line_tape.specs.Fit.{sent, item_received, AreDistinct, MarksFollow}
 use Rattle.line_tape.specs.History.{Process, tape_at, incarnation_at}
 use Rattle.line_tape.specs.Rounds.{rounds_checked}
 use Rattle.line_rings.specs.Ends.{End, with_item, items_at, row_at}
-use Rattle.line_posts.specs.declared.parcels.Letter.{Letter}
+use Rattle.line_posts.specs.declared.parcels.Packet.{Packet}
 use Rattle.line_posts.specs.declared.parcels.Parcel.{Parcel}
 use Rattle.line_posts.specs.declared.parcels.Parcel.TheVariants.{Message}
-use Rattle.line_posts.specs.Parcels.{items_of_letters, items_of_parcels, parcels_sent}
+use Rattle.line_posts.specs.Parcels.{items_of_packets, items_of_parcels, parcels_sent}
 
 -- a worker: its number, the history that its generation opened with, its tape, the replays that it
 -- still keeps by sender, its ends of the rings to and from each process, what it has seen on the
@@ -24,7 +24,7 @@ pub record PostView : Type 0 where
   pub number : ℕ
   pub opening : List Process
   pub tape : List Event
-  pub kept : List (List Letter)
+  pub kept : List (List Packet)
   pub outs : List (End Parcel)
   pub ins : List (End Parcel)
   pub seen : List (List Parcel)
@@ -32,7 +32,7 @@ pub record PostView : Type 0 where
   pub floor : ℕ
   pub rounds : List Recorded
 
-abbrev pub post_of : ℕ → List Process → List Event → List (List Letter) → List (End Parcel)
+abbrev pub post_of : ℕ → List Process → List Event → List (List Packet) → List (End Parcel)
     → List (End Parcel) → List (List Parcel) → End Event → ℕ → List Recorded → PostView
 post_of number opening tape kept outs ins seen line floor rounds = record {
   number = number;
@@ -70,7 +70,7 @@ pub record IsPost (post : PostView) : Type 0 where
   -- what its tape received, and then the replays still kept, is what the opening history sent to
   -- it, and then what it popped; it pops nothing while it keeps a replay of that sender
   pub receipts_are : (p : ℕ)
-      → filter_map (item_received p) post.tape ++ items_of_letters p (row_at post.kept p)
+      → filter_map (item_received p) post.tape ++ items_of_packets p (row_at post.kept p)
       ≡ sent post.opening p post.number ++ items_of_parcels p (items_at post.ins p)
   pub replays : (p : ℕ) → (row_at post.kept p ≡ []) ⊎ (items_at post.ins p ≡ [])
   pub alone : items_at post.ins post.number ≡ []
@@ -86,15 +86,15 @@ next_name post =
     record { from = post.number; inc = incarnation_of_post post; number = sends post.tape }
 
 -- its next message to another process, with this body
-abbrev pub next_letter : PostView → List ℕ → Letter
-next_letter post body =
+abbrev pub next_packet : PostView → List ℕ → Packet
+next_packet post body =
     record { inc = incarnation_of_post post; number = sends post.tape; body = body }
 
 -- the worker after it has sent a message
 abbrev pub sent_by : PostView → ℕ → List ℕ → PostView
 sent_by post to body = record post {
   tape = post.tape ++ Send to (incarnation_of_post post) body ∷ [];
-  outs = with_item post.outs to (Message (next_letter post body));
+  outs = with_item post.outs to (Message (next_packet post body));
 }
 
 -- the worker after it has taken a check of no round

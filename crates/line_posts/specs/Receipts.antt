@@ -6,7 +6,7 @@ use Rattle.line_names.specs.declared.messages.MsgName.{MsgName}
 use Rattle.line_tape.specs.declared.events.Event.TheVariants.{Recv}
 use Rattle.line_tape.specs.Rounds.{has_check_of}
 use Rattle.line_rings.specs.Ends.{items_at, row_at, with_item}
-use Rattle.line_posts.specs.declared.parcels.Letter.{Letter}
+use Rattle.line_posts.specs.declared.parcels.Packet.{Packet}
 use Rattle.line_posts.specs.declared.parcels.Parcel.{Parcel}
 use Rattle.line_posts.specs.declared.parcels.Parcel.TheVariants.{Message, Marker}
 use Rattle.line_posts.specs.declared.receiving.Received.{Received}
@@ -18,9 +18,9 @@ use Rattle.line_posts.specs.Posts.{PostView}
 abbrev pub without_first : {X : Type 0} → List (List X) → ℕ → List (List X)
 without_first rows p = slice_set rows p (drop 1 (row_at rows p))
 
--- the letter of that name with this body
-abbrev pub letter_named : MsgName → List ℕ → Letter
-letter_named name body = record { inc = name.inc; number = name.number; body = body }
+-- the packet of that name with this body
+abbrev pub packet_named : MsgName → List ℕ → Packet
+packet_named name body = record { inc = name.inc; number = name.number; body = body }
 
 -- what it had seen on its rings comes first of what it pops, and else is seen still
 abbrev pub StillSees : PostView → PostView → Type 0
@@ -33,14 +33,14 @@ abbrev pub HasOnlySeen : PostView → PostView → Type 0
 HasOnlySeen old new = new ≡ record old { seen = new.seen }
 
 -- it took the first of the replays that it kept of process p
-abbrev pub IsReplay : PostView → ℕ → Letter → PostView → Type 0
-IsReplay old p letter new = (row_at old.kept p ≡ letter ∷ row_at new.kept p)
+abbrev pub IsReplay : PostView → ℕ → Packet → PostView → Type 0
+IsReplay old p packet new = (row_at old.kept p ≡ packet ∷ row_at new.kept p)
     × (new.kept ≡ without_first old.kept p) × (new.ins ≡ old.ins)
 
 -- it kept no replay of process p, and took the next of the ring
-abbrev pub IsNext : PostView → ℕ → Letter → PostView → Type 0
-IsNext old p letter new = (row_at old.kept p ≡ []) × (new.kept ≡ old.kept)
-    × (new.ins ≡ with_item old.ins p (Message letter))
+abbrev pub IsNext : PostView → ℕ → Packet → PostView → Type 0
+IsNext old p packet new = (row_at old.kept p ≡ []) × (new.kept ≡ old.kept)
+    × (new.ins ≡ with_item old.ins p (Message packet))
 
 -- the worker has taken that message of its sender, and its tape says so
 abbrev pub HasTaken : PostView → MsgName → List ℕ → PostView → Type 0
@@ -50,11 +50,11 @@ HasTaken old name body new = (new ≡ record old {
   kept = new.kept;
   ins = new.ins;
   seen = new.seen;
-}) × (IsReplay old name.from (letter_named name body) new
-    ⊎ IsNext old name.from (letter_named name body) new)
+}) × (IsReplay old name.from (packet_named name body) new
+    ⊎ IsNext old name.from (packet_named name body) new)
 
 abbrev pub IsMessage : Parcel → Type 0
-IsMessage (Message letter) = Unit {0}
+IsMessage (Message packet) = Unit {0}
 IsMessage (Marker round) = ⊥
 
 -- the first of them is a message

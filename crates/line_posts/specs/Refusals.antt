@@ -58,7 +58,7 @@ ComesNext post shown from next = (rest : List Parcel)
 
 -- how many events it adds: a marker that forces a check adds two
 abbrev pub events_of : PostView → Parcel → ℕ
-events_of post (Message letter) = 1
+events_of post (Message packet) = 1
 events_of post (Marker round) = if has_check_of round post.tape then 1 else 2
 
 -- the cause of a refusal, where those before it do not hold and the ring shows these items

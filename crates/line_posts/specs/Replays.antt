@@ -9,7 +9,7 @@ use Rattle.line_tape.specs.declared.events.Event.{Event}
 use Rattle.line_tape.specs.Fit.{item_received, received}
 use Rattle.line_tape.specs.History.{Process, tape_at}
 use Rattle.line_rings.specs.Ends.{row_at}
-use Rattle.line_posts.specs.declared.parcels.Letter.{Letter}
+use Rattle.line_posts.specs.declared.parcels.Packet.{Packet}
 use Rattle.line_posts.specs.Fleets.{AreReplays}
 use Rattle.line_posts.specs.Gathering.{rows_of}
 use Rattle.line_posts.specs.Parcels.{parcels_of, parcels_sent}
@@ -31,9 +31,9 @@ pub record AreSquare {X : Type 0} (n : ℕ) (rows : List (List X)) : Type 0 wher
 abbrev pub counts_of : List (Vec ℕ Global) → List (List ℕ)
 counts_of rows = map (λ v. v.items) rows
 
--- the letters of each queue of each row
-abbrev pub letters_of : List (Vec (VecDeque Letter Global) Global) → List (List (List Letter))
-letters_of rows = map (λ v. rows_of v.items) rows
+-- the packets of each queue of each row
+abbrev pub packets_of : List (Vec (VecDeque Packet Global) Global) → List (List (List Packet))
+packets_of rows = map (λ v. rows_of v.items) rows
 
 -- how many things these events take from each of the first n processes
 pub record AreTaken (n : ℕ) (events : List Event) (taken : List ℕ) : Type 0 where
@@ -49,32 +49,32 @@ pub record AreTakenBelow (m : ℕ) (history : List Process) (taken : List (List 
 -- where process p has done these events: how many things each process took from p that are still
 -- to be met among what p sends, and what p sent to it that it has not received
 pub record AreSorted (history : List Process) (p : ℕ) (events : List Event) (taken : List (List ℕ))
-    (letters : List (List (List Letter))) : Type 0 where
+    (packets : List (List (List Packet))) : Type 0 where
   pub still : (q : ℕ) → q < length history → cell_at 0 taken q p
       ≡ length (received history q p) - length (parcels_sent q 0 events)
-  pub queued : (q : ℕ) → q < length history → parcels_of (cell_at [] letters q p)
+  pub queued : (q : ℕ) → q < length history → parcels_of (cell_at [] packets q p)
       ≡ drop (length (received history q p)) (parcels_sent q 0 events)
 
--- the counts and letters of n processes, where nothing but those of sender p changed
+-- the counts and packets of n processes, where nothing but those of sender p changed
 pub record AreOfSender (n p : ℕ) (taken new_taken : List (List ℕ))
-    (letters new_letters : List (List (List Letter))) : Type 0 where
+    (packets new_packets : List (List (List Packet))) : Type 0 where
   pub taken_square : AreSquare n new_taken
-  pub letters_square : AreSquare n new_letters
+  pub packets_square : AreSquare n new_packets
   pub taken_same : (q k : ℕ) → k ≢ p → cell_at 0 new_taken q k ≡ cell_at 0 taken q k
-  pub letters_same : (q k : ℕ) → k ≢ p → cell_at [] new_letters q k ≡ cell_at [] letters q k
+  pub packets_same : (q k : ℕ) → k ≢ p → cell_at [] new_packets q k ≡ cell_at [] packets q k
 
 -- the event of process p, whose message has this number where it is a send, takes off a count or
--- adds a letter
+-- adds a packet
 pub record IsNoted (n p number : ℕ) (event : Event) (taken new_taken : List (List ℕ))
-    (letters new_letters : List (List (List Letter))) : Type 0 where
-  pub sender : AreOfSender n p taken new_taken letters new_letters
+    (packets new_packets : List (List (List Packet))) : Type 0 where
+  pub sender : AreOfSender n p taken new_taken packets new_packets
   pub still : (q : ℕ) → q < n → cell_at 0 new_taken q p
       ≡ cell_at 0 taken q p - length (parcels_sent q number (event ∷ []))
-  pub queued : (q : ℕ) → q < n → parcels_of (cell_at [] new_letters q p)
-      ≡ parcels_of (cell_at [] letters q p)
+  pub queued : (q : ℕ) → q < n → parcels_of (cell_at [] new_packets q p)
+      ≡ parcels_of (cell_at [] packets q p)
       ++ drop (cell_at 0 taken q p) (parcels_sent q number (event ∷ []))
 
 -- what each worker keeps where a generation begins
-pub record AreAllReplays (history : List Process) (kept : List (List (List Letter))) : Type 0 where
+pub record AreAllReplays (history : List Process) (kept : List (List (List Packet))) : Type 0 where
   pub count : length kept ≡ length history
   pub each : (q : ℕ) → q < length history → AreReplays history q (row_at kept q)

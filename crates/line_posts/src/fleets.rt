@@ -10,11 +10,11 @@ ghost use Rattle.line_posts.specs.Collected.{collector_of};
 ghost use Rattle.line_posts.specs.Generations.{AreLined, IsGeneration};
 ghost use Rattle.line_posts.specs.Openings.{AreOpened, ArePlain};
 ghost use Rattle.line_posts.specs.Fleets.{AreAllMade};
-ghost use Rattle.line_posts.specs.Replays.{letters_of, AreAllReplays};
+ghost use Rattle.line_posts.specs.Replays.{packets_of, AreAllReplays};
 
 use crate::collectors::{Collector, open_collector};
 use crate::limits::{MOST_CAPACITY, MOST_WORKERS};
-use crate::parcels::{Letter, Parcel};
+use crate::parcels::{Packet, Parcel};
 use crate::posts::{Post, open_post};
 use crate::refusals::FleetError;
 use crate::replays::all_replays;
@@ -41,7 +41,7 @@ fn make_posts(
     history: &History,
     mut rings: Rings<Parcel>,
     mut lines: Vec<Vec<Producer<Event>>>,
-    mut replays: Vec<Vec<VecDeque<Letter>>>,
+    mut replays: Vec<Vec<VecDeque<Packet>>>,
     floor: u32,
 ) -> Result<Vec<Post>, AllocError>
     requires fit { IsFitFifo history.now.processes }
@@ -50,7 +50,7 @@ fn make_posts(
         (out_rows rings.outs.items) (in_rows rings.ins.items) }
     requires lines { (in_lines : List (List (End Event)))
         × AreLinked (length history.now.processes) 1 (out_rows lines.items) in_lines }
-    requires replays { AreAllReplays history.now.processes (letters_of replays.items) }
+    requires replays { AreAllReplays history.now.processes (packets_of replays.items) }
     ensures { IfOk result (λ posts. AreAllMade history.now.processes floor
         (out_rows rings.outs.items) (in_rows rings.ins.items) (out_rows lines.items) posts.items) }
 {

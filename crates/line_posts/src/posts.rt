@@ -15,7 +15,7 @@ ghost use Rattle.line_posts.specs.Generations.{IsSamePost};
 ghost use Rattle.line_posts.specs.Openings.{IsOpening};
 ghost use Rattle.line_posts.specs.declared.parcels.Parcel.TheVariants.{Message};
 
-use crate::parcels::{Letter, Parcel};
+use crate::parcels::{Packet, Parcel};
 use crate::refusals::{SendRefused, SendWhy};
 use line_journals::Journal;
 use line_names::{Body, MsgName, ProcId};
@@ -40,7 +40,7 @@ pub struct Post {
     pub(crate) incarnation: u16,
     pub(crate) opening: Snapshot<History>,
     pub(crate) journal: Journal,
-    pub(crate) kept: Vec<VecDeque<Letter>>,
+    pub(crate) kept: Vec<VecDeque<Packet>>,
     pub(crate) outs: Vec<Producer<Parcel>>,
     pub(crate) ins: Vec<Consumer<Parcel>>,
     pub(crate) shown: Snapshot<Vec<Consumer<Parcel>>>,
@@ -85,7 +85,7 @@ fn message(inc: u16, number: u32, body: &Body) -> Parcel
     ensures { result ≡ Message (record { inc = inc; number = number; body = body.now }) }
 {
     Parcel::Message {
-        letter: Letter {
+        packet: Packet {
             inc,
             number,
             body: body.copy(),
@@ -143,7 +143,7 @@ pub(crate) fn open_post(
     me: ProcId,
     history: &History,
     journal: Journal,
-    kept: Vec<VecDeque<Letter>>,
+    kept: Vec<VecDeque<Packet>>,
     outs: Vec<Producer<Parcel>>,
     ins: Vec<Consumer<Parcel>>,
     line: Producer<Event>,

@@ -3,18 +3,18 @@ ghost use Rattle.std.specs.Prelude.{◌≡◌, ◌≢◌, ◌<◌, ◌≤◌, �
 ghost use Rattle.std.specs.Prelude.{MatchOption, length, map};
 ghost use Rattle.std.specs.VecDeque.{deque_items};
 ghost use Rattle.line_rings.specs.Ends.{in_ends, known_at, row_at, with_item};
-ghost use Rattle.line_posts.specs.Parcels.{letter_name};
+ghost use Rattle.line_posts.specs.Parcels.{packet_name};
 ghost use Rattle.line_posts.specs.Receipts.{BeginsWithMarker, BeginsWithMessage, HasReceived};
 ghost use Rattle.line_posts.specs.Receipts.{HasOnlySeen, IsMessage, StillSees};
 ghost use Rattle.line_posts.specs.Generations.{IsSamePost};
 ghost use Rattle.line_posts.specs.Refusals.{IsNotReceived, MayReceive};
-ghost use Rattle.line_posts.specs.declared.parcels.Letter.{Letter};
+ghost use Rattle.line_posts.specs.declared.parcels.Packet.{Packet};
 ghost use Rattle.line_posts.specs.declared.parcels.Parcel.{Parcel};
 ghost use Rattle.line_posts.specs.declared.parcels.Parcel.TheVariants.{Message};
 ghost use Rattle.line_posts.specs.declared.receiving.Received.TheVariants.{Message as TookMessage};
 
 use crate::markers::{push_markers, take_marker};
-use crate::parcels::{Letter, Parcel};
+use crate::parcels::{Packet, Parcel};
 use crate::posts::{Post, name_of};
 use crate::queues::{first_kept, keeps, take_kept};
 use crate::refusals::ReceiveWhy;
@@ -47,13 +47,13 @@ fn round_first(ins: &Vec<Consumer<Parcel>>, p: usize) -> Option<u32>
     }
 }
 
-/// The letter of a message.
-fn letter_of(parcel: Parcel) -> Letter
+/// The packet of a message.
+fn packet_of(parcel: Parcel) -> Packet
     requires { IsMessage parcel }
     ensures { parcel ≡ Message result }
 {
     match parcel {
-        Parcel::Message { letter } => letter,
+        Parcel::Message { packet } => packet,
         Parcel::Marker { .. } => unreachable!(),
     }
 }
@@ -62,17 +62,17 @@ fn letter_of(parcel: Parcel) -> Letter
 fn name_first(ins: &Vec<Consumer<Parcel>>, p: usize, from: ProcId) -> MsgName
     requires within { p < length ins.now.items }
     requires first { BeginsWithMessage (known_at ins.now.items p) }
-    ensures { (letter : Letter) × (rest : List Parcel)
-        × (known_at ins.now.items p ≡ Message letter ∷ rest) × (result ≡ letter_name from letter) }
+    ensures { (packet : Packet) × (rest : List Parcel)
+        × (known_at ins.now.items p ≡ Message packet ∷ rest) × (result ≡ packet_name from packet) }
 {
     match front_at(ins, p) {
-        Parcel::Message { letter } => name_of(from, letter.inc, letter.number),
+        Parcel::Message { packet } => name_of(from, packet.inc, packet.number),
         Parcel::Marker { .. } => unreachable!(),
     }
 }
 
 /// Takes the known item that is first, a message.
-fn take_letter(ins: &mut Vec<Consumer<Parcel>>, p: usize) -> Letter
+fn take_packet(ins: &mut Vec<Consumer<Parcel>>, p: usize) -> Packet
     requires within { p < length ins.old.items }
     requires first { BeginsWithMessage (known_at ins.old.items p) }
     ensures ends { in_ends ins.new.items ≡ with_item (in_ends ins.old.items) p (Message result) }
@@ -80,29 +80,29 @@ fn take_letter(ins: &mut Vec<Consumer<Parcel>>, p: usize) -> Letter
     ensures others { (k : ℕ) → k ≢ p → known_at ins.new.items k ≡ known_at ins.old.items k }
 {
     let parcel = take_at(ins, p);
-    letter_of(parcel)
+    packet_of(parcel)
 }
 
 /// The name of the first of the replays kept of a process.
-fn name_kept(kept: &Vec<VecDeque<Letter>>, p: usize, from: ProcId) -> MsgName
+fn name_kept(kept: &Vec<VecDeque<Packet>>, p: usize, from: ProcId) -> MsgName
     requires within { p < length kept.now.items }
     requires some { 0 < length (row_at (map deque_items kept.now.items) p) }
-    ensures { (letter : Letter) × (rest : List Letter)
-        × (row_at (map deque_items kept.now.items) p ≡ letter ∷ rest)
-        × (result ≡ letter_name from letter) }
+    ensures { (packet : Packet) × (rest : List Packet)
+        × (row_at (map deque_items kept.now.items) p ≡ packet ∷ rest)
+        × (result ≡ packet_name from packet) }
 {
-    let letter = first_kept(kept, p);
-    name_of(from, letter.inc, letter.number)
+    let packet = first_kept(kept, p);
+    name_of(from, packet.inc, packet.number)
 }
 
-/// The name and the body of a letter from a process.
-fn opened(from: ProcId, letter: Letter) -> Received
-    ensures { result ≡ TookMessage (letter_name from letter) letter.body }
+/// The name and the body of a packet from a process.
+fn opened(from: ProcId, packet: Packet) -> Received
+    ensures { result ≡ TookMessage (packet_name from packet) packet.body }
 {
-    let name = name_of(from, letter.inc, letter.number);
+    let name = name_of(from, packet.inc, packet.number);
     Received::Message {
         name,
-        body: letter.body,
+        body: packet.body,
     }
 }
 
@@ -127,8 +127,8 @@ impl Post {
         if self.journal.receive(name).is_err() {
             return Err(ReceiveWhy::OutOfMemory);
         }
-        let letter = take_kept(&mut self.kept, p);
-        Ok(opened(from, letter))
+        let packet = take_kept(&mut self.kept, p);
+        Ok(opened(from, packet))
     }
 
     /// Takes what comes next on the ring from another process.
@@ -156,9 +156,9 @@ impl Post {
             if self.journal.receive(name).is_err() {
                 return Err(ReceiveWhy::OutOfMemory);
             }
-            let letter = take_letter(&mut self.ins, p);
+            let packet = take_packet(&mut self.ins, p);
             self.shown = Snapshot::of(&self.ins);
-            return Ok(opened(from, letter));
+            return Ok(opened(from, packet));
         };
         if self.journal.is_checked(from, round) {
             if self.journal.len() as usize >= MOST_EVENTS {

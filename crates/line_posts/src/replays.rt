@@ -11,12 +11,12 @@ ghost use Rattle.line_tape.specs.declared.events.Event.{Event};
 ghost use Rattle.line_rings.specs.Ends.{row_at};
 ghost use Rattle.line_posts.specs.Gathering.{rows_of};
 ghost use Rattle.line_posts.specs.Openings.{ArePlain};
-ghost use Rattle.line_posts.specs.Replays.{cell_at, counts_of, letters_of, with_cell};
+ghost use Rattle.line_posts.specs.Replays.{cell_at, counts_of, packets_of, with_cell};
 ghost use Rattle.line_posts.specs.Replays.{AreAllReplays};
 ghost use Rattle.line_posts.specs.Replays.{AreOfSender, AreSorted, AreSquare, AreTaken};
 ghost use Rattle.line_posts.specs.Replays.{AreTakenBelow, IsNoted};
 
-use crate::parcels::Letter;
+use crate::parcels::Packet;
 use line_names::{Body, MOST_BODY, ProcId};
 use line_tape::{EventRef, History, Tape};
 use std::alloc::{AllocError, Global};
@@ -74,8 +74,8 @@ fn all_taken(alloc: Global, history: &History) -> Result<Vec<Vec<u32>>, AllocErr
     Ok(taken)
 }
 
-/// No letters yet, from each of `n` processes.
-fn no_letters(alloc: Global, n: u32) -> Result<Vec<VecDeque<Letter>>, AllocError>
+/// No packets yet, from each of `n` processes.
+fn no_packets(alloc: Global, n: u32) -> Result<Vec<VecDeque<Packet>>, AllocError>
     ensures { IfOk result (λ queues. rows_of queues.items ≡ replicate n []) }
 {
     let mut queues = Vec::with_capacity(alloc, n as usize)?;
@@ -85,16 +85,16 @@ fn no_letters(alloc: Global, n: u32) -> Result<Vec<VecDeque<Letter>>, AllocError
     Ok(queues)
 }
 
-/// No letters yet, to each of `n` processes from each.
-fn no_letters_yet(alloc: Global, n: u32) -> Result<Vec<Vec<VecDeque<Letter>>>, AllocError>
-    ensures { IfOk result (λ letters. letters_of letters.items ≡ replicate n (replicate n [])) }
+/// No packets yet, to each of `n` processes from each.
+fn no_packets_yet(alloc: Global, n: u32) -> Result<Vec<Vec<VecDeque<Packet>>>, AllocError>
+    ensures { IfOk result (λ packets. packets_of packets.items ≡ replicate n (replicate n [])) }
 {
-    let mut letters = Vec::with_capacity(alloc, n as usize)?;
+    let mut packets = Vec::with_capacity(alloc, n as usize)?;
     for _q in 0..n {
-        let queues = no_letters(alloc, n)?;
-        letters.push(queues)?;
+        let queues = no_packets(alloc, n)?;
+        packets.push(queues)?;
     }
-    Ok(letters)
+    Ok(packets)
 }
 
 /// Takes one off what process q took from p, if anything is left of it.
@@ -115,30 +115,30 @@ fn take_off(taken: &mut Vec<Vec<u32>>, q: usize, p: usize) -> bool
     true
 }
 
-/// Adds a letter from process p to those that wait for q.
-fn put_letter(
-    letters: &mut Vec<Vec<VecDeque<Letter>>>,
+/// Adds a packet from process p to those that wait for q.
+fn put_packet(
+    packets: &mut Vec<Vec<VecDeque<Packet>>>,
     q: usize,
     p: usize,
-    letter: Letter,
+    packet: Packet,
 ) -> Result<(), AllocError>
-    requires to { q < length letters.old.items }
-    requires from { p < length (row_at (letters_of letters.old.items) q) }
-    ensures { OnOk result (letters_of letters.new.items ≡ with_cell (letters_of letters.old.items)
-        q p (cell_at [] (letters_of letters.old.items) q p ++ letter ∷ [])) }
+    requires to { q < length packets.old.items }
+    requires from { p < length (row_at (packets_of packets.old.items) q) }
+    ensures { OnOk result (packets_of packets.new.items ≡ with_cell (packets_of packets.old.items)
+        q p (cell_at [] (packets_of packets.old.items) q p ++ packet ∷ [])) }
 {
-    let queues = &mut letters[q];
+    let queues = &mut packets[q];
     let queue = &mut queues[p];
-    queue.push_back(letter)?;
+    queue.push_back(packet)?;
     Ok(())
 }
 
-/// A message as a letter.
-fn letter(inc: u16, number: u32, body: &[u8]) -> Letter
+/// A message as a packet.
+fn packet(inc: u16, number: u32, body: &[u8]) -> Packet
     requires { length body.now ≤ MOST_BODY }
     ensures { result ≡ record { inc = inc; number = number; body = body.now } }
 {
-    Letter {
+    Packet {
         inc,
         number,
         body: Body::try_new(body).unwrap(),
@@ -151,17 +151,17 @@ fn note_sent(
     p: usize,
     number: u32,
     taken: &mut Vec<Vec<u32>>,
-    letters: &mut Vec<Vec<VecDeque<Letter>>>,
+    packets: &mut Vec<Vec<VecDeque<Packet>>>,
 ) -> Result<(), AllocError>
     requires short { IsShort (shown event.now) }
     requires plain { checked_round (shown event.now) ≡ None }
     requires named { NamesBelow (length taken.old.items) (shown event.now) }
     requires from { p < length taken.old.items }
     requires taken { AreSquare (length taken.old.items) (counts_of taken.old.items) }
-    requires letters { AreSquare (length taken.old.items) (letters_of letters.old.items) }
+    requires packets { AreSquare (length taken.old.items) (packets_of packets.old.items) }
     ensures { OnOk result (IsNoted (length taken.old.items) p number (shown event.now)
         (counts_of taken.old.items) (counts_of taken.new.items)
-        (letters_of letters.old.items) (letters_of letters.new.items)) }
+        (packets_of packets.old.items) (packets_of packets.new.items)) }
 {
     match event {
         EventRef::Send { to, inc, body } => {
@@ -169,7 +169,7 @@ fn note_sent(
             if take_off(taken, q, p) {
                 return Ok(());
             }
-            put_letter(letters, q, p, letter(*inc, number, body))?;
+            put_packet(packets, q, p, packet(*inc, number, body))?;
             Ok(())
         }
         EventRef::Recv { .. } => Ok(()),
@@ -197,26 +197,26 @@ fn add_sent(
     history: &History,
     p: ProcId,
     taken: &mut Vec<Vec<u32>>,
-    letters: &mut Vec<Vec<VecDeque<Letter>>>,
+    packets: &mut Vec<Vec<VecDeque<Packet>>>,
 ) -> Result<(), AllocError>
     requires from { p < length history.now.processes }
     requires plain { ArePlain history.now.processes }
     requires taken { AreSquare (length history.now.processes) (counts_of taken.old.items) }
-    requires letters { AreSquare (length history.now.processes) (letters_of letters.old.items) }
+    requires packets { AreSquare (length history.now.processes) (packets_of packets.old.items) }
     requires none { AreSorted history.now.processes p []
-        (counts_of taken.old.items) (letters_of letters.old.items) }
+        (counts_of taken.old.items) (packets_of packets.old.items) }
     ensures sorted { OnOk result (AreSorted history.now.processes p
         (tape_at history.now.processes p)
-        (counts_of taken.new.items) (letters_of letters.new.items)) }
+        (counts_of taken.new.items) (packets_of packets.new.items)) }
     ensures sender { OnOk result (AreOfSender (length history.now.processes) p
         (counts_of taken.old.items) (counts_of taken.new.items)
-        (letters_of letters.old.items) (letters_of letters.new.items)) }
+        (packets_of packets.old.items) (packets_of packets.new.items)) }
 {
     let tape = history.tape(p);
     let mut number = 0u32;
     for i in 0..tape.len() {
         let event = tape.event(i);
-        note_sent(&event, p.get() as usize, number, taken, letters)?;
+        note_sent(&event, p.get() as usize, number, taken, packets)?;
         number += sent_by(&event);
     }
     Ok(())
@@ -227,17 +227,17 @@ fn add_sent(
 pub(crate) fn all_replays(
     alloc: Global,
     history: &History,
-) -> Result<Vec<Vec<VecDeque<Letter>>>, AllocError>
+) -> Result<Vec<Vec<VecDeque<Packet>>>, AllocError>
     requires { ArePlain history.now.processes }
-    ensures { IfOk result (λ letters.
-        AreAllReplays history.now.processes (letters_of letters.items)) }
+    ensures { IfOk result (λ packets.
+        AreAllReplays history.now.processes (packets_of packets.items)) }
 {
     let n = history.n();
     let mut taken = all_taken(alloc, history)?;
-    let mut letters = no_letters_yet(alloc, n)?;
+    let mut packets = no_packets_yet(alloc, n)?;
     for r in 0..n {
         let p = ProcId::try_new(r, n).unwrap();
-        add_sent(history, p, &mut taken, &mut letters)?;
+        add_sent(history, p, &mut taken, &mut packets)?;
     }
-    Ok(letters)
+    Ok(packets)
 }

@@ -7,7 +7,7 @@ use Rattle.line_rings.specs.Ends.{out_ends, in_ends, out_rows, in_rows, known_ro
 use Rattle.line_rings.specs.Ends.{row_at}
 use Rattle.line_posts.specs.Fleets.{AreReplays}
 use Rattle.line_posts.specs.Gathering.{rows_of}
-use Rattle.line_posts.specs.Replays.{letters_of}
+use Rattle.line_posts.specs.Replays.{packets_of}
 use Rattle.line_posts.proofs.FleetLemmas.{next_row, opening_of, rows_left, single, made_more, made_of}
 use Rattle.line_posts.proofs.fleets.make_posts.Goals as goal
 
@@ -23,7 +23,7 @@ take_first-ins-requires c =
 
 pub take_first-kept-requires : goal.take_first-kept-requires
 take_first-kept-requires c =
-    rows_left (λ v. rows_of v.items) c.loop-q.replays.items (letters_of c.args.replays.items) c.loop-q.q (length c.args.history.now.processes) c.loop-q.invariant.replays_left c.requires.replays.count
+    rows_left (λ v. rows_of v.items) c.loop-q.replays.items (packets_of c.args.replays.items) c.loop-q.q (length c.args.history.now.processes) c.loop-q.invariant.replays_left c.requires.replays.count
     (let t = c.loop-q-test.true in let n = c.n-n.ensures.value in omega (arith, t, n))
 
 pub take_first-line-requires : goal.take_first-line-requires
@@ -52,8 +52,8 @@ open_post-post-requires-clause-opening c =
     let alone = single (out_ends c.take_first-line.result.items) (producer_end c.take_first-end.result) (out_ends c.take_first-end.new.items.items) (ap out_ends c.take_first-end.ensures) one in
     let me = (OkIff-at_ok c.try_new.result _ _ _ c.try_new.ensures c.unwrap-me.ensures).1 in
     let tape = c.in_ok-journal.ensures.tape.0 ∙ (c.in_ok-tape.ensures ∙ c.tape.ensures.events) in
-    let R = letters_of c.args.replays.items in
-    let row = (next_row R c.loop-q.q (rows_of c.take_first-kept.result.items) (letters_of c.take_first-kept.new.items.items) (sym (ap letters_of c.take_first-kept.ensures) ∙ c.loop-q.invariant.replays_left)).0 in
+    let R = packets_of c.args.replays.items in
+    let row = (next_row R c.loop-q.q (rows_of c.take_first-kept.result.items) (packets_of c.take_first-kept.new.items.items) (sym (ap packets_of c.take_first-kept.ensures) ∙ c.loop-q.invariant.replays_left)).0 in
     let kept = subst (AreReplays c.args.history.now.processes c.unwrap-me.result) row (subst (λ v. AreReplays c.args.history.now.processes v (row_at R c.loop-q.q)) (sym me) (c.requires.replays.each c.loop-q.q lt)) in
     opening_of c.args.history.now.processes c.loop-q.q c.unwrap-me.result (length c.args.history.now.processes) c.in_ok-journal.journal.tape (map deque_items c.take_first-kept.result.items) O I L c.requires.lines.0 (out_ends c.take_first-outs.result.items) (in_ends c.take_first-ins.result.items) (known_rows c.take_first-ins.result.items) (producer_end c.take_first-end.result) c.in_ok-journal.journal.floor c.in_ok-journal.journal.rounds me lt refl tape kept c.requires.rings c.requires.lines.1 (sym out) (sym in_) (sym alone ∙ sym line)
 
@@ -70,8 +70,8 @@ loop-q-preserved c =
     let one = sym (ap length line) ∙ c.requires.lines.1.out_count c.loop-q.q lt in
     let alone = single (out_ends c.take_first-line.result.items) (producer_end c.take_first-end.result) (out_ends c.take_first-end.new.items.items) (ap out_ends c.take_first-end.ensures) one in
     let tape = c.in_ok-journal.ensures.tape.0 ∙ (c.in_ok-tape.ensures ∙ c.tape.ensures.events) in
-    let R = letters_of c.args.replays.items in
-    let row = (next_row R c.loop-q.q (rows_of c.take_first-kept.result.items) (letters_of c.take_first-kept.new.items.items) (sym (ap letters_of c.take_first-kept.ensures) ∙ c.loop-q.invariant.replays_left)).0 in
+    let R = packets_of c.args.replays.items in
+    let row = (next_row R c.loop-q.q (rows_of c.take_first-kept.result.items) (packets_of c.take_first-kept.new.items.items) (sym (ap packets_of c.take_first-kept.ensures) ∙ c.loop-q.invariant.replays_left)).0 in
     let kept = subst (AreReplays c.args.history.now.processes c.unwrap-me.result) row (subst (λ v. AreReplays c.args.history.now.processes v (row_at R c.loop-q.q)) (sym me) (c.requires.replays.each c.loop-q.q lt)) in
     let opens = opening_of c.args.history.now.processes c.loop-q.q c.unwrap-me.result (length c.args.history.now.processes) c.in_ok-journal.journal.tape (map deque_items c.take_first-kept.result.items) O I L c.requires.lines.0 (out_ends c.take_first-outs.result.items) (in_ends c.take_first-ins.result.items) (known_rows c.take_first-ins.result.items) (producer_end c.take_first-end.result) c.in_ok-journal.journal.floor c.in_ok-journal.journal.rounds me lt refl tape kept c.requires.rings c.requires.lines.1 (sym out) (sym in_) (sym alone ∙ sym line) in
     let made = made_of c.args.history.now.processes c.args.floor O I L c.loop-q.q c.unwrap-me.result c.in_ok-journal.journal.tape (map deque_items c.take_first-kept.result.items) (out_ends c.take_first-outs.result.items) (in_ends c.take_first-ins.result.items) (known_rows c.take_first-ins.result.items) (producer_end c.take_first-end.result) c.in_ok-journal.journal.floor c.in_ok-journal.journal.rounds c.open_post-post.result c.open_post-post.ensures me opens c.in_ok-journal.ensures.same.2 c.in_ok-journal.ensures.tape.1 (sym out) (sym in_) (sym alone ∙ sym line) in
@@ -79,7 +79,7 @@ loop-q-preserved c =
       made = made_more c.args.history.now.processes c.args.floor O I L c.loop-q.q (out_rows c.loop-q.rings.outs.items) (in_rows c.loop-q.rings.ins.items) (out_rows c.take_first-outs.new.items.items) (in_rows c.take_first-ins.new.items.items) (out_rows c.loop-q.lines.items) (out_rows c.take_first-line.new.items.items) c.loop-q.posts.items c.push.new.self.items c.open_post-post.result
           (out_ends c.take_first-outs.result.items) (in_ends c.take_first-ins.result.items) (out_ends c.take_first-line.result.items)
           c.loop-q.invariant.made made c.in_ok-push.ensures.items (ap out_rows c.take_first-outs.ensures) (ap in_rows c.take_first-ins.ensures) (ap out_rows c.take_first-line.ensures);
-      replays_left = sym ((next_row R c.loop-q.q (rows_of c.take_first-kept.result.items) (letters_of c.take_first-kept.new.items.items) (sym (ap letters_of c.take_first-kept.ensures) ∙ c.loop-q.invariant.replays_left)).1) ∙ ap (λ k. drop k R) (sym (add-one c.loop-q.q));
+      replays_left = sym ((next_row R c.loop-q.q (rows_of c.take_first-kept.result.items) (packets_of c.take_first-kept.new.items.items) (sym (ap packets_of c.take_first-kept.ensures) ∙ c.loop-q.invariant.replays_left)).1) ∙ ap (λ k. drop k R) (sym (add-one c.loop-q.q));
     }
 
 pub new-requires-clause-bare : goal.new-requires-clause-bare

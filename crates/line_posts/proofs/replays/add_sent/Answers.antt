@@ -5,7 +5,7 @@ use Rattle.line_tape.specs.History.{tape_at}
 use Rattle.line_tape.specs.Rounds.{rounds_checked}
 use Rattle.line_tape.specs.Shown.{shown}
 use Rattle.line_tape.proofs.RowLemmas.{sends_le}
-use Rattle.line_posts.specs.Replays.{counts_of, letters_of}
+use Rattle.line_posts.specs.Replays.{counts_of, packets_of}
 use Rattle.line_posts.proofs.ReplayLemmas.{take_next, sends_push, plain_at}
 use Rattle.line_posts.proofs.SortLemmas.{named_at, noted_as, of_then, sorted_more}
 use Rattle.line_posts.proofs.replays.add_sent.Goals as goal
@@ -39,13 +39,13 @@ loop-i-preserved c =
     let E = shown c.event-event.result in
     let next = take_next T c.loop-i.i E c.event-event.ensures in
     let long : length c.loop-i.taken.items ≡ length H = sym (length-map c.loop-i.taken.items (λ v. v.items)) ∙ i.sender.taken_square.count in
-    let noted = noted_as (length H) (length c.loop-i.taken.items) c.args.p c.get.result c.loop-i.number E (counts_of c.loop-i.taken.items) (counts_of c.note_sent.new.taken.items) (letters_of c.loop-i.letters.items) (letters_of c.note_sent.new.letters.items) long c.get.ensures.value c.in_ok-note_sent.ensures in
+    let noted = noted_as (length H) (length c.loop-i.taken.items) c.args.p c.get.result c.loop-i.number E (counts_of c.loop-i.taken.items) (counts_of c.note_sent.new.taken.items) (packets_of c.loop-i.packets.items) (packets_of c.note_sent.new.packets.items) long c.get.ensures.value c.in_ok-note_sent.ensures in
     let v = c.sent_by-number.ensures.value in
     let m = i.number_is in
     let e = ap sends next in
     let p = sends_push (take c.loop-i.i T) E in
     record {
       number_is = omega (arith, v, m, e, p);
-      sorted = sorted_more H c.args.p c.loop-i.number c.loop-i.i T E (counts_of c.loop-i.taken.items) (counts_of c.note_sent.new.taken.items) (letters_of c.loop-i.letters.items) (letters_of c.note_sent.new.letters.items) m next i.sorted noted;
-      sender = of_then (length H) c.args.p (counts_of c.args.taken.now.items) (counts_of c.loop-i.taken.items) (counts_of c.note_sent.new.taken.items) (letters_of c.args.letters.now.items) (letters_of c.loop-i.letters.items) (letters_of c.note_sent.new.letters.items) i.sender noted.sender;
+      sorted = sorted_more H c.args.p c.loop-i.number c.loop-i.i T E (counts_of c.loop-i.taken.items) (counts_of c.note_sent.new.taken.items) (packets_of c.loop-i.packets.items) (packets_of c.note_sent.new.packets.items) m next i.sorted noted;
+      sender = of_then (length H) c.args.p (counts_of c.args.taken.now.items) (counts_of c.loop-i.taken.items) (counts_of c.note_sent.new.taken.items) (packets_of c.args.packets.now.items) (packets_of c.loop-i.packets.items) (packets_of c.note_sent.new.packets.items) i.sender noted.sender;
     }

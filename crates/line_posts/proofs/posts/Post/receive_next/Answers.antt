@@ -274,12 +274,12 @@ invariant_of-self-in_default c =
     let pushed = ok_part c.receive.result _ (sym c.is_err.ensures.value ∙ c.if-is_err.false) c.receive.ensures.tape in
     let heard = c.receive.ensures.same in
     let looked = c.look_at.ensures.ends in
-    let taken = c.take_letter-letter.ensures.ends in
-    let (letter, rest, known, named) = c.name_first-name.ensures in
-    let first = c.take_letter-letter.ensures.first in
-    let same : letter ≡ c.take_letter-letter.result = cc (known, first) in
+    let taken = c.take_packet-packet.ensures.ends in
+    let (packet, rest, known, named) = c.name_first-name.ensures in
+    let first = c.take_packet-packet.ensures.first in
+    let same : packet ≡ c.take_packet-packet.result = cc (known, first) in
     let p = c.get-p.ensures.value in
-    (seen_free _ (known_rows c.of-in_default.result.value.items) (next_keeps _ c.args.from c.take_letter-letter.result _ _ _ _ h w o b (cc (pushed, named, same)) (cc (taken, looked, p))), inc, told, heard.n_is ∙ n, heard.me_is ∙ me_is, know_shown c.of-in_default.result.value c.take_letter-letter.new.ins c.of-in_default.ensures)
+    (seen_free _ (known_rows c.of-in_default.result.value.items) (next_keeps _ c.args.from c.take_packet-packet.result _ _ _ _ h w o b (cc (pushed, named, same)) (cc (taken, looked, p))), inc, told, heard.n_is ∙ n, heard.me_is ∙ me_is, know_shown c.of-in_default.result.value c.take_packet-packet.new.ins c.of-in_default.ensures)
 
 pub invariant_of-self-then-is_checked : goal.invariant_of-self-then-is_checked
 invariant_of-self-then-is_checked c =
@@ -327,9 +327,9 @@ returns-in_default-clause-seen c =
     let count = h.in_count in
     let long = length-map I.ins.items consumer_end in
     let p = c.get-p.ensures.value in
-    let t = c.take_letter-letter.ensures in
-    sees_via _ c.args.self.now (in_ends c.take_letter-letter.new.ins.items) (known_rows c.of-in_default.result.value.items) c.self.view_is
-    (sees_popped c.of-in_default.result.value c.take_letter-letter.new.ins c.of-in_default.ensures rows I.ins.items V.items c.get-p.result (Message c.take_letter-letter.result) know (omega (arith, w, count, long, p)) l.seen l.others t.first t.others t.ends l.ends)
+    let t = c.take_packet-packet.ensures in
+    sees_via _ c.args.self.now (in_ends c.take_packet-packet.new.ins.items) (known_rows c.of-in_default.result.value.items) c.self.view_is
+    (sees_popped c.of-in_default.result.value c.take_packet-packet.new.ins c.of-in_default.ensures rows I.ins.items V.items c.get-p.result (Message c.take_packet-packet.result) know (omega (arith, w, count, long, p)) l.seen l.others t.first t.others t.ends l.ends)
 
 pub returns-then-is_checked-clause-seen : goal.returns-then-is_checked-clause-seen
 returns-then-is_checked-clause-seen c =

@@ -18,11 +18,11 @@ invariant_of-self-2 c =
     let p = c.get-p.ensures.value in
     let w = subst (λ (t : PostView). c.args.from < length t.opening) (sym v) c.requires.within in
     let K = map deque_items c.self.inside.kept.items in
-    let (letter, rest, row, named) = c.name_kept-name.ensures in
-    let found = c.take_kept-letter.ensures.first in
-    let same : letter ≡ c.take_kept-letter.result = cc (row, found) in
+    let (packet, rest, row, named) = c.name_kept-name.ensures in
+    let found = c.take_kept-packet.ensures.first in
+    let same : packet ≡ c.take_kept-packet.result = cc (row, found) in
     let first = ap (row_at K) (sym p) ∙ found in
-    (replay_keeps _ c.args.from c.take_kept-letter.result _ _ _ _ _ h w first (cc (pushed, named, same)) (c.take_kept-letter.ensures.rows ∙ ap (without_first K) p), inc, told, heard.n_is ∙ n, heard.me_is ∙ me_is, know)
+    (replay_keeps _ c.args.from c.take_kept-packet.result _ _ _ _ _ h w first (cc (pushed, named, same)) (c.take_kept-packet.ensures.rows ∙ ap (without_first K) p), inc, told, heard.n_is ∙ n, heard.me_is ∙ me_is, know)
 
 pub returns-then-len-ge-MOST_EVENTS-clause-why : goal.returns-then-len-ge-MOST_EVENTS-clause-why
 returns-then-len-ge-MOST_EVENTS-clause-why c = λ state may shown.
