@@ -3,3 +3,4 @@ mod DrillLemmas
 mod FaultLemmas
 mod CrossingLemmas
 mod MarkerLemmas
+mod WaitLemmas

@@ -1,7 +1,8 @@
 -- Why a drill does not end well, and where.
-use Rattle.std.specs.Prelude.{◌≡◌, ◌≢◌, ◌<◌, ◌≤◌, ◌+◌, ◌⊎◌, ℕ, List, [], ◌∷◌, length}
+use Rattle.std.specs.Prelude.{◌≡◌, ◌<◌, ◌≤◌, ◌⊎◌, ℕ, List, [], ◌∷◌, length}
 use Rattle.std.specs.Prelude.{Bool, Option, Some, None}
-use Rattle.std.specs.Prelude.{codes, slice_get, take}
+use Rattle.std.specs.Prelude.{codes, replicate, slice_get, take}
+use Rattle.line_tape.specs.History.{fresh}
 use Rattle.line_tape.specs.declared.limits.TheConstants.{MOST_EVENTS, MOST_STATE}
 use Rattle.line_rings.specs.Ends.{row_at}
 use Rattle.line_posts.specs.declared.parcels.Parcel.{Parcel}
@@ -11,9 +12,11 @@ use Rattle.line_posts.specs.declared.refusals.FleetError.TheVariants.{OutOfMemor
 use Rattle.line_posts.specs.declared.refusals.FleetError.TheVariants.{BadCount as fleet_count}
 use Rattle.line_posts.specs.declared.refusals.FleetError.TheVariants.{BadCapacity as fleet_capacity}
 use Rattle.line_posts.specs.declared.refusals.SendWhy.TheVariants.{RingFull}
+use Rattle.line_posts.specs.declared.refusals.ReceiveWhy.TheVariants.{NothingThere}
+use Rattle.line_posts.specs.declared.refusals.ReceiveWhy.TheVariants.{RingFull as take_ring}
 use Rattle.line_posts.specs.Posts.{PostView, IsPost}
 use Rattle.line_posts.specs.Receipts.{HasMarked, HasOnlySeen}
-use Rattle.line_posts.specs.Refusals.{IsNotSent}
+use Rattle.line_posts.specs.Refusals.{IsNotReceived, IsNotSent}
 use Rattle.line_drills.specs.declared.orders.Order.{Order}
 use Rattle.line_drills.specs.declared.orders.Order.TheVariants.{Send, Receive, Check}
 use Rattle.line_drills.specs.declared.refusals.DrillError.{DrillError}
@@ -23,7 +26,7 @@ use Rattle.line_drills.specs.declared.refusals.DrillWhy.TheVariants.{TapeFull, S
 use Rattle.line_drills.specs.declared.refusals.DrillWhy.TheVariants.{BadCount, ToSelf, WrongMode}
 use Rattle.line_drills.specs.declared.refusals.DrillWhy.TheVariants.{HeldOut, WaitedOut}
 use Rattle.line_drills.specs.declared.refusals.DrillWhy.TheVariants.{BadCapacity, NoThread}
-use Rattle.line_drills.specs.Followed.{HasDone}
+use Rattle.line_drills.specs.Followed.{Follows, HasDone}
 use Rattle.line_drills.specs.Scripts.{names_ordered, script_at}
 
 -- the name that stands beside the number of a refusal
@@ -72,57 +75,66 @@ HasMetMarker old q new = (round : ℕ)
     × (((forced : Bool) × HasMarked old q [] round forced new)
     ⊎ ((rest : List Parcel) × (row_at new.seen q ≡ Marker round ∷ rest) × HasOnlySeen old new))
 
--- the cause of a fault of an order of process p, of n processes, where so many events are on its
--- tape
-abbrev pub IsCause : ℕ → ℕ → ℕ → Order → DrillWhy → Type 0
-IsCause n p events order OutOfMemory = Unit {0}
-IsCause n p events order NoSuchProcess = (q : ℕ) × (other_of order ≡ Some q) × (n ≤ q)
-IsCause n p events order TapeFull = MOST_EVENTS ≤ events
-IsCause n p events order StateTooLong = MOST_STATE < length (stored_by order)
-IsCause n p events order BadCount = ⊥
-IsCause n p events order ToSelf = other_of order ≡ Some p
-IsCause n p events order WrongMode = (q : ℕ) × (order ≡ Receive q)
-    × (now : PostView) × (met : PostView) × IsPost now × (length now.opening ≡ n)
-    × (now.number ≡ p) × (length now.tape ≡ events) × HasMetMarker now q met
-IsCause n p events order HeldOut = Unit {0}
-IsCause n p events order WaitedOut = (q : ℕ) × (other_of order ≡ Some q)
-IsCause n p events order BadCapacity = ⊥
-IsCause n p events order NoThread = ⊥
+-- an order waits: the ring for its message is full; or there is nothing to receive, or a marker
+-- while a ring is full on which a marker is to go
+abbrev pub HasToWait : PostView → Order → PostView → Type 0
+HasToWait old (Send to body) new = IsNotSent old to RingFull
+HasToWait old (Receive from) new = IsNotReceived old (row_at new.seen from) from [] NothingThere
+    ⊎ IsNotReceived old (row_at new.seen from) from [] take_ring
+HasToWait old (Check state) new = ⊥
 
--- a worker that waited in vain to send, and had a turn, found no slot
-abbrev pub HasFoundNoSlot : ℕ → PostView → Order → DrillWhy → Type 0
-HasFoundNoSlot turns post order why = (to : ℕ) (body : List ℕ) → order ≡ Send to body
-    → why ≡ WaitedOut → turns ≢ 0 → IsNotSent post to RingFull
+-- the cause of a fault of an order: how the worker stood before it, and how it was left
+abbrev pub IsCause : PostView → Order → PostView → DrillWhy → Type 0
+IsCause old order new OutOfMemory = Unit {0}
+IsCause old order new NoSuchProcess =
+    (q : ℕ) × (other_of order ≡ Some q) × (length old.opening ≤ q)
+IsCause old order new TapeFull = MOST_EVENTS ≤ length old.tape
+IsCause old order new StateTooLong = MOST_STATE < length (stored_by order)
+IsCause old order new BadCount = ⊥
+IsCause old order new ToSelf = other_of order ≡ Some old.number
+IsCause old order new WrongMode = (q : ℕ) × (order ≡ Receive q) × HasMetMarker old q new
+IsCause old order new HeldOut = Unit {0}
+IsCause old order new WaitedOut = HasOnlySeen old new × HasToWait old order new
+IsCause old order new BadCapacity = ⊥
+IsCause old order new NoThread = ⊥
 
--- the worker could not do one of these orders within so many turns, after those before it
-abbrev pub HasFailed : ℕ → List Order → PostView → DrillError → Type 0
-HasFailed turns script post e = (k : ℕ) × (order : Order) × (why : DrillWhy) × (now : PostView)
+-- the worker could not do one of these orders, after those before it
+abbrev pub HasFailed : List Order → PostView → DrillError → Type 0
+HasFailed script post e = (k : ℕ) × (order : Order) × (why : DrillWhy)
+    × (now : PostView) × (left : PostView)
     × (slice_get script k ≡ Some order) × HasDone (take k script) post now × IsPost now
-    × HasFoundNoSlot turns now order why
-    × IsCause (length post.opening) post.number (length post.tape + k) order why
-    × (e ≡ of_order post.number k why)
+    × IsCause now order left why × (e ≡ of_order post.number k why)
 
 -- one of the workers was not started, or could not do an order of its script
-abbrev pub AreStopped : ℕ → List (List Order) → List PostView → DrillError → Type 0
-AreStopped turns scripts posts e = (e ≡ of_no_order NoThread)
+abbrev pub AreStopped : List (List Order) → List PostView → DrillError → Type 0
+AreStopped scripts posts e = (e ≡ of_no_order NoThread)
     ⊎ ((p : ℕ) × (post : PostView) × (slice_get posts p ≡ Some post)
-    × HasFailed turns (script_at scripts p) post e)
+    × HasFailed (script_at scripts p) post e)
 
 -- a fault of no order
 abbrev pub IsOfNone : DrillWhy → Type 0
 IsOfNone why = (why ≡ OutOfMemory) ⊎ (why ≡ BadCount) ⊎ (why ≡ BadCapacity) ⊎ (why ≡ NoThread)
 
--- a fault of a drill of these scripts: of no order, or of an order of one of them, which has the
--- cause; k events come of the k orders before it
+-- worker p of a first generation, after the first k orders of its script: its tape has an event for
+-- each of them
+pub record HasDoneFirst (scripts : List (List Order)) (p k : ℕ) (post : PostView) : Type 0 where
+  pub known : IsPost post
+  pub number : post.number ≡ p
+  pub opening : post.opening ≡ replicate (length scripts) fresh
+  pub tape : Follows 0 (take k (script_at scripts p)) post.tape
+
+-- a fault of a drill of these scripts: of no order, or of an order of one of them, which has its
+-- cause in how its worker stood after the orders before
 abbrev pub IsFault : List (List Order) → DrillError → Type 0
 IsFault scripts e = ((why : DrillWhy) × IsOfNone why × (e ≡ of_no_order why))
     ⊎ ((p : ℕ) × (k : ℕ) × (order : Order) × (why : DrillWhy)
-    × (slice_get (script_at scripts p) k ≡ Some order)
-    × IsCause (length scripts) p k order why × (e ≡ of_order p k why))
+    × (now : PostView) × (left : PostView)
+    × (slice_get (script_at scripts p) k ≡ Some order) × HasDoneFirst scripts p k now
+    × IsCause now order left why × (e ≡ of_order p k why))
 
--- a worker that had a turn waited in vain to send only where the orders before had sent as many
--- messages to that process as a ring holds
-abbrev pub HasFilledRing : List (List Order) → ℕ → ℕ → DrillError → Type 0
-HasFilledRing scripts capacity turns e = (p k to : ℕ) (body : List ℕ) → e ≡ of_order p k WaitedOut
-    → slice_get (script_at scripts p) k ≡ Some (Send to body) → turns ≢ 0
+-- a worker waited in vain to send only where the orders before had sent as many messages to that
+-- process as a ring holds
+abbrev pub HasFilledRing : List (List Order) → ℕ → DrillError → Type 0
+HasFilledRing scripts capacity e = (p k to : ℕ) (body : List ℕ) → e ≡ of_order p k WaitedOut
+    → slice_get (script_at scripts p) k ≡ Some (Send to body)
     → capacity ≤ length (names_ordered p to 0 (take k (script_at scripts p)))

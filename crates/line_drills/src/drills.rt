@@ -21,10 +21,9 @@ use std::sync::Wait;
 use std::thread;
 use std::thread::{Promise, PromisedHandle, Scope, Threads};
 
-/// The worker that comes back has done its script, or could not do one of its orders within so many
-/// turns.
+/// The worker that comes back has done its script, or could not do one of its orders.
 #[derive(Drop)]
-struct Drilled(Snapshot<Post>, Snapshot<Vec<Order>>, u64);
+struct Drilled(Snapshot<Post>, Snapshot<Vec<Order>>);
 
 impl Promise<Result<Post, DrillError>> for Drilled {
     ghost use Rattle.std.specs.Prelude.{IfOk, IfErr};
@@ -32,7 +31,7 @@ impl Promise<Result<Post, DrillError>> for Drilled {
     ghost use Rattle.line_drills.specs.Followed.{HasDone};
 
     ghost kept_by = { λ p r. IfOk r (λ back. HasDone p.1.value.items p.0.value back)
-        × IfErr r (λ e. HasFailed p.2 p.1.value.items p.0.value e) };
+        × IfErr r (λ e. HasFailed p.1.value.items p.0.value e) };
 }
 
 /// Starts a worker.
@@ -44,10 +43,10 @@ fn start<'s, E, G: Gate>(
     gate: &'s G,
 ) -> Result<PromisedHandle<Result<Post, DrillError>, Drilled>, DrillError>
     ensures started { IfOk result (λ handle. (handle.promise.0.value ≡ post)
-        × (handle.promise.1.value ≡ script.now) × (handle.promise.2 ≡ turns)) }
+        × (handle.promise.1.value ≡ script.now)) }
     ensures none { IfErr result (λ e. e ≡ of_no_order DrillWhy.NoThread) }
 {
-    let promise = Drilled(Snapshot::of(&post), Snapshot::of(script), turns);
+    let promise = Drilled(Snapshot::of(&post), Snapshot::of(script));
     let Ok(handle) = scope.spawn_with(promise, move || follow(script, gate, turns, post)) else {
         return Err(of_no_order(DrillWhy::NoThread));
     };
@@ -70,7 +69,7 @@ fn level<'s, E, G: Gate, R: Threads>(
     ensures drilled { IfOk result (λ back.
         AreDrilled (scripts_of scripts.now) posts.items back.items) }
     ensures room { IfOk result (λ back. vec_capacity back ≡ vec_capacity posts) }
-    ensures stopped { IfErr result (λ e. AreStopped turns (scripts_of scripts.now) posts.items e) }
+    ensures stopped { IfErr result (λ e. AreStopped (scripts_of scripts.now) posts.items e) }
 {
     let mut posts = posts;
     let Some(post) = posts.pop() else {
@@ -96,7 +95,7 @@ fn all_at_once<G: Gate, R: Threads + Wait + Sync>(
     requires { length posts.items ≤ length scripts.now }
     ensures drilled { IfOk result (λ back.
         AreDrilled (scripts_of scripts.now) posts.items back.items) }
-    ensures stopped { IfErr result (λ e. AreStopped turns (scripts_of scripts.now) posts.items e) }
+    ensures stopped { IfErr result (λ e. AreStopped (scripts_of scripts.now) posts.items e) }
 {
     thread::scope(
         thread::scope_env(),
@@ -106,7 +105,7 @@ fn all_at_once<G: Gate, R: Threads + Wait + Sync>(
             ensures drilled { IfOk result (λ back.
                 AreDrilled (scripts_of scripts.entry.now) posts.items back.items) }
             ensures stopped { IfErr result (λ e.
-                AreStopped turns (scripts_of scripts.entry.now) posts.items e) }
+                AreStopped (scripts_of scripts.entry.now) posts.items e) }
         { level(rt, scope, posts, scripts, turns, gate) },
     )
 }
@@ -148,8 +147,7 @@ pub fn drill<G: Gate, R: Threads + Wait + Sync>(
         ↔ ((length scripts.now ≢ 0) × (length scripts.now ≤ MOST_WORKERS)
         × ((capacity ≡ 0) ⊎ (MOST_CAPACITY < capacity))) }
     ensures fault { IfErr result (λ e. IsFault (scripts_of scripts.now) e) }
-    ensures filled { IfErr result (λ e.
-        HasFilledRing (scripts_of scripts.now) capacity turns e) }
+    ensures filled { IfErr result (λ e. HasFilledRing (scripts_of scripts.now) capacity e) }
 {
     if scripts.len() > MOST_WORKERS {
         return Err(of_no_order(DrillWhy::BadCount));

@@ -1,10 +1,7 @@
 //! A worker that does its script.
-ghost use Rattle.std.specs.Prelude.{◌≡◌, ◌≢◌, ◌∷◌, [], IfOk, IfErr, MatchBool, OnErr, OnOk};
-ghost use Rattle.std.specs.Prelude.{length};
+ghost use Rattle.std.specs.Prelude.{◌≡◌, ◌∷◌, [], IfOk, IfErr, OnOk};
 ghost use Rattle.line_posts.specs.Posts.{checked_alone, sent_by};
-ghost use Rattle.line_posts.specs.Receipts.{HasOnlySeen};
-ghost use Rattle.line_posts.specs.Refusals.{IsNotSent};
-ghost use Rattle.line_drills.specs.Faults.{IsCause, HasFailed, HasFoundNoSlot};
+ghost use Rattle.line_drills.specs.Faults.{HasFailed, IsCause};
 ghost use Rattle.line_drills.specs.Followed.{HasDone, HasReceivedFrom};
 ghost use Rattle.line_drills.specs.declared.orders.Order.TheVariants.{Send, Receive, Check};
 
@@ -18,18 +15,14 @@ use std::alloc::Global;
 use std::thread::yield_now;
 
 /// Sends, if the ring has a free slot.
-fn send_once(post: &mut Post, to: ProcId, body: &Body) -> Result<bool, DrillWhy>
-    ensures ok { IfOk result (λ did.
-        MatchBool did (post.new ≡ sent_by post.old to body.now)
-        ((post.new ≡ post.old) × IsNotSent post.old to SendWhy.RingFull)) }
-    ensures cause { IfErr result (λ why. IsCause (length post.old.opening) post.old.number
-        (length post.old.tape) (Send to body.now) why) }
-    ensures tried { IfErr result (λ why. why ≢ DrillWhy.WaitedOut) }
+fn send_once(post: &mut Post, to: ProcId, body: &Body) -> Result<(), DrillWhy>
+    ensures ok { OnOk result (post.new ≡ sent_by post.old to body.now) }
+    ensures cause { IfErr result (λ why. IsCause post.old (Send to body.now) post.new why) }
 {
     match post.send(to, body.copy()) {
-        Ok(_) => Ok(true),
+        Ok(_) => Ok(()),
         Err(refused) => match refused.why {
-            SendWhy::RingFull => Ok(false),
+            SendWhy::RingFull => Err(DrillWhy::WaitedOut),
             SendWhy::OutOfMemory => Err(DrillWhy::OutOfMemory),
             SendWhy::NoSuchProcess => Err(DrillWhy::NoSuchProcess),
             SendWhy::ToSelf => Err(DrillWhy::ToSelf),
@@ -38,38 +31,19 @@ fn send_once(post: &mut Post, to: ProcId, body: &Body) -> Result<bool, DrillWhy>
     }
 }
 
-/// Sends, where a slot is free within so many turns.
-fn send_within(post: &mut Post, to: ProcId, body: &Body, turns: u64) -> Result<(), DrillWhy>
-    ensures ok { OnOk result (post.new ≡ sent_by post.old to body.now) }
-    ensures cause { IfErr result (λ why. IsCause (length post.old.opening) post.old.number
-        (length post.old.tape) (Send to body.now) why) }
-    ensures slot { IfErr result (λ why. why ≡ DrillWhy.WaitedOut → turns ≢ 0
-        → IsNotSent post.old to SendWhy.RingFull) }
-{
-    for _turn in 0..turns {
-        if send_once(post, to, body)? {
-            return Ok(());
-        }
-        yield_now();
-    }
-    Err(DrillWhy::WaitedOut)
-}
-
 /// Receives, if there is a message. A marker is refused, and so is one that the tape has no room
 /// for.
-fn receive_once(alloc: Global, post: &mut Post, from: ProcId) -> Result<bool, DrillWhy>
-    ensures ok { IfOk result (λ did.
-        MatchBool did (HasReceivedFrom post.old from post.new) (HasOnlySeen post.old post.new)) }
-    ensures cause { IfErr result (λ why. IsCause (length post.old.opening) post.old.number
-        (length post.old.tape) (Receive from) why) }
+fn receive_once(alloc: Global, post: &mut Post, from: ProcId) -> Result<(), DrillWhy>
+    ensures ok { OnOk result (HasReceivedFrom post.old from post.new) }
+    ensures cause { IfErr result (λ why. IsCause post.old (Receive from) post.new why) }
 {
     let is_full = post.tape().len() as usize >= MOST_EVENTS;
     match post.receive(from, State::of(Vec::new(alloc))) {
-        Ok(Received::Message { .. }) => Ok(true),
+        Ok(Received::Message { .. }) => Ok(()),
         Ok(Received::Marked { .. }) => Err(DrillWhy::WrongMode),
         Err(why) => match why {
-            ReceiveWhy::NothingThere => Ok(false),
-            ReceiveWhy::RingFull => Ok(false),
+            ReceiveWhy::NothingThere => Err(DrillWhy::WaitedOut),
+            ReceiveWhy::RingFull => Err(DrillWhy::WaitedOut),
             ReceiveWhy::OutOfMemory => Err(DrillWhy::OutOfMemory),
             ReceiveWhy::NoSuchProcess => Err(DrillWhy::NoSuchProcess),
             ReceiveWhy::ToSelf => Err(DrillWhy::ToSelf),
@@ -83,26 +57,10 @@ fn receive_once(alloc: Global, post: &mut Post, from: ProcId) -> Result<bool, Dr
     }
 }
 
-/// Receives, where a message is there within so many turns.
-fn receive_within(alloc: Global, post: &mut Post, from: ProcId, turns: u64) -> Result<(), DrillWhy>
-    ensures ok { OnOk result (HasReceivedFrom post.old from post.new) }
-    ensures cause { IfErr result (λ why. IsCause (length post.old.opening) post.old.number
-        (length post.old.tape) (Receive from) why) }
-{
-    for _turn in 0..turns {
-        if receive_once(alloc, post, from)? {
-            return Ok(());
-        }
-        yield_now();
-    }
-    Err(DrillWhy::WaitedOut)
-}
-
 /// Takes a check with these bytes.
 fn check_once(alloc: Global, post: &mut Post, state: &State) -> Result<(), DrillWhy>
     ensures ok { OnOk result (post.new ≡ checked_alone post.old state.now) }
-    ensures cause { IfErr result (λ why. IsCause (length post.old.opening) post.old.number
-        (length post.old.tape) (Check state.now) why) }
+    ensures cause { IfErr result (λ why. IsCause post.old (Check state.now) post.new why) }
 {
     let Ok(state) = state.copy(alloc) else {
         return Err(DrillWhy::OutOfMemory);
@@ -117,18 +75,30 @@ fn check_once(alloc: Global, post: &mut Post, state: &State) -> Result<(), Drill
     }
 }
 
-/// Does an order, within so many turns.
-fn obey(alloc: Global, post: &mut Post, order: &Order, turns: u64) -> Result<(), DrillWhy>
+/// Tries an order; `WaitedOut` where it can be tried again.
+fn try_order(alloc: Global, post: &mut Post, order: &Order) -> Result<(), DrillWhy>
     ensures done { OnOk result (HasDone (order.now ∷ []) post.old post.new) }
-    ensures cause { IfErr result (λ why. IsCause (length post.old.opening) post.old.number
-        (length post.old.tape) order.now why) }
-    ensures slot { IfErr result (λ why. HasFoundNoSlot turns post.old order.now why) }
+    ensures cause { IfErr result (λ why. IsCause post.old order.now post.new why) }
 {
     match order {
-        Order::Send { to, body } => send_within(post, *to, body, turns),
-        Order::Receive { from } => receive_within(alloc, post, *from, turns),
+        Order::Send { to, body } => send_once(post, *to, body),
+        Order::Receive { from } => receive_once(alloc, post, *from),
         Order::Check { state } => check_once(alloc, post, state),
     }
+}
+
+/// Does an order, within so many turns, of which there is one at least.
+fn obey(alloc: Global, post: &mut Post, order: &Order, turns: u64) -> Result<(), DrillWhy>
+    ensures done { OnOk result (HasDone (order.now ∷ []) post.old post.new) }
+    ensures cause { IfErr result (λ why. IsCause post.old order.now post.new why) }
+{
+    for _turn in 1..turns {
+        match try_order(alloc, post, order) {
+            Err(DrillWhy::WaitedOut) => yield_now(),
+            answer => return answer,
+        }
+    }
+    try_order(alloc, post, order)
 }
 
 /// Does an order once the gate lets it, and reports.
@@ -141,9 +111,7 @@ fn step<G: Gate>(
     order: &Order,
 ) -> Result<(), DrillWhy>
     ensures done { OnOk result (HasDone (order.now ∷ []) post.old post.new) }
-    ensures cause { IfErr result (λ why. IsCause (length post.old.opening) post.old.number
-        (length post.old.tape) order.now why) }
-    ensures slot { IfErr result (λ why. HasFoundNoSlot turns post.old order.now why) }
+    ensures cause { IfErr result (λ why. IsCause post.old order.now post.new why) }
 {
     if !passes(gate, k, post, turns) {
         return Err(DrillWhy::HeldOut);
@@ -163,7 +131,7 @@ pub(crate) fn follow<G: Gate>(
     post: Post,
 ) -> Result<Post, DrillError>
     ensures done { IfOk result (λ back. HasDone script.now.items post back) }
-    ensures failed { IfErr result (λ e. HasFailed turns script.now.items post e) }
+    ensures failed { IfErr result (λ e. HasFailed script.now.items post e) }
 {
     let mut post = post;
     let alloc = *script.allocator();

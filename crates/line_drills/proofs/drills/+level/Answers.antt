@@ -1,4 +1,4 @@
-use Rattle.std.proofs.Common.{◌≡◌, ◌∙◌, ◌+◌, ℕ, length, ap, subst, arith}
+use Rattle.std.proofs.Common.{◌≡◌, ◌∙◌, ◌+◌, length, ap, subst, arith}
 use Rattle.std.proofs.lemmas.List.{length_push}
 use Rattle.std.proofs.lemmas.Result.{err_from_is_err_and}
 use Rattle.std.specs.declared.vec.Vec.{Vec}
@@ -15,7 +15,7 @@ use Rattle.line_drills.proofs.drills.+level.Goals as goal
 pub returns-in_err-all-clause-stopped : goal.returns-in_err-all-clause-stopped
 returns-in_err-all-clause-stopped g t c =
     let p = err_from_is_err_and c.from_residual-in_err-all.result c.from_residual-in_err-all.ensures.1 in
-    rw (p.1, p.2) (stopped_below c.args.turns (scripts_of c.args.scripts.now) c.args.posts.items c.pop.new.self.items c.in-Some.post _ c.in-Some.ensures.items c.in_err-all.ensures.stopped)
+    rw (p.1, p.2) (stopped_below (scripts_of c.args.scripts.now) c.args.posts.items c.pop.new.self.items c.in-Some.post _ c.in-Some.ensures.items c.in_err-all.ensures.stopped)
 
 pub returns-in_err-back-clause-stopped : goal.returns-in_err-back-clause-stopped
 returns-in_err-back-clause-stopped g t c =
@@ -29,10 +29,9 @@ returns-in_err-back-clause-stopped g t c =
     let own = there_at S c.len.result c.index-scripts-len.result (omega (arith, n, r, more)) c.index-scripts-len.is in
     let started = c.in_ok-handle.ensures.started in
     let e = c.in_err-back.field-0.0 in
-    let failed : HasFailed c.args.turns c.index-scripts-len.result.items c.in-Some.post e = subst (λ (v : PostView). HasFailed c.args.turns c.index-scripts-len.result.items v e) started.0
-    (subst (λ (s : Vec Order Global). HasFailed c.args.turns s.items c.in_ok-handle.handle.promise.0.value e) started.1
-    (subst (λ (t : ℕ). HasFailed t c.in_ok-handle.handle.promise.1.value.items c.in_ok-handle.handle.promise.0.value e) started.2 c.in_err-back.ensures.1)) in
-    rw (p.1, p.2) (stopped_last c.args.turns (scripts_of S) c.args.posts.items c.pop.new.self.items c.in-Some.post c.index-scripts-len.result.items _ c.in-Some.ensures.items
+    let failed : HasFailed c.index-scripts-len.result.items c.in-Some.post e = subst (λ (v : PostView). HasFailed c.index-scripts-len.result.items v e) started.0
+    (subst (λ (s : Vec Order Global). HasFailed s.items c.in_ok-handle.handle.promise.0.value e) started.1 c.in_err-back.ensures.1) in
+    rw (p.1, p.2) (stopped_last (scripts_of S) c.args.posts.items c.pop.new.self.items c.in-Some.post c.index-scripts-len.result.items _ c.in-Some.ensures.items
     (ap (script_at (scripts_of S)) n ∙ own) failed)
 
 pub returns-clause-drilled : goal.returns-clause-drilled

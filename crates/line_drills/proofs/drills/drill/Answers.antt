@@ -21,10 +21,8 @@ gather-requires-clause-lines g c = lined_kept c.in_ok-collector.collector c.in_o
 pub returns-in_err-back-clause-fault : goal.returns-in_err-back-clause-fault
 returns-in_err-back-clause-fault g c =
     let p = err_from_is_err_and c.from_residual-in_err-back.result c.from_residual-in_err-back.ensures.1 in
-    let n = length c.args.scripts.now in
     let opened = c.in_ok-collector.ensures.opened in
-    let many : length (scripts_of c.args.scripts.now) ≡ length c.in_ok-collector.posts.items = length-map c.args.scripts.now (λ script. script.items) ∙ (sym (length-replicate n fresh) ∙ sym opened.count) in
-    rw (p.1, p.2) (fault_of c.args.turns (scripts_of c.args.scripts.now) n c.in_ok-collector.posts.items _ opened.each opened.order many c.in_err-back.ensures.stopped)
+    rw (p.1, p.2) (fault_of (scripts_of c.args.scripts.now) (length c.args.scripts.now) c.in_ok-collector.posts.items _ opened.each opened.order (length-map c.args.scripts.now (λ script. script.items)) c.in_err-back.ensures.stopped)
 
 pub unreachable-requires : goal.unreachable-requires
 unreachable-requires g c =
@@ -64,4 +62,4 @@ pub returns-in_err-back-clause-filled : goal.returns-in_err-back-clause-filled
 returns-in_err-back-clause-filled g c =
     let p = err_from_is_err_and c.from_residual-in_err-back.result c.from_residual-in_err-back.ensures.1 in
     let opened = c.in_ok-collector.ensures.opened in
-    rw (p.1, p.2) (ring_filled c.args.turns c.args.capacity (length c.args.scripts.now) (scripts_of c.args.scripts.now) c.in_ok-collector.posts.items _ opened.each opened.order opened.slots c.in_err-back.ensures.stopped)
+    rw (p.1, p.2) (ring_filled c.args.capacity (length c.args.scripts.now) (scripts_of c.args.scripts.now) c.in_ok-collector.posts.items _ opened.each opened.order opened.slots c.in_err-back.ensures.stopped)

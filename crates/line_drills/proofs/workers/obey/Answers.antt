@@ -1,16 +1,8 @@
-use Rattle.std.proofs.Common.{◌∷◌, [], sym, subst}
-use Rattle.std.specs.Prelude.{OnOk}
-use Rattle.line_drills.specs.declared.orders.Order.{Order}
-use Rattle.line_drills.specs.Followed.{HasDone}
-use Rattle.line_drills.proofs.DrillLemmas.{on_ok_done, done_sent, done_taken}
+use Rattle.line_drills.proofs.WaitLemmas.{cause_from, cause_later}
 use Rattle.line_drills.proofs.workers.obey.Goals as goal
 
-pub returns-in-Send-clause-done : goal.returns-in-Send-clause-done
-returns-in-Send-clause-done c =
-    subst (λ (o : Order). OnOk c.send_within.result (HasDone (o ∷ []) c.args.post.now c.send_within.new.post)) (sym c.in-Send.is)
-    (on_ok_done c.send_within.result _ _ (done_sent c.args.post.now c.send_within.new.post c.in-Send.to _) c.send_within.ensures.ok)
+pub returns-in_default : goal.returns-in_default
+returns-in_default c = record { done = tt; cause = cause_from c.args.order.now _ c.args.post.now c.loop-turn.post c.try_order.new.post c.loop-turn.invariant c.in_default.ensures.cause }
 
-pub returns-in-Receive-clause-done : goal.returns-in-Receive-clause-done
-returns-in-Receive-clause-done c =
-    subst (λ (o : Order). OnOk c.receive_within.result (HasDone (o ∷ []) c.args.post.now c.receive_within.new.post)) (sym c.in-Receive.is)
-    (on_ok_done c.receive_within.result _ _ (done_taken c.args.post.now c.receive_within.new.post c.in-Receive.from) c.receive_within.ensures.ok)
+pub returns-clause-cause : goal.returns-clause-cause
+returns-clause-cause c = cause_later c.try_order-2.result c.args.order.now c.args.post.now c.loop-turn.post c.try_order-2.new.post c.loop-turn.invariant c.try_order-2.ensures.cause

@@ -1,0 +1,78 @@
+-- Orders that wait: the worker is as it was, but that it may have seen more.
+use Rattle.std.proofs.Common.{◌≡◌, ◌∙◌, ◌∷◌, [], ℕ, List, refl, sym, ap, inl, inr, subst}
+use Rattle.std.specs.Prelude.{Bool, true, false, Result, Ok, Err, IfErr, OnOk}
+use Rattle.std.proofs.lemmas.List.{append-nil}
+use Rattle.line_posts.proofs.SameLemmas.{same_seen}
+use Rattle.line_posts.specs.declared.parcels.Parcel.{Parcel}
+use Rattle.line_posts.specs.Posts.{PostView}
+use Rattle.line_posts.specs.Receipts.{HasMarked, HasOnlySeen}
+use Rattle.line_posts.specs.Refusals.{MayReceive}
+use Rattle.line_drills.specs.declared.orders.Order.{Order}
+use Rattle.line_drills.specs.declared.orders.Order.TheVariants.{Send, Receive, Check}
+use Rattle.line_drills.specs.declared.refusals.DrillWhy.{DrillWhy}
+use Rattle.line_drills.specs.declared.refusals.DrillWhy.TheVariants.{OutOfMemory, NoSuchProcess, TapeFull, StateTooLong, BadCount, ToSelf, WrongMode, HeldOut, WaitedOut, BadCapacity, NoThread}
+use Rattle.line_drills.specs.Faults.{HasMetMarker, HasToWait, IsCause}
+use Rattle.line_drills.specs.Followed.{HasDone}
+use Rattle.line_drills.proofs.DrillLemmas.{done_then, on_ok_done}
+
+-- as it was, with this seen
+abbrev seeing : PostView → List (List Parcel) → PostView
+seeing a seen = record a { seen = seen }
+
+-- a worker that is as it was
+pub seen_same : (a b : PostView) → b ≡ a → HasOnlySeen a b
+seen_same a b e = subst (HasOnlySeen a) (sym e) refl
+
+pub seen_then : (a b c : PostView) → HasOnlySeen a b → HasOnlySeen b c → HasOnlySeen a c
+seen_then a b c h k = k ∙ ap (λ (v : PostView). seeing v c.seen) h
+
+done_seen : (a b : PostView) → HasOnlySeen a b → HasDone [] a b
+done_seen a b h = (
+  same_seen a b h,
+  λ floor begun. (ap (λ (v : PostView). v.floor) h ∙ begun.0, ap (λ (v : PostView). v.rounds) h ∙ begun.1),
+  [],
+  ap (λ (v : PostView). v.tape) h ∙ sym (append-nil a.tape),
+  tt,
+)
+
+-- what a worker that had only seen more does next, it does from where it stood before
+pub done_later : {T E : Type 0} (r : Result T E) (order : Order) (a b c : PostView) → HasOnlySeen a b → OnOk r (HasDone (order ∷ []) b c) → OnOk r (HasDone (order ∷ []) a c)
+done_later r order a b c h = on_ok_done r _ _ (done_then [] (order ∷ []) a b c (done_seen a b h))
+
+marked_seeing : (a c : PostView) (seen : List (List Parcel)) (from round : ℕ) (forced : Bool) → HasMarked (seeing a seen) from [] round forced c → HasMarked a from [] round forced c
+marked_seeing a c seen from round true h = record { bare = h.bare; forced_is = h.forced_is; new_is = h.new_is }
+marked_seeing a c seen from round false h = record { bare = h.bare; forced_is = h.forced_is; new_is = h.new_is }
+
+met_seeing : (a c : PostView) (seen : List (List Parcel)) (from : ℕ) → HasMetMarker (seeing a seen) from c → HasMetMarker a from c
+met_seeing a c seen from (round, inl (forced, h)) = (round, inl (forced, marked_seeing a c seen from round forced h))
+met_seeing a c seen from (round, inr h) = (round, inr h)
+
+may_seeing : (a : PostView) (seen : List (List Parcel)) (from : ℕ) → MayReceive (seeing a seen) from [] → MayReceive a from []
+may_seeing a seen from h = record { process = h.process; other = h.other; short = h.short }
+
+wait_seeing : (a c : PostView) (seen : List (List Parcel)) (order : Order) → HasToWait (seeing a seen) order c → HasToWait a order c
+wait_seeing a c seen (Send to body) (may, full) = (record { process = may.process; other = may.other; few = may.few }, full)
+wait_seeing a c seen (Receive from) (inl (may, kept, none)) = inl (may_seeing a seen from may, kept, none)
+wait_seeing a c seen (Receive from) (inr (may, kept, round, comes, check, few, full)) = inr (may_seeing a seen from may, kept, round, comes, check, few, full)
+wait_seeing a c seen (Check state) h = absurd h
+
+cause_seeing : (a c : PostView) (seen : List (List Parcel)) (order : Order) (why : DrillWhy) → IsCause (seeing a seen) order c why → IsCause a order c why
+cause_seeing a c seen order OutOfMemory h = h
+cause_seeing a c seen order NoSuchProcess h = h
+cause_seeing a c seen order TapeFull h = h
+cause_seeing a c seen order StateTooLong h = h
+cause_seeing a c seen order BadCount h = h
+cause_seeing a c seen order ToSelf h = h
+cause_seeing a c seen order WrongMode (from, is, h) = (from, is, met_seeing a c seen from h)
+cause_seeing a c seen order HeldOut h = h
+cause_seeing a c seen order WaitedOut (only, h) = (only, wait_seeing a c seen order h)
+cause_seeing a c seen order BadCapacity h = h
+cause_seeing a c seen order NoThread h = h
+
+-- and so it is with a fault
+pub cause_from : (order : Order) (why : DrillWhy) (a b c : PostView) → HasOnlySeen a b → IsCause b order c why → IsCause a order c why
+cause_from order why a b c h k = cause_seeing a c b.seen order why (subst (λ (v : PostView). IsCause v order c why) h k)
+
+pub cause_later : {T : Type 0} (r : Result T DrillWhy) (order : Order) (a b c : PostView) → HasOnlySeen a b → IfErr r (λ why. IsCause b order c why) → IfErr r (λ why. IsCause a order c why)
+cause_later (Ok x) order a b c h k = tt
+cause_later (Err why) order a b c h k = cause_from order why a b c h k
