@@ -1,7 +1,7 @@
 //! Drills: workers in threads that each send to the next one, receive from the one before and take
 //! a check, again and again.
 ghost use Rattle.std.specs.Prelude.{◌≡◌, ◌≤◌, ◌<◌, ◌++◌, IfOk, IfErr, OnOk};
-ghost use Rattle.line_drills.specs.Faults.{IsFault};
+ghost use Rattle.line_drills.specs.Faults.{HasFilledRing, IsFault};
 ghost use Rattle.line_drills.specs.Scripts as drills;
 ghost use Rattle.line_drill_texts.specs.Drills.{IsDrillText, drill_scripts, orders_of, round_of};
 
@@ -100,6 +100,8 @@ pub fn drill_text<R: Threads + Wait + Sync>(
     requires { workers ≤ MOST_WORKERS }
     ensures ok { IfOk result (λ text. IsDrillText workers rounds text.items) }
     ensures err { IfErr result (λ error. IsFault (drill_scripts workers rounds) error) }
+    ensures filled { IfErr result (λ error.
+        HasFilledRing (drill_scripts workers rounds) CAPACITY error) }
 {
     let Ok(scripts) = scripts_of(alloc, workers, rounds) else {
         return Err(OUT_OF_MEMORY);
