@@ -6,15 +6,18 @@ docs/LOGS.md says what their lines have. The lines of a process are in one log, 
 script has each event once, and each receipt after its send; but for that it keeps the order in
 which lines are read, one of each log in turn. Where a log is not sound, standard error has one
 line, `FILE:LINE: CAUSE`, the status is 2, and there is no script. The status is 3 where a file
-cannot be read or written.
+cannot be read or written, and 130 after an interrupt.
 """
 
 import argparse
 import collections
 import contextlib
+import errno
+import os
 import sys
 import time
 from collections.abc import Sequence
+from typing import BinaryIO, TextIO
 
 sys.dont_write_bytecode = True  # leaves nothing beside the scripts
 
@@ -23,25 +26,41 @@ from log_scripts import MOST_PROCESSES, Making
 
 MOST_OF_RUN = 67_108_864  # bytes of a script that `recline run` takes
 WIPE = "\r\x1b[K"  # on a terminal, clears the line
+INTERRUPTED = 130
+
+
+def say(text: str) -> None:
+    """Writes on standard error; where that is closed or full, nothing is said."""
+    with contextlib.suppress(OSError):
+        if sys.stderr is not None:
+            sys.stderr.write(text)
+            sys.stderr.flush()
+
+
+def bytes_of(file: TextIO | None, name: str) -> BinaryIO:
+    """The bytes of a standard file. One that was closed is none."""
+    if file is None:
+        raise OSError(errno.EBADF, os.strerror(errno.EBADF), name)
+    return file.buffer
 
 
 class Progress:
     """What is said on a terminal's standard error: once a second, after the first two."""
 
     def __init__(self) -> None:
-        self._says, self._last, self._has_said = sys.stderr.isatty(), time.monotonic() + 1, False
+        self._says = sys.stderr is not None and sys.stderr.isatty()
+        self._last, self._has_said = time.monotonic() + 1, False
 
     def tell(self, line: int, done: int, size: int) -> None:
         """Says which line comes next, and how many bytes of all are done."""
         if self._says and time.monotonic() >= self._last + 1:
             self._last, self._has_said = time.monotonic(), True
-            sys.stderr.write(f"{WIPE}from_logs: line {line}, {done * 100 // size} % of the logs")
-            sys.stderr.flush()
+            say(f"{WIPE}from_logs: line {line}, {done * 100 // size} % of the logs")
 
     def wipe(self) -> None:
         """Wipes what was said last."""
         if self._has_said:
-            sys.stderr.write(WIPE)
+            say(WIPE)
             self._has_said = False
 
 
@@ -87,8 +106,9 @@ def words() -> argparse.Namespace:
 
 def made(asked: argparse.Namespace, files: contextlib.ExitStack) -> int:
     """Reads, and writes where all is sound."""
+    output = bytes_of(sys.stdout, "standard output")
     logs = [Log(name, open(name, "rb")) for name in asked.logs]
-    logs = logs or [Log("standard input", sys.stdin.buffer)]
+    logs = logs or [Log("standard input", bytes_of(sys.stdin, "standard input"))]
     for log in logs:
         files.callback(log.close)
     making, progress = Making(asked.links, asked.processes, asked.shorten), Progress()
@@ -101,15 +121,16 @@ def made(asked: argparse.Namespace, files: contextlib.ExitStack) -> int:
         if unsound.log:
             where = f"{unsound.log.name}:{unsound.log.number_at(unsound.place)}"
         progress.wipe()
-        sys.stderr.write(f"{where}: {unsound.cause}\n")
+        say(f"{where}: {unsound.cause}\n")
         return 2
-    progress.wipe()
+    finally:
+        progress.wipe()
     if asked.names:
         with open(asked.names, "w", encoding="utf-8") as file:
             making.write_names(file)
-    length = making.write(sys.stdout.buffer, failed)
+    length = making.write(output, failed)
     if length > MOST_OF_RUN:
-        sys.stderr.write(f"from_logs: {length} bytes: too long for recline run, not for serve\n")
+        say(f"from_logs: {length} bytes: too long for recline run, not for serve\n")
     return 0
 
 
@@ -120,8 +141,11 @@ def main() -> int:
             return made(words(), files)
     except OSError as error:
         file = f"{error.filename}: " if error.filename else ""
-        sys.stderr.write(f"from_logs: {file}{error.strerror}\n")
+        say(f"from_logs: {file}{error.strerror}\n")
         return 3
+    except KeyboardInterrupt:
+        say("from_logs: interrupted\n")
+        return INTERRUPTED
 
 
 if __name__ == "__main__":

@@ -81,6 +81,8 @@ def event_of(line: bytes) -> Event | None:
     except json.JSONDecodeError as error:
         cause = error.msg.removesuffix(" at")
         raise Unsound(f"this is no JSON: {cause} at character {error.pos + 1}") from None
+    except UnicodeDecodeError as error:
+        raise Unsound(f"this is no UTF-8: byte {error.start + 1} of the line") from None
     except (ValueError, RecursionError) as error:
         raise Unsound(f"this is no JSON: {error}") from None
     if not isinstance(event, dict) or end != len(text):

@@ -49,7 +49,7 @@ class Progress:
 
     def __init__(self, turns: int, run: str) -> None:
         self.turns, self.run = turns, run
-        self.is_terminal = sys.stderr.isatty()
+        self.is_terminal = sys.stderr is not None and sys.stderr.isatty()
         self.next = time.monotonic() + SECONDS_OF_SILENCE
         self.is_there = False
 

@@ -3,6 +3,7 @@
 import io
 import json
 import pathlib
+import signal
 import subprocess
 import sys
 import tempfile
@@ -285,6 +286,13 @@ class TestUnsound(unittest.TestCase):
         last = made(SENT, "--failed", "7", "--processes", "8").stdout.splitlines()[-1]
         self.assertEqual(last, "recover,7")
 
+    def test_no_utf_8(self) -> None:
+        command = [sys.executable, "-B", str(PROGRAM)]
+        log = SENT.encode() + b'{"process": 0, "event": "checkpoint", "state": "\xff"}\n'
+        ran = subprocess.run(command, input=log, capture_output=True, check=False)
+        told = b"standard input:2: this is no UTF-8: byte 49 of the line\n"
+        self.assertEqual((ran.stdout, ran.stderr, ran.returncode), (b"", told, 2))
+
     def test_most_events(self) -> None:
         with mock.patch.object(log_scripts, "MOST_EVENTS", 2), tempfile.TemporaryFile() as file:
             file.write((SENT + line(0, "checkpoint") * 2).encode())
@@ -295,6 +303,42 @@ class TestUnsound(unittest.TestCase):
             with self.assertRaisesRegex(log_scripts.Unsound, told) as raised:
                 from_logs.read([Log("log", file)], making, from_logs.Progress())
             self.assertEqual(raised.exception.place, len(SENT + line(0, "checkpoint")))
+
+
+class TestEnds(unittest.TestCase):
+    """Standard files that are closed or full, and an interrupt."""
+
+    def test_standard_files(self) -> None:
+        for how, told, status in [
+            ("<&-", "from_logs: standard input: Bad file descriptor\n", 3),
+            (">&-", "from_logs: standard output: Bad file descriptor\n", 3),
+            (">/dev/full", "from_logs: No space left on device\n", 3),
+            ("--processes 1 2>&-", "", 2),
+            ("--processes 1 2>/dev/full", "", 2),
+            ("2>&-", "", 0),
+        ]:
+            with self.subTest(how=how):
+                words = ["sh", "-c", f'exec "$0" -B "$1" {how}', sys.executable, str(PROGRAM)]
+                ran = subprocess.run(
+                    words, input=SENT, capture_output=True, text=True, check=False
+                )
+                self.assertEqual((ran.stderr, ran.returncode), (told, status))
+                self.assertEqual(ran.stdout, "" if status else "world,1,2,fifo\nsend,0,1,\n")
+
+    def test_interrupt(self) -> None:
+        program = subprocess.Popen(
+            [sys.executable, "-B", str(PROGRAM)], stdin=subprocess.PIPE, stdout=subprocess.PIPE,
+            stderr=subprocess.PIPE, bufsize=0,
+            preexec_fn=lambda: signal.signal(signal.SIGINT, signal.SIG_DFL),
+        )
+        with program:
+            assert program.stdin and program.stdout and program.stderr
+            log = memoryview(SENT.encode() * 20_000)  # more than the pipe holds: so it reads
+            while log:
+                log = log[program.stdin.write(log):]
+            program.send_signal(signal.SIGINT)
+            told = program.stdout.read(), program.stderr.read(), program.wait()
+        self.assertEqual(told, (b"", b"from_logs: interrupted\n", 130))
 
 
 if __name__ == "__main__":
