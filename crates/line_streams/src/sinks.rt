@@ -1,5 +1,5 @@
 //! What a writer takes, as a sink of which nothing is told.
-ghost use Rattle.std.specs.Prelude.{◌≢◌, IfErr, None};
+ghost use Rattle.std.specs.Prelude.{◌≡◌, ◌≢◌, IfErr, None};
 ghost use Rattle.std.specs.Io.{WritesAtMost};
 ghost use Rattle.std.specs.IoError.{error_kind};
 
@@ -31,7 +31,9 @@ pub struct WriteSink<W: Write> {
 
 impl<W: Write> WriteSink<W> {
     /// A sink into the writer.
-    pub fn new(writer: W) -> Self {
+    pub fn new(writer: W) -> Self
+        ensures { result ≡ record { writer = writer; faults = 0 } }
+    {
         WriteSink { writer, faults: 0 }
     }
 }

@@ -43,7 +43,9 @@ pub struct ReadSource<R: Read> {
 
 impl<R: Read> ReadSource<R> {
     /// A source of what the reader gives.
-    pub fn new(reader: R) -> Self {
+    pub fn new(reader: R) -> Self
+        ensures { result ≡ record { reader = reader; given = 0; faults = 0; ends = 0 } }
+    {
         ReadSource {
             reader,
             given: 0,
