@@ -159,7 +159,8 @@ def main(given: list[str]) -> int:
     except (Failure, JournalError) as failure:
         print(f"heat.py: {failure}", file=sys.stderr)
     except OSError as fault:
-        print(f"heat.py: {fault.filename or 'a file'}: {fault.strerror}", file=sys.stderr)
+        file = f"{fault.filename}: " if fault.filename else ""
+        print(f"heat.py: {file}{fault.strerror}", file=sys.stderr)
     except KeyboardInterrupt:
         goes_on = "; the same command goes on from its journal" if asked.journal else ""
         print(f"heat.py: interrupted{goes_on}", file=sys.stderr)
