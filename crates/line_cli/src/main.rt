@@ -6,7 +6,8 @@
 //! of its records in their places.
 #![tactic(auto)]
 
-ghost use Rattle.std.specs.Prelude.{◌≤◌};
+ghost use Rattle.std.specs.Prelude.{◌≡◌, ◌≤◌};
+ghost use Rattle.line_cli.specs.Status.{status_of};
 
 mod statuses;
 
@@ -32,7 +33,9 @@ const _: () = prove!(line_words::MOST_WORKERS as usize == MOST_WORKERS);
 // the status is all that tells it, and stays as it is.
 
 /// Tells the fault of a text, and says how it ends the program.
-fn tell(rt: &impl Eprint, fault: &TextFault) -> u8 {
+fn tell(rt: &impl Eprint, fault: &TextFault) -> u8
+    ensures { result ≡ status_of fault.now.code }
+{
     let _ = eprintln!(rt; "recline: {fault}");
     status_of_fault(fault.code)
 }
@@ -123,7 +126,10 @@ fn show(rt: &(impl Print + Eprint), text: &str) -> u8 {
 }
 
 /// Answers words that ask for no job, and says how that went.
-fn answer(rt: &(impl Print + Eprint), fault: &WordsFault) -> u8 {
+fn answer(rt: &(impl Print + Eprint), fault: &WordsFault) -> u8
+    ensures bad { fault.now ≡ WordsFault.Bad → result ≡ 2 }
+    ensures memory { fault.now ≡ WordsFault.OutOfMemory → result ≡ 3 }
+{
     match fault {
         WordsFault::Help(text) | WordsFault::Version(text) => show(rt, text),
         WordsFault::Bad => {
