@@ -8,9 +8,8 @@ use Rattle.line_world.specs.declared.steps.Step.TheVariants.{Damage, Bar, Recove
 use Rattle.line_scripts.specs.declared.commands.Command.{Command}
 use Rattle.line_scripts.specs.declared.commands.Command.TheVariants.{Bundle, Do, History, Refused}
 use Rattle.line_scripts.specs.declared.commands.Command.TheVariants.{Rounds}
-use Rattle.line_scripts.specs.declared.keeping.Bare.{Bare}
-use Rattle.line_scripts.specs.declared.keeping.Bare.TheVariants as bares
 use Rattle.line_scripts.specs.declared.keeping.Kept.{Kept}
+use Rattle.line_scripts.specs.declared.keeping.Kept.TheVariants as kepts
 use Rattle.line_scripts.specs.Scripts.{refused}
 
 -- the command of what a record says of processes, if there are such
@@ -18,38 +17,50 @@ abbrev pub of_found : {A : Type 0} → (A → Command) → Option A → Command
 of_found command None = refused faults.NoSuchProcess
 of_found command (Some found) = command found
 
--- the command that a bare one and its bytes make
-abbrev pub with_bytes : Bare → List ℕ → Command
-with_bytes (bares.Send from to) bytes = Do (Send from to bytes)
-with_bytes (bares.Deliver from to picked) bytes = Do (Deliver from to picked bytes)
-with_bytes (bares.Check at) bytes = Do (Check at bytes)
-with_bytes (bares.Begin at) bytes = Do (Begin at bytes)
-with_bytes (bares.Turn at) bytes = Do (Turn at bytes)
-with_bytes (bares.Damage at check) bytes = Do (Damage at check)
-with_bytes (bares.Bar at check) bytes = Do (Bar at check)
-with_bytes (bares.Recover failed) bytes = Do (Recover failed.value)
-with_bytes bares.Rounds bytes = Rounds
-with_bytes bares.History bytes = History
-with_bytes (bares.Bundle failed) bytes = Bundle failed.value
-with_bytes (bares.Refused code) bytes = Refused code
+-- the command that a kept one and its bytes make
+abbrev pub with_bytes : Kept → List ℕ → Command
+with_bytes (kepts.Send from to long) bytes = Do (Send from to bytes)
+with_bytes (kepts.Deliver from to picked long) bytes = Do (Deliver from to picked bytes)
+with_bytes (kepts.DeliverFar from to far) bytes = Do (Deliver from to far.value.pick bytes)
+with_bytes (kepts.Check at long) bytes = Do (Check at bytes)
+with_bytes (kepts.Begin at long) bytes = Do (Begin at bytes)
+with_bytes (kepts.Turn at long) bytes = Do (Turn at bytes)
+with_bytes (kepts.Refused code long) bytes = Refused code
+with_bytes (kepts.Damage at check) bytes = Do (Damage at check)
+with_bytes (kepts.Bar at check) bytes = Do (Bar at check)
+with_bytes (kepts.Recover failed) bytes = Do (Recover failed.value)
+with_bytes kepts.Rounds bytes = Rounds
+with_bytes kepts.History bytes = History
+with_bytes (kepts.Bundle failed) bytes = Bundle failed.value
+
+-- how many bytes it carries
+abbrev pub long_of : Kept → ℕ
+long_of (kepts.Send from to long) = long
+long_of (kepts.Deliver from to picked long) = long
+long_of (kepts.DeliverFar from to far) = far.value.long
+long_of (kepts.Check at long) = long
+long_of (kepts.Begin at long) = long
+long_of (kepts.Turn at long) = long
+long_of (kepts.Refused code long) = long
+long_of other = 0
+
+-- a message that it carries has no more bytes than a body may have
+abbrev pub IsShort : Kept → Type 0
+IsShort (kepts.Send from to long) = long ≤ MOST_BODY
+IsShort other = Unit {0}
 
 -- what a list has after what it had
 abbrev pub behind : List ℕ → List ℕ → List ℕ
 behind old new = drop (length old) new
 
--- it may have so many bytes
-abbrev pub MayHave : Bare → ℕ → Type 0
-MayHave (bares.Send from to) long = long ≤ MOST_BODY
-MayHave other long = Unit {0}
-
 -- the commands that these and all their bytes make
 abbrev pub unpacked : List Kept → List ℕ → List Command
 unpacked [] bytes = []
 unpacked (k ∷ others) bytes =
-    with_bytes k.bare (take k.long bytes) ∷ unpacked others (drop k.long bytes)
+    with_bytes k (take (long_of k) bytes) ∷ unpacked others (drop (long_of k) bytes)
 
 -- the bytes of each stand after those of the ones before it, and there are no others
 abbrev pub ArePacked : List Kept → List ℕ → Type 0
 ArePacked [] bytes = bytes ≡ []
 ArePacked (k ∷ others) bytes =
-    MayHave k.bare k.long × (k.long ≤ length bytes) × ArePacked others (drop k.long bytes)
+    IsShort k × (long_of k ≤ length bytes) × ArePacked others (drop (long_of k) bytes)

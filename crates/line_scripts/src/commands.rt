@@ -1,15 +1,15 @@
 //! What one record of a script says.
 
-ghost use Rattle.std.specs.Prelude.{◌≡◌, ◌≤◌, ◌==◌, Bool, ℕ, List, length, take, IfOk};
+ghost use Rattle.std.specs.Prelude.{◌≡◌, ◌≤◌, ◌==◌, Bool, ℕ, List, drop, length, take, IfOk};
 ghost use Rattle.line_names.specs.declared.limits.TheConstants.{MOST_PROCESSES};
 ghost use Rattle.line_fields.specs.declared.faults.Fault.TheVariants as faults;
 ghost use Rattle.line_fields.specs.Faults.{code_of};
 ghost use Rattle.line_fields.specs.Fields.{Gives, hex};
 ghost use Rattle.line_world.specs.declared.steps.Step.{Step};
-ghost use Rattle.line_scripts.specs.Keeping.{MayHave, behind, of_found, with_bytes};
+ghost use Rattle.line_scripts.specs.Keeping.{IsShort, behind, long_of, of_found, with_bytes};
 ghost use Rattle.line_scripts.specs.Scripts as spec;
 
-use crate::keeping::Bare;
+use crate::keeping::{Kept, delivery, in_byte};
 use crate::names::{Name, name_of};
 use line_claims::{LAST_VERSION, failed_of, most_in, plain, want};
 use line_fields::{Fault, ReadError, Row, hex_behind, number};
@@ -52,18 +52,21 @@ pub enum CommandRef<'a> {
     Refused(u32),
 }
 
-// A command that is refused, before any step.
-fn refused(fault: Fault) -> Bare
-    ensures { result ≡ Bare.Refused (code_of fault) }
+// A command that is refused, before any step, of which so many bytes were spelled.
+fn refused(fault: Fault, long: usize) -> Kept
+    ensures { result ≡ Kept.Refused (code_of fault) long }
 {
-    Bare::Refused(fault.code())
+    Kept::Refused {
+        code: fault.code(),
+        long,
+    }
 }
 
 // A command of a process that there is not.
-fn no_process() -> Bare
-    ensures { result ≡ Bare.Refused (code_of faults.NoSuchProcess) }
+fn no_process(long: usize) -> Kept
+    ensures { result ≡ Kept.Refused (code_of faults.NoSuchProcess) long }
 {
-    refused(Fault::NoSuchProcess)
+    refused(Fault::NoSuchProcess, long)
 }
 
 fn mode_named(text: &[u8]) -> Result<Mode, Fault>
@@ -95,62 +98,82 @@ pub fn world_of(row: &Row) -> Result<(u32, Mode), Fault>
     Ok((n, mode))
 }
 
-// Puts the bytes that a field spells after those that a list has.
+// How many bytes a list has from a place on.
+fn long_from(bytes: &Vec<u8>, start: usize) -> usize
+    requires { start ≤ length bytes.now.items }
+    ensures { result ≡ length (drop start bytes.now.items) }
+{
+    bytes.len() - start
+}
+
+// Puts the bytes that a field spells after those that a list has, and tells how many these are.
 #[tactic(auto, using(crate::proofs::BehindLemmas::given_behind))]
-fn spell_behind(bytes: &mut Vec<u8>, text: &[u8]) -> Result<(), ReadError>
+fn spell_behind(bytes: &mut Vec<u8>, text: &[u8]) -> Result<usize, ReadError>
     ensures exact { Gives (λ _. behind bytes.old.items bytes.new.items) result (hex text.now) }
+    ensures long { IfOk result
+        (λ long. long ≡ length (behind bytes.old.items bytes.new.items)) }
     ensures kept { take (length bytes.old.items) bytes.new.items ≡ bytes.old.items }
 {
-    hex_behind(bytes, text)
+    let start = bytes.len();
+    match hex_behind(bytes, text) {
+        Ok(()) => Ok(long_from(bytes, start)),
+        Err(error) => Err(error),
+    }
 }
 
 #[tactic(auto, unfolding(crate::specs::Scripts::send_of, line_fields::specs::Shapes::three))]
-fn send_of(n: u32, row: &Row, bytes: &mut Vec<u8>) -> Result<Bare, ReadError>
+fn send_of(n: u32, row: &Row, bytes: &mut Vec<u8>) -> Result<Kept, ReadError>
     requires { n ≤ MOST_PROCESSES }
-    ensures exact { Gives (λ bare. with_bytes bare (behind bytes.old.items bytes.new.items)) result
+    ensures exact { Gives (λ kept. with_bytes kept (behind bytes.old.items bytes.new.items)) result
         (spec.send_of n row.now) }
-    ensures fits { IfOk result
-        (λ bare. MayHave bare (length (behind bytes.old.items bytes.new.items))) }
+    ensures long { IfOk result
+        (λ kept. long_of kept ≡ length (behind bytes.old.items bytes.new.items)) }
+    ensures short { IfOk result IsShort }
     ensures kept { take (length bytes.old.items) bytes.new.items ≡ bytes.old.items }
 {
     want(row.len() == 4, Fault::BadRecord)?;
     let from = plain(row, 1)?;
     let to = plain(row, 2)?;
-    let start = bytes.len();
-    spell_behind(bytes, row.field(3))?;
+    let long = spell_behind(bytes, row.field(3))?;
     let Ok(from) = ProcId::try_new(from, n) else {
-        return Ok(no_process());
+        return Ok(no_process(long));
     };
     let Ok(to) = ProcId::try_new(to, n) else {
-        return Ok(no_process());
+        return Ok(no_process(long));
     };
-    if bytes.len() - start > MOST_BODY {
-        return Ok(refused(Fault::BodyTooLong));
+    if long > MOST_BODY {
+        return Ok(refused(Fault::BodyTooLong, long));
     }
-    Ok(Bare::Send { from, to })
+    Ok(Kept::Send {
+        from: in_byte(from),
+        to: in_byte(to),
+        long,
+    })
 }
 
 #[tactic(auto, unfolding(crate::specs::Scripts::deliver_of, line_fields::specs::Shapes::four))]
-fn deliver_of(n: u32, row: &Row, bytes: &mut Vec<u8>) -> Result<Bare, ReadError>
+fn deliver_of(alloc: Global, n: u32, row: &Row, bytes: &mut Vec<u8>) -> Result<Kept, ReadError>
     requires { n ≤ MOST_PROCESSES }
-    ensures exact { Gives (λ bare. with_bytes bare (behind bytes.old.items bytes.new.items)) result
+    ensures exact { Gives (λ kept. with_bytes kept (behind bytes.old.items bytes.new.items)) result
         (spec.deliver_of n row.now) }
-    ensures fits { IfOk result
-        (λ bare. MayHave bare (length (behind bytes.old.items bytes.new.items))) }
+    ensures long { IfOk result
+        (λ kept. long_of kept ≡ length (behind bytes.old.items bytes.new.items)) }
+    ensures short { IfOk result IsShort }
     ensures kept { take (length bytes.old.items) bytes.new.items ≡ bytes.old.items }
 {
     want(row.len() == 5, Fault::BadRecord)?;
     let from = plain(row, 1)?;
     let to = plain(row, 2)?;
     let pick = number(row.field(3), 0, u64::MAX)?;
-    spell_behind(bytes, row.field(4))?;
+    let long = spell_behind(bytes, row.field(4))?;
     let Ok(from) = ProcId::try_new(from, n) else {
-        return Ok(no_process());
+        return Ok(no_process(long));
     };
     let Ok(to) = ProcId::try_new(to, n) else {
-        return Ok(no_process());
+        return Ok(no_process(long));
     };
-    Ok(Bare::Deliver { from, to, pick })
+    let delivery = delivery(alloc, from, to, pick, long)?;
+    Ok(delivery)
 }
 
 // The process of a record with a state, whose bytes the list then has after the others; none where
@@ -224,55 +247,72 @@ pub(crate) fn command_of(
     n: u32,
     row: &Row,
     bytes: &mut Vec<u8>,
-) -> Result<Bare, ReadError>
+) -> Result<Kept, ReadError>
     requires { n ≤ MOST_PROCESSES }
-    ensures exact { Gives (λ bare. with_bytes bare (behind bytes.old.items bytes.new.items)) result
+    ensures exact { Gives (λ kept. with_bytes kept (behind bytes.old.items bytes.new.items)) result
         (spec.command_of n row.now) }
-    ensures fits { IfOk result
-        (λ bare. MayHave bare (length (behind bytes.old.items bytes.new.items))) }
+    ensures long { IfOk result
+        (λ kept. long_of kept ≡ length (behind bytes.old.items bytes.new.items)) }
+    ensures short { IfOk result IsShort }
     ensures kept { take (length bytes.old.items) bytes.new.items ≡ bytes.old.items }
 {
+    let start = bytes.len();
     let Some(name) = name_of(row.field(0)) else {
         return Err(ReadError::Fault(Fault::BadRecord));
     };
     match name {
         Name::Send => send_of(n, row, bytes),
-        Name::Deliver => deliver_of(n, row, bytes),
+        Name::Deliver => deliver_of(alloc, n, row, bytes),
         Name::Check => match with_state(n, row, bytes)? {
-            Some(at) => Ok(Bare::Check { at }),
-            None => Ok(no_process()),
+            Some(at) => Ok(Kept::Check {
+                at: in_byte(at),
+                long: long_from(bytes, start),
+            }),
+            None => Ok(no_process(long_from(bytes, start))),
         },
         Name::Begin => match with_state(n, row, bytes)? {
-            Some(at) => Ok(Bare::Begin { at }),
-            None => Ok(no_process()),
+            Some(at) => Ok(Kept::Begin {
+                at: in_byte(at),
+                long: long_from(bytes, start),
+            }),
+            None => Ok(no_process(long_from(bytes, start))),
         },
         Name::Turn => match with_state(n, row, bytes)? {
-            Some(at) => Ok(Bare::Turn { at }),
-            None => Ok(no_process()),
+            Some(at) => Ok(Kept::Turn {
+                at: in_byte(at),
+                long: long_from(bytes, start),
+            }),
+            None => Ok(no_process(long_from(bytes, start))),
         },
         Name::Damage => match with_check(n, row)? {
-            Some((at, check)) => Ok(Bare::Damage { at, check }),
-            None => Ok(no_process()),
+            Some((at, check)) => Ok(Kept::Damage {
+                at: in_byte(at),
+                check,
+            }),
+            None => Ok(no_process(0)),
         },
         Name::Bar => match with_check(n, row)? {
-            Some((at, check)) => Ok(Bare::Bar { at, check }),
-            None => Ok(no_process()),
+            Some((at, check)) => Ok(Kept::Bar {
+                at: in_byte(at),
+                check,
+            }),
+            None => Ok(no_process(0)),
         },
         Name::Recover => match with_failed(alloc, n, row)? {
-            Some(failed) => Ok(Bare::Recover(failed)),
-            None => Ok(no_process()),
+            Some(failed) => Ok(Kept::Recover(failed)),
+            None => Ok(no_process(0)),
         },
         Name::Rounds => {
             want(row.len() == 1, Fault::BadRecord)?;
-            Ok(Bare::Rounds)
+            Ok(Kept::Rounds)
         }
         Name::History => {
             want(row.len() == 1, Fault::BadRecord)?;
-            Ok(Bare::History)
+            Ok(Kept::History)
         }
         Name::Bundle => match with_failed(alloc, n, row)? {
-            Some(failed) => Ok(Bare::Bundle(failed)),
-            None => Ok(no_process()),
+            Some(failed) => Ok(Kept::Bundle(failed)),
+            None => Ok(no_process(0)),
         },
     }
 }

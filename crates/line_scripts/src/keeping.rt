@@ -1,143 +1,251 @@
-//! Commands that wait to be done: a few bytes for each, and one list of the bytes that they carry.
+//! Commands that wait to be done: 16 bytes for each, and one list of the bytes that they carry.
 
-ghost use Rattle.std.specs.Prelude.{◌≡◌, ◌≤◌, ◌<◌, ◌-◌, ◌++◌, [], ◌∷◌, drop, length, take, IfNone};
-ghost use Rattle.std.specs.Prelude.{IfSome, OnOk};
-ghost use Rattle.line_scripts.specs.Keeping.{ArePacked, MayHave, unpacked, with_bytes};
+ghost use Rattle.std.specs.Prelude.{◌≡◌, ◌≤◌, ◌∷◌, ◌++◌, [], ℕ, List, drop, length, IfNone};
+ghost use Rattle.std.specs.Prelude.{IfOk, IfSome, OnOk};
+ghost use Rattle.line_scripts.specs.Keeping.{ArePacked, IsShort, unpacked, with_bytes};
+ghost use Rattle.line_scripts.specs.Keeping as spec;
 ghost use Rattle.line_scripts.specs.Shown.{HasShortBody, shown};
+ghost use Rattle.line_world.specs.declared.steps.Step.{Step};
 
-use crate::commands::CommandRef;
-use line_names::{ProcId, ProcSet};
+use crate::commands::{Command, CommandRef};
+use line_names::{MOST_PROCESSES, ProcId, ProcSet};
 use line_world::StepRef;
-use std::alloc::AllocError;
+use std::alloc::{AllocError, Global};
 use std::marker::Model;
+use std::mem::size_of;
 
-/// A command without the bytes that a message or a state has.
+/// A command without the bytes that a message or a state has. Of these it says how many they are.
+/// A process takes a byte, so that the whole takes 16.
 #[derive(Drop)]
-pub(crate) enum Bare {
-    Send { from: ProcId, to: ProcId },
-    Deliver { from: ProcId, to: ProcId, pick: u64 },
-    Check { at: ProcId },
-    Begin { at: ProcId },
-    Turn { at: ProcId },
-    Damage { at: ProcId, check: u32 },
-    Bar { at: ProcId, check: u32 },
+pub(crate) enum Kept {
+    Send {
+        from: u8,
+        to: u8,
+        long: usize,
+    },
+    Deliver {
+        from: u8,
+        to: u8,
+        pick: u32,
+        long: usize,
+    },
+    DeliverFar {
+        from: u8,
+        to: u8,
+        far: Box<Far>,
+    },
+    Check {
+        at: u8,
+        long: usize,
+    },
+    Begin {
+        at: u8,
+        long: usize,
+    },
+    Turn {
+        at: u8,
+        long: usize,
+    },
+    Refused {
+        code: u32,
+        long: usize,
+    },
+    Damage {
+        at: u8,
+        check: u32,
+    },
+    Bar {
+        at: u8,
+        check: u32,
+    },
     Recover(Box<ProcSet>),
     Rounds,
     History,
     Bundle(Box<ProcSet>),
-    Refused(u32),
 }
 
-/// A command that waits, and how many bytes it carries.
+const _: () = prove!(size_of::<Kept>() == 16);
+
+/// A pick of more than 32 bits, and how many bytes the state has.
 #[derive(Drop)]
-pub(crate) struct Kept {
-    bare: Bare,
+pub(crate) struct Far {
+    pick: u64,
     long: usize,
+}
+
+/// The number of a process in a byte.
+#[inline(always)]
+pub(crate) fn in_byte(p: ProcId) -> u8
+    ensures { result ≡ p }
+{
+    p.get() as u8
+}
+
+// The process whose number stands in a byte.
+#[inline(always)]
+fn process(byte: u8) -> ProcId
+    ensures { result ≡ byte }
+{
+    match ProcId::try_new(byte as u32, MOST_PROCESSES as u32) {
+        Ok(p) => p,
+        Err(_) => unreachable!(),
+    }
+}
+
+/// A delivery with a state of so many bytes. A pick of more than 32 bits stands apart.
+#[inline(always)]
+pub(crate) fn delivery(
+    alloc: Global,
+    from: ProcId,
+    to: ProcId,
+    pick: u64,
+    long: usize,
+) -> Result<Kept, AllocError>
+    ensures value { (bytes : List ℕ) → IfOk result
+        (λ kept. with_bytes kept bytes ≡ Command.Do (Step.Deliver from to pick bytes)) }
+    ensures long { IfOk result (λ kept. spec.long_of kept ≡ long) }
+    ensures short { IfOk result IsShort }
+{
+    let from = in_byte(from);
+    let to = in_byte(to);
+    if pick <= u32::MAX as u64 {
+        return Ok(Kept::Deliver {
+            from,
+            to,
+            pick: pick as u32,
+            long,
+        });
+    }
+    let far = Box::new(alloc, Far { pick, long }).map_err(AllocError::from)?;
+    Ok(Kept::DeliverFar { from, to, far })
+}
+
+/// Puts a command after the others.
+pub(crate) fn keep(kept: &mut Vec<Kept>, command: Kept) -> Result<(), AllocError>
+    ensures { OnOk result (kept.new.items ≡ kept.old.items ++ command ∷ []) }
+{
+    kept.reserve(1)?;
+    kept.push_reserved(command);
+    Ok(())
+}
+
+/// How many bytes a command carries.
+#[inline(always)]
+pub(crate) fn long_of(kept: &Kept) -> usize
+    ensures { result ≡ spec.long_of kept.now }
+{
+    match kept {
+        Kept::Send { long, .. } => *long,
+        Kept::Deliver { long, .. } => *long,
+        Kept::DeliverFar { far, .. } => far.long,
+        Kept::Check { long, .. } => *long,
+        Kept::Begin { long, .. } => *long,
+        Kept::Turn { long, .. } => *long,
+        Kept::Refused { long, .. } => *long,
+        Kept::Damage { .. } => 0,
+        Kept::Bar { .. } => 0,
+        Kept::Recover(_) => 0,
+        Kept::Rounds => 0,
+        Kept::History => 0,
+        Kept::Bundle(_) => 0,
+    }
+}
+
+/// The command that it makes with its bytes, which are lent.
+#[inline(always)]
+pub(crate) fn lent<'a>(kept: &'a Kept, own: &'a [u8]) -> CommandRef<'a>
+    requires long { spec.long_of kept.now ≡ length own.now }
+    requires short { IsShort kept.now }
+    ensures value { shown result ≡ with_bytes kept.now own.now }
+    ensures short { HasShortBody result }
+{
+    match kept {
+        Kept::Send { from, to, .. } => CommandRef::Do(StepRef::Send {
+            from: process(*from),
+            to: process(*to),
+            body: own,
+        }),
+        Kept::Deliver { from, to, pick, .. } => CommandRef::Do(StepRef::Deliver {
+            from: process(*from),
+            to: process(*to),
+            pick: *pick as u64,
+            state: own,
+        }),
+        Kept::DeliverFar { from, to, far } => CommandRef::Do(StepRef::Deliver {
+            from: process(*from),
+            to: process(*to),
+            pick: far.pick,
+            state: own,
+        }),
+        Kept::Check { at, .. } => CommandRef::Do(StepRef::Check {
+            at: process(*at),
+            state: own,
+        }),
+        Kept::Begin { at, .. } => CommandRef::Do(StepRef::Begin {
+            at: process(*at),
+            state: own,
+        }),
+        Kept::Turn { at, .. } => CommandRef::Do(StepRef::Turn {
+            at: process(*at),
+            state: own,
+        }),
+        Kept::Refused { code, .. } => CommandRef::Refused(*code),
+        Kept::Damage { at, check } => CommandRef::Do(StepRef::Damage {
+            at: process(*at),
+            check: *check,
+        }),
+        Kept::Bar { at, check } => CommandRef::Do(StepRef::Bar {
+            at: process(*at),
+            check: *check,
+        }),
+        Kept::Recover(failed) => CommandRef::Do(StepRef::Recover { failed }),
+        Kept::Rounds => CommandRef::Rounds,
+        Kept::History => CommandRef::History,
+        Kept::Bundle(failed) => CommandRef::Bundle(failed),
+    }
 }
 
 /// Commands that wait to be done, the first one first.
 ///
-/// Each takes 32 bytes beside those of its message or state. Each time that as many have gone as
-/// are left, their memory is let go, and that of their messages and states where it is as much as
-/// what is left of it.
+/// Each takes 16 bytes beside those of its message or state, and a pick of more than 32 bits takes
+/// 16 more. Each time that as many have gone as are left, their memory is let go, and that of their
+/// messages and states where it is as much as what is left of it.
 #[derive(Drop)]
 pub struct Commands {
-    // The last one first.
     kept: Vec<Kept>,
+    // How many of them, the first ones, have gone.
+    gone: usize,
     // What all of them carry, in their order.
     bytes: Vec<u8>,
-    // Where that of the first one begins.
+    // Where that of the first one that is left begins.
     at: usize,
 }
 
 impl Model for Commands {
-    ghost use Rattle.std.specs.Prelude.{◌≤◌, List, drop, length, reverse};
+    ghost use Rattle.std.specs.Prelude.{◌≤◌, List, drop, length};
     ghost use Rattle.line_scripts.specs.declared.commands.Command.{Command};
 
     ghost Value = { List Command };
 
     ghost use Rattle.line_scripts.specs.Keeping.{ArePacked, unpacked};
 
-    ghost view = { λ c. unpacked (reverse c.kept.items) (drop c.at c.bytes.items) };
+    ghost view = { λ c. unpacked (drop c.gone c.kept.items) (drop c.at c.bytes.items) };
 
-    ghost invariant = { λ c. (c.at ≤ length c.bytes.items)
-        × ArePacked (reverse c.kept.items) (drop c.at c.bytes.items) };
+    ghost invariant = { λ c. (c.gone ≤ length c.kept.items) × (c.at ≤ length c.bytes.items)
+        × ArePacked (drop c.gone c.kept.items) (drop c.at c.bytes.items) };
 }
 
-/// Puts a command that carries so many bytes after the others.
-pub(crate) fn keep(kept: &mut Vec<Kept>, bare: Bare, long: usize) -> Result<(), AllocError>
-    ensures { OnOk result
-        (kept.new.items ≡ kept.old.items ++ record { bare = bare; long = long } ∷ []) }
+// Gives back the room of so many items at the front of a list, and counts from there on. Where
+// memory for the others alone is refused all stays.
+fn let_front_go<T: Drop>(items: &mut Vec<T>, gone: &mut usize)
+    requires { gone.old ≤ length items.old.items }
+    ensures within { gone.new ≤ length items.new.items }
+    ensures left { drop gone.new items.new.items ≡ drop gone.old items.old.items }
 {
-    kept.reserve(1)?;
-    kept.push_reserved(Kept { bare, long });
-    Ok(())
-}
-
-/// The command that it makes with its bytes, which are lent.
-pub(crate) fn lent<'a>(bare: &'a Bare, own: &'a [u8]) -> CommandRef<'a>
-    requires { MayHave bare.now (length own.now) }
-    ensures value { shown result ≡ with_bytes bare.now own.now }
-    ensures short { HasShortBody result }
-{
-    match bare {
-        Bare::Send { from, to } => CommandRef::Do(StepRef::Send {
-            from: *from,
-            to: *to,
-            body: own,
-        }),
-        Bare::Deliver { from, to, pick } => CommandRef::Do(StepRef::Deliver {
-            from: *from,
-            to: *to,
-            pick: *pick,
-            state: own,
-        }),
-        Bare::Check { at } => CommandRef::Do(StepRef::Check {
-            at: *at,
-            state: own,
-        }),
-        Bare::Begin { at } => CommandRef::Do(StepRef::Begin {
-            at: *at,
-            state: own,
-        }),
-        Bare::Turn { at } => CommandRef::Do(StepRef::Turn {
-            at: *at,
-            state: own,
-        }),
-        Bare::Damage { at, check } => CommandRef::Do(StepRef::Damage {
-            at: *at,
-            check: *check,
-        }),
-        Bare::Bar { at, check } => CommandRef::Do(StepRef::Bar {
-            at: *at,
-            check: *check,
-        }),
-        Bare::Recover(failed) => CommandRef::Do(StepRef::Recover { failed }),
-        Bare::Rounds => CommandRef::Rounds,
-        Bare::History => CommandRef::History,
-        Bare::Bundle(failed) => CommandRef::Bundle(failed),
-        Bare::Refused(code) => CommandRef::Refused(*code),
+    if let Ok(left) = items.split_off(*gone) {
+        *items = left;
+        *gone = 0;
     }
-}
-
-// Takes so many bytes from the front of a list, and gives back their room.
-fn let_front_go(bytes: &mut Vec<u8>, gone: usize)
-    requires { gone ≤ length bytes.old.items }
-    ensures { bytes.new.items ≡ drop gone bytes.old.items }
-{
-    let long = bytes.len();
-    bytes.copy_within(gone..long, 0);
-    bytes.truncate(long - gone);
-    bytes.shrink_to_fit();
-}
-
-// Lets the first of the commands go, the last one of the list.
-#[inline(always)]
-fn let_go(kept: &mut Vec<Kept>)
-    requires { 0 < length kept.old.items }
-    ensures { kept.new.items ≡ take (length kept.old.items - 1) kept.old.items }
-{
-    kept.truncate(kept.len() - 1);
 }
 
 // Gives back the room of commands that are gone, and that of their bytes where they are as many as
@@ -147,10 +255,9 @@ fn let_go(kept: &mut Vec<Kept>)
 fn shrink(commands: &mut Commands)
     ensures { commands.new ≡ commands.old }
 {
-    commands.kept.shrink_to_fit();
+    let_front_go(&mut commands.kept, &mut commands.gone);
     if commands.at >= commands.bytes.len() - commands.at {
-        let_front_go(&mut commands.bytes, commands.at);
-        commands.at = 0;
+        let_front_go(&mut commands.bytes, &mut commands.at);
     }
 }
 
@@ -159,19 +266,23 @@ fn shrink(commands: &mut Commands)
 fn shrink_at_half(commands: &mut Commands)
     ensures { commands.new ≡ commands.old }
 {
-    if commands.kept.len() <= commands.kept.capacity() / 2 {
+    if commands.gone >= commands.kept.len() - commands.gone {
         shrink(commands);
     }
 }
 
 impl Commands {
     /// Those that were kept, in their order.
-    pub(crate) fn of(mut kept: Vec<Kept>, bytes: Vec<u8>) -> Commands
+    pub(crate) fn of(kept: Vec<Kept>, bytes: Vec<u8>) -> Commands
         requires { ArePacked kept.items bytes.items }
         ensures { result ≡ unpacked kept.items bytes.items }
     {
-        kept.reverse();
-        Commands { kept, bytes, at: 0 }
+        Commands {
+            kept,
+            gone: 0,
+            bytes,
+            at: 0,
+        }
     }
 
     /// The first one, its message, state or set lent, if there is one.
@@ -180,9 +291,9 @@ impl Commands {
         ensures short { IfSome result HasShortBody }
         ensures none { IfNone result (self.now ≡ []) }
     {
-        let first = self.kept.last()?;
-        let own = &self.bytes[self.at..self.at + first.long];
-        Some(lent(&first.bare, own))
+        let first = self.kept.get(self.gone)?;
+        let own = &self.bytes[self.at..self.at + long_of(first)];
+        Some(lent(first, own))
     }
 
     // Takes the first one out, if there is one.
@@ -190,11 +301,11 @@ impl Commands {
     fn take_first(&mut self)
         ensures { self.new ≡ drop 1 self.old }
     {
-        let Some(first) = self.kept.last() else {
+        let Some(first) = self.kept.get(self.gone) else {
             return;
         };
-        self.at += first.long;
-        let_go(&mut self.kept);
+        self.at += long_of(first);
+        self.gone += 1;
     }
 
     /// Lets the first one go, if there is one.

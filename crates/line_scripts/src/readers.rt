@@ -7,7 +7,7 @@ ghost use Rattle.line_scripts.specs.Scripts.{command_of};
 ghost use Rattle.line_scripts.specs.Shown.{HasShortBody, shown};
 
 use crate::commands::{Command, CommandRef, command_of};
-use crate::keeping::{Bare, lent};
+use crate::keeping::{Kept, lent, long_of};
 use line_fields::{ReadError, Row};
 use std::alloc::Global;
 use std::marker::Model;
@@ -19,22 +19,22 @@ use std::marker::Model;
 #[derive(Drop)]
 pub struct CommandReader {
     alloc: Global,
-    bare: Bare,
-    // What it carries.
+    kept: Kept,
+    // What it carries, at its beginning.
     bytes: Vec<u8>,
 }
 
 impl Model for CommandReader {
-    ghost use Rattle.std.specs.Prelude.{length};
+    ghost use Rattle.std.specs.Prelude.{◌≤◌, length, take};
     ghost use Rattle.line_scripts.specs.declared.commands.Command.{Command};
 
     ghost Value = { Command };
 
-    ghost use Rattle.line_scripts.specs.Keeping.{MayHave, with_bytes};
+    ghost use Rattle.line_scripts.specs.Keeping.{IsShort, long_of, with_bytes};
 
-    ghost view = { λ s. with_bytes s.bare s.bytes.items };
+    ghost view = { λ s. with_bytes s.kept (take (long_of s.kept) s.bytes.items) };
 
-    ghost invariant = { λ s. MayHave s.bare (length s.bytes.items) };
+    ghost invariant = { λ s. (long_of s.kept ≤ length s.bytes.items) × IsShort s.kept };
 }
 
 impl CommandReader {
@@ -44,7 +44,7 @@ impl CommandReader {
     {
         CommandReader {
             alloc,
-            bare: Bare::Rounds,
+            kept: Kept::Rounds,
             bytes: Vec::new(alloc),
         }
     }
@@ -58,9 +58,9 @@ impl CommandReader {
         requires { n ≤ MOST_PROCESSES }
         ensures { Gives (λ _. self.new) result (command_of n row.now) }
     {
-        self.bare = Bare::Rounds;
+        self.kept = Kept::Rounds;
         self.bytes.clear();
-        self.bare = command_of(self.alloc, n, row, &mut self.bytes)?;
+        self.kept = command_of(self.alloc, n, row, &mut self.bytes)?;
         Ok(())
     }
 
@@ -69,6 +69,6 @@ impl CommandReader {
         ensures value { shown result ≡ self.now }
         ensures short { HasShortBody result }
     {
-        lent(&self.bare, self.bytes.as_slice())
+        lent(&self.kept, &self.bytes[..long_of(&self.kept)])
     }
 }

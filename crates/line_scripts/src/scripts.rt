@@ -5,13 +5,13 @@ ghost use Rattle.line_names.specs.declared.limits.TheConstants.{MOST_BODY, MOST_
 ghost use Rattle.line_scripts.specs.Scripts as spec;
 ghost use Rattle.line_claims.specs.Reads.{Reads, Yields, no_memory};
 ghost use Rattle.line_claims.specs.Reads as reads;
-ghost use Rattle.line_scripts.specs.Keeping.{MayHave, behind, with_bytes};
+ghost use Rattle.line_scripts.specs.Keeping.{IsShort, behind, long_of, with_bytes};
 ghost use Rattle.line_scripts.specs.Reads.{IsOfScript, seen, seen_kept};
 ghost use Rattle.line_scripts.specs.Shown.{HasShortBody, shown};
 ghost use Rattle.line_world.specs.Shown as steps;
 
 use crate::commands::{Command, CommandRef, command_of, world_of};
-use crate::keeping::{Bare, Commands, keep};
+use crate::keeping::{Commands, Kept, keep};
 use line_claims::{TextError, TextFault, error_at, fault_at, told};
 use line_fields::{Fault, RecordReader, Row, is_plain};
 use line_names::Body;
@@ -62,16 +62,17 @@ fn command_at(
     record_number: u64,
     row: &Row,
     bytes: &mut Vec<u8>,
-) -> Result<Bare, TextError>
+) -> Result<Kept, TextError>
     requires { n ≤ MOST_PROCESSES }
-    ensures exact { Yields (λ bare. with_bytes bare (behind bytes.old.items bytes.new.items)) result
+    ensures exact { Yields (λ kept. with_bytes kept (behind bytes.old.items bytes.new.items)) result
         (reads.numbered record_number (spec.command_of n row.now)) }
-    ensures fits { IfOk result
-        (λ bare. MayHave bare (length (behind bytes.old.items bytes.new.items))) }
+    ensures long { IfOk result
+        (λ kept. long_of kept ≡ length (behind bytes.old.items bytes.new.items)) }
+    ensures short { IfOk result IsShort }
     ensures kept { take (length bytes.old.items) bytes.new.items ≡ bytes.old.items }
 {
     match command_of(alloc, n, row, bytes) {
-        Ok(bare) => Ok(bare),
+        Ok(kept) => Ok(kept),
         Err(error) => Err(error_at(record_number, error)),
     }
 }
@@ -102,14 +103,13 @@ fn read(alloc: Global, text: &[u8]) -> Result<KeptScript, TextError>
                 commands: Commands::of(kept, bytes),
             });
         }
-        let start = bytes.len();
         let command = command_at(alloc, n, record_number, &row, &mut bytes)?;
-        keep(&mut kept, command, bytes.len() - start)?;
+        keep(&mut kept, command)?;
         record_number += 1;
     }
 }
 
-/// The script that a text spells, in little memory: some 32 bytes for a command, beside those of
+/// The script that a text spells, in little memory: 16 bytes for a command, beside those of
 /// its message or state. What it refuses, and how, is as of `read_script`.
 pub fn keep_script(alloc: Global, text: &[u8]) -> Result<KeptScript, TextFault>
     ensures exact { Reads seen_kept result (spec.script_of_text text.now) }

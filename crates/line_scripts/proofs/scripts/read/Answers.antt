@@ -50,12 +50,11 @@ records-preserved c =
     let one = ap length row in
     let room = c.records.invariant.room in
     let kept = c.in_ok-command.ensures.kept in
-    let long : c.len.result - c.len-start.result ≡ length (behind c.records.bytes.items c.command_at.new.bytes.items) =
-    omega (arith, c.len.ensures, c.len-start.ensures, c.records.bytes.ok.0, c.command_at.new.bytes.ok.0, length-drop (length c.records.bytes.items) c.command_at.new.bytes.items) in
-    let more = unpacked_behind _ _ _ _ _ _ c.in_ok-keep.ensures long kept c.records.invariant.packed in
+    let long = c.in_ok-command.ensures.long in
+    let more = unpacked_behind _ _ _ _ _ c.in_ok-keep.ensures long kept c.records.invariant.packed in
     record {
       counts = omega (arith, c.records.invariant.counts, one_longer _ _ _ more);
       room = omega (arith, one, room);
-      packed = packed_behind _ _ _ _ _ _ c.in_ok-keep.ensures long kept c.in_ok-command.ensures.fits c.records.invariant.packed;
+      packed = packed_behind _ _ _ _ _ c.in_ok-keep.ensures long kept c.in_ok-command.ensures.short c.records.invariant.packed;
       so_far = rw more (read_more _ _ _ _ _ _ _ _ row c.in_ok-command.ensures.exact c.records.invariant.so_far);
     }
