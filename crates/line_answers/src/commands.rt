@@ -91,7 +91,9 @@ fn show_history<K: Sink>(
     put_history(sink, writer, version, history)
 }
 
-// Writes what a step was answered, and says whether it was refused.
+// Writes what a step was answered, and says whether it was refused. It is put into its caller, so
+// that the answer is not copied.
+#[inline(always)]
 fn tell_step<K: Sink>(
     sink: &mut K,
     writer: &mut RecordWriter,

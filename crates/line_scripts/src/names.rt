@@ -20,7 +20,9 @@ pub(crate) enum Name {
     Bundle,
 }
 
-/// The name that a field spells, if it spells one.
+/// The name that a field spells, if it spells one. It is put into its caller, where each name then
+/// leads to its command at once.
+#[inline(always)]
 pub(crate) fn name_of(field: &[u8]) -> Option<Name>
     ensures found { IfSome result (λ name. field.now ≡ text_of name) }
     ensures none { IfNone result ((name : Name) → field.now ≢ text_of name) }
