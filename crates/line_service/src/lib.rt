@@ -18,6 +18,3 @@ pub use limits::MOST_LINE;
 pub use outcomes::Outcome;
 pub use services::Service;
 pub use turns::{serve, serve_turn};
-
-#[cfg(test)]
-mod tests;

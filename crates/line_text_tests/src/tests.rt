@@ -1,4 +1,5 @@
-//! Texts over devices, what is put at once, and records beside those of `csv`.
+//! Texts over devices, what is put at once, records beside those of `csv`, and services.
 mod pieces;
 mod records;
+mod services;
 mod texts;

@@ -1,7 +1,8 @@
+//! Conversations with a service: in pieces of each size, each kind of line, and the longest line.
 ghost use Rattle.std.specs.Prelude.{◌<◌};
 
-use super::*;
 use line_devices::{MemSink, MemSource};
+use line_service::{MOST_LINE, Outcome, ServeError, serve};
 use std::alloc::Global;
 use std::test::Fail;
 
