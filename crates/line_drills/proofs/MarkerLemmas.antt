@@ -3,7 +3,7 @@ use Rattle.std.proofs.Common.{◌≡◌, ◌+◌, ◌<◌, ◌++◌, ◌∷◌, 
 use Rattle.std.specs.Prelude.{Bool}
 use Rattle.line_tape.specs.declared.limits.TheConstants.{MOST_EVENTS}
 use Rattle.line_rings.specs.Ends.{row_at}
-use Rattle.line_posts.specs.declared.parcels.Letter.{Letter}
+use Rattle.line_posts.specs.declared.parcels.Packet.{Packet}
 use Rattle.line_posts.specs.declared.parcels.Parcel.{Parcel}
 use Rattle.line_posts.specs.declared.parcels.Parcel.TheVariants.{Message, Marker}
 use Rattle.line_posts.specs.declared.refusals.ReceiveWhy.TheVariants.{TapeFull}
@@ -17,7 +17,7 @@ use Rattle.line_drills.specs.Faults.{HasMetMarker}
 pub marker_taken : (a b : PostView) (from round : ℕ) (state : List ℕ) (forced : Bool) → state ≡ [] → HasMarked a from state round forced b → HasMetMarker a from b
 marker_taken a b from round state forced none h = (round, inl (forced, subst (λ (s : List ℕ). HasMarked a from s round forced b) none h))
 
-no_letter : (kept : List Letter) (shown rest : List Parcel) (round : ℕ) → parcels_of kept ++ shown ≡ Marker round ∷ rest → shown ≡ Marker round ∷ rest
+no_letter : (kept : List Packet) (shown rest : List Parcel) (round : ℕ) → parcels_of kept ++ shown ≡ Marker round ∷ rest → shown ≡ Marker round ∷ rest
 no_letter [] shown rest round e = e
 no_letter (letter ∷ more) shown rest round e = cc e
 
