@@ -138,6 +138,7 @@ fn tell_step<K: Sink>(
 /// suffice the machine, the sink and the writer are as they were. What a command that was done is
 /// told is written without memory, and put where the writer has no room for it. Where the sink
 /// fails, a prefix of what was held and of what the command was told is put.
+#[inline(always)]
 pub fn do_command<K: Sink>(
     alloc: Global,
     world: &mut World,
