@@ -2,6 +2,7 @@
 """The heat of a rod, worked out by processes that are killed, and brought back by recline serve."""
 
 import argparse
+import os
 import pathlib
 import struct
 import subprocess
@@ -134,6 +135,14 @@ def work(asked: argparse.Namespace, journal: str) -> int:
     return 0 if is_good else 1
 
 
+def look_at_files(asked: argparse.Namespace) -> None:
+    """Sees that the files that are written at the end can be, before the workers begin."""
+    for path in filter(None, (asked.picture, asked.result)):
+        file = pathlib.Path(path)
+        if file.is_dir() or not os.access(file if file.exists() else file.parent, os.W_OK):
+            raise Failure(f"{path}: cannot be written")
+
+
 def build(asked: argparse.Namespace) -> None:
     """Has ./recline proved and built where it is needed and is not there: that takes long."""
     needed = [asked.service[0], *([] if asked.quiet and not asked.picture else [asked.program])]
@@ -147,6 +156,7 @@ def main(given: list[str]) -> int:
     """Does what the words of the command line ask for, and answers the status."""
     asked = words.read(given)
     try:
+        look_at_files(asked)
         build(asked)
         if asked.journal:
             return work(asked, asked.journal)
