@@ -1,5 +1,5 @@
 -- Entries that are followed one after another.
-use Rattle.std.proofs.Common.{◌≡◌, ℕ, ◌+◌, ◌*◌, ◌<◌, ◌≤◌, Bool, List, [], ◌∷◌, ◌++◌, length, take, drop, get_or, inl, inr, Option, Some, None, sym, ap, ◌∙◌, subst, arith}
+use Rattle.std.proofs.Common.{◌≡◌, ℕ, ◌+◌, ◌*◌, ◌<◌, ◌≤◌, Bool, List, [], ◌∷◌, ◌++◌, length, take, drop, get_or, slice_get, inl, inr, Option, Some, sym, ap, ◌∙◌, subst, arith}
 use Rattle.std.proofs.lemmas.Bool.{cases_lt}
 use Rattle.std.proofs.lemmas.List.{take-append-drop, drop_more, take_more, length-set, length-take-le}
 use Rattle.std.proofs.lemmas.Option.{slice_get_within, get_or_from_slice_get}
@@ -16,18 +16,14 @@ use Rattle.line_tape.proofs.ChainLemmas.{first-length}
 use Rattle.line_tape.proofs.LedLemmas.{LeadsTo-push, height-lowered, height-first}
 use Rattle.line_tape.proofs.LineLemmas.{Contains-past}
 use Rattle.line_check.specs.declared.faults.FaultCode.{FaultCode}
-use Rattle.line_check.specs.declared.faults.FaultCode.TheVariants.{NotTop, NotReceived, NotOrphan, LineDiffers, NotConsistent, BadShape}
 use Rattle.line_check.specs.Shape.{HasShape}
-use Rattle.line_check.specs.Verdict.{IsEntryFault, IsEndFault, IsWrongEntry, IsFirstWrong, IsFirstFault}
+use Rattle.line_check.specs.Verdict.{IsEntryFault, not_top, not_received, not_orphan, IsFirstFault, misshapen, wrong_entry, other_line, inconsistent}
 
 -- an entry that has a fault is not right
-fault-wrong : (history : List Process) (ceilings : List Choice) (entry : Passed) (code : FaultCode) → IsEntryFault history ceilings entry code → IsRight history ceilings entry → ⊥
-fault-wrong history ceilings entry NotTop fault right = fault right.top
-fault-wrong history ceilings entry NotReceived fault right = fault.1 right.orphan.received
-fault-wrong history ceilings entry NotOrphan fault right = right.orphan.unsent fault.2
-fault-wrong history ceilings entry LineDiffers fault right = fault
-fault-wrong history ceilings entry NotConsistent fault right = fault
-fault-wrong history ceilings entry BadShape fault right = fault
+fault-wrong : (history : List Process) (ceilings : List Choice) (entry : Passed) {code : FaultCode} → IsEntryFault history ceilings entry code → IsRight history ceilings entry → ⊥
+fault-wrong history ceilings entry (not_top other) right = other right.top
+fault-wrong history ceilings entry (not_received top unreceived) right = unreceived right.orphan.received
+fault-wrong history ceilings entry (not_orphan top received sent) right = right.orphan.unsent sent
 
 module _ (history : List Process) (marks : MarksView) (failed : List Bool) where
   -- a chain goes on from the ceilings that its first entries leave
@@ -60,43 +56,26 @@ module _ (history : List Process) (marks : MarksView) (failed : List Bool) where
       subst (λ (es : List Passed). IsLed history marks failed es (lowered history marks failed ceilings entry.at)) (sym more) (LeadsTo-push history marks failed (first_ceilings history marks failed) (take k entries) ceilings entry led right)
 
   -- no chain has an entry with a fault
-  wrong-led : (entries : List Passed) (line : List Choice) (k : ℕ) (code : FaultCode) → IsWrongEntry history marks failed entries k code → IsLed history marks failed entries line → ⊥
-  wrong-led entries line k code wrong led =
+  wrong-led : (entries : List Passed) (line : List Choice) (k : ℕ) (entry : Passed) (ceilings : List Choice) (code : FaultCode) → IsLed history marks failed (take k entries) ceilings → slice_get entries k ≡ Some entry → IsEntryFault history ceilings entry code
+      → IsLed history marks failed entries line → ⊥
+  wrong-led entries line k entry ceilings code before here wrong led =
       let whole = subst (λ (es : List Passed). IsLed history marks failed es line) (sym (take-append-drop k entries)) led in
-      let rest = led-rest (first_ceilings history marks failed) wrong.ceilings line (take k entries) (drop k entries) wrong.before whole in
-      let next : drop k entries ≡ wrong.entry ∷ drop (k + 1) entries = drop_more entries k wrong.entry (slice_get_within entries k wrong.entry wrong.here) ∙ ap (λ (e : Passed). e ∷ drop (k + 1) entries) (get_or_from_slice_get entries k wrong.entry wrong.entry wrong.here) in
-      let here = subst (λ (es : List Passed). LeadsTo history marks failed wrong.ceilings es line) next rest in
-      fault-wrong history wrong.ceilings wrong.entry code wrong.wrong here.0
-
-  pub first-wrong-led : (entries : List Passed) (line : List Choice) (at : Option ℕ) (code : FaultCode) → IsFirstWrong history marks failed entries at code → IsLed history marks failed entries line → ⊥
-  first-wrong-led entries line None code wrong led = wrong
-  first-wrong-led entries line (Some k) code wrong led = wrong-led entries line k code wrong led
+      let rest = led-rest (first_ceilings history marks failed) ceilings line (take k entries) (drop k entries) before whole in
+      let next : drop k entries ≡ entry ∷ drop (k + 1) entries = drop_more entries k entry (slice_get_within entries k entry here) ∙ ap (λ (e : Passed). e ∷ drop (k + 1) entries) (get_or_from_slice_get entries k entry entry here) in
+      let own = subst (λ (es : List Passed). LeadsTo history marks failed ceilings es line) next rest in
+      fault-wrong history ceilings entry wrong own.0
 
   -- two lines that the entries lead to are one
   led-one : (entries : List Passed) (ceilings line : List Choice) → IsLed history marks failed entries ceilings → IsLed history marks failed entries line → ceilings ≡ line
   led-one entries ceilings line = led-same (first_ceilings history marks failed) ceilings line entries
 
-  -- a wrong entry of a claim with the shape is its first fault
-  pub first-fault : (entries : List Passed) (line : List Choice) (at : Option ℕ) (code : FaultCode) → HasShape history marks failed entries line → IsFirstWrong history marks failed entries at code → IsFirstFault history marks failed entries line at code
-  first-fault entries line None code shape wrong = absurd wrong
-  first-fault entries line (Some k) code shape wrong = (shape, wrong)
+  -- entries that lead to a line
+  pub led-to : (entries : List Passed) (ceilings line : List Choice) → IsLed history marks failed entries ceilings → ceilings ≡ line → IsLed history marks failed entries line
+  led-to entries ceilings line led same = subst (IsLed history marks failed entries) same led
 
-  -- no chain for the line ends with a fault
-  pub wrong-end-chain : (entries : List Passed) (ceilings line : List Choice) (code : FaultCode) → IsLed history marks failed entries ceilings → IsEndFault history ceilings line code → IsChain history marks failed entries line → ⊥
-  wrong-end-chain entries ceilings line LineDiffers led wrong chain = wrong (led-one entries ceilings line led chain.leads)
-  wrong-end-chain entries ceilings line NotConsistent led wrong chain = wrong.1 chain.consistent
-  wrong-end-chain entries ceilings line NotTop led wrong chain = wrong
-  wrong-end-chain entries ceilings line NotReceived led wrong chain = wrong
-  wrong-end-chain entries ceilings line NotOrphan led wrong chain = wrong
-  wrong-end-chain entries ceilings line BadShape led wrong chain = wrong
-
-  -- a fault at the end of a claim with the shape is its first one
-  pub last-fault : (entries : List Passed) (ceilings line : List Choice) (code : FaultCode) → HasShape history marks failed entries line → IsLed history marks failed entries ceilings → IsEndFault history ceilings line code → IsFirstFault history marks failed entries line None code
-  last-fault entries ceilings line LineDiffers shape led wrong =
-      (shape, record { ceilings = ceilings; before = led; wrong = wrong })
-  last-fault entries ceilings line NotConsistent shape led wrong =
-      (shape, record { ceilings = ceilings; before = led; wrong = wrong })
-  last-fault entries ceilings line NotTop shape led wrong = absurd wrong
-  last-fault entries ceilings line NotReceived shape led wrong = absurd wrong
-  last-fault entries ceilings line NotOrphan shape led wrong = absurd wrong
-  last-fault entries ceilings line BadShape shape led wrong = absurd wrong
+  -- a claim that has a fault has not the shape, or its entries are no valid chain
+  pub fault-chain : (entries : List Passed) (line : List Choice) {at : Option ℕ} {code : FaultCode} → IsFirstFault history marks failed entries line at code → HasShape history marks failed entries line → IsChain history marks failed entries line → ⊥
+  fault-chain entries line (misshapen shapeless) shape chain = shapeless shape
+  fault-chain entries line (wrong_entry k entry ceilings code own before here wrong) shape chain = wrong-led entries line k entry ceilings code before here wrong chain.leads
+  fault-chain entries line (other_line ceilings own led other) shape chain = other (led-one entries ceilings line led chain.leads)
+  fault-chain entries line (inconsistent own led unsound) shape chain = unsound chain.consistent

@@ -13,76 +13,43 @@ use Rattle.line_check.specs.declared.faults.FaultCode.TheVariants.{LineDiffers, 
 use Rattle.line_check.specs.declared.faults.FaultCode.TheVariants.{BadShape}
 use Rattle.line_check.specs.Shape.{HasShape}
 
--- what is wrong with an entry at the present ceilings: its choice is not that of its process; or it
--- is, and its message is not received before it; or it is received before it, and is sent before
--- the ceiling of its sender
-abbrev pub IsEntryFault : List Process → List Choice → Passed → FaultCode → Type 0
-IsEntryFault history ceilings entry NotTop = entry.choice ≢ choice_at ceilings entry.at
-IsEntryFault history ceilings entry NotReceived =
-    (entry.choice ≡ choice_at ceilings entry.at)
-    × (IsReceivedBefore history ceilings entry.at entry.message → ⊥)
-IsEntryFault history ceilings entry NotOrphan =
-    (entry.choice ≡ choice_at ceilings entry.at)
-    × IsReceivedBefore history ceilings entry.at entry.message
-    × IsSentBefore history ceilings entry.message
-IsEntryFault history ceilings entry LineDiffers = ⊥
-IsEntryFault history ceilings entry NotConsistent = ⊥
-IsEntryFault history ceilings entry BadShape = ⊥
+-- what is wrong with an entry at the present ceilings
+pub data IsEntryFault (history : List Process) (ceilings : List Choice) (entry : Passed)
+    : FaultCode → Type 0 where
+  -- its choice is not that of its process
+  not_top : entry.choice ≢ choice_at ceilings entry.at
+      → IsEntryFault history ceilings entry NotTop
+  -- its choice is that of its process, and its message is not received before it
+  not_received : entry.choice ≡ choice_at ceilings entry.at
+      → (IsReceivedBefore history ceilings entry.at entry.message → ⊥)
+      → IsEntryFault history ceilings entry NotReceived
+  -- its message is received before that choice, and sent before the ceiling of its sender
+  not_orphan : entry.choice ≡ choice_at ceilings entry.at
+      → IsReceivedBefore history ceilings entry.at entry.message
+      → IsSentBefore history ceilings entry.message
+      → IsEntryFault history ceilings entry NotOrphan
 
--- entry k is the first wrong one: those before it are right, and it is wrong at the ceilings that
--- they lead to
-pub record IsWrongEntry (history : List Process) (marks : MarksView) (failed : List Bool)
-    (entries : List Passed) (k : ℕ) (code : FaultCode) : Type 0 where
-  pub ceilings : List Choice
-  pub entry : Passed
-  pub before : IsLed history marks failed (take k entries) ceilings
-  pub here : slice_get entries k ≡ Some entry
-  pub wrong : IsEntryFault history ceilings entry code
-
--- what is wrong with the line at the ceilings that all entries lead to: it is another one; or it is
--- that one, and not consistent
-abbrev pub IsEndFault : List Process → List Choice → List Choice → FaultCode → Type 0
-IsEndFault history ceilings line NotTop = ⊥
-IsEndFault history ceilings line NotReceived = ⊥
-IsEndFault history ceilings line NotOrphan = ⊥
-IsEndFault history ceilings line LineDiffers = ceilings ≢ line
-IsEndFault history ceilings line NotConsistent = (ceilings ≡ line) × (IsConsistent history line → ⊥)
-IsEndFault history ceilings line BadShape = ⊥
-
--- no entry is wrong, and the line is at the ceilings that they lead to
-pub record IsWrongEnd (history : List Process) (marks : MarksView) (failed : List Bool)
-    (entries : List Passed) (line : List Choice) (code : FaultCode) : Type 0 where
-  pub ceilings : List Choice
-  pub before : IsLed history marks failed entries ceilings
-  pub wrong : IsEndFault history ceilings line code
-
--- what is wrong with a claim where no entry is: it names what the history does not have; or it
--- names only that, and its line is wrong at the end
-abbrev pub IsClaimFault : List Process → MarksView → List Bool → List Passed → List Choice
-    → FaultCode → Type 0
-IsClaimFault history marks failed entries line NotTop = ⊥
-IsClaimFault history marks failed entries line NotReceived = ⊥
-IsClaimFault history marks failed entries line NotOrphan = ⊥
-IsClaimFault history marks failed entries line LineDiffers =
-    HasShape history marks failed entries line
-    × IsWrongEnd history marks failed entries line LineDiffers
-IsClaimFault history marks failed entries line NotConsistent =
-    HasShape history marks failed entries line
-    × IsWrongEnd history marks failed entries line NotConsistent
-IsClaimFault history marks failed entries line BadShape =
-    HasShape history marks failed entries line → ⊥
-
--- the first fault of a claim: of one of its entries, counted from 0, or of none
-abbrev pub IsFirstFault : List Process → MarksView → List Bool → List Passed → List Choice
-    → Option ℕ → FaultCode → Type 0
-IsFirstFault history marks failed entries line None code =
-    IsClaimFault history marks failed entries line code
-IsFirstFault history marks failed entries line (Some k) code =
-    HasShape history marks failed entries line × IsWrongEntry history marks failed entries k code
-
--- a fault of an entry, where it is the first
-abbrev pub IsFirstWrong : List Process → MarksView → List Bool → List Passed → Option ℕ → FaultCode
-    → Type 0
-IsFirstWrong history marks failed entries None code = ⊥
-IsFirstWrong history marks failed entries (Some k) code =
-    IsWrongEntry history marks failed entries k code
+-- the first thing that is wrong with a claim: with one of its entries, counted from 0, or with none
+pub data IsFirstFault (history : List Process) (marks : MarksView) (failed : List Bool)
+    (entries : List Passed) (line : List Choice) : Option ℕ → FaultCode → Type 0 where
+  -- it names what the history does not have
+  misshapen : (HasShape history marks failed entries line → ⊥)
+      → IsFirstFault history marks failed entries line None BadShape
+  -- the entries before entry k are right, and it is wrong at the ceilings that they lead to
+  wrong_entry : (k : ℕ) (entry : Passed) (ceilings : List Choice) (code : FaultCode)
+      → HasShape history marks failed entries line
+      → IsLed history marks failed (take k entries) ceilings
+      → slice_get entries k ≡ Some entry
+      → IsEntryFault history ceilings entry code
+      → IsFirstFault history marks failed entries line (Some k) code
+  -- all entries are right, and lead to another line
+  other_line : (ceilings : List Choice)
+      → HasShape history marks failed entries line
+      → IsLed history marks failed entries ceilings
+      → ceilings ≢ line
+      → IsFirstFault history marks failed entries line None LineDiffers
+  -- they lead to the line, and it is not consistent
+  inconsistent : HasShape history marks failed entries line
+      → IsLed history marks failed entries line
+      → (IsConsistent history line → ⊥)
+      → IsFirstFault history marks failed entries line None NotConsistent

@@ -1,10 +1,12 @@
 //! The tests of a line and of a claim.
 ghost use Rattle.std.specs.Prelude.{◌≡◌, ◌<◌, ◌↔◌, IsTrue, IsOk, IfOk, IfErr, IsErrOf, All, length};
+ghost use Rattle.std.specs.Prelude.{List};
+ghost use Rattle.line_names.specs.declared.choices.Choice.{Choice};
 ghost use Rattle.line_tape.specs.Chain.{IsRight, IsChain, IsLed};
 ghost use Rattle.line_tape.specs.Line.{IsLine, IsConsistent};
 ghost use Rattle.line_tape.specs.Survival.{IsLatest};
 ghost use Rattle.line_check.specs.Shape.{IsEntryOf, HasShape};
-ghost use Rattle.line_check.specs.Verdict.{IsEntryFault, IsEndFault, IsFirstWrong, IsFirstFault};
+ghost use Rattle.line_check.specs.Verdict.{IsEntryFault, IsFirstFault};
 
 use crate::faults::{CertFault, FaultCode, LineFault};
 use crate::shapes::has_shape;
@@ -70,8 +72,9 @@ fn follow(
 ) -> Result<Line, CertFault>
     requires { All (IsEntryOf history.now.processes) entries.now }
     ensures led { IfOk result (IsLed history.now.processes marks.now failed.now entries.now) }
-    ensures fault { IfErr result (λ fault.
-        IsFirstWrong history.now.processes marks.now failed.now entries.now fault.entry
+    ensures fault { IfErr result (λ fault. (line : List Choice)
+        → HasShape history.now.processes marks.now failed.now entries.now line
+        → IsFirstFault history.now.processes marks.now failed.now entries.now line fault.entry
         fault.code) }
 {
     // Its limits bound the number of entries that are right.
@@ -95,22 +98,6 @@ fn is_same(a: &Line, b: &Line) -> bool
     ensures { IsTrue result ↔ (a.now ≡ b.now) }
 {
     a == b
-}
-
-/// Tests the line against the ceilings that all entries lead to.
-fn check_end(history: &History, ceilings: &Line, line: &Line) -> Result<(), FaultCode>
-    requires { IsLine history.now.processes line.now }
-    ensures right { IsOk result
-        ↔ ((ceilings.now ≡ line.now) × IsConsistent history.now.processes line.now) }
-    ensures fault { IfErr result (IsEndFault history.now.processes ceilings.now line.now) }
-{
-    if !is_same(ceilings, line) {
-        return Err(FaultCode::LineDiffers);
-    }
-    if !is_consistent(history, line) {
-        return Err(FaultCode::NotConsistent);
-    }
-    Ok(())
 }
 
 /// A fault of the claim, and of none of its entries.
@@ -152,8 +139,11 @@ pub fn check_certificate(
         return Err(of_no_entry(FaultCode::BadShape));
     }
     let ceilings = follow(history, marks, failed, certificate)?;
-    if let Err(code) = check_end(history, &ceilings, line) {
-        return Err(of_no_entry(code));
+    if !is_same(&ceilings, line) {
+        return Err(of_no_entry(FaultCode::LineDiffers));
+    }
+    if !is_consistent(history, line) {
+        return Err(of_no_entry(FaultCode::NotConsistent));
     }
     Ok(())
 }

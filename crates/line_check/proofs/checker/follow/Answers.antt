@@ -4,6 +4,7 @@ use Rattle.std.proofs.lemmas.Option.{slice_get_read}
 use Rattle.line_names.specs.declared.choices.Choice.{Choice}
 use Rattle.line_tape.specs.Chain.{lowered, IsLed}
 use Rattle.line_tape.proofs.LedLemmas.{IsLine-led}
+use Rattle.line_check.specs.Verdict.{wrong_entry}
 use Rattle.line_check.proofs.FollowLemmas.{few-led, led-more}
 use Rattle.line_check.proofs.checker.follow.Goals as goal
 
@@ -16,13 +17,9 @@ overflow_cast-result c =
     omega (arith, few-led c.args.history.now.processes c.args.marks.now c.args.failed.now c.args.entries.now c.loop-k.k c.loop-k.ceilings c.loop-k.auto.k-end c.n-n.ensures.limits c.loop-k.invariant, c.n-n.ensures.limits.few)
 
 pub returns-in-Err-clause-fault : goal.returns-in-Err-clause-fault
-returns-in-Err-clause-fault c = record {
-  ceilings = c.loop-k.ceilings;
-  entry = c.index-entries-k.result;
-  before = c.loop-k.invariant;
-  here = slice_get_read c.args.entries.now _ c.loop-k.k c.index-entries-k.result refl c.loop-k-test.true c.index-entries-k.is;
-  wrong = c.in-Err.ensures.fault;
-}
+returns-in-Err-clause-fault c = λ line shape.
+    wrong_entry c.loop-k.k c.index-entries-k.result c.loop-k.ceilings c.in-Err.code shape c.loop-k.invariant
+    (slice_get_read c.args.entries.now _ c.loop-k.k c.index-entries-k.result refl c.loop-k-test.true c.index-entries-k.is) c.in-Err.ensures.fault
 
 after : (c : goal.After-set) → c.set.new.self ≡ lowered c.args.history.now.processes c.args.marks.now c.args.failed.now c.loop-k.ceilings c.index-entries-k.result.at
 after c = cc
