@@ -43,12 +43,12 @@ marked_seeing : (a c : PostView) (seen : List (List Parcel)) (from round : ℕ) 
 marked_seeing a c seen from round true h = record { bare = h.bare; forced_is = h.forced_is; new_is = h.new_is }
 marked_seeing a c seen from round false h = record { bare = h.bare; forced_is = h.forced_is; new_is = h.new_is }
 
-met_seeing : (a c : PostView) (seen : List (List Parcel)) (from : ℕ) → HasMetMarker (seeing a seen) from c → HasMetMarker a from c
-met_seeing a c seen from (round, inl (forced, h)) = (round, inl (forced, marked_seeing a c seen from round forced h))
-met_seeing a c seen from (round, inr h) = (round, inr h)
-
 may_seeing : (a : PostView) (seen : List (List Parcel)) (from : ℕ) → MayReceive (seeing a seen) from [] → MayReceive a from []
 may_seeing a seen from h = record { process = h.process; other = h.other; short = h.short }
+
+met_seeing : (a c : PostView) (seen : List (List Parcel)) (from : ℕ) → HasMetMarker (seeing a seen) from c → HasMetMarker a from c
+met_seeing a c seen from (may, round, inl (forced, h)) = (may_seeing a seen from may, round, inl (forced, marked_seeing a c seen from round forced h))
+met_seeing a c seen from (may, round, inr h) = (may_seeing a seen from may, round, inr h)
 
 wait_seeing : (a c : PostView) (seen : List (List Parcel)) (order : Order) → HasToWait (seeing a seen) order c → HasToWait a order c
 wait_seeing a c seen (Send to body) (may, full) = (record { process = may.process; other = may.other; few = may.few }, full)

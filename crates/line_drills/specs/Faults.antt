@@ -16,7 +16,7 @@ use Rattle.line_posts.specs.declared.refusals.ReceiveWhy.TheVariants.{NothingThe
 use Rattle.line_posts.specs.declared.refusals.ReceiveWhy.TheVariants.{RingFull as take_ring}
 use Rattle.line_posts.specs.Posts.{PostView, IsPost}
 use Rattle.line_posts.specs.Receipts.{HasMarked, HasOnlySeen}
-use Rattle.line_posts.specs.Refusals.{IsNotReceived, IsNotSent}
+use Rattle.line_posts.specs.Refusals.{IsNotReceived, IsNotSent, MayReceive}
 use Rattle.line_drills.specs.declared.orders.Order.{Order}
 use Rattle.line_drills.specs.declared.orders.Order.TheVariants.{Send, Receive, Check}
 use Rattle.line_drills.specs.declared.refusals.DrillError.{DrillError}
@@ -69,14 +69,15 @@ stored_by (Send to body) = []
 stored_by (Receive from) = []
 stored_by (Check state) = state
 
--- a marker came from process q: the worker took it, or only looked, and sees it next
+-- the worker may receive from process q, and a marker came from there: it took the marker, or only
+-- looked, and sees it next
 abbrev pub HasMetMarker : PostView → ℕ → PostView → Type 0
-HasMetMarker old q new = (round : ℕ)
+HasMetMarker old q new = MayReceive old q [] × (round : ℕ)
     × (((forced : Bool) × HasMarked old q [] round forced new)
     ⊎ ((rest : List Parcel) × (row_at new.seen q ≡ Marker round ∷ rest) × HasOnlySeen old new))
 
--- an order waits: the ring for its message is full; or there is nothing to receive, or a marker
--- while a ring is full on which a marker is to go
+-- an order has to wait: the ring that it sends on is full; or the ring that it receives from shows
+-- nothing, or a marker that forces a check while one of the worker's own rings is full
 abbrev pub HasToWait : PostView → Order → PostView → Type 0
 HasToWait old (Send to body) new = IsNotSent old to RingFull
 HasToWait old (Receive from) new = IsNotReceived old (row_at new.seen from) from [] NothingThere

@@ -31,7 +31,7 @@ returns-in-Ok-Marked-clause-cause c =
     let old = c.args.post.now in
     let new = c.receive.new.self in
     let marked = subst (λ (r : Received). HasReceived old c.args.from c.of.result r new) c.in-Ok-Marked.field-0-is c.in-Ok-Marked.ensures.ok in
-    (c.args.from, refl, marker_taken old new c.args.from c.in-Ok-Marked.field-0-0 c.of.result c.in-Ok-Marked.field-0-1 (c.of.ensures ∙ c.new.ensures.items) marked)
+    (c.args.from, refl, marker_taken old new c.args.from c.in-Ok-Marked.field-0-0 c.of.result c.in-Ok-Marked.field-0-1 (c.of.ensures ∙ c.new.ensures.items) c.in-Ok-Marked.ensures.may marked)
 
 pub returns-else-is_full-clause-cause : goal.returns-else-is_full-clause-cause
 returns-else-is_full-clause-cause c =
@@ -39,4 +39,4 @@ returns-else-is_full-clause-cause c =
     let new = c.receive.new.self in
     let few = subst (λ (n : ℕ). n < MOST_EVENTS) (c.len.ensures.value ∙ ap length c.tape.ensures.value) c.if-is_full.false in
     let full = subst (λ (why : ReceiveWhy). IsNotReceived old (row_at new.seen c.args.from) c.args.from c.of.result why) c.in-TapeFull.is c.in-Err.ensures.why in
-    (c.args.from, refl, marker_seen old new c.args.from c.of.result full few c.in-Err.ensures.err)
+    (c.args.from, refl, marker_seen old new c.args.from c.of.result (c.of.ensures ∙ c.new.ensures.items) full few c.in-Err.ensures.err)
