@@ -2,35 +2,47 @@
 ghost use Rattle.std.specs.Prelude.{◌≡◌};
 ghost use Rattle.line_drills.specs.Faults.{name_of, of_no_order, of_order};
 
-use line_posts::FleetError;
-use std::error::Error;
+use line_posts::{FleetError, MOST_CAPACITY, MOST_WORKERS};
+use line_tape::MOST_STATE;
 use std::fmt;
+use thiserror::Error;
 
 /// Why a drill did not end well.
-#[derive(Clone, Copy, Debug, PartialEq, Eq, Hash)]
+#[derive(Clone, Copy, Debug, PartialEq, Eq, Hash, Error)]
 pub enum DrillWhy {
-    /// Out of memory.
-    OutOfMemory,
+    /// Memory was refused.
+    #[error("out of memory")]
+    OutOfMemory = 0,
     /// The number is not below the number of processes.
-    NoSuchProcess,
-    /// The tape is full.
-    TapeFull,
-    /// The state is longer than 4,096 bytes.
-    StateTooLong,
-    /// The number of scripts is not from 1 to 64.
-    BadCount,
+    #[error("the number is not below the number of processes")]
+    NoSuchProcess = 1,
+    /// The tape has as many events as a tape may have.
+    #[error("the tape is full")]
+    TapeFull = 3,
+    /// The state is longer than a check may store.
+    #[error("the state is longer than {MOST_STATE} bytes")]
+    StateTooLong = 5,
+    /// The number of scripts is not from 1 to `MOST_WORKERS`.
+    #[error("the number of scripts is not from 1 to {MOST_WORKERS}")]
+    BadCount = 6,
     /// A process exchanges nothing with itself.
-    ToSelf,
+    #[error("a process exchanges nothing with itself")]
+    ToSelf = 17,
     /// A drill has no rounds, and a marker came.
-    WrongMode,
+    #[error("a drill has no rounds, and a marker came")]
+    WrongMode = 22,
     /// The gate did not open within the turns.
-    HeldOut,
+    #[error("the gate did not open within the turns")]
+    HeldOut = 29,
     /// No free slot and no message came within the turns.
-    WaitedOut,
-    /// The capacity is not from 1 to 1,024.
-    BadCapacity,
+    #[error("no free slot and no message came within the turns")]
+    WaitedOut = 30,
+    /// The capacity is not from 1 to `MOST_CAPACITY`.
+    #[error("the capacity is not from 1 to {MOST_CAPACITY}")]
+    BadCapacity = 31,
     /// A thread could not be started.
-    NoThread,
+    #[error("a thread could not be started")]
+    NoThread = 39,
 }
 
 impl DrillWhy {
@@ -48,19 +60,7 @@ impl DrillWhy {
         ensures capacity { self ≡ DrillWhy.BadCapacity → result ≡ 31 }
         ensures thread { self ≡ DrillWhy.NoThread → result ≡ 39 }
     {
-        match self {
-            DrillWhy::OutOfMemory => 0,
-            DrillWhy::NoSuchProcess => 1,
-            DrillWhy::TapeFull => 3,
-            DrillWhy::StateTooLong => 5,
-            DrillWhy::BadCount => 6,
-            DrillWhy::ToSelf => 17,
-            DrillWhy::WrongMode => 22,
-            DrillWhy::HeldOut => 29,
-            DrillWhy::WaitedOut => 30,
-            DrillWhy::BadCapacity => 31,
-            DrillWhy::NoThread => 39,
-        }
+        self as u32
     }
 
     /// The name that stands beside the number.
@@ -83,34 +83,30 @@ impl DrillWhy {
     }
 }
 
-impl fmt::Display for DrillWhy {
-    fn fmt<W: fmt::Write>(&self, f: &mut fmt::Formatter<W>) -> fmt::Result {
-        f.write_str(match self {
-            DrillWhy::OutOfMemory => "out of memory",
-            DrillWhy::NoSuchProcess => "the number is not below the number of processes",
-            DrillWhy::TapeFull => "the tape is full",
-            DrillWhy::StateTooLong => "the state is longer than 4,096 bytes",
-            DrillWhy::BadCount => "the number of scripts is not from 1 to 64",
-            DrillWhy::ToSelf => "a process exchanges nothing with itself",
-            DrillWhy::WrongMode => "a drill has no rounds, and a marker came",
-            DrillWhy::HeldOut => "the gate did not open within the turns",
-            DrillWhy::WaitedOut => "no free slot and no message came within the turns",
-            DrillWhy::BadCapacity => "the capacity is not from 1 to 1,024",
-            DrillWhy::NoThread => "a thread could not be started",
-        })
-    }
-}
-
-impl Error for DrillWhy {}
-
 /// Why a drill did not end well, and at which order of which worker. Neither is named where the
 /// fault is of no order.
-#[derive(Clone, Copy, Debug, PartialEq, Eq)]
+#[derive(Clone, Copy, Debug, PartialEq, Eq, Error)]
+#[error(fmt = write_fault)]
 pub struct DrillError {
     pub worker: Option<u32>,
     /// The place of the order in the worker's script, from 0.
     pub order: Option<u32>,
     pub why: DrillWhy,
+}
+
+// Writes the number and the name of the fault, after the order that it is of, if it is of one.
+fn write_fault<W: fmt::Write>(
+    worker: &Option<u32>,
+    order: &Option<u32>,
+    why: &DrillWhy,
+    f: &mut fmt::Formatter<W>,
+) -> fmt::Result {
+    let code = why.code();
+    let name = why.name();
+    match (worker, order) {
+        (Some(p), Some(k)) => write!(f, "worker {p} order {k}: {code} {name}"),
+        _ => write!(f, "{code} {name}"),
+    }
 }
 
 /// A fault of no order.
@@ -134,19 +130,6 @@ pub(crate) fn of_order(p: u32, k: u32, why: DrillWhy) -> DrillError
         why,
     }
 }
-
-impl fmt::Display for DrillError {
-    fn fmt<W: fmt::Write>(&self, f: &mut fmt::Formatter<W>) -> fmt::Result {
-        let code = self.why.code();
-        let name = self.why.name();
-        match (self.worker, self.order) {
-            (Some(p), Some(k)) => write!(f, "worker {p} order {k}: {code} {name}"),
-            _ => write!(f, "{code} {name}"),
-        }
-    }
-}
-
-impl Error for DrillError {}
 
 impl From<FleetError> for DrillError {
     ghost use Rattle.std.specs.Prelude.{◌≡◌};

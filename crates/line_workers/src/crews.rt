@@ -4,11 +4,11 @@ ghost use Rattle.line_posts.specs.Collected.{HasCollectedMore};
 ghost use Rattle.line_posts.specs.Generations.{AreLined, AreSamePosts, IsGeneration, IsSamePost};
 
 use line_posts::{Collector, Post};
-use std::error::Error;
 use std::snapshot::Snapshot;
 use std::sync::Wait;
+use std::thread;
 use std::thread::{Promise, PromisedHandle, Scope, Threads};
-use std::{fmt, thread};
+use thiserror::Error;
 
 /// What workers and their collector do in their threads.
 ///
@@ -26,16 +26,9 @@ pub trait Work: Sync {
 }
 
 /// A thread could not be started.
-#[derive(Clone, Copy, Debug, PartialEq, Eq)]
+#[derive(Clone, Copy, Debug, PartialEq, Eq, Error)]
+#[error("a thread could not be started")]
 pub struct NoThread;
-
-impl fmt::Display for NoThread {
-    fn fmt<W: fmt::Write>(&self, f: &mut fmt::Formatter<W>) -> fmt::Result {
-        f.write_str("a thread could not be started")
-    }
-}
-
-impl Error for NoThread {}
 
 /// The worker that comes back has the rings of the one that went.
 #[derive(Drop)]

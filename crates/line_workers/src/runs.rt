@@ -11,33 +11,23 @@ use crate::crews::{NoThread, Work, run_crew};
 use line_names::ProcSet;
 use line_posts::{FleetError, GatherWhy, Gathered, MOST_CAPACITY, MOST_WORKERS, fleet, gather};
 use std::alloc::Global;
-use std::error::Error;
-use std::fmt;
 use std::sync::Wait;
 use std::thread::Threads;
+use thiserror::Error;
 
 /// Why a run came to no gathered history.
-#[derive(Clone, Copy, Debug, PartialEq, Eq)]
+#[derive(Clone, Copy, Debug, PartialEq, Eq, Error)]
 pub enum RunError {
     /// There is no fleet.
+    #[error(transparent)]
     Fleet(FleetError),
     /// A thread could not be started.
+    #[error("a thread could not be started")]
     NoThread,
     /// Nothing was gathered.
+    #[error(transparent)]
     Gather(GatherWhy),
 }
-
-impl fmt::Display for RunError {
-    fn fmt<W: fmt::Write>(&self, f: &mut fmt::Formatter<W>) -> fmt::Result {
-        match self {
-            RunError::Fleet(why) => write!(f, "{why}"),
-            RunError::NoThread => f.write_str("a thread could not be started"),
-            RunError::Gather(why) => write!(f, "{why}"),
-        }
-    }
-}
-
-impl Error for RunError {}
 
 impl From<FleetError> for RunError {
     ghost use Rattle.std.specs.Prelude.{◌≡◌};
