@@ -6,10 +6,14 @@ ghost use Rattle.line_tape.specs.Fit.{IsFitFifo};
 ghost use Rattle.line_tape.specs.History.{incarnation_at};
 ghost use Rattle.line_tape.specs.Views.{no_marks};
 ghost use Rattle.line_posts.specs.declared.refusals.GatherWhy.{GatherWhy};
+ghost use Rattle.line_posts.specs.Extension.{Extends};
+ghost use Rattle.line_posts.specs.Generations.{AreLined, AreWhole, IsGeneration};
 
 use crate::crews::{NoThread, Work, run_crew};
 use line_names::ProcSet;
-use line_posts::{FleetError, GatherWhy, Gathered, MOST_CAPACITY, MOST_WORKERS, fleet, gather};
+use line_posts::{
+    Collector, FleetError, GatherWhy, Gathered, MOST_CAPACITY, MOST_WORKERS, Post, fleet, gather,
+};
 use std::alloc::Global;
 use std::sync::Wait;
 use std::thread::Threads;
@@ -51,6 +55,27 @@ impl From<NoThread> for RunError {
     }
 }
 
+/// Gathers what a generation did of which nobody failed.
+fn gather_all(collector: Collector, posts: Vec<Post>) -> Result<Gathered, GatherWhy>
+    requires generation { IsGeneration posts.items }
+    requires lines { AreLined collector posts.items }
+    ensures fit { IfOk result (λ gathered. IsFitFifo gathered.processes) }
+    ensures failed { IfOk result (λ gathered. gathered.failed ≡ nobody) }
+    ensures onward { IfOk result (λ gathered. Extends gathered.processes collector.processes) }
+    ensures marks { IfOk result (λ gathered. gathered.marks ≡ collector.marks) }
+    ensures slots { IfOk result (λ gathered. gathered.capacity ≡ collector.capacity) }
+    ensures why { IfErr result (λ why. AreWhole collector posts.items
+        → why ≡ GatherWhy.OutOfMemory) }
+{
+    match gather(collector, posts, ProcSet::empty()) {
+        Ok(gathered) => {
+            let _fit = gathered.history();
+            Ok(gathered)
+        }
+        Err(refused) => Err(refused.why),
+    }
+}
+
 /// A generation of `n` workers with rings of this capacity: it is opened, all do their work, each
 /// in a thread of its own, and what they did is gathered, nobody having failed.
 pub fn run<W: Work, R: Threads + Wait + Sync>(
@@ -78,11 +103,8 @@ pub fn run<W: Work, R: Threads + Wait + Sync>(
 {
     let (collector, posts) = fleet(alloc, n, capacity)?;
     let (collector, posts) = run_crew(rt, work, collector, posts)?;
-    match gather(collector, posts, ProcSet::empty()) {
-        Ok(gathered) => {
-            let _fit = gathered.history();
-            Ok(gathered)
-        }
-        Err(refused) => Err(RunError::Gather(refused.why)),
+    match gather_all(collector, posts) {
+        Ok(gathered) => Ok(gathered),
+        Err(why) => Err(RunError::Gather(why)),
     }
 }
