@@ -1,8 +1,8 @@
 //! Which sends to look at.
-ghost use Rattle.std.specs.Prelude.{◌≡◌, ◌<◌, ◌≤◌, ℕ, length, IfOk};
+ghost use Rattle.std.specs.Prelude.{◌≡◌, ◌<◌, ◌≤◌, ℕ, true, length, IfOk};
 ghost use Rattle.line_tape.specs.History.{tape_at};
 ghost use Rattle.line_tape.specs.Line.{IsLine};
-ghost use Rattle.line_catalogue.specs.Left.{events_between, place_at, AreCandidates};
+ghost use Rattle.line_catalogue.specs.Left.{events_between, place_at, start_at, AreCandidates};
 
 use crate::numbers::{Numbers, add_names, add_receipts, empty_rows};
 use line_names::{Choice, Line, MsgName, ProcId};
@@ -24,9 +24,21 @@ fn events_between<'a>(history: &'a History, line: &Line, q: ProcId, kept: u32) -
         .behind(place as usize)
 }
 
+/// Whether no process has a send before its end.
+fn are_none(ends: &[u32]) -> bool
+    ensures { result ≡ true → (p : ℕ) → start_at ends.now p ≡ 0 }
+{
+    for end in ends {
+        if *end != 0 {
+            return false;
+        }
+    }
+    true
+}
+
 /// For each process the numbers of sends to look at among as many first ones as its end tells: of
 /// what was kept, and of what is received after the line, but before what was kept. All others are
-/// looked at one by one.
+/// looked at one by one. Where all ends are 0 there are none, and no event is walked.
 pub fn candidates(
     history: &History,
     ends: &[u32],
@@ -43,6 +55,9 @@ pub fn candidates(
 {
     let n = history.n();
     let mut rows = empty_rows(alloc, n)?;
+    if are_none(ends) {
+        return Ok(rows);
+    }
     add_names(left, ends, &mut rows)?;
     for receiver in 0..n {
         let q = ProcId::try_new(receiver, n).unwrap();
