@@ -2,7 +2,7 @@
 use Rattle.std.proofs.Common.{◌≡◌, ℕ, zero, suc, ◌+◌, ◌<◌, ◌≤◌, Bool, true, false, not, cond, List, [], ◌∷◌, ◌++◌, length, take, drop, get_or, map, filter, Some, refl, replicate, sym, ap, ◌∙◌, subst, arith, inl, inr}
 use Rattle.std.specs.List.{Contains, slice_get, flat_map, list_any, range_with_len}
 use Rattle.std.proofs.lemmas.Bool.{cases_lt, false≢true}
-use Rattle.std.proofs.lemmas.List.{take-append-drop, take-append-le, take-take, take_all, length-append, length-set, length-replicate, get_or-replicate}
+use Rattle.std.proofs.lemmas.List.{take-append-drop, take-append-le, take-take, take_all, length-append, length-set, length-take, length-replicate, get_or-replicate, get_or-take}
 use Rattle.std.proofs.lemmas.List.Elements.{filter_map-append, Contains-append_cases, Contains-append_left, Contains-append_right, Contains-push}
 use Rattle.std.proofs.lemmas.Option.{slice_get_within}
 use Rattle.line_names.specs.declared.choices.Choice.{Choice}
@@ -30,7 +30,7 @@ use Rattle.line_tape.proofs.ReceivedLemmas.{length-letters}
 use Rattle.line_tape.proofs.SpentLemmas.{tape_grows, incs_restarted, length_restarted}
 use Rattle.line_tape.proofs.StayLemmas.{names_restarted}
 use Rattle.line_tape.proofs.TransitLemmas.{letter_of, has_received-iff, names_contain}
-use Rattle.line_catalogue.specs.Left.{place_at, start_at, numbers_at, AreEnds, AreLeft, AreCandidates, HasOpen}
+use Rattle.line_catalogue.specs.Left.{open_first, place_at, start_at, numbers_at, AreEnds, AreLeft, AreCandidates, AreSettled, HasOpen, HaveLeft}
 use Rattle.line_catalogue.proofs.OpenLemmas.{letter_at}
 
 -- what is left and what is received behind the line, but before its place, is enough to look at
@@ -157,6 +157,19 @@ sender-within history line starts p k are low = elim (cases_lt p (length history
   | inr past ↦ absurd (omega (arith, low, are, ap (λ (es : List Event). sends es) (past-empty history line p (omega arith))))
 ]
 
+-- a message that was sent stands before the line, where its number does
+sent-front : (history : List Process) (line : List Choice) (q : ℕ) (m : MsgName) → IsSentTo history q m → m.number < sends (events_before history line m.from)
+    → (slice_get (incarnations_sent (events_before history line m.from)) m.number ≡ Some m.inc) × (slice_get (addressees (events_before history line m.from)) m.number ≡ Some q)
+sent-front history line q m sent low =
+    let tape : List Event = tape_at history m.from in
+    let n : ℕ = place tape (choice_at line m.from) in
+    let short : m.number < length (incarnations_sent (take n tape)) = omega (arith, low) in
+    let incs : incarnations_sent tape ≡ incarnations_sent (take n tape) ++ incarnations_sent (drop n tape) = ap incarnations_sent (sym (take-append-drop n tape)) ∙ filter_map-append incarnation_of (take n tape) (drop n tape) in
+    let tos : addressees tape ≡ addressees (take n tape) ++ addressees (drop n tape) = ap addressees (sym (take-append-drop n tape)) ∙ filter_map-append addressee_of (take n tape) (drop n tape) in (
+      slice_get_front (incarnations_sent (take n tape)) (incarnations_sent (drop n tape)) m.number m.inc short (ap (λ (xs : List ℕ). slice_get xs m.number) (sym incs) ∙ sent.held),
+      slice_get_front (addressees (take n tape)) (addressees (drop n tape)) m.number q (omega (arith, short, length_addressees (take n tape))) (ap (λ (xs : List ℕ). slice_get xs m.number) (sym tos) ∙ sent.to_is),
+    )
+
 -- what is in transit at any line is enough to be left, with the sends behind it
 pub AreLeft-line : (history : List Process) (line : List Choice) (starts places : List ℕ) → length starts ≡ length history → length places ≡ length history → ((p : ℕ) → start_at starts p ≡ sends (events_before history line p)) → ((p : ℕ) → place_at places p ≡ place (tape_at history p) (choice_at line p)) → AreLeft history starts places (in_transit history line)
 AreLeft-line history line starts places count places_count are at =
@@ -166,17 +179,53 @@ AreLeft-line history line starts places count places_count are at =
       placed = λ p. omega (arith, at p, place_le (tape_at history p) (choice_at line p));
       within = λ p. omega (arith, are p, sends_take (tape_at history p) (place (tape_at history p) (choice_at line p)));
       held = λ q m sent low unseen.
-          let tape : List Event = tape_at history m.from in
-          let n : ℕ = place tape (choice_at line m.from) in
           let mine : List Event = tape_at history q in
-          let k : ℕ = place mine (choice_at line q) in
-          let short : m.number < length (incarnations_sent (take n tape)) = omega (arith, low, are m.from) in
-          let incs : incarnations_sent tape ≡ incarnations_sent (take n tape) ++ incarnations_sent (drop n tape) = ap incarnations_sent (sym (take-append-drop n tape)) ∙ filter_map-append incarnation_of (take n tape) (drop n tape) in
-          let tos : addressees tape ≡ addressees (take n tape) ++ addressees (drop n tape) = ap addressees (sym (take-append-drop n tape)) ∙ filter_map-append addressee_of (take n tape) (drop n tape) in
-          let i : slice_get (incarnations_sent (take n tape)) m.number ≡ Some m.inc = slice_get_front (incarnations_sent (take n tape)) (incarnations_sent (drop n tape)) m.number m.inc short (ap (λ (xs : List ℕ). slice_get xs m.number) (sym incs) ∙ sent.held) in
-          let a : slice_get (addressees (take n tape)) m.number ≡ Some q = slice_get_front (addressees (take n tape)) (addressees (drop n tape)) m.number q (omega (arith, short, length_addressees (take n tape))) (ap (λ (xs : List ℕ). slice_get xs m.number) (sym tos) ∙ sent.to_is) in
-          let unread : has_received (take k mine) m ≡ false = ap (λ (j : ℕ). has_received (take j mine) m) (sym (at q)) ∙ unseen in
-          in-transit history line q m (sender-within history line starts m.from m.number (are m.from) low) i a unread;
+          let front = sent-front history line q m sent (omega (arith, low, are m.from)) in
+          let unread : has_received (events_before history line q) m ≡ false = ap (λ (j : ℕ). has_received (take j mine) m) (sym (at q)) ∙ unseen in
+          in-transit history line q m (sender-within history line starts m.from m.number (are m.from) low) front.0 front.1 unread;
+    }
+
+-- a message that is sent before the line and not received before it is in transit among as many first ones
+in-first : (history : List Process) (line : List Choice) (q : ℕ) (m : MsgName) (k : ℕ) → m.number < k → slice_get (incarnations_sent (events_before history line m.from)) m.number ≡ Some m.inc → slice_get (addressees (events_before history line m.from)) m.number ≡ Some q
+    → has_received (events_before history line q) m ≡ false → Contains (open_first history line m.from k) m
+in-first history line q m k low i a unseen =
+    let before : List Event = events_before history line m.from in
+    let all : List Letter = letters m.from 0 before in
+    let letter : Letter = record { message = m; to = q } in
+    let number : 0 + m.number ≡ m.number = omega arith in
+    let at : get_or all m.number letter ≡ letter = letter_at m.from 0 before m.number m.inc q letter i a ∙ ap (λ j. letter_of m.from m.inc j q) number in
+    let within : m.number < length all = omega (arith, length-letters m.from 0 before, slice_get_within (incarnations_sent before) m.number m.inc i) in
+    let short : m.number < length (take k all) = omega (arith, low, within, length-take k all) in
+    let first : get_or (take k all) m.number letter ≡ letter = get_or-take k all m.number letter low ∙ at in
+    let passes : is_open history line letter ≡ true = ap not unseen in
+    in_map (λ (letter : Letter). letter.message) (filter (is_open history line) (take k all)) letter (in_filter (is_open history line) (take k all) letter passes (m.number, short, first))
+
+-- what is in transit of a process is all that is left of it
+pub have-open : (history : List Process) (line : List Choice) (p : ℕ) (before : List MsgName) → HaveLeft history line p (sends (events_before history line p)) (before ++ open_first history line p (sends (events_before history line p)))
+have-open history line p before = λ q m from low sent unseen.
+    let k : ℕ = sends (events_before history line p) in
+    let front = sent-front history line q m sent (subst (λ j. m.number < sends (events_before history line j)) (sym from) low) in
+    Contains-append_right before (open_first history line p k) m (subst (λ j. Contains (open_first history line j k) m) from (in-first history line q m k low front.0 front.1 unseen))
+
+-- nothing is sent by a process that there isn't
+sender-before : (history : List Process) (line : List Choice) (p k : ℕ) → k < sends (events_before history line p) → p < length history
+sender-before history line p k low = elim (cases_lt p (length history)) [
+  | inl h ↦ h
+  | inr past ↦ absurd (omega (arith, low, ap (λ (es : List Event). sends es) (past-empty history line p (omega arith))))
+]
+
+-- what has settled at a line is enough to be left, with the sends behind the starts
+pub AreLeft-settled : (history : List Process) (line : List Choice) (starts places : List ℕ) (left : List MsgName) → AreSettled history line starts left → length places ≡ length history → ((p : ℕ) → place_at places p ≡ place (tape_at history p) (choice_at line p)) → AreLeft history starts places left
+AreLeft-settled history line starts places left are places_count at =
+    record {
+      count = are.count;
+      places_count = places_count;
+      placed = λ p. omega (arith, at p, place_le (tape_at history p) (choice_at line p));
+      within = λ p. omega (arith, are.before p, sends_take (tape_at history p) (place (tape_at history p) (choice_at line p)));
+      held = λ q m sent low unseen.
+          let mine : List Event = tape_at history q in
+          let unread : has_received (events_before history line q) m ≡ false = ap (λ (j : ℕ). has_received (take j mine) m) (sym (at q)) ∙ unseen in
+          are.held m.from (sender-before history line m.from m.number (omega (arith, low, are.before m.from))) q m refl low sent unread;
     }
 
 -- after a restart what was in transit at the line is left to look at, from where the tapes go on

@@ -3,7 +3,7 @@ use Rattle.std.proofs.Common.{◌≡◌, ℕ, zero, suc, ◌+◌, ◌<◌, ◌�
 use Rattle.std.specs.List.{Contains, slice_get}
 use Rattle.std.specs.List.Sorted.{IsNonDecreasing}
 use Rattle.std.proofs.lemmas.Bool.{cases_lt}
-use Rattle.std.proofs.lemmas.List.{append-nil, take-append-drop, take_more, map-append, get_or_default}
+use Rattle.std.proofs.lemmas.List.{append-nil, take-append-drop, take_all, take_more, map-append, get_or_default}
 use Rattle.std.proofs.lemmas.List.Elements.{filter_map-append, filter-append}
 use Rattle.std.proofs.lemmas.Option.{same_Some, slice_get_within, slice_get-get_or}
 use Rattle.line_names.specs.declared.choices.Choice.{Choice}
@@ -15,7 +15,7 @@ use Rattle.line_tape.specs.Fit.{IsSentTo}
 use Rattle.line_tape.specs.Front.{place}
 use Rattle.line_tape.specs.History.{Process, tape_at}
 use Rattle.line_tape.specs.Line.{events_before}
-use Rattle.line_tape.specs.Transit.{Letter, letters, is_open, has_received, addressee_of, addressees}
+use Rattle.line_tape.specs.Transit.{Letter, letters, is_open, open_letters, has_received, addressee_of, addressees}
 use Rattle.line_tape.proofs.CopyLemmas.{length_addressees, slice_get_front}
 use Rattle.line_tape.proofs.FrontLemmas.{slice_get-append_left}
 use Rattle.line_tape.proofs.ReceivedLemmas.{length-letters}
@@ -123,3 +123,10 @@ none_between row end index a b sorted passed low next k above below (j, within, 
       ]
       | inr later ↦ omega (arith, sorted index j 0 (omega arith) within, next (omega (arith, within)), is, below)
     ]
+
+-- of all its messages, those that are in transit
+pub open-all : (history : List Process) (line : List Choice) (p : ℕ) → open_first history line p (sends (events_before history line p)) ≡ map (λ (letter : Letter). letter.message) (open_letters history line p)
+open-all history line p =
+    let before : List Event = events_before history line p in
+    let all : List Letter = letters p 0 before in
+    ap (λ (xs : List Letter). map (λ (letter : Letter). letter.message) (filter (is_open history line) xs)) (take_all (sends before) all (omega (arith, length-letters p 0 before)))

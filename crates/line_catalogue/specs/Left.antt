@@ -77,3 +77,19 @@ abbrev pub open_first : List Process → List Choice → ℕ → ℕ → List Ms
 open_first history line p k =
     map (λ (letter : Letter). letter.message)
     (filter (is_open history line) (take k (letters p 0 (events_before history line p))))
+
+-- the messages have all that process p sent among its first k ones and isn't received before the
+-- line
+abbrev pub HaveLeft : List Process → List Choice → ℕ → ℕ → List MsgName → Type 0
+HaveLeft history line p k messages =
+    (q : ℕ) (message : MsgName) → message.from ≡ p → message.number < k
+    → IsSentTo history q message
+    → has_received (events_before history line q) message ≡ false → Contains messages message
+
+-- for each process a start before the line, and all that was sent before it and isn't received
+-- before the line is left
+pub record AreSettled (history : List Process) (line : List Choice) (starts : List ℕ)
+    (left : List MsgName) : Type 0 where
+  pub count : length starts ≡ length history
+  pub before : (p : ℕ) → start_at starts p ≤ sends (events_before history line p)
+  pub held : (p : ℕ) → p < length history → HaveLeft history line p (start_at starts p) left

@@ -17,6 +17,9 @@ use std::alloc::{AllocError, Global};
 // So many events are walked at most for each send that may be marked: less work than to ask of it.
 const EVENTS_FOR_A_SEND: u64 = 8;
 
+// So many sends may be marked at most for each event that is walked: others are asked of in vain.
+const SENDS_FOR_AN_EVENT: u64 = 8;
+
 /// For each process marks at its sends from its end on that stand before a line. Those of all
 /// processes stand one after another, so that memory is not asked for process by process.
 #[derive(Drop)]
@@ -85,9 +88,10 @@ fn find_starts(
     Ok(starts)
 }
 
-/// Whether the events between the places and the line are few beside the sends to ask of: to walk
-/// them costs less then than to ask, and the time of both goes with the sends.
-fn are_few(history: &History, ends: &[u32], places: &[u32], line: &Line) -> bool
+/// Whether there are events between the places and the line, and neither many nor few beside the
+/// sends to ask of. If they are many, to ask costs less than to walk them; if they are few, most
+/// sends get no mark.
+fn is_worth_walking(history: &History, ends: &[u32], places: &[u32], line: &Line) -> bool
     requires line { IsLine history.now.processes line.now }
     requires count { length ends.now ≡ length history.now.processes }
     requires places { length places.now ≡ length history.now.processes }
@@ -106,7 +110,9 @@ fn are_few(history: &History, ends: &[u32], places: &[u32], line: &Line) -> bool
             .saturating_sub(ends[q as usize]);
         sends = sends.saturating_add(u64::from(asked));
     }
-    events <= sends.saturating_mul(EVENTS_FOR_A_SEND)
+    0 < events
+        && events <= sends.saturating_mul(EVENTS_FOR_A_SEND)
+        && sends <= events.saturating_mul(SENDS_FOR_AN_EVENT)
 }
 
 /// The marks of all processes, none of them set.
@@ -219,7 +225,7 @@ fn mark_receipts(
 
 /// For each process marks at its sends from its end on: whatever is marked is received before the
 /// line. All is marked that the receipts after the places and before the line tell. There are no
-/// marks where the events there are many beside the sends, or where there is no memory for marks.
+/// marks where it is not worth it to walk the events there, or where there is no memory for marks.
 pub fn find_known(
     history: &History,
     ends: &[u32],
@@ -233,7 +239,7 @@ pub fn find_known(
     ensures { AreKnown history.now.processes line.now ends.now
         result.starts.items result.marks.items }
 {
-    if !are_few(history, ends, places, line) {
+    if !is_worth_walking(history, ends, places, line) {
         return Known {
             starts: Vec::new(alloc),
             marks: Vec::new(alloc),

@@ -9,12 +9,14 @@ ghost use Rattle.line_tape.specs.Line.{events_before, IsLine};
 ghost use Rattle.line_tape.specs.Restart.{restarted, HaveFurther};
 ghost use Rattle.line_tape.specs.Transit.{in_transit};
 ghost use Rattle.line_tape.specs.Views.{room_at};
-ghost use Rattle.line_catalogue.specs.Left.{place_at, start_at, AreEnds, AreLeft};
+ghost use Rattle.line_catalogue.specs.Left.{place_at, start_at, AreLeft, AreSettled};
 
 mod appends;
 
 use crate::candidates::candidates;
+use crate::ends::ends_before;
 use crate::known::find_known;
+use crate::settlings::{Settled, find_settled};
 use crate::transits::add_open;
 use line_names::{Choice, Line, MsgName, ProcId};
 use line_tape::{Event, History, MOST_EVENTS};
@@ -24,28 +26,6 @@ use std::marker::Model;
 // How many events come at least between two times that the ledger settles, so that what a settling
 // takes but for the events is little beside them.
 const EVENTS_BETWEEN: usize = 4096;
-
-/// For each process how many of its first sends need no look unless their numbers are told: those
-/// before its start and before the line.
-fn ends_before(
-    history: &History,
-    starts: &[u32],
-    alloc: Global,
-    line: &Line,
-) -> Result<Vec<u32>, AllocError>
-    requires line { IsLine history.now.processes line.now }
-    requires count { length starts.now ≡ length history.now.processes }
-    ensures { IfOk result (λ ends. AreEnds history.now.processes starts.now line.now ends.items) }
-{
-    let n = history.n();
-    let mut ends = Vec::with_capacity(alloc, n as usize)?;
-    for q in 0..n {
-        let p = ProcId::try_new(q, n).unwrap();
-        let sends = history.tape(p).sends_before(line.at(p));
-        ends.push(starts[q as usize].min(sends))?;
-    }
-    Ok(ends)
-}
 
 /// The messages in transit at a line, by sender, then number.
 fn find_transit(
@@ -76,6 +56,7 @@ fn find_transit(
             end,
             &mut rows[sender as usize],
             received.row(sender),
+            None,
             &mut messages,
         )?;
     }
@@ -101,19 +82,19 @@ fn no_starts(alloc: Global, n: u32) -> Result<Vec<u32>, AllocError>
     vec![in alloc; 0; n as usize]
 }
 
-/// How many sends a history has; no more than `u32` holds.
-fn count_sends(history: &History) -> u32 {
+/// How many sends a history has.
+fn count_sends(history: &History) -> usize {
     let n = history.n();
-    let mut sends = 0u32;
+    let mut sends = 0usize;
     for q in 0..n {
         let p = ProcId::try_new(q, n).unwrap();
-        sends = sends.saturating_add(history.tape(p).sends());
+        sends = sends.saturating_add(history.tape(p).sends() as usize);
     }
     sends
 }
 
-/// After how many further events a ledger settles: after as many as it would look at now, which so
-/// have paid for it, and some more.
+/// After how many further events a ledger settles where it keeps a line: after as many as it would
+/// look at now, which so have paid for it, and some more.
 fn events_to_wait(history: &History, starts: &[u32], left: &[MsgName]) -> usize
     requires { length starts.now ≡ length history.now.processes }
 {
@@ -199,6 +180,8 @@ pub struct Ledger {
     alloc: Global,
     // How many further events come before the ledger settles.
     due: usize,
+    // How many sends it may look at then: by then as many events have paid for that.
+    credit: usize,
 }
 
 impl Model for Ledger {
@@ -221,6 +204,7 @@ impl Ledger {
     {
         let starts = no_starts(alloc, history.n())?;
         let places = no_starts(alloc, history.n())?;
+        let credit = count_sends(&history).saturating_add(EVENTS_BETWEEN);
         Ok(Ledger {
             history,
             starts,
@@ -228,6 +212,7 @@ impl Ledger {
             left: Vec::new(alloc),
             alloc,
             due: EVENTS_BETWEEN,
+            credit,
         })
     }
 
@@ -238,27 +223,19 @@ impl Ledger {
         &self.history
     }
 
-    /// Keeps the messages that are in transit now, so that no send before the present line is
-    /// looked at again. It is postponed where memory for it is refused, or where these messages are
-    /// more than an eighth of all sends.
-    ///
-    /// It is a function of its own, since a line is a large value and events come far more often.
-    #[inline(never)]
-    fn settle(&mut self)
+    /// Goes on from where it has settled.
+    fn keep_settled(&mut self, line: &Line, settled: Settled, credit: usize)
+        requires line { IsLine self.old.processes line.now }
+        requires settled { AreSettled self.old.processes line.now settled.starts.items
+            settled.left.items }
         ensures { self.new ≡ self.old }
     {
-        let line = present_line(&self.history);
-        let few = count_sends(&self.history) as usize / 8;
-        match self.transit(self.alloc, &line) {
-            Ok(messages) => {
-                if messages.len() <= few {
-                    self.keep(&line, messages);
-                } else {
-                    self.put_off();
-                }
-            }
-            Err(AllocError) => self.put_off(),
-        }
+        let Settled { starts, left: kept } = settled;
+        move_places(&self.history, line, &mut self.places);
+        self.starts = starts;
+        self.left = kept;
+        self.due = self.left.len().saturating_add(EVENTS_BETWEEN);
+        self.credit = credit.saturating_add(self.due);
     }
 
     /// Has the ledger settle later.
@@ -266,13 +243,42 @@ impl Ledger {
         ensures { self.new ≡ self.old }
     {
         self.due = events_to_wait(&self.history, self.starts.as_slice(), self.left.as_slice());
+        self.credit = self.due;
+    }
+
+    /// Keeps the messages that are in transit now, so that no send before the present line is
+    /// looked at again, but for the senders of whose sends more than an eighth are in transit, and
+    /// for those whose sends are more than it may look at. It is postponed where memory for it is
+    /// refused.
+    ///
+    /// It is a function of its own, since a line is a large value and events come far more often.
+    #[inline(never)]
+    fn settle(&mut self)
+        ensures { self.new ≡ self.old }
+    {
+        let line = present_line(&self.history);
+        let mut credit = self.credit;
+        let found = find_settled(
+            &self.history,
+            self.starts.as_slice(),
+            self.places.as_slice(),
+            self.left.as_slice(),
+            self.alloc,
+            &line,
+            &mut credit,
+        );
+        match found {
+            Ok(settled) => self.keep_settled(&line, settled, credit),
+            Err(AllocError) => self.put_off(),
+        }
     }
 
     /// Makes room for so many further events of a process.
     ///
-    /// Now and then it settles. That looks at what is kept, which is at most the wait; at the sends
-    /// since then, at most twice the wait; and at the events since then, where they are few beside
-    /// these sends. The first time it looks at a history that was handed in.
+    /// Now and then it settles. That looks at what is kept, which is less than the wait; at no more
+    /// sends than events came, all settlings taken together; and at the events since the last one,
+    /// where they are few beside these sends. The first time it looks at a history that was handed
+    /// in.
     pub fn reserve(&mut self, p: ProcId, k: u32) -> Result<(), AllocError>
         requires { p < length self.old.processes }
         ensures same { self.new.processes ≡ self.old.processes }
@@ -339,6 +345,7 @@ impl Ledger {
         move_places(&self.history, line, &mut self.places);
         self.left = messages;
         self.due = events_to_wait(&self.history, self.starts.as_slice(), self.left.as_slice());
+        self.credit = self.due;
     }
 
     /// Goes on from a line, with each send still to be looked at.
@@ -353,6 +360,7 @@ impl Ledger {
         clear_starts(&mut self.places);
         self.left = Vec::new(self.alloc);
         self.due = events_to_wait(&self.history, self.starts.as_slice(), self.left.as_slice());
+        self.credit = self.due;
     }
 
     /// Goes on from a line, with what is in transit there and what is sent from now on to be looked
@@ -369,6 +377,7 @@ impl Ledger {
         set_places(&self.history, &mut self.places);
         self.left = left;
         self.due = events_to_wait(&self.history, self.starts.as_slice(), self.left.as_slice());
+        self.credit = self.due;
     }
 
     /// Has each process go on from its choice of the line. It takes no memory and cannot fail.

@@ -10,6 +10,7 @@ mod additions;
 mod agreement;
 mod candidates;
 mod catalogues;
+mod ends;
 mod kept_rows;
 mod known;
 mod laws;
@@ -17,6 +18,7 @@ mod ledgers;
 mod numbers;
 mod refusals;
 mod rows;
+mod settlings;
 mod tables;
 mod transits;
 

@@ -1,10 +1,11 @@
 //! What is in transit of one process.
-ghost use Rattle.std.specs.Prelude.{◌≡◌, ◌<◌, ◌≤◌, ◌+◌, ◌++◌, ℕ, List, map, length, OnOk};
+ghost use Rattle.std.specs.Prelude.{◌≡◌, ◌<◌, ◌≤◌, ◌+◌, ◌++◌, ℕ, List, false, length, None};
+ghost use Rattle.std.specs.Prelude.{Contains, IfOk, OnOk};
 ghost use Rattle.std.specs.List.Sorted.{IsNonDecreasing};
 ghost use Rattle.line_names.specs.declared.messages.MsgName.{MsgName};
 ghost use Rattle.line_tape.specs.Event.{sends};
 ghost use Rattle.line_tape.specs.Line.{events_before, IsLine};
-ghost use Rattle.line_tape.specs.Transit.{Letter, has_received, open_letters};
+ghost use Rattle.line_tape.specs.Transit.{has_received};
 ghost use Rattle.line_catalogue.specs.Known.{AreReceived};
 ghost use Rattle.line_catalogue.specs.Left.{open_first, HasOpen};
 
@@ -82,8 +83,19 @@ fn add_old(
     Ok(())
 }
 
+/// Whether so many are more than the most, if there is such a limit.
+fn are_past(most: Option<usize>, count: usize) -> bool
+    ensures { most ≡ None → result ≡ false }
+{
+    match most {
+        Some(most) => most < count,
+        None => false,
+    }
+}
+
 /// Adds the messages of a process that are in transit: of its first `end` ones those whose numbers
-/// the row has, and of the others each that is not known to be received.
+/// the row has, and of the others each that is not known to be received. It stops where there are
+/// more messages than the most, and answers at how many sends it has looked.
 pub fn add_open(
     history: &History,
     line: &Line,
@@ -91,25 +103,32 @@ pub fn add_open(
     end: u32,
     row: &mut Numbers,
     known: &[bool],
+    most: Option<usize>,
     messages: &mut Vec<MsgName>,
-) -> Result<(), AllocError>
+) -> Result<u32, AllocError>
     requires line { IsLine history.now.processes line.now }
     requires process { p < length history.now.processes }
     requires end { end ≤ sends (events_before history.now.processes line.now p) }
     requires held { HasOpen history.now.processes line.now p end row.old }
     requires known { AreReceived history.now.processes line.now p end known.now }
-    ensures { OnOk result (messages.new.items
-        ≡ messages.old.items
-        ++ map (λ (letter : Letter). letter.message)
-        (open_letters history.now.processes line.now p)) }
+    ensures row { (number : ℕ) → Contains row.old number → Contains row.new number }
+    ensures found { IfOk result (λ looked. messages.new.items
+        ≡ messages.old.items ++ open_first history.now.processes line.now p looked) }
+    ensures few { IfOk result (λ looked.
+        looked ≤ sends (events_before history.now.processes line.now p)) }
+    ensures all { most ≡ None → IfOk result (λ looked.
+        looked ≡ sends (events_before history.now.processes line.now p)) }
 {
     row.sort();
     let sends = history.tape(p).sends_before(line.at(p));
     add_old(history, line, p, end, row.as_slice(), messages)?;
     for number in end..sends {
+        if are_past(most, messages.len()) {
+            return Ok(number);
+        }
         if !is_marked(known, number - end) {
             add_if_open(history, line, p, number, messages)?;
         }
     }
-    Ok(())
+    Ok(sends)
 }

@@ -7,8 +7,9 @@ use Rattle.line_names.specs.declared.messages.MsgName.{MsgName}
 use Rattle.line_tape.specs.History.{Process}
 use Rattle.line_tape.specs.Transit.{Letter, open_letters}
 use Rattle.line_tape.proofs.TransitLemmas.{range-push}
-use Rattle.line_catalogue.specs.Left.{numbers_at, start_at, AreEnds, HasOpen}
+use Rattle.line_catalogue.specs.Left.{numbers_at, open_first, start_at, AreEnds, HasOpen}
 use Rattle.line_catalogue.proofs.LeftLemmas.{has-open}
+use Rattle.line_catalogue.proofs.OpenLemmas.{open-all}
 use Rattle.line_catalogue.proofs.ledgers.find_transit.Goals as goal
 
 pub loop-sender-init : goal.loop-sender-init
@@ -39,11 +40,15 @@ loop-sender-preserved c =
     let s : ℕ = c.loop-sender.sender in
     let rows : List (List ℕ) = c.loop-sender.rows.items in
     let at : c.unwrap-p.result ≡ s = (rw c.unwrap-p.ensures at c.try_new.ensures).1 in
+    let history : List Process = c.args.history.now.processes in
+    let line : List Choice = c.args.line.now in
+    let p : ℕ = c.unwrap-p.result in
+    let whole : open_first history line p c.in_ok-add_open.field-0 ≡ of p = ap (open_first history line p) (c.in_ok-add_open.ensures.all refl) ∙ open-all history line p in
     let more : s + 1 ≡ suc s = omega arith in
     let last : 0 + s ≡ s = omega arith in
     let next : range_with_len 0 (s + 1) ≡ range_with_len 0 s ++ s ∷ [] = ap (range_with_len 0) more ∙ range-push s 0 ∙ ap (λ x. range_with_len 0 s ++ x ∷ []) last in
     record {
-      found = c.in_ok-add_open.ensures ∙ ap (λ k. c.loop-sender.messages.items ++ of k) at ∙ ap (λ xs. xs ++ of s) c.loop-sender.invariant.found ∙ flat_map_more of [] (range_with_len 0 s) s ∙ ap (flat_map of) (sym next);
+      found = c.in_ok-add_open.ensures.found ∙ ap (λ xs. c.loop-sender.messages.items ++ xs) whole ∙ ap (λ k. c.loop-sender.messages.items ++ of k) at ∙ ap (λ xs. xs ++ of s) c.loop-sender.invariant.found ∙ flat_map_more of [] (range_with_len 0 s) s ∙ ap (flat_map of) (sym next);
       count = length-set rows s c.add_open.new.row ∙ c.loop-sender.invariant.count;
       kept = λ p l. get_or-set_other rows s p c.add_open.new.row [] (omega (arith, l)) ∙ c.loop-sender.invariant.kept p (omega (arith, l));
     }

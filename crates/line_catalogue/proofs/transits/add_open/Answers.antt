@@ -1,7 +1,6 @@
 -- First what the row tells, then each send since.
-use Rattle.std.proofs.Common.{◌≡◌, ◌<◌, ◌≤◌, ◌+◌, ◌-◌, ◌++◌, ℕ, List, true, false, length, get_or, map, filter, sym, ap, ◌∙◌, subst, arith}
+use Rattle.std.proofs.Common.{◌≡◌, ◌<◌, ◌+◌, ◌-◌, ◌++◌, ℕ, List, true, false, get_or, sym, ap, ◌∙◌, subst, arith}
 use Rattle.std.specs.List.{Contains}
-use Rattle.std.proofs.lemmas.List.{take_all}
 use Rattle.line_names.specs.declared.choices.Choice.{Choice}
 use Rattle.line_names.specs.declared.messages.MsgName.{MsgName}
 use Rattle.line_tape.specs.declared.events.Event.{Event}
@@ -9,8 +8,6 @@ use Rattle.line_tape.specs.Event.{sends}
 use Rattle.line_tape.specs.Front.{front}
 use Rattle.line_tape.specs.History.{Process, tape_at}
 use Rattle.line_tape.specs.Line.{events_before}
-use Rattle.line_tape.specs.Transit.{Letter, letters, is_open}
-use Rattle.line_tape.proofs.ReceivedLemmas.{length-letters}
 use Rattle.line_catalogue.specs.Left.{open_first}
 use Rattle.line_catalogue.proofs.KnownLemmas.{open-marked}
 use Rattle.line_catalogue.proofs.transits.add_open.Goals.{then-not-is_marked+in_ok-add_if_open, else-not-is_marked}
@@ -42,13 +39,8 @@ loop-number-preserved c =
           ap (λ v. v.items) w.messages-is ∙ c.loop-number.invariant ∙ ap (λ (xs : List MsgName). old ++ xs) (sym nothing)
     ]
 
-pub returns : goal.returns
-returns c =
-    let history : List Process = c.args.history.now.processes in
-    let line : List Choice = c.args.line.now in
-    let p : ℕ = c.args.p in
-    let before : List Event = events_before history line p in
-    let all : List Letter = letters p 0 before in
-    let fronts : front c.tape.result.now.events c.at.result ≡ before = ap (λ (t : List Event). front t c.at.result) c.tape.ensures.events ∙ ap (front (tape_at history p)) c.at.ensures in
-    let past : length all ≤ c.loop-number.number = omega (arith, length-letters p 0 before, c.sends_before-sends.ensures, ap (λ (es : List Event). sends es) fronts) in
-    c.loop-number.invariant ∙ ap (λ (xs : List Letter). c.args.messages.now.items ++ map (λ (letter : Letter). letter.message) (filter (is_open history line) xs)) (take_all c.loop-number.number all past)
+pub returns-clause-found : goal.returns-clause-found
+returns-clause-found c =
+    let fronts : front c.tape.result.now.events c.at.result ≡ events_before c.args.history.now.processes c.args.line.now c.args.p = ap (λ (t : List Event). front t c.at.result) c.tape.ensures.events ∙ ap (front (tape_at c.args.history.now.processes c.args.p)) c.at.ensures in
+    let at : c.loop-number.number ≡ c.sends_before-sends.result = omega (arith, c.requires.end, c.sends_before-sends.ensures, ap (λ (es : List Event). sends es) fronts) in
+    c.loop-number.invariant ∙ ap (λ k. c.args.messages.now.items ++ open_first c.args.history.now.processes c.args.line.now c.args.p k) at

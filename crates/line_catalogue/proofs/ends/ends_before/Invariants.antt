@@ -2,7 +2,7 @@ use Rattle.std.proofs.Common.{◌≡◌, ◌≤◌, ℕ, length}
 use Rattle.line_tape.specs.Event.{sends}
 use Rattle.line_tape.specs.Line.{events_before}
 use Rattle.line_catalogue.specs.Left.{start_at}
-use Rattle.line_catalogue.proofs.ledgers.ends_before.Given as goal
+use Rattle.line_catalogue.proofs.ends.ends_before.Given as goal
 
 abbrev pub invariant-loop-q : goal.invariant-loop-q
 invariant-loop-q l = record {

@@ -9,7 +9,7 @@ use Rattle.line_tape.specs.History.{Process, tape_at}
 use Rattle.line_tape.specs.Line.{events_before}
 use Rattle.line_catalogue.specs.Left.{start_at}
 use Rattle.line_catalogue.proofs.LeftLemmas.{ends-more}
-use Rattle.line_catalogue.proofs.ledgers.ends_before.Goals as goal
+use Rattle.line_catalogue.proofs.ends.ends_before.Goals as goal
 
 pub loop-q-preserved : goal.loop-q-preserved
 loop-q-preserved c =
