@@ -1,11 +1,13 @@
 -- What is kept so that what is in transit is found from little: what was in transit at some line,
 -- and the sends and events before it.
-use Rattle.std.specs.Prelude.{◌≡◌, ℕ, ◌<◌, ◌≤◌, false, List, [], length, map, filter, take, drop}
-use Rattle.std.specs.Prelude.{Contains, slice_index_or}
+use Rattle.std.specs.Prelude.{◌≡◌, ℕ, ◌<◌, ◌≤◌, Bool, false, List, [], length, map, filter}
+use Rattle.std.specs.Prelude.{take, drop, Contains, IsTrue, slice_index_or}
 use Rattle.line_names.specs.declared.choices.Choice.{Choice}
 use Rattle.line_names.specs.declared.messages.MsgName.{MsgName}
 use Rattle.line_names.specs.Lines.{choice_at}
+use Rattle.line_names.specs.Sets.{is_member}
 use Rattle.line_tape.specs.declared.events.Event.{Event}
+use Rattle.line_tape.specs.declared.events.Event.TheVariants.{Recv}
 use Rattle.line_tape.specs.Event.{sends}
 use Rattle.line_tape.specs.Fit.{IsSentTo}
 use Rattle.line_tape.specs.Front.{place}
@@ -64,6 +66,13 @@ pub record AreCandidates (history : List Process) (line : List Choice) (ends pla
   pub before : AreIn left ends rows
   pub behind : (q : ℕ) → q < length history
       → AreIn (names_received (events_between history line q (place_at places q))) ends rows
+
+-- none of the set has received anything of a process that sent something before the line
+abbrev pub AreStrangers : List Process → List Choice → List Bool → Type 0
+AreStrangers history line set =
+    (q : ℕ) (message : MsgName) → IsTrue (is_member set q)
+    → Contains (tape_at history q) (Recv message)
+    → sends (events_before history line message.from) ≡ 0
 
 -- the row has the numbers of process p's first `end` messages that aren't received before the line
 abbrev pub HasOpen : List Process → List Choice → ℕ → ℕ → List ℕ → Type 0

@@ -26,6 +26,7 @@ use crate::agreement::{agrees, are_on_checks};
 use crate::kept_rows::Rows;
 use crate::ledgers::Ledger;
 use crate::refusals::{AddError, CatalogueError, DamageError};
+use crate::strangers::find_strangers;
 use crate::tables::RowTable;
 use line_names::{Choice, Line, MOST_PROCESSES, MsgName, ProcId, ProcSet};
 use line_tape::{BarError, CountError, Event, History, MOST_EVENTS, Marks};
@@ -328,7 +329,8 @@ impl Catalogue {
         ensures { IfOk result
             (λ messages. messages.items ≡ in_transit self.now.processes line.now) }
     {
-        self.ledger.transit(alloc, line)
+        self.ledger
+            .transit(&find_strangers(self, line), alloc, line)
     }
 
     /// Keeps what is in transit at a line, as `transit` answers it there, so that no other send

@@ -10,15 +10,13 @@ ghost use Rattle.line_tape.specs.Restart.{restarted, HaveFurther};
 ghost use Rattle.line_tape.specs.Transit.{in_transit};
 ghost use Rattle.line_tape.specs.Views.{room_at};
 ghost use Rattle.line_catalogue.specs.Left.{place_at, start_at, AreLeft, AreSettled};
+ghost use Rattle.line_catalogue.specs.Left.{AreStrangers};
 
 mod appends;
 
-use crate::candidates::candidates;
-use crate::ends::ends_before;
-use crate::known::find_known;
 use crate::settlings::{Settled, find_settled};
-use crate::transits::add_open;
-use line_names::{Choice, Line, MsgName, ProcId};
+use crate::transits::find_transit;
+use line_names::{Choice, Line, MsgName, ProcId, ProcSet};
 use line_tape::{Event, History, MOST_EVENTS};
 use std::alloc::{AllocError, Global};
 use std::marker::Model;
@@ -26,42 +24,6 @@ use std::marker::Model;
 // How many events come at least between two times that the ledger settles, so that what a settling
 // takes but for the events is little beside them.
 const EVENTS_BETWEEN: usize = 4096;
-
-/// The messages in transit at a line, by sender, then number.
-fn find_transit(
-    history: &History,
-    starts: &[u32],
-    places: &[u32],
-    left: &[MsgName],
-    alloc: Global,
-    line: &Line,
-) -> Result<Vec<MsgName>, AllocError>
-    requires line { IsLine history.now.processes line.now }
-    requires left { AreLeft history.now.processes starts.now places.now left.now }
-    ensures { IfOk result (λ messages. messages.items ≡ in_transit history.now.processes line.now) }
-{
-    let n = history.n();
-    let bounds = ends_before(history, starts, alloc, line)?;
-    let ends = bounds.as_slice();
-    let mut rows = candidates(history, ends, places, left, alloc, line)?;
-    let received = find_known(history, ends, places, alloc, line);
-    let mut messages = Vec::new(alloc);
-    for sender in 0..n {
-        let p = ProcId::try_new(sender, n).unwrap();
-        let end = ends[sender as usize];
-        add_open(
-            history,
-            line,
-            p,
-            end,
-            &mut rows[sender as usize],
-            received.row(sender),
-            None,
-            &mut messages,
-        )?;
-    }
-    Ok(messages)
-}
 
 /// The line of where each process stands.
 fn present_line(history: &History) -> Line
@@ -319,8 +281,14 @@ impl Ledger {
     /// two of a message that was sent before both, and room for the result; and where it gets them,
     /// one number more for each process, and a flag for each send since that stands before the
     /// line.
-    pub fn transit(&self, alloc: Global, line: &Line) -> Result<Vec<MsgName>, AllocError>
-        requires { IsLine self.now.processes line.now }
+    pub fn transit(
+        &self,
+        strangers: &ProcSet,
+        alloc: Global,
+        line: &Line,
+    ) -> Result<Vec<MsgName>, AllocError>
+        requires line { IsLine self.now.processes line.now }
+        requires strangers { AreStrangers self.now.processes line.now strangers.now }
         ensures { IfOk result (λ messages.
             messages.items ≡ in_transit self.now.processes line.now) }
     {
@@ -329,6 +297,7 @@ impl Ledger {
             self.starts.as_slice(),
             self.places.as_slice(),
             self.left.as_slice(),
+            strangers,
             alloc,
             line,
         )

@@ -19,6 +19,7 @@ mod numbers;
 mod refusals;
 mod rows;
 mod settlings;
+mod strangers;
 mod tables;
 mod transits;
 

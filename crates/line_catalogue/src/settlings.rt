@@ -13,7 +13,7 @@ use crate::ends::ends_before;
 use crate::known::find_known;
 use crate::numbers::Numbers;
 use crate::transits::add_open;
-use line_names::{Line, MsgName, ProcId};
+use line_names::{Line, MsgName, ProcId, ProcSet};
 use line_tape::History;
 use std::alloc::{AllocError, Global};
 
@@ -174,7 +174,7 @@ pub fn find_settled(
     let n = history.n();
     let bounds = ends_before(history, starts, alloc, line)?;
     let ends = bounds.as_slice();
-    let mut rows = candidates(history, ends, places, left, alloc, line)?;
+    let mut rows = candidates(history, ends, places, left, &ProcSet::empty(), alloc, line)?;
     let received = find_known(history, ends, places, alloc, line);
     let mut moved = Vec::with_capacity(alloc, n as usize)?;
     let mut messages = Vec::new(alloc);

@@ -1,19 +1,21 @@
-//! What is in transit of one process.
+//! What is in transit, of one process and of all.
 ghost use Rattle.std.specs.Prelude.{◌≡◌, ◌<◌, ◌≤◌, ◌+◌, ◌++◌, ℕ, List, false, length, None};
 ghost use Rattle.std.specs.Prelude.{Contains, IfOk, OnOk};
 ghost use Rattle.std.specs.List.Sorted.{IsNonDecreasing};
 ghost use Rattle.line_names.specs.declared.messages.MsgName.{MsgName};
 ghost use Rattle.line_tape.specs.Event.{sends};
 ghost use Rattle.line_tape.specs.Line.{events_before, IsLine};
-ghost use Rattle.line_tape.specs.Transit.{has_received};
+ghost use Rattle.line_tape.specs.Transit.{has_received, in_transit};
 ghost use Rattle.line_catalogue.specs.Known.{AreReceived};
-ghost use Rattle.line_catalogue.specs.Left.{open_first, HasOpen};
+ghost use Rattle.line_catalogue.specs.Left.{open_first, AreLeft, AreStrangers, HasOpen};
 
-use crate::known::is_marked;
+use crate::candidates::candidates;
+use crate::ends::ends_before;
+use crate::known::{find_known, is_marked};
 use crate::numbers::Numbers;
-use line_names::{Line, MsgName, ProcId};
+use line_names::{Line, MsgName, ProcId, ProcSet};
 use line_tape::History;
-use std::alloc::AllocError;
+use std::alloc::{AllocError, Global};
 
 /// Whether a process receives the message before the line.
 fn is_received(history: &History, line: &Line, q: ProcId, message: &MsgName) -> bool
@@ -131,4 +133,43 @@ pub fn add_open(
         }
     }
     Ok(sends)
+}
+
+/// The messages in transit at a line, by sender, then number. No message of a process that sent one
+/// before the line was received by the strangers.
+pub fn find_transit(
+    history: &History,
+    starts: &[u32],
+    places: &[u32],
+    left: &[MsgName],
+    strangers: &ProcSet,
+    alloc: Global,
+    line: &Line,
+) -> Result<Vec<MsgName>, AllocError>
+    requires line { IsLine history.now.processes line.now }
+    requires left { AreLeft history.now.processes starts.now places.now left.now }
+    requires strangers { AreStrangers history.now.processes line.now strangers.now }
+    ensures { IfOk result (λ messages. messages.items ≡ in_transit history.now.processes line.now) }
+{
+    let n = history.n();
+    let bounds = ends_before(history, starts, alloc, line)?;
+    let ends = bounds.as_slice();
+    let mut rows = candidates(history, ends, places, left, strangers, alloc, line)?;
+    let received = find_known(history, ends, places, alloc, line);
+    let mut messages = Vec::new(alloc);
+    for sender in 0..n {
+        let p = ProcId::try_new(sender, n).unwrap();
+        let end = ends[sender as usize];
+        add_open(
+            history,
+            line,
+            p,
+            end,
+            &mut rows[sender as usize],
+            received.row(sender),
+            None,
+            &mut messages,
+        )?;
+    }
+    Ok(messages)
 }

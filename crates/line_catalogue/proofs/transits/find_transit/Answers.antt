@@ -10,7 +10,7 @@ use Rattle.line_tape.proofs.TransitLemmas.{range-push}
 use Rattle.line_catalogue.specs.Left.{numbers_at, open_first, start_at, AreEnds, HasOpen}
 use Rattle.line_catalogue.proofs.LeftLemmas.{has-open}
 use Rattle.line_catalogue.proofs.OpenLemmas.{open-all}
-use Rattle.line_catalogue.proofs.ledgers.find_transit.Goals as goal
+use Rattle.line_catalogue.proofs.transits.find_transit.Goals as goal
 
 pub loop-sender-init : goal.loop-sender-init
 loop-sender-init c = record {

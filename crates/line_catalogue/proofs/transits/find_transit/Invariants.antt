@@ -2,7 +2,7 @@ use Rattle.std.proofs.Common.{◌≡◌, ◌≤◌, ℕ, length, map}
 use Rattle.std.specs.List.{flat_map, range_with_len}
 use Rattle.line_tape.specs.Transit.{Letter, open_letters}
 use Rattle.line_catalogue.specs.Left.{numbers_at}
-use Rattle.line_catalogue.proofs.ledgers.find_transit.Given as goal
+use Rattle.line_catalogue.proofs.transits.find_transit.Given as goal
 
 abbrev pub invariant-loop-sender : goal.invariant-loop-sender
 invariant-loop-sender l = record {
