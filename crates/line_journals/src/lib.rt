@@ -7,9 +7,8 @@
 //! markers come in the order of the rounds is a fact of all workers. So whether the marker of a
 //! round forces a check is asked of the tape, and the record follows.
 //!
-//! All growth is in `reserve`; what adds events cannot fail after it. So a call of a worker tests
-//! what can refuse it, reserves, and then moves items on its rings and adds events, each step of
-//! which succeeds.
+//! `reserve` and `reserve_events` make room, after which what adds events cannot fail; `receive`
+//! makes its own first. So in a call of a worker no step can fail once one has changed something.
 #![tactic(auto)]
 
 mod events;

@@ -1,32 +1,11 @@
 //! One step on one end of a list of ends.
-ghost use Rattle.std.specs.Prelude.{◌≡◌, ◌≢◌, ◌++◌, ◌∷◌, [], ◌+◌, ◌<◌, ◌≤◌, ℕ, List, OnOk, IfErr};
-ghost use Rattle.std.specs.Prelude.{IsOk, IsTrue, Some, false, length};
+ghost use Rattle.std.specs.Prelude.{◌≡◌, ◌≢◌, ◌++◌, ◌∷◌, [], ◌<◌, ℕ, List, IsTrue, Some, false};
+ghost use Rattle.std.specs.Prelude.{length};
 ghost use mathlib.Core.List.{IsPrefix};
-ghost use Rattle.line_rings.specs.Ends.{out_ends, in_ends, producer_end, free_at, known_at};
+ghost use Rattle.line_rings.specs.Ends.{out_ends, in_ends, producer_end, known_at};
 ghost use Rattle.line_rings.specs.Ends.{with_item, items_at, ring_at};
 
 use rtrb::{Consumer, Producer};
-
-/// Pushes an item on the ring to process `q`, or hands it back where the ring has no free slot.
-///
-/// Whether there is one only the ring can tell, since the receiver takes items meanwhile; a slot
-/// that this end knows to be free stays free. It costs a constant.
-pub fn push_on<T>(outs: &mut Vec<Producer<T>>, q: usize, item: T) -> Result<(), T>
-    requires { q < length outs.old.items }
-    ensures ok { OnOk result
-        (out_ends outs.new.items ≡ with_item (out_ends outs.old.items) q item) }
-    ensures full { IfErr result (λ back.
-        (back ≡ item) × (out_ends outs.new.items ≡ out_ends outs.old.items)) }
-    ensures succeeds { 0 < free_at outs.old.items q → IsOk result }
-    ensures others { (k : ℕ) → k ≢ q → free_at outs.new.items k ≡ free_at outs.old.items k }
-{
-    let end = &mut outs[q];
-    if end.is_full() {
-        return Err(item);
-    }
-    end.push_reserved(item);
-    Ok(())
-}
 
 /// Whether the ring from process `p` has an item, so far as this end can see; the items seen are
 /// known from here on.

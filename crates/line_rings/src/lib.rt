@@ -4,18 +4,18 @@
 //!
 //! A ring is one of `rtrb`. A worker owns one end of each of its rings and moves with them to a
 //! thread of its own; no call locks or waits. Ends stand in plain lists by the number of the
-//! process at the other end, and a contract sees of an end which ring it is of and what has passed
-//! it, and nothing of slots. What the two ends of one ring have to do with each other is known
-//! again where they meet in one thread: `meet` and `meet_end`.
+//! process at the other end, and a contract sees of an end which ring it is of, what has passed
+//! it, and which items or free slots it knows of. What the two ends of one ring have to do with
+//! each other is known again where they meet in one thread: `meet` and `meet_end`.
 //!
-//! `make_rings` makes the rings, `push_on`, `look_at`, `front_at` and `take_at` are a step on one
-//! end, `has_slot`, `has_room` and `push_known` push where nothing may fail.
+//! `make_rings` makes the rings. `look_at`, `front_at` and `take_at` are a step on an end that
+//! pops. `has_slot` and `has_room` look for free slots, and `push_known` pushes where one is known.
 #![tactic(auto)]
 
 mod ends;
 mod links;
 mod rooms;
 
-pub use ends::{front_at, look_at, meet, meet_end, push_on, take_at};
+pub use ends::{front_at, look_at, meet, meet_end, take_at};
 pub use links::{Rings, make_rings};
 pub use rooms::{has_room, has_slot, push_known};

@@ -5,7 +5,9 @@ ghost use Rattle.line_rings.specs.Ends.{HasRoomBelow, IsFilled};
 
 use rtrb::Producer;
 
-/// Whether the ring to process `q` has a free slot; then it is known. It costs a constant.
+/// Whether the ring to process `q` has a free slot; then it is known. Only the ring can tell, since
+/// the receiver takes items meanwhile; a slot that is known to be free stays so. It costs a
+/// constant.
 pub fn has_slot<T>(outs: &mut Vec<Producer<T>>, q: usize) -> bool
     requires { q < length outs.old.items }
     ensures ends { out_ends outs.new.items ≡ out_ends outs.old.items }
@@ -13,6 +15,7 @@ pub fn has_slot<T>(outs: &mut Vec<Producer<T>>, q: usize) -> bool
     ensures room { IsTrue result → 0 < free_at outs.new.items q }
     ensures full { result ≡ false → free_at outs.new.items q ≡ 0 }
     ensures filled { result ≡ false → IsFilled (out_ends outs.old.items) q }
+    ensures succeeds { 0 < free_at outs.old.items q → IsTrue result }
     ensures others { (k : ℕ) → k ≢ q → free_at outs.new.items k ≡ free_at outs.old.items k }
 {
     let end = &mut outs[q];
