@@ -3,18 +3,20 @@ ghost use Rattle.std.specs.Prelude.{◌≡◌};
 
 use line_names::Body;
 use std::alloc::AllocError;
-use std::error::Error;
-use std::fmt;
+use thiserror::Error;
 
 /// Why there is no fleet.
-#[derive(Clone, Copy, Debug, PartialEq, Eq, Hash)]
+#[derive(Clone, Copy, Debug, PartialEq, Eq, Hash, Error)]
 pub enum FleetError {
     /// Out of memory.
-    OutOfMemory,
+    #[error("out of memory")]
+    OutOfMemory = 0,
     /// The number of workers is not from 1 to 64.
-    BadCount,
+    #[error("the number of workers is not from 1 to 64")]
+    BadCount = 6,
     /// The capacity is not from 1 to 1,024.
-    BadCapacity,
+    #[error("the capacity is not from 1 to 1,024")]
+    BadCapacity = 31,
 }
 
 impl FleetError {
@@ -24,25 +26,9 @@ impl FleetError {
         ensures count { self ≡ FleetError.BadCount → result ≡ 6 }
         ensures capacity { self ≡ FleetError.BadCapacity → result ≡ 31 }
     {
-        match self {
-            FleetError::OutOfMemory => 0,
-            FleetError::BadCount => 6,
-            FleetError::BadCapacity => 31,
-        }
+        self as u32
     }
 }
-
-impl fmt::Display for FleetError {
-    fn fmt<W: fmt::Write>(&self, f: &mut fmt::Formatter<W>) -> fmt::Result {
-        f.write_str(match self {
-            FleetError::OutOfMemory => "out of memory",
-            FleetError::BadCount => "the number of workers is not from 1 to 64",
-            FleetError::BadCapacity => "the capacity is not from 1 to 1,024",
-        })
-    }
-}
-
-impl Error for FleetError {}
 
 impl From<AllocError> for FleetError {
     ghost use Rattle.std.specs.Prelude.{◌≡◌};
@@ -56,18 +42,23 @@ impl From<AllocError> for FleetError {
 }
 
 /// Why a message was not sent.
-#[derive(Clone, Copy, Debug, PartialEq, Eq, Hash)]
+#[derive(Clone, Copy, Debug, PartialEq, Eq, Hash, Error)]
 pub enum SendWhy {
     /// Out of memory.
-    OutOfMemory,
+    #[error("out of memory")]
+    OutOfMemory = 0,
     /// The number is not below the number of processes.
-    NoSuchProcess,
+    #[error("the number is not below the number of processes")]
+    NoSuchProcess = 1,
     /// A process sends nothing to itself.
-    ToSelf,
+    #[error("a process sends nothing to itself")]
+    ToSelf = 17,
     /// The tape is full.
-    TapeFull,
+    #[error("the tape is full")]
+    TapeFull = 3,
     /// The ring shows no free slot.
-    RingFull,
+    #[error("the ring shows no free slot")]
+    RingFull = 25,
 }
 
 impl SendWhy {
@@ -79,29 +70,9 @@ impl SendWhy {
         ensures full { self ≡ SendWhy.TapeFull → result ≡ 3 }
         ensures ring { self ≡ SendWhy.RingFull → result ≡ 25 }
     {
-        match self {
-            SendWhy::OutOfMemory => 0,
-            SendWhy::NoSuchProcess => 1,
-            SendWhy::ToSelf => 17,
-            SendWhy::TapeFull => 3,
-            SendWhy::RingFull => 25,
-        }
+        self as u32
     }
 }
-
-impl fmt::Display for SendWhy {
-    fn fmt<W: fmt::Write>(&self, f: &mut fmt::Formatter<W>) -> fmt::Result {
-        f.write_str(match self {
-            SendWhy::OutOfMemory => "out of memory",
-            SendWhy::NoSuchProcess => "the number is not below the number of processes",
-            SendWhy::ToSelf => "a process sends nothing to itself",
-            SendWhy::TapeFull => "the tape is full",
-            SendWhy::RingFull => "the ring shows no free slot",
-        })
-    }
-}
-
-impl Error for SendWhy {}
 
 /// A message that was not sent: why, and its body.
 #[derive(Debug, Drop)]
@@ -111,22 +82,29 @@ pub struct SendRefused {
 }
 
 /// Why nothing was received.
-#[derive(Clone, Copy, Debug, PartialEq, Eq, Hash)]
+#[derive(Clone, Copy, Debug, PartialEq, Eq, Hash, Error)]
 pub enum ReceiveWhy {
     /// Out of memory.
-    OutOfMemory,
+    #[error("out of memory")]
+    OutOfMemory = 0,
     /// The number is not below the number of processes.
-    NoSuchProcess,
+    #[error("the number is not below the number of processes")]
+    NoSuchProcess = 1,
     /// A process receives nothing from itself.
-    ToSelf,
+    #[error("a process receives nothing from itself")]
+    ToSelf = 17,
     /// The state is longer than 4,096 bytes.
-    StateTooLong,
+    #[error("the state is longer than 4,096 bytes")]
+    StateTooLong = 5,
     /// The ring shows nothing.
-    NothingThere,
+    #[error("the ring shows nothing")]
+    NothingThere = 26,
     /// The tape is full.
-    TapeFull,
+    #[error("the tape is full")]
+    TapeFull = 3,
     /// A ring shows no free slot for a marker.
-    RingFull,
+    #[error("a ring shows no free slot for a marker")]
+    RingFull = 25,
 }
 
 impl ReceiveWhy {
@@ -140,51 +118,34 @@ impl ReceiveWhy {
         ensures full { self ≡ ReceiveWhy.TapeFull → result ≡ 3 }
         ensures ring { self ≡ ReceiveWhy.RingFull → result ≡ 25 }
     {
-        match self {
-            ReceiveWhy::OutOfMemory => 0,
-            ReceiveWhy::NoSuchProcess => 1,
-            ReceiveWhy::ToSelf => 17,
-            ReceiveWhy::StateTooLong => 5,
-            ReceiveWhy::NothingThere => 26,
-            ReceiveWhy::TapeFull => 3,
-            ReceiveWhy::RingFull => 25,
-        }
+        self as u32
     }
 }
-
-impl fmt::Display for ReceiveWhy {
-    fn fmt<W: fmt::Write>(&self, f: &mut fmt::Formatter<W>) -> fmt::Result {
-        f.write_str(match self {
-            ReceiveWhy::OutOfMemory => "out of memory",
-            ReceiveWhy::NoSuchProcess => "the number is not below the number of processes",
-            ReceiveWhy::ToSelf => "a process receives nothing from itself",
-            ReceiveWhy::StateTooLong => "the state is longer than 4,096 bytes",
-            ReceiveWhy::NothingThere => "the ring shows nothing",
-            ReceiveWhy::TapeFull => "the tape is full",
-            ReceiveWhy::RingFull => "a ring shows no free slot for a marker",
-        })
-    }
-}
-
-impl Error for ReceiveWhy {}
 
 /// Why no round was begun.
-#[derive(Clone, Copy, Debug, PartialEq, Eq, Hash)]
+#[derive(Clone, Copy, Debug, PartialEq, Eq, Hash, Error)]
 pub enum BeginWhy {
     /// Out of memory.
-    OutOfMemory,
+    #[error("out of memory")]
+    OutOfMemory = 0,
     /// Only process 0 begins rounds.
-    NotLead,
+    #[error("only process 0 begins rounds")]
+    NotLead = 27,
     /// The state is longer than 4,096 bytes.
-    StateTooLong,
+    #[error("the state is longer than 4,096 bytes")]
+    StateTooLong = 5,
     /// The last round is still open.
-    RoundOpen,
+    #[error("the last round is still open")]
+    RoundOpen = 20,
     /// There is no further round number.
-    NoMoreRounds,
+    #[error("there is no further round number")]
+    NoMoreRounds = 23,
     /// The tape is full.
-    TapeFull,
+    #[error("the tape is full")]
+    TapeFull = 3,
     /// A ring shows no free slot for a marker.
-    RingFull,
+    #[error("a ring shows no free slot for a marker")]
+    RingFull = 25,
 }
 
 impl BeginWhy {
@@ -198,39 +159,16 @@ impl BeginWhy {
         ensures full { self ≡ BeginWhy.TapeFull → result ≡ 3 }
         ensures ring { self ≡ BeginWhy.RingFull → result ≡ 25 }
     {
-        match self {
-            BeginWhy::OutOfMemory => 0,
-            BeginWhy::NotLead => 27,
-            BeginWhy::StateTooLong => 5,
-            BeginWhy::RoundOpen => 20,
-            BeginWhy::NoMoreRounds => 23,
-            BeginWhy::TapeFull => 3,
-            BeginWhy::RingFull => 25,
-        }
+        self as u32
     }
 }
-
-impl fmt::Display for BeginWhy {
-    fn fmt<W: fmt::Write>(&self, f: &mut fmt::Formatter<W>) -> fmt::Result {
-        f.write_str(match self {
-            BeginWhy::OutOfMemory => "out of memory",
-            BeginWhy::NotLead => "only process 0 begins rounds",
-            BeginWhy::StateTooLong => "the state is longer than 4,096 bytes",
-            BeginWhy::RoundOpen => "the last round is still open",
-            BeginWhy::NoMoreRounds => "there is no further round number",
-            BeginWhy::TapeFull => "the tape is full",
-            BeginWhy::RingFull => "a ring shows no free slot for a marker",
-        })
-    }
-}
-
-impl Error for BeginWhy {}
 
 /// Why nothing was reported.
-#[derive(Clone, Copy, Debug, PartialEq, Eq, Hash)]
+#[derive(Clone, Copy, Debug, PartialEq, Eq, Hash, Error)]
 pub enum ReportError {
     /// Out of memory.
-    OutOfMemory,
+    #[error("out of memory")]
+    OutOfMemory = 0,
 }
 
 impl ReportError {
@@ -238,21 +176,9 @@ impl ReportError {
     pub fn code(self) -> u32
         ensures { result ≡ 0 }
     {
-        match self {
-            ReportError::OutOfMemory => 0,
-        }
+        self as u32
     }
 }
-
-impl fmt::Display for ReportError {
-    fn fmt<W: fmt::Write>(&self, f: &mut fmt::Formatter<W>) -> fmt::Result {
-        f.write_str(match self {
-            ReportError::OutOfMemory => "out of memory",
-        })
-    }
-}
-
-impl Error for ReportError {}
 
 impl From<AllocError> for ReportError {
     fn from(_refused: AllocError) -> ReportError {
@@ -261,14 +187,17 @@ impl From<AllocError> for ReportError {
 }
 
 /// Why nothing was gathered.
-#[derive(Clone, Copy, Debug, PartialEq, Eq, Hash)]
+#[derive(Clone, Copy, Debug, PartialEq, Eq, Hash, Error)]
 pub enum GatherWhy {
     /// Out of memory.
-    OutOfMemory,
+    #[error("out of memory")]
+    OutOfMemory = 0,
     /// A failed process is not below the number of processes.
-    NoSuchProcess,
+    #[error("a failed process is not below the number of processes")]
+    NoSuchProcess = 1,
     /// The posts are not one for each process, in order.
-    Unfinished,
+    #[error("the posts are not one for each process, in order")]
+    Unfinished = 28,
 }
 
 impl GatherWhy {
@@ -278,33 +207,19 @@ impl GatherWhy {
         ensures process { self ≡ GatherWhy.NoSuchProcess → result ≡ 1 }
         ensures unfinished { self ≡ GatherWhy.Unfinished → result ≡ 28 }
     {
-        match self {
-            GatherWhy::OutOfMemory => 0,
-            GatherWhy::NoSuchProcess => 1,
-            GatherWhy::Unfinished => 28,
-        }
+        self as u32
     }
 }
-
-impl fmt::Display for GatherWhy {
-    fn fmt<W: fmt::Write>(&self, f: &mut fmt::Formatter<W>) -> fmt::Result {
-        f.write_str(match self {
-            GatherWhy::OutOfMemory => "out of memory",
-            GatherWhy::NoSuchProcess => "a failed process is not below the number of processes",
-            GatherWhy::Unfinished => "the posts are not one for each process, in order",
-        })
-    }
-}
-
-impl Error for GatherWhy {}
 
 /// Why what was gathered did not go on.
-#[derive(Clone, Copy, Debug, PartialEq, Eq, Hash)]
+#[derive(Clone, Copy, Debug, PartialEq, Eq, Hash, Error)]
 pub enum RestartWhy {
     /// Out of memory.
-    OutOfMemory,
+    #[error("out of memory")]
+    OutOfMemory = 0,
     /// A process that goes back has incarnation 65,535.
-    NoMoreIncarnations,
+    #[error("a process that goes back has incarnation 65,535")]
+    NoMoreIncarnations = 24,
 }
 
 impl RestartWhy {
@@ -313,20 +228,6 @@ impl RestartWhy {
         ensures memory { self ≡ RestartWhy.OutOfMemory → result ≡ 0 }
         ensures incarnations { self ≡ RestartWhy.NoMoreIncarnations → result ≡ 24 }
     {
-        match self {
-            RestartWhy::OutOfMemory => 0,
-            RestartWhy::NoMoreIncarnations => 24,
-        }
+        self as u32
     }
 }
-
-impl fmt::Display for RestartWhy {
-    fn fmt<W: fmt::Write>(&self, f: &mut fmt::Formatter<W>) -> fmt::Result {
-        f.write_str(match self {
-            RestartWhy::OutOfMemory => "out of memory",
-            RestartWhy::NoMoreIncarnations => "a process that goes back has incarnation 65,535",
-        })
-    }
-}
-
-impl Error for RestartWhy {}
