@@ -1,13 +1,16 @@
 -- Several reports at once.
-use Rattle.std.proofs.Common.{zero, suc, add-one, ◌≡◌, ◌∙◌, ◌+◌, ◌≤◌, ◌++◌, ◌∷◌, [], ℕ, List, Some, length, take, drop, refl, sym, ap, arith}
+use Rattle.std.proofs.Common.{zero, suc, add-one, ◌≡◌, ◌∙◌, ◌+◌, ◌<◌, ◌≤◌, ◌++◌, ◌∷◌, [], ℕ, List, Some, length, take, drop, refl, sym, ap, arith}
 use Rattle.std.specs.Prelude.{slice_get}
-use Rattle.std.proofs.lemmas.List.{append_assoc, append-nil, length-append, length-drop, length-take-le}
+use Rattle.std.specs.List.{filter_map}
+use Rattle.std.proofs.lemmas.List.{append_assoc, append_cancel_left, append-nil, length-append, length-drop, length-take-le}
+use Rattle.std.proofs.lemmas.List.Elements.{filter_map-append}
+use Rattle.line_tape.specs.Event.{state_of}
 use Rattle.line_tape.specs.declared.events.Event.{Event}
 use Rattle.line_rings.specs.Ends.{End}
 use Rattle.line_posts.specs.Posts.{opening_tape, reported_count, IsPost, PostView}
 use Rattle.line_posts.specs.Reports.{with_items}
 
-at_drop : {X : Type 0} (xs : List X) (from i j : ℕ) (e : X) → j ≡ from + i → slice_get xs j ≡ Some e → slice_get (drop from xs) i ≡ Some e
+pub at_drop : {X : Type 0} (xs : List X) (from i j : ℕ) (e : X) → j ≡ from + i → slice_get xs j ≡ Some e → slice_get (drop from xs) i ≡ Some e
 at_drop [] zero i j e is at = cc at
 at_drop [] (suc from) i j e is at = cc at
 at_drop (x ∷ xs) zero i j e is at = (let s : i ≡ j = omega (arith, is) in ap (slice_get (x ∷ xs)) s ∙ at)
@@ -25,13 +28,32 @@ copied_more xs done new from i e is at more =
     let there : slice_get (drop from xs) i ≡ Some e = at_drop xs from i (from + i) e refl at in
     more ∙ (ap (λ t. t ++ e ∷ []) is ∙ (sym (take_more (drop from xs) i e there) ∙ ap (λ v. take v (drop from xs)) (sym (add-one i))))
 
--- one put more
-pub put_more : {T : Type 0} (a b all : List T) (x : T) (rest rest' : List T) → a ++ rest ≡ all → rest ≡ x ∷ rest' → b ≡ a ++ x ∷ [] → b ++ rest' ≡ all
-put_more a b all x rest rest' is first more = ap (λ t. t ++ rest') more ∙ (append_assoc a (x ∷ []) rest' ∙ (ap (λ t. a ++ t) (sym first) ∙ is))
+-- a report line after none, and after one item more
+pub with_none : {T : Type 0} (e : End T) → e ≡ with_items e []
+with_none e = ap (λ (v : List _). let x : End _ = record { ring = e.ring; items = v } in x) (sym (append-nil e.items))
 
-pub end_is : {T : Type 0} (a b : End T) (items rest : List T) → a.ring ≡ b.ring → a.items ++ rest ≡ b.items ++ items → length rest ≡ 0 → a ≡ with_items b items
-end_is a b items [] r i l = ap (λ (v : List _). let x : End _ = record { ring = a.ring; items = v } in x) (sym (append-nil a.items) ∙ i) ∙ ap (λ v. let x : End _ = record { ring = v; items = b.items ++ items } in x) r
-end_is a b items (x ∷ rest) r i l = absurd (omega (arith, l))
+pub with_more : {T : Type 0} (a b c : End T) (items items' : List T) (x : T) → b ≡ with_items a items → c ≡ record b { items = b.items ++ x ∷ [] } → items' ≡ items ++ x ∷ [] → c ≡ with_items a items'
+with_more a b c items items' x eb ec ei = rw (ec, eb, ei) (ap (λ (v : List _). let e : End _ = record { ring = a.ring; items = v } in e) (append_assoc a.items items (x ∷ [])))
+
+-- the next of the first k
+pub next_of : {X : Type 0} (xs : List X) (i k : ℕ) (e : X) → i < k → slice_get xs i ≡ Some e → drop i (take k xs) ≡ e ∷ drop (i + 1) (take k xs)
+next_of xs i k e lt at = rw (add-one i) (go xs i k e lt at)
+  where
+    go : {X : Type 0} (xs : List X) (i k : ℕ) (e : X) → i < k → slice_get xs i ≡ Some e → drop i (take k xs) ≡ e ∷ drop (suc i) (take k xs)
+    go xs i zero e lt at = absurd (omega (arith, lt))
+    go [] i (suc k) e lt at = cc at
+    go (x ∷ xs) zero (suc k) e lt at = ap (λ t. t ∷ take k xs) (cc at)
+    go (x ∷ xs) (suc i) (suc k) e lt at = go xs i k e (omega (arith, lt)) at
+
+-- the states that events store, one event more or less
+pub states_more : (events events' : List Event) (e : Event) (states states' : List (List ℕ)) → states ≡ filter_map state_of events → states' ≡ states ++ filter_map state_of (e ∷ []) → events' ≡ events ++ e ∷ [] → states' ≡ filter_map state_of events'
+states_more events events' e states states' is more next = more ∙ (ap (λ t. t ++ filter_map state_of (e ∷ [])) is ∙ (sym (filter_map-append state_of events (e ∷ [])) ∙ ap (filter_map state_of) (sym next)))
+
+pub states_first : (events rest : List Event) (e : Event) (states : List (List ℕ)) → states ≡ filter_map state_of events → events ≡ e ∷ rest → states ≡ filter_map state_of (e ∷ []) ++ filter_map state_of rest
+states_first events rest e states is first = is ∙ (ap (filter_map state_of) first ∙ filter_map-append state_of (e ∷ []) rest)
+
+pub states_left : (events rest : List Event) (e : Event) (states states' : List (List ℕ)) → states ≡ filter_map state_of events → events ≡ e ∷ rest → states ≡ filter_map state_of (e ∷ []) ++ states' → states' ≡ filter_map state_of rest
+states_left events rest e states states' is first took = append_cancel_left (filter_map state_of (e ∷ [])) states' (filter_map state_of rest) (sym took ∙ states_first events rest e states is first)
 
 take-drop : {X : Type 0} (k : ℕ) (xs : List X) → take k xs ++ drop k xs ≡ xs
 take-drop zero [] = refl

@@ -1,6 +1,6 @@
 //! What the collector has not taken of the workers when they are back, and how it is added.
-ghost use Rattle.std.specs.Prelude.{◌≡◌, ◌≢◌, ◌<◌, ◌≤◌, ◌++◌, [], ℕ, List, IfOk, IsTrue, Some};
-ghost use Rattle.std.specs.Prelude.{false, length, take};
+ghost use Rattle.std.specs.Prelude.{◌≡◌, ◌≢◌, ◌<◌, ◌≤◌, ◌+◌, ◌++◌, [], ℕ, List, IfOk, IsTrue, Some};
+ghost use Rattle.std.specs.Prelude.{false, length, take, drop};
 ghost use Rattle.std.specs.VecDeque.{deque_items};
 ghost use Rattle.line_tape.specs.declared.events.Event.{Event};
 ghost use Rattle.line_tape.specs.History.{process_at, tape_at, incarnation_at};
@@ -12,11 +12,10 @@ ghost use Rattle.line_posts.specs.Gathering.{rows_of, AreFurtherBelow, AreReady,
 
 use crate::posts::Post;
 use crate::queues::{keeps, take_kept};
-use crate::reports::copies;
 use line_catalogue::Catalogue;
 use line_names::{ProcId, ProcSet};
 use line_rings::meet_end;
-use line_tape::Event;
+use line_tape::{Event, Tape};
 use rtrb::Consumer;
 use std::alloc::{AllocError, Global};
 use std::collections::VecDeque;
@@ -42,6 +41,20 @@ impl Post {
             self.journal.len()
         }
     }
+}
+
+/// Copies of so many events of a tape, from a place on.
+fn copies(alloc: Global, tape: &Tape, from: u32, k: u32) -> Result<VecDeque<Event>, AllocError>
+    requires { from + k ≤ length tape.now.events }
+    ensures { IfOk result (λ events. deque_items events ≡ take k (drop from tape.now.events)) }
+{
+    let _limits = tape.len();
+    let mut events = VecDeque::with_capacity(alloc, k as usize)?;
+    for i in 0..k {
+        let event = tape.event(from + i).to_event(alloc)?;
+        events.push_back(event)?;
+    }
+    Ok(events)
 }
 
 /// The events of a worker that the collector has not taken, and room for them.

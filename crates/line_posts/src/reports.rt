@@ -1,7 +1,11 @@
 //! What a worker reports.
-ghost use Rattle.std.specs.Prelude.{◌≡◌, ◌<◌, ◌≤◌, ◌+◌, ◌∷◌, ◌⊎◌, IfOk, OnErr, length, take, drop};
+ghost use Rattle.std.specs.Prelude.{◌≡◌, ◌≤◌, ◌+◌, ◌∷◌, [], ◌++◌, ◌⊎◌, ℕ, List, IfOk, OnOk, OnErr};
+ghost use Rattle.std.specs.Prelude.{length, take, drop};
+ghost use Rattle.std.specs.List.{filter_map};
 ghost use Rattle.std.specs.VecDeque.{deque_items};
 ghost use Rattle.rtrb.specs.Ring.{known_free};
+ghost use Rattle.line_tape.specs.Event.{state_of, IsShort};
+ghost use Rattle.line_tape.specs.Shown.{shown};
 ghost use Rattle.line_rings.specs.Ends.{producer_end, slots_of};
 ghost use Rattle.line_posts.specs.Posts.{reported_count};
 ghost use Rattle.line_posts.specs.Generations.{IsSamePost};
@@ -9,7 +13,8 @@ ghost use Rattle.line_posts.specs.Reports.{with_items, HasReported};
 
 use crate::posts::Post;
 use crate::refusals::ReportError;
-use line_tape::{Event, Tape};
+use line_names::Body;
+use line_tape::{Event, EventRef, State, Tape};
 use rtrb::Producer;
 use std::alloc::{AllocError, Global};
 use std::collections::VecDeque;
@@ -35,42 +40,81 @@ fn fewer(left: u32, room: usize) -> u32
     room as u32
 }
 
-/// Copies of so many events of a tape, from a place on.
-pub(crate) fn copies(
+/// Keeps a copy of the state that an event stores, where it is a check.
+fn keep_state(
     alloc: Global,
-    tape: &Tape,
-    from: u32,
-    k: u32,
-) -> Result<VecDeque<Event>, AllocError>
+    event: &EventRef<'_>,
+    states: &mut VecDeque<State>,
+) -> Result<(), AllocError>
+    ensures { OnOk result (deque_items states.new
+        ≡ deque_items states.old ++ filter_map state_of (shown event.now ∷ [])) }
+{
+    match event.state() {
+        Some(bytes) => {
+            let bytes = Vec::from_slice(alloc, bytes)?;
+            states.push_back(State::of(bytes))?;
+            Ok(())
+        }
+        None => Ok(()),
+    }
+}
+
+/// Copies of the states that so many events of a tape store, from a place on: all that a report
+/// takes memory for.
+fn states_of(alloc: Global, tape: &Tape, from: u32, k: u32) -> Result<VecDeque<State>, AllocError>
     requires { from + k ≤ length tape.now.events }
-    ensures { IfOk result (λ events. deque_items events ≡ take k (drop from tape.now.events)) }
+    ensures { IfOk result (λ states.
+        deque_items states ≡ filter_map state_of (take k (drop from tape.now.events))) }
 {
     let _limits = tape.len();
-    let mut events = VecDeque::with_capacity(alloc, k as usize)?;
+    let mut states = VecDeque::new(alloc);
     for i in 0..k {
-        let event = tape.event(from + i).to_event(alloc)?;
-        events.push_back(event)?;
+        keep_state(alloc, &tape.event(from + i), &mut states)?;
     }
-    Ok(events)
+    Ok(states)
 }
 
-/// Takes the first of them.
-fn next(events: &mut VecDeque<Event>) -> Event
-    requires { 0 < length (deque_items events.old) }
-    ensures { deque_items events.old ≡ result ∷ deque_items events.new }
+/// An event in memory of its own, with the first of the states where it is a check.
+fn event_of(event: &EventRef<'_>, states: &mut VecDeque<State>) -> Event
+    requires short { IsShort (shown event.now) }
+    requires state { (rest : List (List ℕ))
+        × (deque_items states.old ≡ filter_map state_of (shown event.now ∷ []) ++ rest) }
+    ensures value { result ≡ shown event.now }
+    ensures rest { deque_items states.old
+        ≡ filter_map state_of (shown event.now ∷ []) ++ deque_items states.new }
 {
-    events.pop_front().unwrap()
+    match event {
+        EventRef::Send { to, inc, body } => Event::Send {
+            to: *to,
+            inc: *inc,
+            body: Body::try_new(body).unwrap(),
+        },
+        EventRef::Recv { message } => Event::Recv { message: *message },
+        EventRef::Check { state: _, round } => Event::Check {
+            state: states.pop_front().unwrap(),
+            round: *round,
+        },
+        EventRef::Mark { from, round } => Event::Mark {
+            from: *from,
+            round: *round,
+        },
+    }
 }
 
-/// Puts them on a report line that is known to have room for so many.
-fn put_each(line: &mut Producer<Event>, events: VecDeque<Event>)
-    requires { length (deque_items events) ≤ known_free line.old }
-    ensures end { producer_end line.new ≡ with_items (producer_end line.old) (deque_items events) }
-    ensures free { known_free line.old ≡ known_free line.new + length (deque_items events) }
+/// Puts so many events of a tape, from a place on, on a report line that is known to have room for
+/// them; the states are what those of them that are checks store.
+fn put_each(line: &mut Producer<Event>, tape: &Tape, from: u32, k: u32, states: VecDeque<State>)
+    requires within { from + k ≤ length tape.now.events }
+    requires states { deque_items states
+        ≡ filter_map state_of (take k (drop from tape.now.events)) }
+    requires room { k ≤ known_free line.old }
+    ensures { producer_end line.new
+        ≡ with_items (producer_end line.old) (take k (drop from tape.now.events)) }
 {
-    let mut events = events;
-    for i in 0..events.len() {
-        let event = next(&mut events);
+    let _limits = tape.len();
+    let mut states = states;
+    for i in 0..k {
+        let event = event_of(&tape.event(from + i), &mut states);
         line.push_reserved(event);
     }
 }
@@ -78,7 +122,8 @@ fn put_each(line: &mut Producer<Event>, events: VecDeque<Event>)
 impl Post {
     /// Puts the events that it has not reported yet on the report line, as many as fit there.
     ///
-    /// It costs a copy of each event that it puts there.
+    /// Each is made where it is put there. It takes memory for the states of checks alone, and for
+    /// all of these before it puts anything there.
     pub fn report(&mut self) -> Result<Reported, ReportError>
         ensures ok { IfOk result (λ r. HasReported self.old r.sent self.new) }
         ensures sent { IfOk result (λ r.
@@ -92,8 +137,9 @@ impl Post {
         let left = self.journal.len() - self.reported;
         let room = self.line.slots();
         let k = fewer(left, room);
-        let events = copies(self.alloc, self.journal.tape(), self.reported, k)?;
-        put_each(&mut self.line, events);
+        let tape = self.journal.tape();
+        let states = states_of(self.alloc, tape, self.reported, k)?;
+        put_each(&mut self.line, tape, self.reported, k, states);
         self.reported += k;
         Ok(Reported {
             sent: k,

@@ -2,7 +2,7 @@ use Rattle.std.proofs.Common.{◌+◌, ◌∙◌, Some, ap, sym}
 use Rattle.line_tape.specs.Shown.{shown}
 use Rattle.line_posts.proofs.ManyLemmas.{copied_more}
 use Rattle.line_posts.proofs.ReplayLemmas.{short_at}
-use Rattle.line_posts.proofs.reports.copies.Goals as goal
+use Rattle.line_posts.proofs.further.copies.Goals as goal
 
 pub to_event-requires : goal.to_event-requires
 to_event-requires c = short_at c.args.tape.now.events (c.args.from + c.loop-i.i) (shown c.event.result) c.len-limits.ensures.limits c.event.ensures

@@ -1,13 +1,15 @@
-use Rattle.std.proofs.Common.{◌≡◌, ◌+◌, ◌++◌, length}
+use Rattle.std.proofs.Common.{◌≡◌, ◌+◌, take, drop}
+use Rattle.std.specs.List.{filter_map}
 use Rattle.std.specs.VecDeque.{deque_items}
 use Rattle.rtrb.specs.Ring.{known_free}
+use Rattle.line_tape.specs.Event.{state_of}
 use Rattle.line_rings.specs.Ends.{producer_end}
+use Rattle.line_posts.specs.Reports.{with_items}
 use Rattle.line_posts.proofs.reports.put_each.Given as goal
 
 abbrev pub invariant-loop-i : goal.invariant-loop-i
 invariant-loop-i l = record {
-  ring : (producer_end l.line).ring ≡ (producer_end l.fn.line).ring;
-  items : (producer_end l.line).items ++ deque_items l.events ≡ (producer_end l.fn.line).items ++ deque_items l.fn.events;
+  end : producer_end l.line ≡ with_items (producer_end l.fn.line) (take l.i (drop l.from l.tape.events));
   free : known_free l.line + l.i ≡ known_free l.fn.line;
-  left : length (deque_items l.events) + l.i ≡ length (deque_items l.fn.events);
+  states : deque_items l.states ≡ filter_map state_of (drop l.i (take l.k (drop l.from l.tape.events)));
 }

@@ -1,6 +1,5 @@
-use Rattle.std.proofs.Common.{◌∙◌, ◌+◌, List, length, take, drop, ap, arith}
+use Rattle.std.proofs.Common.{◌≡◌, ◌∙◌, ◌+◌, List, length, take, drop, ap, arith}
 use Rattle.std.proofs.lemmas.List.{length-append}
-use Rattle.std.specs.VecDeque.{deque_items}
 use Rattle.line_tape.specs.declared.events.Event.{Event}
 use Rattle.line_tape.specs.History.{tape_at}
 use Rattle.line_rings.specs.Ends.{End, producer_end}
@@ -17,8 +16,8 @@ invariant_of-self-2 c =
     let old = producer_end c.self.inside.line in
     let T = length (tape_at c.self.inside.opening.value.processes c.self.inside.me) + length old.items in
     let kept = producer_kept c.self.inside.line c.slots-room.new.self c.slots-room.ensures.looked.0 c.slots-room.ensures.looked.1 in
-    let events = c.in_ok-events.ensures ∙ (ap (λ (t : List Event). take k (drop c.self.inside.reported t)) c.tape.ensures ∙ ap (λ v. take k (drop v J)) told) in
-    let line = c.put_each.ensures.end ∙ (ap (λ e. with_items e (deque_items c.in_ok-events.events)) kept ∙ ap (with_items old) events) in
+    let events : take k (drop c.self.inside.reported c.tape-tape.result.now.events) ≡ take k (drop T J) = ap (λ (t : List Event). take k (drop c.self.inside.reported t)) c.tape-tape.ensures ∙ ap (λ v. take k (drop v J)) told in
+    let line = c.put_each.ensures ∙ (ap (λ e. with_items e (take k (drop c.self.inside.reported c.tape-tape.result.now.events))) kept ∙ ap (with_items old) events) in
     let within = reported_within _ h in
     let left = c.fewer-k.ensures.left in
     let len = c.len.ensures.value in
