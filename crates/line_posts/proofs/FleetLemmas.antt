@@ -1,7 +1,7 @@
 -- The workers of a fleet, one by one.
 use Rattle.std.proofs.Common.{add-one, zero, suc, ◌≡◌, ◌∙◌, ◌+◌, ◌<◌, ◌++◌, ◌∷◌, [], ℕ, List, Some, length, map, drop, replicate, refl, sym, ap, inl, inr, arith, subst}
-use Rattle.std.specs.Prelude.{slice_get, option_map}
-use Rattle.std.proofs.lemmas.List.{length-map, length-drop, length_push}
+use Rattle.std.specs.Prelude.{slice_get, option_map, Result, Ok, Err, IfOk}
+use Rattle.std.proofs.lemmas.List.{length-map, length-drop, length-replicate, length_push, get_or-replicate}
 use Rattle.std.proofs.lemmas.Option.{slice_get_within}
 use Rattle.line_marker.specs.Recording.{Recorded}
 use Rattle.line_tape.specs.declared.events.Event.{Event}
@@ -17,9 +17,15 @@ use Rattle.line_posts.specs.Collected.{collector_of, CollectorView}
 use Rattle.line_posts.specs.Generations.{AreLined, HasRing}
 use Rattle.line_posts.specs.Openings.{ArePlain, IsOpening}
 use Rattle.line_posts.specs.Fleets.{AreReplays}
+use Rattle.line_posts.specs.Parcels.{parcels_of, parcels_sent}
+use Rattle.line_posts.proofs.ReplayLemmas.{drop_none}
+use Rattle.line_tape.specs.Fit.{received}
 use Rattle.line_tape.specs.Views.{MarksView}
 use Rattle.line_posts.specs.Generations.{IsGeneration}
-use Rattle.line_posts.specs.Openings.{AreOpened}
+use Rattle.line_posts.specs.Openings.{parcels_left, AreOpened}
+use Rattle.line_posts.specs.Preparations.{AreJournals, IsJournalAt, IsPrepared}
+use Rattle.line_posts.specs.Replays.{packets_of, AreAllReplays}
+use Rattle.line_journals.specs.Journals.{JournalView}
 use Rattle.line_posts.specs.Fleets.{AreAllMade, AreMade, IsMade}
 
 -- the next row, and those after it
@@ -28,6 +34,29 @@ next_row [] zero row rest e = cc e
 next_row [] (suc q) row rest e = cc e
 next_row (x ∷ xs) zero row rest e = (cc e, cc e)
 next_row (x ∷ xs) (suc q) row rest e = next_row xs q row rest e
+
+-- what follows where a call succeeded
+pub if_ok : {T E : Type 0} (r : Result T E) (P Q : T → Type 0) → ((x : T) → P x → Q x) → IfOk r P → IfOk r Q
+if_ok (Ok x) P Q f h = f x h
+if_ok (Err e) P Q f h = h
+
+-- the next item, and those after it
+pub next_item : {X : Type 0} (xs : List X) (q : ℕ) (x : X) (rest : List X) → x ∷ rest ≡ drop q xs → (slice_get xs q ≡ Some x) × (drop (suc q) xs ≡ rest)
+next_item [] zero x rest e = cc e
+next_item [] (suc q) x rest e = cc e
+next_item (y ∷ ys) zero x rest e = (cc e, cc e)
+next_item (y ∷ ys) (suc q) x rest e = next_item ys q x rest e
+
+-- one journal more
+pub journals_more : (opening : List Process) (floor q : ℕ) (journals journals' : List JournalView) (journal : JournalView) → length journals ≡ q → ((p : ℕ) (j : JournalView) → slice_get journals p ≡ Some j → IsJournalAt opening floor p j)
+    → journals' ≡ journals ++ journal ∷ [] → IsJournalAt opening floor q journal → (length journals' ≡ q + 1) × ((p : ℕ) (j : JournalView) → slice_get journals' p ≡ Some j → IsJournalAt opening floor p j)
+journals_more opening floor q journals journals' journal count each e new = (
+  ap length e ∙ (length_push journals journal ∙ ap (λ t. t + 1) count),
+  λ p j at. elim (slice_get_push journals journal j p (ap (λ t. slice_get t p) (sym e) ∙ at)) [
+    | inl (lt, old) ↦ each p j old
+    | inr (last, same) ↦ subst (λ (v : JournalView). IsJournalAt opening floor p v) same (subst (λ n. IsJournalAt opening floor n journal) (sym (last ∙ count)) new)
+  ],
+)
 
 pub opening_of : (opening : List Process) (q me n : ℕ) (tape : List Event) (kept : List (List Packet)) (outs ins : List (List (End Parcel))) (lines in_lines : List (List (End Event)))
     (out in_ : List (End Parcel)) (seen : List (List Parcel)) (line : End Event) (floor : ℕ) (rounds : List Recorded)
@@ -115,6 +144,26 @@ opened_of opening floor capacity outs ins lines in_lines posts n row rest long l
 
 pub no_rounds_fresh : (n : ℕ) → ArePlain (replicate n fresh)
 no_rounds_fresh n p = ap rounds_checked (tape_start n p)
+
+-- nothing is kept where nothing was sent
+pub no_replays_fresh : (n : ℕ) (kept : List (List (List Packet))) → kept ≡ replicate n (replicate n []) → AreAllReplays (replicate n fresh) kept
+no_replays_fresh n kept e =
+    let l = length-replicate n fresh in
+    rw e (record {
+      count = length-replicate n (replicate n []) ∙ sym l;
+      each = λ q lt. (
+          let below : q < n = omega (arith, lt, l) in
+          let row : row_at (replicate n (replicate n [])) q ≡ replicate n [] = get_or-replicate n q (replicate n []) [] below in
+          record {
+            count = ap length row ∙ (length-replicate n [] ∙ sym l);
+            each = λ p. ap (λ r. parcels_of (row_at r p)) row ∙ (ap parcels_of (none n p) ∙ sym (ap (λ t. drop (length (received (replicate n fresh) q p)) (parcels_sent q 0 t)) (tape_start n p) ∙ drop_none (length (received (replicate n fresh) q p))));
+          });
+    })
+  where
+    none : {X : Type 0} (n p : ℕ) → row_at {X = X} (replicate n []) p ≡ []
+    none zero p = refl
+    none (suc n) zero = refl
+    none (suc n) (suc p) = none n p
 
 -- the collector of a generation has the other ends of its report lines
 pub opened_lined : (v : CollectorView) (opening processes : List Process) (marks : MarksView) (lines : List (End Event)) (seen : List (List Event)) (capacity floor : ℕ) (posts : List PostView)

@@ -15,6 +15,7 @@ pub mod LookLemmas
 pub mod SendLemmas
 pub mod ReplayLemmas
 pub mod SortLemmas
+pub mod CountLemmas
 pub mod GatheringLemmas
 pub mod OwnLemmas
 pub mod ExtensionLemmas

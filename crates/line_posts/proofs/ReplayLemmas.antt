@@ -27,11 +27,13 @@ take_next xs i x e = rw (add-one i) (go xs i x e)
     go (y ∷ ys) zero x e = ap (λ t. t ∷ []) (cc e)
     go (y ∷ ys) (suc i) x e = ap (λ t. y ∷ t) (go ys i x e)
 
--- what is left of a list that grew
-pub drop_grown : {X : Type 0} (k : ℕ) (xs ys : List X) → drop k (xs ++ ys) ≡ drop k xs ++ drop (k - length xs) ys
-drop_grown zero xs ys = (let e : 0 ≡ 0 - length xs = omega arith in ap (λ n. xs ++ drop n ys) e)
-drop_grown (suc k) [] ys = (let e : suc k ≡ suc k - 0 = omega arith in ap (λ n. drop n ys) e)
-drop_grown (suc k) (x ∷ xs) ys = (let e : k - length xs ≡ suc k - suc (length xs) = omega arith in drop_grown k xs ys ∙ ap (λ n. drop k xs ++ drop n ys) e)
+pub drop_next : {X : Type 0} (xs : List X) (j i : ℕ) (x : X) → slice_get xs j ≡ Some x → i ≡ j + 1 → drop j xs ≡ x ∷ drop i xs
+drop_next xs j i x e is = (let s : i ≡ suc j = omega (arith, is) in rw s (go xs j x e))
+  where
+    go : {X : Type 0} (xs : List X) (j : ℕ) (x : X) → slice_get xs j ≡ Some x → drop j xs ≡ x ∷ drop (suc j) xs
+    go [] j x e = cc e
+    go (y ∷ ys) zero x e = ap (λ t. t ∷ ys) (cc e)
+    go (y ∷ ys) (suc j) x e = go ys j x e
 
 -- what an event puts on the ring to q, where it is no round's check
 pub sent_to : (q k to inc : ℕ) (body : List ℕ) → to ≡ q → parcels_sent q k (Send to inc body ∷ []) ≡ Message (record { inc = inc; number = k; body = body }) ∷ []
@@ -44,25 +46,8 @@ pub sent_none : (q k : ℕ) (state : List ℕ) (round : Option ℕ) → checked_
 sent_none q k state None e = refl
 sent_none q k state (Some r) e = cc e
 
--- one event further
-pub left_more : (q s : ℕ) (tape : List Event) (event : Event) (received received' : ℕ) (packets packets' : List Packet)
-    → received ≡ s - length (parcels_sent q 0 tape) → parcels_of packets ≡ drop s (parcels_sent q 0 tape)
-    → received' ≡ received - length (parcels_sent q (sends tape) (event ∷ [])) → parcels_of packets' ≡ parcels_of packets ++ drop received (parcels_sent q (sends tape) (event ∷ []))
-    → (received' ≡ s - length (parcels_sent q 0 (tape ++ event ∷ []))) × (parcels_of packets' ≡ drop s (parcels_sent q 0 (tape ++ event ∷ [])))
-left_more q s tape event received received' packets packets' er el nr nl =
-    let x = parcels_sent q (sends tape) (event ∷ []) in
-    let zero_on : 0 + sends tape ≡ sends tape = omega arith in
-    let all : parcels_sent q 0 (tape ++ event ∷ []) ≡ parcels_sent q 0 tape ++ x = parcels_append q 0 tape (event ∷ []) ∙ ap (λ n. parcels_sent q 0 tape ++ parcels_sent q n (event ∷ [])) zero_on in
-    let long = ap length all ∙ length-append (parcels_sent q 0 tape) x in (
-      omega (arith, er, nr, long),
-      nl ∙ (ap (λ t. t ++ drop received x) el ∙ (ap (λ n. drop s (parcels_sent q 0 tape) ++ drop n x) er ∙ (sym (drop_grown s (parcels_sent q 0 tape) x) ∙ ap (drop s) (sym all)))),
-    )
-
 pub sends_push : (tape : List Event) (event : Event) → sends (tape ++ event ∷ []) ≡ sends tape + sends (event ∷ [])
 sends_push tape event = ap length (filter_map-append incarnation_of tape (event ∷ [])) ∙ length-append (incarnations_sent tape) (incarnations_sent (event ∷ []))
-
-pub takes_push : (p : ℕ) (tape : List Event) (event : Event) → length (filter_map (item_received p) (tape ++ event ∷ [])) ≡ length (filter_map (item_received p) tape) + length (filter_map (item_received p) (event ∷ []))
-takes_push p tape event = ap length (filter_map-append (item_received p) tape (event ∷ [])) ∙ length-append (filter_map (item_received p) tape) (filter_map (item_received p) (event ∷ []))
 
 -- each event of a tape is short
 pub short_at : (tape : List Event) (i : ℕ) (event : Event) → IsTape tape → slice_get tape i ≡ Some event → IsShort event

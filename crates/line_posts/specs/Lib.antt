@@ -10,5 +10,6 @@ pub mod Generations
 pub mod Openings
 pub mod Fleets
 pub mod Replays
+pub mod Preparations
 pub mod Gathered
 pub mod Gathering

@@ -1,18 +1,27 @@
--- How what links hold is told off the tapes, in one pass over each.
-use Rattle.std.specs.Prelude.{◌≡◌, ◌≢◌, ◌<◌, ◌-◌, ◌++◌, ℕ, List, [], ◌∷◌, length, drop, map}
-use Rattle.std.specs.Prelude.{slice_index_or, slice_set}
-use Rattle.std.specs.List.{filter_map}
+-- How what links hold is told off the tapes that go on, each looked at from its end back.
+use Rattle.std.specs.Prelude.{◌≡◌, ◌≢◌, ◌<◌, ◌≤◌, ◌+◌, ◌-◌, ◌++◌, ℕ, List, [], ◌∷◌, length, take}
+use Rattle.std.specs.Prelude.{drop, map, filter, slice_index_or, slice_set}
 use Rattle.std.specs.declared.alloc.Global.{Global}
 use Rattle.std.specs.declared.collections.VecDeque.{VecDeque}
 use Rattle.std.specs.declared.vec.Vec.{Vec}
+use Rattle.line_names.specs.declared.messages.MsgName.{MsgName}
 use Rattle.line_tape.specs.declared.events.Event.{Event}
-use Rattle.line_tape.specs.Fit.{item_received, received}
-use Rattle.line_tape.specs.History.{Process, tape_at}
+use Rattle.line_tape.specs.History.{Process}
+use Rattle.line_tape.specs.Transit.{goes_between}
 use Rattle.line_rings.specs.Ends.{row_at}
 use Rattle.line_posts.specs.declared.parcels.Packet.{Packet}
 use Rattle.line_posts.specs.Fleets.{AreReplays}
 use Rattle.line_posts.specs.Gathering.{rows_of}
 use Rattle.line_posts.specs.Parcels.{parcels_of, parcels_sent}
+
+-- their sum
+abbrev pub total : List ℕ → ℕ
+total [] = 0
+total (x ∷ xs) = x + total xs
+
+-- the last n of them
+abbrev pub take_last : {X : Type 0} → ℕ → List X → List X
+take_last n xs = drop (length xs - n) xs
 
 -- what stands in row q at p
 abbrev pub cell_at : {X : Type 0} → X → List (List X) → ℕ → ℕ → X
@@ -35,44 +44,43 @@ counts_of rows = map (λ v. v.items) rows
 abbrev pub packets_of : List (Vec (VecDeque Packet Global) Global) → List (List (List Packet))
 packets_of rows = map (λ v. rows_of v.items) rows
 
--- how many things these events take from each of the first n processes
-pub record AreTaken (n : ℕ) (events : List Event) (taken : List ℕ) : Type 0 where
-  pub count : length taken ≡ n
-  pub each : (p : ℕ) → p < n
-      → slice_index_or taken p 0 ≡ length (filter_map (item_received p) events)
+-- how many of these messages each process sent to each, by sender, and how many in all
+pub record AreCounted (history : List Process) (messages : List MsgName) (counts : List (List ℕ))
+    (sums : List ℕ) : Type 0 where
+  pub square : AreSquare (length history) counts
+  pub each : (p q : ℕ) → p < length history → q < length history
+      → cell_at 0 counts p q ≡ length (filter (goes_between history p q) messages)
+  pub sum_count : length sums ≡ length history
+  pub sum : (p : ℕ) → p < length history → slice_index_or sums p 0 ≡ total (row_at counts p)
+  pub few : (p : ℕ) → slice_index_or sums p 0 ≤ length messages
 
--- of the tapes of the first m processes, how many things each takes from each process
-pub record AreTakenBelow (m : ℕ) (history : List Process) (taken : List (List ℕ)) : Type 0 where
-  pub count : length taken ≡ m
-  pub each : (q : ℕ) → q < m → AreTaken (length history) (tape_at history q) (row_at taken q)
-
--- where process p has done these events: how many things each process took from p that are still
--- to be met among what p sends, and what p sent to it that it has not received
-pub record AreSorted (history : List Process) (p : ℕ) (events : List Event) (taken : List (List ℕ))
+-- of process p so many messages to each process are looked for, the last ones. Where these events
+-- at the end of its tape were looked at, the first send among them having this number: how many are
+-- not met yet, and those that were
+pub record AreSorted (wanted : List ℕ) (p number : ℕ) (events : List Event) (counts : List ℕ)
     (packets : List (List (List Packet))) : Type 0 where
-  pub still : (q : ℕ) → q < length history → cell_at 0 taken q p
-      ≡ length (received history q p) - length (parcels_sent q 0 events)
-  pub queued : (q : ℕ) → q < length history → parcels_of (cell_at [] packets q p)
-      ≡ drop (length (received history q p)) (parcels_sent q 0 events)
+  pub still : (q : ℕ) → q < length wanted → slice_index_or counts q 0
+      ≡ slice_index_or wanted q 0 - length (parcels_sent q number events)
+  pub queued : (q : ℕ) → q < length wanted → parcels_of (cell_at [] packets q p)
+      ≡ take_last (slice_index_or wanted q 0) (parcels_sent q number events)
 
--- the counts and packets of n processes, where nothing but those of sender p changed
-pub record AreOfSender (n p : ℕ) (taken new_taken : List (List ℕ))
-    (packets new_packets : List (List (List Packet))) : Type 0 where
-  pub taken_square : AreSquare n new_taken
-  pub packets_square : AreSquare n new_packets
-  pub taken_same : (q k : ℕ) → k ≢ p → cell_at 0 new_taken q k ≡ cell_at 0 taken q k
-  pub packets_same : (q k : ℕ) → k ≢ p → cell_at [] new_packets q k ≡ cell_at [] packets q k
+-- the packets of n processes, where nothing but those of sender p changed
+pub record AreOfSender (n p : ℕ) (packets new_packets : List (List (List Packet))) : Type 0 where
+  pub square : AreSquare n new_packets
+  pub same : (q k : ℕ) → k ≢ p → cell_at [] new_packets q k ≡ cell_at [] packets q k
 
--- the event of process p, whose message has this number where it is a send, takes off a count or
--- adds a packet
-pub record IsNoted (n p number : ℕ) (event : Event) (taken new_taken : List (List ℕ))
-    (packets new_packets : List (List (List Packet))) : Type 0 where
-  pub sender : AreOfSender n p taken new_taken packets new_packets
-  pub still : (q : ℕ) → q < n → cell_at 0 new_taken q p
-      ≡ cell_at 0 taken q p - length (parcels_sent q number (event ∷ []))
-  pub queued : (q : ℕ) → q < n → parcels_of (cell_at [] new_packets q p)
-      ≡ parcels_of (cell_at [] packets q p)
-      ++ drop (cell_at 0 taken q p) (parcels_sent q number (event ∷ []))
+-- the event of process p, whose message has this number where it is a send, puts a packet before
+-- the others, where one is looked for; so many were taken off the counts, one or none
+pub record IsNoted (p number : ℕ) (event : Event) (counts new_counts : List ℕ)
+    (packets new_packets : List (List (List Packet))) (taken : ℕ) : Type 0 where
+  pub sender : AreOfSender (length counts) p packets new_packets
+  pub count : length new_counts ≡ length counts
+  pub sum : total new_counts + taken ≡ total counts
+  pub still : (q : ℕ) → q < length counts → slice_index_or new_counts q 0
+      ≡ slice_index_or counts q 0 - length (parcels_sent q number (event ∷ []))
+  pub queued : (q : ℕ) → q < length counts → parcels_of (cell_at [] new_packets q p)
+      ≡ take (slice_index_or counts q 0) (parcels_sent q number (event ∷ []))
+      ++ parcels_of (cell_at [] packets q p)
 
 -- what each worker keeps where a generation begins
 pub record AreAllReplays (history : List Process) (kept : List (List (List Packet))) : Type 0 where

@@ -1,15 +1,16 @@
 //! How a generation begins.
-ghost use Rattle.std.specs.Prelude.{◌≡◌, ◌≢◌, ◌<◌, ◌≤◌, ◌∷◌, ◌↔◌, ◌⊎◌, List, IfOk, IsErrOf};
-ghost use Rattle.std.specs.Prelude.{length, replicate};
-ghost use Rattle.line_tape.specs.History.{fresh};
+ghost use Rattle.std.specs.Prelude.{◌≡◌, ◌≢◌, ◌<◌, ◌≤◌, ◌∷◌, [], ◌↔◌, ◌⊎◌, ℕ, List, IfOk, IsErrOf};
+ghost use Rattle.std.specs.Prelude.{length, replicate, vec_capacity};
+ghost use Rattle.line_tape.specs.History.{fresh, Process};
 ghost use Rattle.line_tape.specs.Fit.{IsFitFifo};
 ghost use Rattle.line_tape.specs.Views.{no_marks};
 ghost use Rattle.line_tape.specs.declared.events.Event.{Event};
 ghost use Rattle.line_rings.specs.Ends.{in_ends, in_rows, out_rows, AreLinked, End};
 ghost use Rattle.line_posts.specs.Collected.{collector_of};
 ghost use Rattle.line_posts.specs.Generations.{AreLined, IsGeneration};
-ghost use Rattle.line_posts.specs.Openings.{AreOpened, ArePlain};
+ghost use Rattle.line_posts.specs.Openings.{AreOpened};
 ghost use Rattle.line_posts.specs.Fleets.{AreAllMade};
+ghost use Rattle.line_posts.specs.Preparations.{AreJournals, IsPrepared};
 ghost use Rattle.line_posts.specs.Replays.{packets_of, AreAllReplays};
 
 use crate::collectors::{Collector, open_collector};
@@ -17,12 +18,12 @@ use crate::limits::{MOST_CAPACITY, MOST_WORKERS};
 use crate::parcels::{Packet, Parcel};
 use crate::posts::{Post, open_post};
 use crate::refusals::FleetError;
-use crate::replays::all_replays;
+use crate::replays::no_packets_yet;
 use line_catalogue::Catalogue;
 use line_journals::Journal;
-use line_names::ProcId;
+use line_names::{MOST_PROCESSES, ProcId};
 use line_rings::{Rings, make_rings};
-use line_tape::{Event, History};
+use line_tape::{Event, History, Tape};
 use rtrb::{Consumer, Producer};
 use std::alloc::{AllocError, Global};
 use std::collections::VecDeque;
@@ -35,40 +36,79 @@ fn take_first<T>(items: &mut Vec<T>) -> T
     items.remove(0)
 }
 
-/// The workers, each with its own ends of the rings.
+/// All that the workers of a generation take memory for: by number their journals, what they keep,
+/// and the rings and the report lines; and room for themselves.
+#[derive(Drop)]
+pub(crate) struct Prepared {
+    pub(crate) journals: Vec<Journal>,
+    pub(crate) replays: Vec<Vec<VecDeque<Packet>>>,
+    pub(crate) rings: Rings<Parcel>,
+    pub(crate) lines: Rings<Event>,
+    pub(crate) posts: Vec<Post>,
+}
+
+/// Rings and report lines of this capacity for workers with these journals and replays, and room
+/// for them.
+pub(crate) fn prepare(
+    alloc: Global,
+    journals: Vec<Journal>,
+    replays: Vec<Vec<VecDeque<Packet>>>,
+    capacity: usize,
+) -> Result<Prepared, AllocError>
+    ensures { IfOk result (λ prepared. (opening : List Process) (floor : ℕ)
+        → AreJournals opening floor journals.items
+        → AreAllReplays opening (packets_of replays.items)
+        → IsPrepared opening floor capacity prepared) }
+{
+    let count = journals.len();
+    let rings = make_rings(alloc, count, count, capacity)?;
+    let lines = make_rings(alloc, count, 1, capacity)?;
+    let posts = Vec::with_capacity(alloc, count)?;
+    Ok(Prepared {
+        journals,
+        replays,
+        rings,
+        lines,
+        posts,
+    })
+}
+
+/// The workers, each with its own ends of the rings, in room that was made for them.
 fn make_posts(
     alloc: Global,
     history: &History,
+    mut journals: Vec<Journal>,
+    mut replays: Vec<Vec<VecDeque<Packet>>>,
     mut rings: Rings<Parcel>,
     mut lines: Vec<Vec<Producer<Event>>>,
-    mut replays: Vec<Vec<VecDeque<Packet>>>,
-    floor: u32,
-) -> Result<Vec<Post>, AllocError>
+    mut posts: Vec<Post>,
+) -> Vec<Post>
     requires fit { IsFitFifo history.now.processes }
-    requires plain { ArePlain history.now.processes }
+    requires journals { (floor : ℕ) × AreJournals history.now.processes floor journals.items }
+    requires replays { AreAllReplays history.now.processes (packets_of replays.items) }
     requires rings { AreLinked (length history.now.processes) (length history.now.processes)
         (out_rows rings.outs.items) (in_rows rings.ins.items) }
     requires lines { (in_lines : List (List (End Event)))
         × AreLinked (length history.now.processes) 1 (out_rows lines.items) in_lines }
-    requires replays { AreAllReplays history.now.processes (packets_of replays.items) }
-    ensures { IfOk result (λ posts. AreAllMade history.now.processes floor
-        (out_rows rings.outs.items) (in_rows rings.ins.items) (out_rows lines.items) posts.items) }
+    requires none { posts.items ≡ [] }
+    requires room { length history.now.processes ≤ vec_capacity posts }
+    ensures { (floor : ℕ) → AreJournals history.now.processes floor journals.items
+        → AreAllMade history.now.processes floor (out_rows rings.outs.items)
+        (in_rows rings.ins.items) (out_rows lines.items) result.items }
 {
     let n = history.n();
-    let mut posts = Vec::with_capacity(alloc, n as usize)?;
     for q in 0..n {
         let me = ProcId::try_new(q, n).unwrap();
-        let tape = history.tape(me).copy(alloc)?;
-        let journal = Journal::new(alloc, n, me, tape, floor)?;
+        let journal = take_first(&mut journals);
         let kept = take_first(&mut replays);
         let outs = take_first(&mut rings.outs);
         let ins = take_first(&mut rings.ins);
         let mut line = take_first(&mut lines);
         let end = take_first(&mut line);
         let post = open_post(alloc, me, history, journal, kept, outs, ins, end);
-        posts.push(post)?;
+        posts.push_reserved(post);
     }
-    Ok(posts)
+    posts
 }
 
 /// Workers that begin a generation, and the other ends of their report lines.
@@ -78,27 +118,53 @@ pub(crate) struct Opened {
     pub(crate) lines: Vec<Consumer<Event>>,
 }
 
-/// The workers that begin a generation with a history, and the other ends of their report lines;
-/// rounds up to `floor` are old.
-pub(crate) fn open_all(
-    alloc: Global,
-    history: &History,
-    capacity: usize,
-    floor: u32,
-) -> Result<Opened, AllocError>
+/// The workers that begin a generation with a history, and the other ends of their report lines. It
+/// takes no memory and cannot fail.
+pub(crate) fn open_all(alloc: Global, history: &History, prepared: Prepared) -> Opened
     requires fit { IsFitFifo history.now.processes }
-    requires plain { ArePlain history.now.processes }
-    ensures { IfOk result
-        (λ opened. AreOpened history.now.processes floor capacity opened.posts.items
-        (in_ends opened.lines.items)) }
+    requires prepared { (floor : ℕ) × (capacity : ℕ)
+        × IsPrepared history.now.processes floor capacity prepared }
+    ensures { (floor capacity : ℕ) → IsPrepared history.now.processes floor capacity prepared
+        → AreOpened history.now.processes floor capacity result.posts.items
+        (in_ends result.lines.items) }
 {
-    let count = history.n() as usize;
-    let rings = make_rings(alloc, count, count, capacity)?;
-    let Rings { outs, mut ins } = make_rings(alloc, count, 1, capacity)?;
+    let _limits = history.n();
+    let Prepared {
+        journals,
+        replays,
+        rings,
+        lines,
+        posts,
+    } = prepared;
+    let Rings { outs, mut ins } = lines;
     let lines = take_first(&mut ins);
-    let replays = all_replays(alloc, history)?;
-    let posts = make_posts(alloc, history, rings, outs, replays, floor)?;
-    Ok(Opened { posts, lines })
+    let posts = make_posts(alloc, history, journals, replays, rings, outs, posts);
+    Opened { posts, lines }
+}
+
+/// The journals of `n` workers that have done nothing yet.
+fn fresh_journals(alloc: Global, n: u32) -> Result<Vec<Journal>, AllocError>
+    requires { n ≤ MOST_PROCESSES }
+    ensures { IfOk result (λ journals. AreJournals (replicate n fresh) 0 journals.items) }
+{
+    let mut journals = Vec::with_capacity(alloc, n as usize)?;
+    for q in 0..n {
+        let me = ProcId::try_new(q, n).unwrap();
+        let tape = Tape::new(alloc);
+        let journal = Journal::new(alloc, n, me, tape, 0)?;
+        journals.push(journal)?;
+    }
+    Ok(journals)
+}
+
+/// All that `n` workers of a first generation take memory for.
+fn prepare_fresh(alloc: Global, n: u32, capacity: usize) -> Result<Prepared, AllocError>
+    requires { n ≤ MOST_PROCESSES }
+    ensures { IfOk result (λ prepared. IsPrepared (replicate n fresh) 0 capacity prepared) }
+{
+    let journals = fresh_journals(alloc, n)?;
+    let replays = no_packets_yet(alloc, n)?;
+    prepare(alloc, journals, replays, capacity)
 }
 
 /// A first generation of `n` workers with no event yet, 1 to `MOST_WORKERS` of them, its collector,
@@ -128,7 +194,8 @@ pub fn fleet(alloc: Global, n: u32, capacity: usize) -> Result<(Collector, Vec<P
     let Ok(catalogue) = Catalogue::new(alloc, n) else {
         return Err(FleetError::OutOfMemory);
     };
-    let opened = open_all(alloc, catalogue.history(), capacity, 0)?;
+    let prepared = prepare_fresh(alloc, n, capacity)?;
+    let opened = open_all(alloc, catalogue.history(), prepared);
     let collector = open_collector(alloc, catalogue, opened.lines, capacity);
     Ok((collector, opened.posts))
 }

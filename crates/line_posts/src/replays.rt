@@ -1,77 +1,105 @@
 //! What links hold where a generation begins.
-ghost use Rattle.std.specs.Prelude.{◌≡◌, ◌≢◌, ◌<◌, ◌≤◌, ◌+◌, ◌-◌, ◌++◌, ◌∷◌, [], ℕ, All, List};
-ghost use Rattle.std.specs.Prelude.{None};
-ghost use Rattle.std.specs.Prelude.{IfOk, IsTrue, OnOk, false, length, replicate, slice_index_or};
-ghost use Rattle.std.specs.Prelude.{slice_set};
+ghost use Rattle.std.specs.Prelude.{◌≡◌, ◌<◌, ◌≤◌, ◌+◌, ◌-◌, ◌++◌, ◌∷◌, [], ℕ, All, List};
+ghost use Rattle.std.specs.Prelude.{IfOk, None, OnOk, length, map, replicate, slice_index_or};
+ghost use Rattle.std.specs.Prelude.{slice_get, slice_set, IsTrue, Some, false};
+ghost use Rattle.line_names.specs.declared.messages.MsgName.{MsgName};
 ghost use Rattle.line_tape.specs.Event.{sends, IsShort, NamesBelow};
-ghost use Rattle.line_tape.specs.History.{tape_at};
-ghost use Rattle.line_tape.specs.Rounds.{checked_round};
+ghost use Rattle.line_tape.specs.Restart.{restarted};
+ghost use Rattle.line_tape.specs.Rounds.{checked_round, rounds_checked};
 ghost use Rattle.line_tape.specs.Shown.{shown};
-ghost use Rattle.line_tape.specs.declared.events.Event.{Event};
+ghost use Rattle.line_tape.specs.Transit.{in_transit, in_transit_between};
+ghost use Rattle.line_tape.specs.declared.items.Item.TheVariants.{Message};
 ghost use Rattle.line_rings.specs.Ends.{row_at};
 ghost use Rattle.line_posts.specs.Gathering.{rows_of};
-ghost use Rattle.line_posts.specs.Openings.{ArePlain};
-ghost use Rattle.line_posts.specs.Replays.{cell_at, counts_of, packets_of, with_cell};
-ghost use Rattle.line_posts.specs.Replays.{AreAllReplays};
-ghost use Rattle.line_posts.specs.Replays.{AreOfSender, AreSorted, AreSquare, AreTaken};
-ghost use Rattle.line_posts.specs.Replays.{AreTakenBelow, IsNoted};
+ghost use Rattle.line_posts.specs.Openings.{parcels_left, ArePlain};
+ghost use Rattle.line_posts.specs.Parcels.{items_of_parcels, parcels_of, parcels_sent};
+ghost use Rattle.line_posts.specs.Preparations.{AreJournals};
+ghost use Rattle.line_posts.specs.Replays.{cell_at, counts_of, packets_of, take_last, total};
+ghost use Rattle.line_posts.specs.Replays.{with_cell, AreAllReplays, AreCounted, AreOfSender};
+ghost use Rattle.line_posts.specs.Replays.{AreSquare, IsNoted};
 
 use crate::parcels::Packet;
-use line_names::{Body, MOST_BODY, ProcId};
+use line_journals::Journal;
+use line_names::{Body, MOST_BODY, MsgName, ProcId};
+use line_plan::Plan;
 use line_tape::{EventRef, History, Tape};
 use std::alloc::{AllocError, Global};
 use std::collections::VecDeque;
 
-/// Counts one thing more that is taken from process p.
-fn count_one(taken: &mut Vec<u32>, p: ProcId)
-    requires within { p < length taken.old.items }
-    requires few { slice_index_or taken.old.items p 0 < 4_294_967_295 }
-    ensures { taken.new.items
-        ≡ slice_set taken.old.items p (slice_index_or taken.old.items p 0 + 1) }
+/// No messages yet, of each of `n` processes.
+fn none_yet(alloc: Global, n: u32) -> Result<Vec<usize>, AllocError>
+    ensures { IfOk result (λ counts. counts.items ≡ replicate n 0) }
 {
-    taken[p.get() as usize] += 1;
+    vec![in alloc; 0; n as usize]
 }
 
-/// Counts what an event takes, by the process that it is taken from.
-fn note_taken(event: &EventRef<'_>, taken: &mut Vec<u32>)
-    requires named { NamesBelow (length taken.old.items) (shown event.now) }
-    requires few { (p : ℕ) → slice_index_or taken.old.items p 0 < 4_294_967_295 }
-    ensures { (events : List Event) → AreTaken (length taken.old.items) events taken.old.items
-        → AreTaken (length taken.old.items) (events ++ shown event.now ∷ []) taken.new.items }
+/// No messages yet, from each of `n` processes to each.
+fn no_counts(alloc: Global, n: u32) -> Result<Vec<Vec<usize>>, AllocError>
+    ensures { IfOk result (λ counts. counts_of counts.items ≡ replicate n (replicate n 0)) }
 {
-    match event {
-        EventRef::Recv { message } => count_one(taken, message.from),
-        EventRef::Mark { from, .. } => count_one(taken, *from),
-        EventRef::Send { .. } => {}
-        EventRef::Check { .. } => {}
+    let mut counts = Vec::with_capacity(alloc, n as usize)?;
+    for _p in 0..n {
+        let row = none_yet(alloc, n)?;
+        counts.push(row)?;
+    }
+    Ok(counts)
+}
+
+/// Counts one message more from process p to q.
+fn count_one(counts: &mut Vec<Vec<usize>>, sums: &mut Vec<usize>, p: usize, q: usize)
+    requires from { p < length counts.old.items }
+    requires to { q < length (row_at (counts_of counts.old.items) p) }
+    requires sum { p < length sums.old.items }
+    requires few { cell_at 0 (counts_of counts.old.items) p q < 18_446_744_073_709_551_615 }
+    requires few_in_all { slice_index_or sums.old.items p 0 < 18_446_744_073_709_551_615 }
+    ensures counts { counts_of counts.new.items ≡ with_cell (counts_of counts.old.items) p q
+        (cell_at 0 (counts_of counts.old.items) p q + 1) }
+    ensures sums { sums.new.items
+        ≡ slice_set sums.old.items p (slice_index_or sums.old.items p 0 + 1) }
+{
+    sums[p] += 1;
+    let row = &mut counts[p];
+    row[q] += 1;
+}
+
+/// Counts a message, by its sender and the process that its send names.
+fn count_message(
+    history: &History,
+    message: &MsgName,
+    counts: &mut Vec<Vec<usize>>,
+    sums: &mut Vec<usize>,
+)
+    requires { (messages : List MsgName) × (length messages < 18_446_744_073_709_551_615)
+        × AreCounted history.now.processes messages (counts_of counts.old.items) sums.old.items }
+    ensures { (messages : List MsgName)
+        → AreCounted history.now.processes messages (counts_of counts.old.items) sums.old.items
+        → AreCounted history.now.processes (messages ++ message.now ∷ [])
+        (counts_of counts.new.items) sums.new.items }
+{
+    let _limits = history.n();
+    match history.addressee(message) {
+        Some(to) => {
+            let p = message.from.get() as usize;
+            count_one(counts, sums, p, to.get() as usize);
+        }
+        None => {}
     }
 }
 
-/// How many things the events of a tape take from each of `n` processes.
-fn taken_from(alloc: Global, tape: &Tape, n: u32) -> Result<Vec<u32>, AllocError>
-    requires { All (NamesBelow n) tape.now.events }
-    ensures { IfOk result (λ taken. AreTaken n tape.now.events taken.items) }
+/// Counts messages, by sender and the process that the send names.
+fn count_messages(
+    history: &History,
+    messages: &[MsgName],
+    counts: &mut Vec<Vec<usize>>,
+    sums: &mut Vec<usize>,
+)
+    requires { AreCounted history.now.processes [] (counts_of counts.old.items) sums.old.items }
+    ensures { AreCounted history.now.processes messages.now (counts_of counts.new.items)
+        sums.new.items }
 {
-    let mut taken = vec![in alloc; 0; n as usize]?;
-    for i in 0..tape.len() {
-        note_taken(&tape.event(i), &mut taken);
+    for i in 0..messages.len() {
+        count_message(history, &messages[i], counts, sums);
     }
-    Ok(taken)
-}
-
-/// How many things each process took from each, by receiver.
-fn all_taken(alloc: Global, history: &History) -> Result<Vec<Vec<u32>>, AllocError>
-    ensures { IfOk result (λ taken. AreTakenBelow (length history.now.processes)
-        history.now.processes (counts_of taken.items)) }
-{
-    let n = history.n();
-    let mut taken = Vec::with_capacity(alloc, n as usize)?;
-    for r in 0..n {
-        let q = ProcId::try_new(r, n).unwrap();
-        let counts = taken_from(alloc, history.tape(q), n)?;
-        taken.push(counts)?;
-    }
-    Ok(taken)
 }
 
 /// No packets yet, from each of `n` processes.
@@ -86,7 +114,10 @@ fn no_packets(alloc: Global, n: u32) -> Result<Vec<VecDeque<Packet>>, AllocError
 }
 
 /// No packets yet, to each of `n` processes from each.
-fn no_packets_yet(alloc: Global, n: u32) -> Result<Vec<Vec<VecDeque<Packet>>>, AllocError>
+pub(crate) fn no_packets_yet(
+    alloc: Global,
+    n: u32,
+) -> Result<Vec<Vec<VecDeque<Packet>>>, AllocError>
     ensures { IfOk result (λ packets. packets_of packets.items ≡ replicate n (replicate n [])) }
 {
     let mut packets = Vec::with_capacity(alloc, n as usize)?;
@@ -97,25 +128,23 @@ fn no_packets_yet(alloc: Global, n: u32) -> Result<Vec<Vec<VecDeque<Packet>>>, A
     Ok(packets)
 }
 
-/// Takes one off what process q took from p, if anything is left of it.
-fn take_off(taken: &mut Vec<Vec<u32>>, q: usize, p: usize) -> bool
-    requires to { q < length taken.old.items }
-    requires from { p < length (row_at (counts_of taken.old.items) q) }
-    ensures some { IsTrue result → (0 < cell_at 0 (counts_of taken.old.items) q p)
-        × (counts_of taken.new.items ≡ with_cell (counts_of taken.old.items) q p
-        (cell_at 0 (counts_of taken.old.items) q p - 1)) }
-    ensures none { result ≡ false → (cell_at 0 (counts_of taken.old.items) q p ≡ 0)
-        × (counts_of taken.new.items ≡ counts_of taken.old.items) }
+/// Takes one off the messages to process q that are looked for, if any is.
+fn take_off(counts: &mut Vec<usize>, q: usize) -> bool
+    requires { q < length counts.old.items }
+    ensures some { IsTrue result → (0 < slice_index_or counts.old.items q 0)
+        × (counts.new.items ≡ slice_set counts.old.items q
+        (slice_index_or counts.old.items q 0 - 1)) }
+    ensures none { result ≡ false → (slice_index_or counts.old.items q 0 ≡ 0)
+        × (counts.new.items ≡ counts.old.items) }
 {
-    let counts = &mut taken[q];
-    if counts[p] == 0 {
+    if counts[q] == 0 {
         return false;
     }
-    counts[p] -= 1;
+    counts[q] -= 1;
     true
 }
 
-/// Adds a packet from process p to those that wait for q.
+/// Puts a packet from process p before those that wait for q.
 fn put_packet(
     packets: &mut Vec<Vec<VecDeque<Packet>>>,
     q: usize,
@@ -125,11 +154,11 @@ fn put_packet(
     requires to { q < length packets.old.items }
     requires from { p < length (row_at (packets_of packets.old.items) q) }
     ensures { OnOk result (packets_of packets.new.items ≡ with_cell (packets_of packets.old.items)
-        q p (cell_at [] (packets_of packets.old.items) q p ++ packet ∷ [])) }
+        q p (packet ∷ cell_at [] (packets_of packets.old.items) q p)) }
 {
     let queues = &mut packets[q];
     let queue = &mut queues[p];
-    queue.push_back(packet)?;
+    queue.push_front(packet)?;
     Ok(())
 }
 
@@ -145,36 +174,36 @@ fn packet(inc: u16, number: u32, body: &[u8]) -> Packet
     }
 }
 
-/// Adds the message that an event of process p sends, if it was not received.
+/// Takes the message that an event of process p sends, if it is looked for. It answers how many it
+/// took.
 fn note_sent(
     event: &EventRef<'_>,
     p: usize,
     number: u32,
-    taken: &mut Vec<Vec<u32>>,
+    counts: &mut Vec<usize>,
     packets: &mut Vec<Vec<VecDeque<Packet>>>,
-) -> Result<(), AllocError>
+) -> Result<usize, AllocError>
     requires short { IsShort (shown event.now) }
     requires plain { checked_round (shown event.now) ≡ None }
-    requires named { NamesBelow (length taken.old.items) (shown event.now) }
-    requires from { p < length taken.old.items }
-    requires taken { AreSquare (length taken.old.items) (counts_of taken.old.items) }
-    requires packets { AreSquare (length taken.old.items) (packets_of packets.old.items) }
-    ensures { OnOk result (IsNoted (length taken.old.items) p number (shown event.now)
-        (counts_of taken.old.items) (counts_of taken.new.items)
-        (packets_of packets.old.items) (packets_of packets.new.items)) }
+    requires named { NamesBelow (length counts.old.items) (shown event.now) }
+    requires from { p < length counts.old.items }
+    requires packets { AreSquare (length counts.old.items) (packets_of packets.old.items) }
+    ensures noted { IfOk result (λ taken. IsNoted p number (shown event.now)
+        counts.old.items counts.new.items (packets_of packets.old.items)
+        (packets_of packets.new.items) taken) }
 {
     match event {
         EventRef::Send { to, inc, body } => {
             let q = to.get() as usize;
-            if take_off(taken, q, p) {
-                return Ok(());
+            if !take_off(counts, q) {
+                return Ok(0);
             }
             put_packet(packets, q, p, packet(*inc, number, body))?;
-            Ok(())
+            Ok(1)
         }
-        EventRef::Recv { .. } => Ok(()),
-        EventRef::Check { .. } => Ok(()),
-        EventRef::Mark { .. } => Ok(()),
+        EventRef::Recv { .. } => Ok(0),
+        EventRef::Check { .. } => Ok(0),
+        EventRef::Mark { .. } => Ok(0),
     }
 }
 
@@ -191,53 +220,73 @@ fn sent_by(event: &EventRef<'_>) -> u32
     }
 }
 
-/// Adds what process p sent and was not received, bodies included: what a process received of it is
-/// the first that it sent there.
+/// Takes the last messages that process p sent to each process, bodies included, as many as are
+/// counted, and `sum` in all. It looks at its tape from the end back to the first of them.
 fn add_sent(
-    history: &History,
-    p: ProcId,
-    taken: &mut Vec<Vec<u32>>,
+    tape: &Tape,
+    p: usize,
+    counts: &mut Vec<usize>,
+    sum: usize,
     packets: &mut Vec<Vec<VecDeque<Packet>>>,
 ) -> Result<(), AllocError>
-    requires from { p < length history.now.processes }
-    requires plain { ArePlain history.now.processes }
-    requires taken { AreSquare (length history.now.processes) (counts_of taken.old.items) }
-    requires packets { AreSquare (length history.now.processes) (packets_of packets.old.items) }
-    requires none { AreSorted history.now.processes p []
-        (counts_of taken.old.items) (packets_of packets.old.items) }
-    ensures sorted { OnOk result (AreSorted history.now.processes p
-        (tape_at history.now.processes p)
-        (counts_of taken.new.items) (packets_of packets.new.items)) }
-    ensures sender { OnOk result (AreOfSender (length history.now.processes) p
-        (counts_of taken.old.items) (counts_of taken.new.items)
+    requires from { p < length counts.old.items }
+    requires named { All (NamesBelow (length counts.old.items)) tape.now.events }
+    requires plain { rounds_checked tape.now.events ≡ [] }
+    requires sum { sum ≡ total counts.old.items }
+    requires packets { AreSquare (length counts.old.items) (packets_of packets.old.items) }
+    requires none { (q : ℕ) → q < length counts.old.items
+        → cell_at [] (packets_of packets.old.items) q p ≡ [] }
+    ensures sent { OnOk result ((q : ℕ) → q < length counts.old.items
+        → parcels_of (cell_at [] (packets_of packets.new.items) q p)
+        ≡ take_last (slice_index_or counts.old.items q 0) (parcels_sent q 0 tape.now.events)) }
+    ensures sender { OnOk result (AreOfSender (length counts.old.items) p
         (packets_of packets.old.items) (packets_of packets.new.items)) }
 {
-    let tape = history.tape(p);
-    let mut number = 0u32;
-    for i in 0..tape.len() {
+    let mut left = sum;
+    let mut number = tape.sends();
+    for i in (0..tape.len()).rev() {
+        if left == 0 {
+            return Ok(());
+        }
         let event = tape.event(i);
-        note_sent(&event, p.get() as usize, number, taken, packets)?;
-        number += sent_by(&event);
+        number -= sent_by(&event);
+        let taken = note_sent(&event, p, number, counts, packets)?;
+        left -= taken;
     }
     Ok(())
 }
 
-/// What the links hold, by receiver and then sender: one pass over each tape counts what it took
-/// from each process, and one adds what it sent beyond that.
+/// What the links hold where all goes on from the planned line, by receiver and then sender; the
+/// journals are those of the workers that go on.
+///
+/// It is what the plan says was in transit: how many messages from whom to whom. Each tape is
+/// looked at from its end back to the first of them that its process sent.
 pub(crate) fn all_replays(
     alloc: Global,
-    history: &History,
+    gathered: &History,
+    plan: &Plan,
+    journals: &Vec<Journal>,
 ) -> Result<Vec<Vec<VecDeque<Packet>>>, AllocError>
-    requires { ArePlain history.now.processes }
-    ensures { IfOk result (λ packets.
-        AreAllReplays history.now.processes (packets_of packets.items)) }
+    requires transit { plan.now.replays.items ≡ in_transit gathered.now.processes plan.now.line }
+    requires count { length plan.now.line ≡ length gathered.now.processes }
+    requires journals { (floor : ℕ) × AreJournals
+        (restarted gathered.now.processes plan.now.line) floor journals.now.items }
+    requires plain { ArePlain (restarted gathered.now.processes plan.now.line) }
+    requires links { (p q : ℕ)
+        → items_of_parcels p (parcels_left (restarted gathered.now.processes plan.now.line) p q)
+        ≡ map (λ m. Message m) (in_transit_between gathered.now.processes plan.now.line p q) }
+    ensures { IfOk result (λ packets. AreAllReplays
+        (restarted gathered.now.processes plan.now.line) (packets_of packets.items)) }
 {
-    let n = history.n();
-    let mut taken = all_taken(alloc, history)?;
+    let n = gathered.n();
+    let mut counts = no_counts(alloc, n)?;
+    let mut sums = none_yet(alloc, n)?;
+    count_messages(gathered, plan.replays.as_slice(), &mut counts, &mut sums);
     let mut packets = no_packets_yet(alloc, n)?;
-    for r in 0..n {
-        let p = ProcId::try_new(r, n).unwrap();
-        add_sent(history, p, &mut taken, &mut packets)?;
+    for p in 0..n as usize {
+        let tape = journals[p].tape();
+        let row = &mut counts[p];
+        add_sent(tape, p, row, sums[p], &mut packets)?;
     }
     Ok(packets)
 }

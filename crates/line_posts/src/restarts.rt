@@ -1,7 +1,6 @@
 //! Where what was gathered goes on: a new generation, from the planned line.
 ghost use Rattle.std.specs.Prelude.{◌≡◌, ◌<◌, ◌≤◌, ◌+◌, ℕ, List, IfOk, IfErr, IfSome, IsTrue};
-ghost use Rattle.std.specs.Prelude.{length, map};
-ghost use Rattle.std.specs.Prelude.{slice_index_or, vec_len};
+ghost use Rattle.std.specs.Prelude.{length, map, slice_index_or, vec_len};
 ghost use Rattle.line_names.specs.Lines.{IsNowhereLater};
 ghost use Rattle.line_names.specs.declared.choices.Choice.{Choice};
 ghost use Rattle.line_names.specs.declared.choices.Choice.TheVariants.{Check as AtCheck};
@@ -13,23 +12,24 @@ ghost use Rattle.line_tape.specs.Rounds.{check_line, checks_of, is_completed_fif
 ghost use Rattle.line_tape.specs.Survival.{survives, IsLatest};
 ghost use Rattle.line_tape.specs.Transit.{in_transit, in_transit_between};
 ghost use Rattle.line_tape.specs.declared.items.Item.TheVariants.{Message};
-ghost use Rattle.line_rings.specs.Ends.{in_ends, known_rows, AreFresh};
 ghost use Rattle.line_posts.specs.Collected.{collector_of};
 ghost use Rattle.line_posts.specs.Generations.{AreLined, IsGeneration};
 ghost use Rattle.line_posts.specs.Openings.{parcels_left, AreOpened};
 ghost use Rattle.line_posts.specs.Parcels.{items_of_parcels};
+ghost use Rattle.line_posts.specs.Preparations.{AreJournals, IsPrepared};
 
 use crate::collectors::{Collector, open_collector};
-use crate::fleets::{Opened, open_all};
+use crate::fleets::{Prepared, open_all, prepare};
 use crate::gathering::Gathered;
 use crate::posts::Post;
 use crate::refusals::RestartWhy;
+use crate::replays::all_replays;
 use line_catalogue::Catalogue;
-use line_names::{Line, MsgName};
+use line_journals::Journal;
+use line_names::{Line, MsgName, ProcId};
 use line_plan::Plan;
-use line_tape::Event;
-use rtrb::Consumer;
-use std::alloc::AllocError;
+use line_tape::History;
+use std::alloc::{AllocError, Global};
 
 /// What was gathered and did not go on, and why.
 #[derive(Drop)]
@@ -54,44 +54,75 @@ fn go_on(catalogue: &mut Catalogue, line: &Line, left: Option<Vec<MsgName>>)
     }
 }
 
+/// The journals of the workers that go on from a line: each tape is copied and cut there.
+fn journals_at(
+    alloc: Global,
+    history: &History,
+    line: &Line,
+    floor: u32,
+) -> Result<Vec<Journal>, AllocError>
+    requires { IsLine history.now.processes line.now }
+    ensures { IfOk result (λ journals. AreJournals (restarted history.now.processes line.now) floor
+        journals.items) }
+{
+    let n = history.n();
+    let mut journals = Vec::with_capacity(alloc, n as usize)?;
+    for q in 0..n {
+        let me = ProcId::try_new(q, n).unwrap();
+        let mut tape = history.tape(me).copy(alloc)?;
+        tape.restart(line.at(me));
+        let journal = Journal::new(alloc, n, me, tape, floor)?;
+        journals.push(journal)?;
+    }
+    Ok(journals)
+}
+
 impl Gathered {
-    /// The workers that go on from a line, and the other ends of their report lines.
-    fn open_next(&self, line: &Line) -> Result<Opened, AllocError>
-        requires latest { IsLatest self.now.processes self.now.marks self.now.failed line.now }
-        requires further { HaveFurther self.now.processes line.now }
-        ensures fit { IsFitFifo (restarted self.now.processes line.now) }
-        ensures opened { IfOk result (λ opened. AreOpened (restarted self.now.processes line.now)
-            self.now.floor self.now.capacity opened.posts.items (in_ends opened.lines.items)) }
+    /// All that the workers that go on from the planned line take memory for.
+    fn prepare_next(&self, plan: &Plan) -> Result<Prepared, AllocError>
+        requires latest { IsLatest self.now.processes self.now.marks self.now.failed plan.now.line }
+        requires replays { plan.now.replays.items ≡ in_transit self.now.processes plan.now.line }
+        ensures fit { IsFitFifo (restarted self.now.processes plan.now.line) }
+        ensures prepared { IfOk result (λ prepared. IsPrepared
+            (restarted self.now.processes plan.now.line) self.now.floor self.now.capacity
+            prepared) }
         ensures links { (p q : ℕ)
-            → items_of_parcels p (parcels_left (restarted self.now.processes line.now) p q)
-            ≡ map (λ m. Message m) (in_transit_between self.now.processes line.now p q) }
+            → items_of_parcels p (parcels_left (restarted self.now.processes plan.now.line) p q)
+            ≡ map (λ m. Message m) (in_transit_between self.now.processes plan.now.line p q) }
     {
-        let mut cut = self.catalogue.history().copy(self.alloc)?;
-        cut.restart(line);
-        open_all(self.alloc, &cut, self.capacity, self.floor)
+        let history = self.catalogue.history();
+        let journals = journals_at(self.alloc, history, &plan.line, self.floor)?;
+        let replays = all_replays(self.alloc, history, plan, &journals)?;
+        prepare(self.alloc, journals, replays, self.capacity)
     }
 
-    /// The collector that goes on from a line, with what is in transit there where that is told.
-    fn into_collector(
+    /// The collector and the workers that go on from a line, with what is in transit there where
+    /// that is told. It takes no memory and cannot fail.
+    fn open_next(
         self,
         line: &Line,
         left: Option<Vec<MsgName>>,
-        lines: Vec<Consumer<Event>>,
-    ) -> Collector
+        prepared: Prepared,
+    ) -> (Collector, Vec<Post>)
         requires latest { IsLatest self.processes self.marks self.failed line.now }
         requires further { HaveFurther self.processes line.now }
         requires left { IfSome left (λ left. left.items ≡ in_transit self.processes line.now) }
-        requires count { length lines.items ≡ length self.processes }
-        requires fresh { AreFresh (in_ends lines.items) }
-        ensures { result ≡ collector_of (restarted self.processes line.now)
+        requires fit { IsFitFifo (restarted self.processes line.now) }
+        requires prepared { IsPrepared (restarted self.processes line.now) self.floor self.capacity
+            prepared }
+        ensures collector { result.0 ≡ collector_of (restarted self.processes line.now)
             (restarted self.processes line.now) (restarted_marks self.marks line.now)
-            (in_ends lines.items) (known_rows lines.items) self.capacity }
+            result.0.lines result.0.seen self.capacity }
+        ensures posts { AreOpened (restarted self.processes line.now) self.floor self.capacity
+            result.1.items result.0.lines }
     {
         let alloc = self.alloc;
         let capacity = self.capacity;
         let mut catalogue = self.catalogue;
         go_on(&mut catalogue, line, left);
-        open_collector(alloc, catalogue, lines, capacity)
+        let opened = open_all(alloc, catalogue.history(), prepared);
+        let collector = open_collector(alloc, catalogue, opened.lines, capacity);
+        (collector, opened.posts)
     }
 
     /// Has all go on from the planned line: a new generation, and the plan.
@@ -101,9 +132,10 @@ impl Gathered {
     /// Rings and report lines are new ones of the same capacity, and rounds are numbered on. A
     /// refusal hands the value back as it was.
     ///
-    /// It costs what `plan` does, a copy of the history, so that a refusal can hand the value back,
-    /// one more of what lies before the line, for the workers, a copy of the plan's replays, two
-    /// walks of each tape, and a step for each two workers.
+    /// It costs what `plan` does, a copy of each tape, for the worker, so that a refusal can hand
+    /// the value back, two copies of the plan's replays, one with their bodies, a look at each tape
+    /// from its end back to the first message of it that is in transit, and a step for each two
+    /// workers.
     pub fn restart(self) -> Result<(Collector, Vec<Post>, Plan), RestartRefused>
         ensures latest { IfOk result (λ r.
             IsLatest self.processes self.marks self.failed r.2.line) }
@@ -151,7 +183,7 @@ impl Gathered {
                 gathered: self,
             });
         }
-        let Ok(opened) = self.open_next(&plan.line) else {
+        let Ok(prepared) = self.prepare_next(&plan) else {
             return Err(RestartRefused {
                 why: RestartWhy::OutOfMemory,
                 gathered: self,
@@ -160,7 +192,7 @@ impl Gathered {
         // What was in transit is known, so that no later plan asks of the sends before the line
         // again. Without memory for a copy of it, the next plans do.
         let left = Vec::from_slice(self.alloc, plan.replays.as_slice()).ok();
-        let collector = self.into_collector(&plan.line, left, opened.lines);
-        Ok((collector, opened.posts, plan))
+        let (collector, posts) = self.open_next(&plan.line, left, prepared);
+        Ok((collector, posts, plan))
     }
 }

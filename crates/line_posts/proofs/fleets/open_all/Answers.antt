@@ -1,10 +1,9 @@
-use Rattle.std.proofs.Common.{ap}
+use Rattle.std.proofs.Common.{refl, ap, length}
 use Rattle.line_rings.specs.Ends.{in_ends, in_rows, out_rows}
 use Rattle.line_posts.proofs.FleetLemmas.{opened_of}
 use Rattle.line_posts.proofs.fleets.open_all.Goals as goal
 
 pub returns : goal.returns
-returns c =
-    opened_of c.args.history.now.processes c.args.floor c.args.capacity (out_rows c.in_ok-rings.rings.outs.items) (in_rows c.in_ok-rings.rings.ins.items) (out_rows c.in_ok-outs.outs.items) (in_rows c.in_ok-outs.ins.items) c.in_ok-posts.posts.items c.n-count.result (in_ends c.take_first-lines.result.items) (in_rows c.take_first-lines.new.items.items)
-    c.n-count.ensures.value c.in_ok-rings.ensures.linked (rw (← c.in_ok-outs.outs-is, ← c.in_ok-outs.ins-is) c.in_ok-outs.ensures.linked) (rw (← c.in_ok-outs.outs-is) c.in_ok-posts.ensures) (rw (← c.in_ok-outs.ins-is) (ap in_rows c.take_first-lines.ensures))
-    c.in_ok-rings.ensures.slots (rw (← c.in_ok-outs.outs-is) c.in_ok-outs.ensures.slots)
+returns c = λ floor capacity h.
+    opened_of c.args.history.now.processes floor capacity (out_rows c.args.prepared.rings.outs.items) (in_rows c.args.prepared.rings.ins.items) (out_rows c.args.prepared.lines.outs.items) (in_rows c.args.prepared.lines.ins.items) c.make_posts-posts.result.items (length c.args.history.now.processes) (in_ends c.take_first-lines.result.items) (in_rows c.take_first-lines.new.items.items)
+    refl h.rings h.lines (c.make_posts-posts.ensures floor h.journals) (ap in_rows c.take_first-lines.ensures) h.slots h.line_slots

@@ -1,11 +1,13 @@
-use Rattle.std.proofs.Common.{◌≡◌, length, take}
+use Rattle.std.proofs.Common.{◌≡◌, length, take, drop}
 use Rattle.line_tape.specs.Event.{sends}
-use Rattle.line_posts.specs.Replays.{counts_of, packets_of, AreOfSender, AreSorted}
+use Rattle.line_posts.specs.Replays.{packets_of, total, AreOfSender, AreSorted}
 use Rattle.line_posts.proofs.replays.add_sent.Given as goal
 
 abbrev pub invariant-loop-i : goal.invariant-loop-i
 invariant-loop-i l = record {
   number_is : l.number ≡ sends (take l.i l.tape.events);
-  sorted : AreSorted l.history.processes l.fn.p (take l.i l.tape.events) (counts_of l.taken.items) (packets_of l.packets.items);
-  sender : AreOfSender (length l.history.processes) l.fn.p (counts_of l.fn.taken.items) (counts_of l.taken.items) (packets_of l.fn.packets.items) (packets_of l.packets.items);
+  left_is : l.left ≡ total l.counts.items;
+  long : length l.counts.items ≡ length l.fn.counts.items;
+  sorted : AreSorted l.fn.counts.items l.fn.p (sends (take l.i l.tape.events)) (drop l.i l.tape.events) l.counts.items (packets_of l.packets.items);
+  sender : AreOfSender (length l.fn.counts.items) l.fn.p (packets_of l.fn.packets.items) (packets_of l.packets.items);
 }

@@ -1,4 +1,4 @@
-use Rattle.std.proofs.Common.{◌≡◌, ◌∙◌, ◌<◌, ◌++◌, ◌∷◌, [], length, set, sym, ap, arith}
+use Rattle.std.proofs.Common.{◌≡◌, ◌∙◌, ◌<◌, ◌∷◌, [], length, set, sym, ap, arith}
 use Rattle.std.specs.VecDeque.{deque_items}
 use Rattle.std.proofs.lemmas.List.{map-set, length-map}
 use Rattle.line_rings.specs.Ends.{row_at}
@@ -16,5 +16,5 @@ returns c =
     let row : row_at (packets_of rows) c.args.q ≡ rows_of V.items = row_seen (λ v. rows_of v.items) rows c.args.q V c.requires.to ∙ ap (λ v. rows_of v.items) (sym c.index_mut-queues.ensures.value) in
     let lt : c.args.p < length V.items = (let l = length-map V.items deque_items in let r = ap length row in let f = c.requires.from in omega (arith, l, r, f)) in
     let old : cell_at [] (packets_of rows) c.args.q c.args.p ≡ deque_items Q = ap (λ t. row_at t c.args.p) row ∙ (row_seen deque_items V.items c.args.p Q lt ∙ ap deque_items (sym c.index_mut-queue.ensures.value)) in
-    let put = map-set deque_items V.items c.args.p c.push_back.new.self ∙ ap (λ t. set (rows_of V.items) c.args.p t) (c.in_ok-push_back.ensures.items ∙ ap (λ t. t ++ c.args.packet ∷ []) (sym old)) in
-    cell_put (λ v. rows_of v.items) rows c.args.q c.args.p V _ (cell_at [] (packets_of rows) c.args.q c.args.p ++ c.args.packet ∷ []) c.requires.to c.index_mut-queues.ensures.value put
+    let put = map-set deque_items V.items c.args.p c.push_front.new.self ∙ ap (λ t. set (rows_of V.items) c.args.p t) (c.in_ok-push_front.ensures.items ∙ ap (λ t. c.args.packet ∷ t) (sym old)) in
+    cell_put (λ v. rows_of v.items) rows c.args.q c.args.p V _ (c.args.packet ∷ cell_at [] (packets_of rows) c.args.q c.args.p) c.requires.to c.index_mut-queues.ensures.value put
