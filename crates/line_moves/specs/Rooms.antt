@@ -1,6 +1,6 @@
 -- The queues from one process, the room on each, and what a restart is going to put there.
 use Rattle.std.specs.Prelude.{◌≡◌, ◌≢◌, ℕ, ◌+◌, ◌<◌, ◌≤◌, true, List, [], length, map, filter, take}
-use Rattle.std.specs.Prelude.{slice_index_or}
+use Rattle.std.specs.Prelude.{slice_index_or, Option, Some, None}
 use Rattle.line_names.specs.declared.messages.MsgName.{MsgName}
 use Rattle.line_tape.specs.declared.items.Item.{Item}
 use Rattle.line_tape.specs.History.{Process}
@@ -12,6 +12,11 @@ pub record QueueView : Type 0 where
   pub held : List Item
   pub room : ℕ
   pub counted : ℕ
+
+-- the room of a queue whose first item is this, with room for so many items after the first
+abbrev pub room_with : Option Item → ℕ → ℕ
+room_with None room = room + 1
+room_with (Some first) room = room
 
 -- what each queue holds
 abbrev pub items_of : List QueueView → List (List Item)

@@ -14,6 +14,7 @@
 mod counts;
 mod fates;
 mod link_items;
+mod link_queues;
 mod links;
 mod listings;
 mod modes;

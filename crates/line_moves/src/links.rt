@@ -7,33 +7,11 @@ ghost use Rattle.line_turns.specs.Tables.{between, with_list};
 ghost use Rattle.line_moves.specs.Rooms.{queue_to, items_of, AreEmpty, IsCounted, QueueView};
 
 use crate::link_items::LinkItem;
+use crate::link_queues::Queue;
 use line_names::ProcId;
 use line_tape::Item;
 use std::alloc::{AllocError, Global};
-use std::collections::VecDeque;
 use std::marker::Model;
-
-/// What one link holds, the oldest first.
-#[derive(Drop)]
-struct Queue {
-    items: VecDeque<LinkItem>,
-    /// How many of the messages that a restart will put at its end are counted.
-    counted: usize,
-}
-
-impl Model for Queue {
-    ghost use Rattle.std.specs.Prelude.{◌-◌};
-    ghost use Rattle.std.proofs.Common.{deque_len, deque_capacity};
-    ghost use Rattle.line_moves.specs.Rooms.{QueueView};
-
-    ghost Value = { QueueView };
-
-    ghost view = { λ q. record {
-      held = q.items.items;
-      room = deque_capacity q.items - deque_len q.items;
-      counted = q.counted;
-    } };
-}
 
 /// The links from one process.
 #[derive(Drop)]
@@ -61,10 +39,7 @@ impl Row {
     {
         let mut queues = Vec::with_capacity(alloc, n as usize)?;
         for _q in 0..n {
-            queues.push(Queue {
-                items: VecDeque::new(alloc),
-                counted: 0,
-            })?;
+            queues.push(Queue::new(alloc))?;
         }
         Ok(Row {
             queues,
@@ -83,8 +58,7 @@ impl Row {
     {
         self.used = true;
         let queue = &mut self.queues[to.get() as usize];
-        queue.items.push_back(item)?;
-        Ok(())
+        queue.push(item)
     }
 
     /// Makes room for one more item on each link.
@@ -95,7 +69,7 @@ impl Row {
         self.used = true;
         for q in 0..self.queues.len() {
             let queue = &mut self.queues[q];
-            queue.items.reserve(1)?;
+            queue.reserve(1)?;
         }
         Ok(())
     }
@@ -108,7 +82,7 @@ impl Row {
         for q in 0..self.queues.len() {
             if q != own.get() as usize {
                 let queue = &mut self.queues[q];
-                queue.items.push_back_reserved(item);
+                queue.push_reserved(item);
             }
         }
         self.used = true;
@@ -121,7 +95,7 @@ impl Row {
             ≡ slice_set (items_of self.old) to (drop 1 (slice_index_or (items_of self.old) to [])) }
     {
         let queue = &mut self.queues[to.get() as usize];
-        let _first = queue.items.pop_front();
+        queue.drop_first();
     }
 
     /// Sets the count of messages for the link to a process to 0.
@@ -133,7 +107,7 @@ impl Row {
     {
         self.used = true;
         let queue = &mut self.queues[to.get() as usize];
-        queue.counted = 0;
+        queue.count_none();
     }
 
     /// Counts one more message for the link to a process, and makes room there for all that are
@@ -146,10 +120,7 @@ impl Row {
     {
         self.used = true;
         let queue = &mut self.queues[to.get() as usize];
-        let counted = queue.counted + 1;
-        queue.items.reserve(counted)?;
-        queue.counted = counted;
-        Ok(())
+        queue.count(most)
     }
 
     /// Puts an item at the end of the link to a process, in room made for it.
@@ -164,7 +135,7 @@ impl Row {
     {
         self.used = true;
         let queue = &mut self.queues[to.get() as usize];
-        queue.items.push_back_reserved(LinkItem::of(item));
+        queue.push_reserved(LinkItem::of(item));
     }
 
     /// Takes all items off each link. It looks at no link if nothing was put on any.
@@ -176,7 +147,7 @@ impl Row {
         if self.used {
             for q in 0..self.queues.len() {
                 let queue = &mut self.queues[q];
-                queue.items.clear();
+                queue.clear();
             }
             self.used = false;
         }
@@ -212,13 +183,13 @@ impl Links {
         Ok(Links { rows })
     }
 
-    /// What a link holds.
-    fn items(&self, from: ProcId, to: ProcId) -> &VecDeque<LinkItem>
+    /// The queue of a link.
+    fn queue(&self, from: ProcId, to: ProcId) -> &Queue
         requires from { from < length self.now }
         requires to { to < length (slice_index_or self.now from []) }
-        ensures { result.now.items ≡ between self.now from to }
+        ensures { result.now.held ≡ between self.now from to }
     {
-        &self.rows[from.get() as usize].queues[to.get() as usize].items
+        &self.rows[from.get() as usize].queues[to.get() as usize]
     }
 
     /// How many items a link holds. It takes constant time.
@@ -227,7 +198,7 @@ impl Links {
         requires to { to < length (slice_index_or self.now from []) }
         ensures { result ≡ length (between self.now from to) }
     {
-        self.items(from, to).len()
+        self.queue(from, to).len()
     }
 
     /// The item at place `i` of a link, where the oldest has place 0; none if there is none.
@@ -236,10 +207,7 @@ impl Links {
         requires to { to < length (slice_index_or self.now from []) }
         ensures { result ≡ slice_get (between self.now from to) i }
     {
-        match self.items(from, to).get(i) {
-            Some(kept) => Some(kept.item()),
-            None => None,
-        }
+        self.queue(from, to).item(i)
     }
 
     /// Puts an item at the end of a link.

@@ -1,5 +1,5 @@
 -- One queue is written, and holds what it held.
-use Rattle.std.proofs.Common.{◌≡◌, ◌-◌, ◌<◌, List, length, ap, ◌∙◌, arith, deque_len, deque_capacity}
+use Rattle.std.proofs.Common.{◌≡◌, ◌<◌, List, length, ap, ◌∙◌, arith}
 use Rattle.std.proofs.Math.Seq.{map-set_same}
 use Rattle.line_tape.specs.declared.items.Item.{Item}
 use Rattle.line_moves.specs.Rooms.{items_of, QueueView}
@@ -10,19 +10,15 @@ pub returns-clause-same : goal.returns-clause-same
 returns-clause-same c =
     let row : List QueueView = c.self.inside.queues.items in
     let held : QueueView → List Item = λ queue. queue.held in
-    let old : QueueView = c.index_mut-queue.result.now in
-    let new : QueueView = record { held = c.queue.inside.items.items; room = deque_capacity c.queue.inside.items - deque_len c.queue.inside.items; counted = 0 } in
-    map-set_same held row c.get.result new old (ap held c.queue.view_is ∙ ap held c.index_mut-queue.ensures.value) ∙ ap (λ (xs : List QueueView). items_of xs) c.self.view_is
+    map-set_same held row c.get.result c.count_none.new.self c.index_mut-queue.result.now (c.count_none.ensures.held ∙ ap held c.index_mut-queue.ensures.value)
+    ∙ ap (λ (xs : List QueueView). items_of xs) c.self.view_is
 
 pub returns-clause-others : goal.returns-clause-others
-returns-clause-others c =
-    let new : QueueView = record { held = c.queue.inside.items.items; room = deque_capacity c.queue.inside.items - deque_len c.queue.inside.items; counted = 0 } in
-    queue-other c.self.inside.queues.items c.args.self.now c.get.result c.args.to c.self.view_is c.get.ensures.value new
+returns-clause-others c = queue-other c.self.inside.queues.items c.args.self.now c.get.result c.args.to c.self.view_is c.get.ensures.value c.count_none.new.self
 
 pub returns-clause-none : goal.returns-clause-none
 returns-clause-none c =
     let row : List QueueView = c.self.inside.queues.items in
-    let new : QueueView = record { held = c.queue.inside.items.items; room = deque_capacity c.queue.inside.items - deque_len c.queue.inside.items; counted = 0 } in
     let at : c.get.result ≡ c.args.to = c.get.ensures.value in
     let within : c.get.result < length row = omega (arith, at, c.requires, ap (λ (xs : List QueueView). length xs) c.self.view_is) in
-    ap (λ (v : QueueView). v.counted) (queue-written row c.args.self.now c.get.result c.args.to c.self.view_is at new within)
+    ap (λ (v : QueueView). v.counted) (queue-written row c.args.self.now c.get.result c.args.to c.self.view_is at c.count_none.new.self within) ∙ c.count_none.ensures.none

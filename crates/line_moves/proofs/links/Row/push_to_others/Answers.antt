@@ -1,5 +1,5 @@
 -- One queue more has the item, or is its own.
-use Rattle.std.proofs.Common.{◌-◌, ◌<◌, ◌++◌, ◌∷◌, [], List, ℕ, length, sym, ap, ◌∙◌, arith, deque_len, deque_capacity}
+use Rattle.std.proofs.Common.{◌<◌, List, ℕ, length, sym, ap, ◌∙◌, arith}
 use Rattle.line_tape.specs.declared.items.Item.{Item}
 use Rattle.line_moves.specs.Queues.{with_on_others}
 use Rattle.line_moves.specs.Rooms.{QueueView, items_of}
@@ -18,10 +18,8 @@ loop-q-preserved c =
     let within : q < length row = omega (arith, c.loop-q-test.true, is.count) in
     elim c.if-q-get.branch [
       | then-q-get w ↦
-          let old : QueueView = w.index_mut-queue.result.now in
-          let new : QueueView = record { held = w.push_back_reserved.new.self.items; room = deque_capacity w.push_back_reserved.new.self - deque_len w.push_back_reserved.new.self; counted = w.queue.inside.counted } in
           rw w.self-inside-is
-          (AreSent-put own item q before row is within old new (λ e. w.if-q-get.true (e ∙ sym c.get.ensures.value)) w.index_mut-queue.ensures.value (w.push_back_reserved.ensures.items ∙ ap (λ (queue : QueueView). queue.held ++ item ∷ []) w.queue.view_is))
+          (AreSent-put own item q before row is within w.index_mut-queue.result.now w.push_reserved.new.self (λ e. w.if-q-get.true (e ∙ sym c.get.ensures.value)) w.index_mut-queue.ensures.value w.push_reserved.ensures.held)
       | else-q-get w ↦
           rw w.self-inside-is (AreSent-own own item q before row is within (w.if-q-get.false ∙ c.get.ensures.value))
     ]
