@@ -4,6 +4,7 @@ ghost use Rattle.clap.specs.Words.{FailsBy, app_of, kind_of, new_app, rule_of, s
 ghost use Rattle.clap.specs.Words.{subcommand_rows_of, takes};
 ghost use Rattle.clap.specs.declared.builder.command.Command.TheViews.{out-Command};
 ghost use Rattle.line_words.specs.Words.{as_program, drill, option, recline, refusals_of};
+ghost use Rattle.line_words.specs.Words.{with_bare};
 
 use crate::helps;
 use clap::error::ErrorKind;
@@ -11,7 +12,13 @@ use clap::{Arg, ArgMatches, Command, Error};
 use std::alloc::{AllocError, Global};
 
 /// An option with one value, which it has also where it isn't given.
-fn option_of<'a>(alloc: Global, name: &'a str, value: &'a str, default: &'a str) -> Arg<'a>
+fn option_of<'a>(
+    alloc: Global,
+    name: &'a str,
+    value: &'a str,
+    default: &'a str,
+    help: &'a str,
+) -> Arg<'a>
     ensures rule { rule_of result ≡ option name.entry.now default.entry.now }
     ensures local { result.global ≡ false }
 {
@@ -19,6 +26,7 @@ fn option_of<'a>(alloc: Global, name: &'a str, value: &'a str, default: &'a str)
         .long(name)
         .value_name(value)
         .default_value(default)
+        .help(help)
 }
 
 /// The subcommand for scripts.
@@ -59,17 +67,15 @@ fn drill_command<'a>(alloc: Global) -> Result<Command<'a>, AllocError>
     ensures shape { IfOk result (λ command. app_of command ≡ drill) }
     ensures local { IfOk result (λ command. (out-Command command).has_globals ≡ false) }
 {
-    let workers = option_of(alloc, "workers", "N", "2").help("How many workers, from 2 to 64");
-    let rounds = option_of(alloc, "rounds", "K", "1").help(
-        "How often each of them sends, receives and takes a check, from 1 to 1000",
-    );
+    let help = "How many workers, from 2 to 64";
     let with_workers = Command::new(alloc, "drill")
         .about(
             "Has workers in threads send each other messages, and writes the history that is \
              gathered of them on standard output",
         )
-        .arg(workers)?;
-    with_workers.arg(rounds)
+        .arg(option_of(alloc, "workers", "N", "2", help))?;
+    let help = "How often each of them sends, receives and takes a check, from 1 to 1000";
+    with_workers.arg(option_of(alloc, "rounds", "K", "1", help))
 }
 
 /// The command of the program without its subcommands.
@@ -83,13 +89,20 @@ fn bare_command<'a>(alloc: Global) -> Command<'a>
         .subcommand_required(true)
 }
 
+/// The command of the program with the subcommands for scripts and records.
+fn script_commands<'a>(alloc: Global) -> Result<Command<'a>, AllocError>
+    ensures { IfOk result (λ command. app_of command ≡ with_bare
+        (with_bare (as_program (new_app (codes "recline"))) (codes "run")) (codes "serve")) }
+{
+    let with_run = bare_command(alloc).subcommand(run_command(alloc))?;
+    with_run.subcommand(serve_command(alloc))
+}
+
 /// The command of the program.
 fn recline_command<'a>(alloc: Global) -> Result<Command<'a>, AllocError>
     ensures { IfOk result (λ command. app_of command ≡ recline) }
 {
-    let with_run = bare_command(alloc).subcommand(run_command(alloc))?;
-    let with_serve = with_run.subcommand(serve_command(alloc))?;
-    let with_check = with_serve.subcommand(check_command(alloc))?;
+    let with_check = script_commands(alloc)?.subcommand(check_command(alloc))?;
     with_check.subcommand(drill_command(alloc)?)
 }
 

@@ -24,10 +24,10 @@ stays_local bare long named new name value text is_long is_named is_new local = 
 
 pub returns-clause-rule : goal.returns-clause-rule
 returns-clause-rule c =
-    with_default c.value_name.result c.default_value.result c.args.default _ c.default_value.ensures
+    ap rule_of c.help.ensures ∙ with_default c.value_name.result c.default_value.result c.args.default _ c.default_value.ensures
     (with_value_name c.long.result c.value_name.result c.args.value _ c.value_name.ensures (with_long c.new.result c.long.result c.args.name _ c.long.ensures c.new.ensures.rule))
 
 pub returns-clause-local : goal.returns-clause-local
 returns-clause-local c =
-    stays_local c.new.result c.long.result c.value_name.result c.default_value.result c.args.name c.args.value c.args.default c.long.ensures c.value_name.ensures c.default_value.ensures
+    ap global c.help.ensures ∙ stays_local c.new.result c.long.result c.value_name.result c.default_value.result c.args.name c.args.value c.args.default c.long.ensures c.value_name.ensures c.default_value.ensures
     c.new.ensures.optional.1
