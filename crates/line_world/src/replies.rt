@@ -7,8 +7,7 @@ use line_names::{MsgName, ProcId};
 use line_plan::{Plan, PlanError};
 use line_tape::{BarError, LAST_INCARNATION, LAST_ROUND, MOST_EVENTS, MOST_STATE, State};
 use std::alloc::AllocError;
-use std::error::Error;
-use std::fmt;
+use thiserror::Error;
 
 /// What a step that was done is answered.
 #[derive(Debug, Drop)]
@@ -102,55 +101,64 @@ pub enum Answer {
 }
 
 /// A run that stopped because memory ran out.
-#[derive(Debug, Drop)]
+#[derive(Debug, Drop, Error)]
+#[error("out of memory after {} steps", .done.len())]
 pub struct RunStopped {
     /// The answers of the steps before the one that it stopped at.
     pub done: Vec<Answer>,
 }
 
-impl fmt::Display for RunStopped {
-    fn fmt<W: fmt::Write>(&self, f: &mut fmt::Formatter<W>) -> fmt::Result {
-        write!(f, "out of memory after {} steps", self.done.len())
-    }
-}
-
-impl Error for RunStopped {}
-
 /// Why a step was not done.
-#[derive(Clone, Copy, Debug, PartialEq, Eq, Hash)]
+#[derive(Clone, Copy, Debug, PartialEq, Eq, Hash, Error)]
 pub enum StepError {
     /// Memory ran out.
-    OutOfMemory,
+    #[error("out of memory")]
+    OutOfMemory = 0,
     /// A process number is not below the number of processes.
-    NoSuchProcess,
+    #[error("a process number is not below the number of processes")]
+    NoSuchProcess = 1,
     /// The tape has no room under `MOST_EVENTS` for what the step adds.
-    TapeFull,
+    #[error("the tape has no room under {MOST_EVENTS} events")]
+    TapeFull = 3,
     /// The tape has no such check.
-    NoSuchCheck,
+    #[error("the tape has no such check")]
+    NoSuchCheck = 4,
     /// The state is longer than `MOST_STATE` bytes.
-    StateTooLong,
+    #[error("the state is longer than {MOST_STATE} bytes")]
+    StateTooLong = 5,
     /// The initial state of a process cannot be damaged.
-    InitialDamage,
+    #[error("the initial state of a process cannot be damaged")]
+    InitialDamage = 7,
     /// The check is marked already.
-    AlreadyDamaged,
+    #[error("the check is marked already")]
+    AlreadyDamaged = 8,
     /// A process has no link to itself.
-    ToSelf,
+    #[error("a process has no link to itself")]
+    ToSelf = 17,
     /// The link holds nothing.
-    LinkEmpty,
+    #[error("the link holds nothing")]
+    LinkEmpty = 18,
     /// The link has nothing to take at that place.
-    BadPick,
+    #[error("the link has nothing to take at that place")]
+    BadPick = 19,
     /// The last round begun is not completed.
-    RoundOpen,
+    #[error("the last round begun is not completed")]
+    RoundOpen = 20,
     /// No round is open of which the process has no check yet.
-    NothingToTurn,
+    #[error("no round is open of which the process has no check")]
+    NothingToTurn = 21,
     /// Links of this kind have no such step.
-    WrongMode,
+    #[error("links of this kind have no such step")]
+    WrongMode = 22,
     /// The last round begun has number `LAST_ROUND`.
-    NoMoreRounds,
+    #[error("the last round begun has number {LAST_ROUND}")]
+    NoMoreRounds = 23,
     /// A process that goes back has incarnation `LAST_INCARNATION`.
-    NoMoreIncarnations,
+    #[error("a process that goes back has incarnation {LAST_INCARNATION}")]
+    NoMoreIncarnations = 24,
     /// The process is barred at that check or an earlier one already.
-    BarNotLower,
+    #[error("the process is barred at that check or an earlier one already")]
+    BarNotLower = 40,
 }
 
 impl StepError {
@@ -158,88 +166,16 @@ impl StepError {
     pub fn is_out_of_memory(self) -> bool
         ensures { IsTrue result ↔ (self ≡ StepError.OutOfMemory) }
     {
-        match self {
-            StepError::OutOfMemory => true,
-            StepError::NoSuchProcess
-            | StepError::TapeFull
-            | StepError::NoSuchCheck
-            | StepError::StateTooLong
-            | StepError::InitialDamage
-            | StepError::AlreadyDamaged
-            | StepError::ToSelf
-            | StepError::LinkEmpty
-            | StepError::BadPick
-            | StepError::RoundOpen
-            | StepError::NothingToTurn
-            | StepError::WrongMode
-            | StepError::NoMoreRounds
-            | StepError::NoMoreIncarnations
-            | StepError::BarNotLower => false,
-        }
+        self == StepError::OutOfMemory
     }
 
     /// The number of the refusal, as replies show it.
     pub fn code(self) -> u32
         ensures { result ≡ refusal_code self }
     {
-        match self {
-            StepError::OutOfMemory => 0,
-            StepError::NoSuchProcess => 1,
-            StepError::TapeFull => 3,
-            StepError::NoSuchCheck => 4,
-            StepError::StateTooLong => 5,
-            StepError::InitialDamage => 7,
-            StepError::AlreadyDamaged => 8,
-            StepError::ToSelf => 17,
-            StepError::LinkEmpty => 18,
-            StepError::BadPick => 19,
-            StepError::RoundOpen => 20,
-            StepError::NothingToTurn => 21,
-            StepError::WrongMode => 22,
-            StepError::NoMoreRounds => 23,
-            StepError::NoMoreIncarnations => 24,
-            StepError::BarNotLower => 40,
-        }
+        self as u32
     }
 }
-
-impl fmt::Display for StepError {
-    fn fmt<W: fmt::Write>(&self, f: &mut fmt::Formatter<W>) -> fmt::Result {
-        match self {
-            StepError::OutOfMemory => f.write_str("out of memory"),
-            StepError::NoSuchProcess => {
-                f.write_str("a process number is not below the number of processes")
-            }
-            StepError::TapeFull => write!(f, "the tape has no room under {MOST_EVENTS} events"),
-            StepError::StateTooLong => write!(f, "the state is longer than {MOST_STATE} bytes"),
-            StepError::NoSuchCheck => f.write_str("the tape has no such check"),
-            StepError::InitialDamage => {
-                f.write_str("the initial state of a process cannot be damaged")
-            }
-            StepError::AlreadyDamaged => f.write_str("the check is marked already"),
-            StepError::ToSelf => f.write_str("a process has no link to itself"),
-            StepError::LinkEmpty => f.write_str("the link holds nothing"),
-            StepError::BadPick => f.write_str("the link has nothing to take at that place"),
-            StepError::RoundOpen => f.write_str("the last round begun is not completed"),
-            StepError::NothingToTurn => {
-                f.write_str("no round is open of which the process has no check")
-            }
-            StepError::WrongMode => f.write_str("links of this kind have no such step"),
-            StepError::NoMoreRounds => write!(f, "the last round begun has number {LAST_ROUND}"),
-            StepError::NoMoreIncarnations => {
-                write!(
-                    f,
-                    "a process that goes back has incarnation {LAST_INCARNATION}"
-                )
-            }
-            StepError::BarNotLower => {
-                f.write_str("the process is barred at that check or an earlier one already")
-            }
-        }
-    }
-}
-
-impl Error for StepError {}
 
 impl From<AllocError> for StepError {
     ghost use Rattle.std.specs.Prelude.{◌≡◌};
