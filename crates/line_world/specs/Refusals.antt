@@ -1,11 +1,9 @@
 -- What refuses a step: the first cause that holds.
-use Rattle.std.specs.Prelude.{◌≡◌, ℕ, ◌+◌, ◌-◌, Bool, false, not, ◌||◌, ◌&&◌, ◌==◌, nat_lt, nat_le}
-use Rattle.std.specs.Prelude.{if◌then◌else◌, List, [], ◌∷◌, ◌++◌, length, slice_get, Option, Some}
-use Rattle.std.specs.Prelude.{None}
-use Rattle.std.specs.List.{list_any, range_with_len}
+use Rattle.std.specs.Prelude.{◌≡◌, ℕ, ◌+◌, Bool, false, not, ◌||◌, ◌&&◌, ◌==◌, nat_lt, nat_le}
+use Rattle.std.specs.Prelude.{if◌then◌else◌, List, [], ◌∷◌, ◌++◌, drop, length, slice_get, Option}
+use Rattle.std.specs.Prelude.{Some, None}
+use Rattle.std.specs.List.{list_any}
 use Rattle.line_names.specs.declared.choices.Choice.{Choice}
-use Rattle.line_names.specs.declared.limits.TheConstants.{MOST_PROCESSES}
-use Rattle.line_names.specs.Sets.{is_member}
 use Rattle.line_tape.specs.declared.items.Item.{Item}
 use Rattle.line_tape.specs.declared.limits.TheConstants.{MOST_EVENTS, MOST_STATE, LAST_ROUND}
 use Rattle.line_tape.specs.Event.{checks}
@@ -39,11 +37,9 @@ first_cause (cause ∷ causes) = if cause.0 then Some cause.1 else first_cause c
 abbrev pub is_stranger : Machine → ℕ → Bool
 is_stranger machine p = nat_le (length machine.history) p
 
--- a member of the set is no process
+-- a member of the set is no process: the set says `true` after its truth values for the processes
 abbrev pub has_stranger : Machine → List Bool → Bool
-has_stranger machine set =
-    list_any (is_member set)
-    (range_with_len (length machine.history) (MOST_PROCESSES - length machine.history))
+has_stranger machine set = list_any (λ member. member) (drop (length machine.history) set)
 
 -- the bytes are too many for a state
 abbrev pub is_long : List ℕ → Bool
