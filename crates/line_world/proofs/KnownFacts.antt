@@ -189,6 +189,29 @@ module _ (w : Inside) (machine : Machine) (view : shown w ≡ machine) (kept : I
           forces = forced_told here to message answer (answers here coloured.painted.turned coloured.painted.coloured held) ∙ is;
         }
 
+    -- the same, where its fate is told of the machine
+    pub is_copy : (turning : Option TurningView) (colours : List Turned) (received : List (List Bool)) → w.protocol ≡ Colours turning colours received
+        → (message : MsgName) → slice_get (items_on machine from to) pick ≡ Some (Message message) → fate_of Unordered machine.history to message ≡ Taken
+        → (forced : Option ℕ) → forced_round Unordered machine.history to message ≡ forced → IsTakenCopy w turning colours received from to pick message forced
+    is_copy turning colours received e message picked taken forced forces =
+        let own : List Process = w.catalogue.processes in
+        let same : own ≡ machine.history = ap (λ (m : Machine). m.history) view in
+        let coloured = is_coloured turning colours received e in
+        let p = is_picked (Message message) picked in
+        let taken_here : fate_of Unordered own to message ≡ Taken = ap (λ (h : List Process). fate_of Unordered h to message) same ∙ taken in
+        record {
+          coloured = coloured;
+          picked = p;
+          fate = taken_here;
+          held = IsWorld-held own w.links from to p.from_in p.to_in message p.of_sender pick p.at p.apart Unordered coloured.world (λ f. p.first (coloured.mode_is ∙ f)) taken_here;
+          forces = ap (λ (h : List Process). forced_round Unordered h to message) same ∙ forces;
+        }
+
+-- links do not keep their order and keep none
+pub one_kind : (mode : Mode) → mode ≡ Fifo → mode ≡ Unordered → ⊥
+one_kind Fifo fifo unordered = absurd (cc)
+one_kind Unordered fifo unordered = absurd (cc)
+
 -- one that forces a check has process `to` take its check of the open round first
 pub may_catch : (w : Inside) (turning : Option TurningView) (colours : List Turned) (received : List (List Bool)) (from to pick : ℕ) (message : MsgName) (round : ℕ) → IsTakenCopy w turning colours received from to pick message (Some round)
     → MayCatch w turning colours received to

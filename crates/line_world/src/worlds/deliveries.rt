@@ -6,8 +6,9 @@ ghost use Rattle.line_tape.specs.Event.{Holds};
 ghost use Rattle.line_tape.specs.Fit.{IsSentTo};
 ghost use Rattle.line_tape.specs.History.{tape_at};
 ghost use Rattle.line_turns.specs.Flags.{AreFlagged};
-ghost use Rattle.line_moves.specs.declared.modes.Mode.TheVariants.{Unordered};
-ghost use Rattle.line_moves.specs.Fates.{fate_of};
+ghost use Rattle.line_moves.specs.declared.fates.Fate.TheVariants.{Taken};
+ghost use Rattle.line_moves.specs.declared.modes.Mode.TheVariants.{Fifo, Unordered};
+ghost use Rattle.line_moves.specs.Fates.{fate_of, forced_round};
 ghost use Rattle.line_world.specs.declared.replies.Answer.TheVariants.{Done, Refused};
 ghost use Rattle.line_world.specs.declared.steps.Step.TheVariants.{Deliver};
 ghost use Rattle.line_world.specs.Machine.{items_on};
@@ -61,27 +62,27 @@ impl World {
         }
     }
 
-    /// Takes the message that stands at a place of a link, or finds its copy stale or repeated.
-    fn deliver_message(
+    /// Takes the message that is first on a link that keeps its order.
+    fn take_first(
         &mut self,
-        alloc: Global,
         from: ProcId,
         to: ProcId,
-        pick: u64,
-        state: &[u8],
+        _pick: u64,
+        _state: &[u8],
         message: &MsgName,
     ) -> Result<Reply, StepError>
-        requires passed { first_cause (link_causes self.old from to pick state.now) ≡ None }
-        requires picked { slice_get (items_on self.old from to) pick ≡ Some (Message message.now) }
+        requires passed { first_cause (link_causes self.old from to _pick _state.now) ≡ None }
+        requires picked { slice_get (items_on self.old from to) _pick
+            ≡ Some (Message message.now) }
+        requires fifo { self.old.mode ≡ Fifo }
         ensures done { IfOk result
-            (λ reply. Takes self.old (Deliver from to pick state.now) (Done reply) self.new) }
+            (λ reply. Takes self.old (Deliver from to _pick _state.now) (Done reply) self.new) }
         ensures refused { IfErr result (λ e. e ≢ StepError.OutOfMemory
-            → Takes self.old (Deliver from to pick state.now) (Refused e) self.new) }
+            → Takes self.old (Deliver from to _pick _state.now) (Refused e) self.new) }
         ensures memory { IsErrOf result StepError.OutOfMemory → self.new ≡ self.old }
         ensures unrefused { IsErrOf result StepError.OutOfMemory
-            → refusal_of self.old (Deliver from to pick state.now) ≡ None }
+            → refusal_of self.old (Deliver from to _pick _state.now) ≡ None }
     {
-        let _n = self.catalogue.n();
         match &mut self.protocol {
             Protocol::Markers { running } => {
                 if lacks_room(self.catalogue.history(), to, 1) {
@@ -100,46 +101,140 @@ impl World {
                     forced: None,
                 })
             }
+            Protocol::Colours { .. } => unreachable!(),
+        }
+    }
+
+    /// Takes a copy that forces no check.
+    fn take_unforced(
+        &mut self,
+        _from: ProcId,
+        to: ProcId,
+        _pick: u64,
+        _state: &[u8],
+        message: &MsgName,
+    ) -> Result<Reply, StepError>
+        requires passed { first_cause (link_causes self.old _from to _pick _state.now) ≡ None }
+        requires picked { slice_get (items_on self.old _from to) _pick
+            ≡ Some (Message message.now) }
+        requires unordered { self.old.mode ≡ Unordered }
+        requires taken { fate_of Unordered self.old.history to message.now ≡ Taken }
+        requires unforced { forced_round Unordered self.old.history to message.now ≡ None }
+        ensures done { IfOk result
+            (λ reply. Takes self.old (Deliver _from to _pick _state.now) (Done reply) self.new) }
+        ensures refused { IfErr result (λ e. e ≢ StepError.OutOfMemory
+            → Takes self.old (Deliver _from to _pick _state.now) (Refused e) self.new) }
+        ensures memory { IsErrOf result StepError.OutOfMemory → self.new ≡ self.old }
+        ensures unrefused { IsErrOf result StepError.OutOfMemory
+            → refusal_of self.old (Deliver _from to _pick _state.now) ≡ None }
+    {
+        match &mut self.protocol {
+            Protocol::Markers { .. } => unreachable!(),
+            Protocol::Colours { received, .. } => {
+                if lacks_room(self.catalogue.history(), to, 1) {
+                    return Err(StepError::TapeFull);
+                }
+                take_copy(&mut self.catalogue, to, message)?;
+                received.receive(message);
+                Ok(Reply::Took {
+                    message: *message,
+                    forced: None,
+                })
+            }
+        }
+    }
+
+    /// Takes a copy whose process has to take its check of the open round first.
+    fn take_forced(
+        &mut self,
+        alloc: Global,
+        _from: ProcId,
+        to: ProcId,
+        _pick: u64,
+        state: &[u8],
+        message: &MsgName,
+        round: u32,
+    ) -> Result<Reply, StepError>
+        requires passed { first_cause (link_causes self.old _from to _pick state.now) ≡ None }
+        requires picked { slice_get (items_on self.old _from to) _pick
+            ≡ Some (Message message.now) }
+        requires unordered { self.old.mode ≡ Unordered }
+        requires taken { fate_of Unordered self.old.history to message.now ≡ Taken }
+        requires forced { forced_round Unordered self.old.history to message.now ≡ Some round }
+        ensures done { IfOk result
+            (λ reply. Takes self.old (Deliver _from to _pick state.now) (Done reply) self.new) }
+        ensures refused { IfErr result (λ e. e ≢ StepError.OutOfMemory
+            → Takes self.old (Deliver _from to _pick state.now) (Refused e) self.new) }
+        ensures memory { IsErrOf result StepError.OutOfMemory → self.new ≡ self.old }
+        ensures unrefused { IsErrOf result StepError.OutOfMemory
+            → refusal_of self.old (Deliver _from to _pick state.now) ≡ None }
+    {
+        match &mut self.protocol {
+            Protocol::Markers { .. } => unreachable!(),
             Protocol::Colours {
                 turning,
                 colours,
                 received,
+            } => {
+                if lacks_room(self.catalogue.history(), to, 2) {
+                    return Err(StepError::TapeFull);
+                }
+                turn_round(
+                    alloc,
+                    &mut self.catalogue,
+                    colours,
+                    turning,
+                    &mut self.rounds,
+                    to,
+                    state,
+                    self.last_round,
+                    1,
+                )?;
+                add_receipt(&mut self.catalogue, to, message);
+                received.receive(message);
+                Ok(Reply::Took {
+                    message: *message,
+                    forced: Some(round),
+                })
+            }
+        }
+    }
+
+    /// Takes the message that stands at a place of a link, or finds its copy stale or repeated.
+    fn deliver_message(
+        &mut self,
+        alloc: Global,
+        from: ProcId,
+        to: ProcId,
+        pick: u64,
+        state: &[u8],
+        message: &MsgName,
+    ) -> Result<Reply, StepError>
+        requires passed { first_cause (link_causes self.old from to pick state.now) ≡ None }
+        requires picked { slice_get (items_on self.old from to) pick
+            ≡ Some (Message message.now) }
+        ensures done { IfOk result
+            (λ reply. Takes self.old (Deliver from to pick state.now) (Done reply) self.new) }
+        ensures refused { IfErr result (λ e. e ≢ StepError.OutOfMemory
+            → Takes self.old (Deliver from to pick state.now) (Refused e) self.new) }
+        ensures memory { IsErrOf result StepError.OutOfMemory → self.new ≡ self.old }
+        ensures unrefused { IsErrOf result StepError.OutOfMemory
+            → refusal_of self.old (Deliver from to pick state.now) ≡ None }
+    {
+        let _n = self.catalogue.n();
+        match &self.protocol {
+            Protocol::Markers { .. } => self.take_first(from, to, pick, state, message),
+            Protocol::Colours {
+                colours,
+                received,
+                ..
             } => match fate_of(self.catalogue.history(), received, to, message) {
                 Fate::Stale => Ok(Reply::Stale { message: *message }),
                 Fate::Repeated => Ok(Reply::Repeated { message: *message }),
                 Fate::Taken => match colours.before_receive(to, message) {
-                    None => {
-                        if lacks_room(self.catalogue.history(), to, 1) {
-                            return Err(StepError::TapeFull);
-                        }
-                        take_copy(&mut self.catalogue, to, message)?;
-                        received.receive(message);
-                        Ok(Reply::Took {
-                            message: *message,
-                            forced: None,
-                        })
-                    }
+                    None => self.take_unforced(from, to, pick, state, message),
                     Some(round) => {
-                        if lacks_room(self.catalogue.history(), to, 2) {
-                            return Err(StepError::TapeFull);
-                        }
-                        turn_round(
-                            alloc,
-                            &mut self.catalogue,
-                            colours,
-                            turning,
-                            &mut self.rounds,
-                            to,
-                            state,
-                            self.last_round,
-                            1,
-                        )?;
-                        add_receipt(&mut self.catalogue, to, message);
-                        received.receive(message);
-                        Ok(Reply::Took {
-                            message: *message,
-                            forced: Some(round),
-                        })
+                        self.take_forced(alloc, from, to, pick, state, message, round)
                     }
                 },
             },

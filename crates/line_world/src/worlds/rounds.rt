@@ -1,5 +1,6 @@
 //! How a world begins a round, and how a process turns to it.
 ghost use Rattle.std.specs.Prelude.{◌≡◌, ◌≢◌, None, IfOk, IfErr, IsErrOf};
+ghost use Rattle.line_moves.specs.declared.modes.Mode.TheVariants.{Fifo, Unordered};
 ghost use Rattle.line_world.specs.declared.replies.Answer.TheVariants.{Done, Refused};
 ghost use Rattle.line_world.specs.declared.steps.Step.TheVariants.{Begin, Turn};
 ghost use Rattle.line_world.specs.Refusals.{refusal_of};
@@ -14,25 +15,17 @@ use line_turns::Turning;
 use std::alloc::Global;
 
 impl World {
-    /// Begins a round.
-    pub(super) fn begin(
-        &mut self,
-        alloc: Global,
-        at: ProcId,
-        state: &[u8],
-    ) -> Result<Reply, StepError>
+    /// Begins a round of markers.
+    fn begin_markers(&mut self, alloc: Global, at: ProcId, state: &[u8]) -> Result<Reply, StepError>
+        requires fifo { self.old.mode ≡ Fifo }
+        requires passed { refusal_of self.old (Begin at state.now) ≡ None }
         ensures done { IfOk result
             (λ reply. Takes self.old (Begin at state.now) (Done reply) self.new) }
         ensures refused { IfErr result
             (λ e. e ≢ StepError.OutOfMemory
             → Takes self.old (Begin at state.now) (Refused e) self.new) }
         ensures memory { IsErrOf result StepError.OutOfMemory → self.new ≡ self.old }
-        ensures unrefused { IsErrOf result StepError.OutOfMemory
-            → refusal_of self.old (Begin at state.now) ≡ None }
     {
-        if let Some(e) = self.begin_refusal(at, state) {
-            return Err(e);
-        }
         match &mut self.protocol {
             Protocol::Markers { running } => {
                 self.rounds.reserve()?;
@@ -54,6 +47,23 @@ impl World {
                     round: self.last_round,
                 })
             }
+            Protocol::Colours { .. } => unreachable!(),
+        }
+    }
+
+    /// Begins a round of colours.
+    fn begin_colours(&mut self, alloc: Global, at: ProcId, state: &[u8]) -> Result<Reply, StepError>
+        requires unordered { self.old.mode ≡ Unordered }
+        requires passed { refusal_of self.old (Begin at state.now) ≡ None }
+        ensures done { IfOk result
+            (λ reply. Takes self.old (Begin at state.now) (Done reply) self.new) }
+        ensures refused { IfErr result
+            (λ e. e ≢ StepError.OutOfMemory
+            → Takes self.old (Begin at state.now) (Refused e) self.new) }
+        ensures memory { IsErrOf result StepError.OutOfMemory → self.new ≡ self.old }
+    {
+        match &mut self.protocol {
+            Protocol::Markers { .. } => unreachable!(),
             Protocol::Colours {
                 turning,
                 colours,
@@ -77,6 +87,31 @@ impl World {
                 *turning = begun;
                 Ok(Reply::Begun { at, check, round })
             }
+        }
+    }
+
+    /// Begins a round.
+    pub(super) fn begin(
+        &mut self,
+        alloc: Global,
+        at: ProcId,
+        state: &[u8],
+    ) -> Result<Reply, StepError>
+        ensures done { IfOk result
+            (λ reply. Takes self.old (Begin at state.now) (Done reply) self.new) }
+        ensures refused { IfErr result
+            (λ e. e ≢ StepError.OutOfMemory
+            → Takes self.old (Begin at state.now) (Refused e) self.new) }
+        ensures memory { IsErrOf result StepError.OutOfMemory → self.new ≡ self.old }
+        ensures unrefused { IsErrOf result StepError.OutOfMemory
+            → refusal_of self.old (Begin at state.now) ≡ None }
+    {
+        if let Some(e) = self.begin_refusal(at, state) {
+            return Err(e);
+        }
+        match &self.protocol {
+            Protocol::Markers { .. } => self.begin_markers(alloc, at, state),
+            Protocol::Colours { .. } => self.begin_colours(alloc, at, state),
         }
     }
 
