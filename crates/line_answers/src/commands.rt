@@ -16,7 +16,7 @@ use line_claims::{earliest_version, put_check_text, put_history};
 use line_devices::{DeviceFault, Sink};
 use line_fields::{Fault, RecordWriter};
 use line_names::ProcSet;
-use line_replies::{put_refusal, put_reply, refusal_code};
+use line_replies::{put_refusal, put_reply};
 use line_scripts::{Command, CommandRef};
 use line_world::{Reply, StepError, World};
 use std::alloc::Global;
@@ -125,7 +125,7 @@ fn tell_step<K: Sink>(
             if error.is_out_of_memory() {
                 return Err(Halt::Memory);
             }
-            put_refusal(sink, writer, refusal_code(error))?;
+            put_refusal(sink, writer, error.code())?;
             Ok(true)
         }
     }

@@ -5,5 +5,5 @@
 mod replies;
 mod rounds;
 
-pub use replies::{put_refusal, put_reply, refusal_code, write_reply};
+pub use replies::{put_refusal, put_reply, write_reply};
 pub use rounds::{put_message, put_round, put_rounds_head};

@@ -4,81 +4,15 @@ ghost use Rattle.std.specs.Prelude.{◌≡◌, ◌++◌, [], IfOk, OnOk};
 ghost use Rattle.line_devices.specs.Devices.{Outputs};
 ghost use Rattle.line_fields.specs.Texts.{record_text, records_text};
 ghost use Rattle.line_replies.specs.Replies as spec;
-ghost use Rattle.line_world.specs.Codes as numbers;
 
 mod recoveries;
 
 use line_claims::{name_of, number_field, numbers_of};
 use line_devices::{DeviceFault, MemSink, Sink, put_all};
 use line_fields::{Field, RecordWriter, put_ending, put_numbers};
-use line_names::{MsgName, ProcId};
-use line_world::{Reply, StepError};
+use line_world::Reply;
 use recoveries::put_recovery;
 use std::alloc::{AllocError, Global};
-
-// Writes `sent,FROM,INC,NUMBER`.
-fn put_sent<K: Sink>(
-    sink: &mut K,
-    writer: &mut RecordWriter,
-    message: MsgName,
-) -> Result<(), DeviceFault>
-    ensures { Outputs result (K.taken sink.old) (K.taken sink.new) (K.faults sink.old)
-        (K.faults sink.new) writer.new (writer.old ++ record_text (spec.sent message)) }
-{
-    put_numbers(sink, writer, b"sent", &numbers_of(message))
-}
-
-// Writes `stale,FROM,INC,NUMBER`.
-fn put_stale<K: Sink>(
-    sink: &mut K,
-    writer: &mut RecordWriter,
-    message: MsgName,
-) -> Result<(), DeviceFault>
-    ensures { Outputs result (K.taken sink.old) (K.taken sink.new) (K.faults sink.old)
-        (K.faults sink.new) writer.new (writer.old ++ record_text (spec.stale message)) }
-{
-    put_numbers(sink, writer, b"stale", &numbers_of(message))
-}
-
-// Writes `repeated,FROM,INC,NUMBER`.
-fn put_repeated<K: Sink>(
-    sink: &mut K,
-    writer: &mut RecordWriter,
-    message: MsgName,
-) -> Result<(), DeviceFault>
-    ensures { Outputs result (K.taken sink.old) (K.taken sink.new) (K.faults sink.old)
-        (K.faults sink.new) writer.new (writer.old ++ record_text (spec.repeated message)) }
-{
-    put_numbers(sink, writer, b"repeated", &numbers_of(message))
-}
-
-// Writes `took,FROM,INC,NUMBER,ROUND`.
-fn put_took<K: Sink>(
-    sink: &mut K,
-    writer: &mut RecordWriter,
-    message: MsgName,
-    forced: Option<u32>,
-) -> Result<(), DeviceFault>
-    ensures { Outputs result (K.taken sink.old) (K.taken sink.new) (K.faults sink.old)
-        (K.faults sink.new) writer.new (writer.old ++ record_text (spec.took message forced)) }
-{
-    let last = number_field(forced);
-    put_ending(sink, writer, b"took", &numbers_of(message), last)
-}
-
-// Writes `checked,P,C`.
-fn put_checked<K: Sink>(
-    sink: &mut K,
-    writer: &mut RecordWriter,
-    at: ProcId,
-    check: u32,
-) -> Result<(), DeviceFault>
-    ensures { Outputs result (K.taken sink.old) (K.taken sink.new) (K.faults sink.old)
-        (K.faults sink.new) writer.new (writer.old ++ record_text (spec.checked at check)) }
-{
-    let place = at.get();
-    put_numbers(sink, writer, b"checked", &[place as u64, check as u64])
-}
 
 // Writes `marked,ROUND,forced` or `marked,ROUND,closed`.
 fn put_marked<K: Sink>(
@@ -109,74 +43,6 @@ fn put_marked<K: Sink>(
     }
 }
 
-// Writes `begun,P,C,ROUND`.
-fn put_begun<K: Sink>(
-    sink: &mut K,
-    writer: &mut RecordWriter,
-    at: ProcId,
-    check: u32,
-    round: u32,
-) -> Result<(), DeviceFault>
-    ensures { Outputs result (K.taken sink.old) (K.taken sink.new) (K.faults sink.old)
-        (K.faults sink.new) writer.new (writer.old ++ record_text (spec.begun at check round)) }
-{
-    let place = at.get();
-    put_numbers(
-        sink,
-        writer,
-        b"begun",
-        &[place as u64, check as u64, round as u64],
-    )
-}
-
-// Writes `turned,P,C,ROUND`.
-fn put_turned<K: Sink>(
-    sink: &mut K,
-    writer: &mut RecordWriter,
-    at: ProcId,
-    check: u32,
-    round: u32,
-) -> Result<(), DeviceFault>
-    ensures { Outputs result (K.taken sink.old) (K.taken sink.new) (K.faults sink.old)
-        (K.faults sink.new) writer.new (writer.old ++ record_text (spec.turned at check round)) }
-{
-    let place = at.get();
-    put_numbers(
-        sink,
-        writer,
-        b"turned",
-        &[place as u64, check as u64, round as u64],
-    )
-}
-
-// Writes `damaged,P,C`.
-fn put_damaged<K: Sink>(
-    sink: &mut K,
-    writer: &mut RecordWriter,
-    at: ProcId,
-    check: u32,
-) -> Result<(), DeviceFault>
-    ensures { Outputs result (K.taken sink.old) (K.taken sink.new) (K.faults sink.old)
-        (K.faults sink.new) writer.new (writer.old ++ record_text (spec.damaged at check)) }
-{
-    let place = at.get();
-    put_numbers(sink, writer, b"damaged", &[place as u64, check as u64])
-}
-
-// Writes `barred,P,C`.
-fn put_barred<K: Sink>(
-    sink: &mut K,
-    writer: &mut RecordWriter,
-    at: ProcId,
-    check: u32,
-) -> Result<(), DeviceFault>
-    ensures { Outputs result (K.taken sink.old) (K.taken sink.new) (K.faults sink.old)
-        (K.faults sink.new) writer.new (writer.old ++ record_text (spec.barred at check)) }
-{
-    let place = at.get();
-    put_numbers(sink, writer, b"barred", &[place as u64, check as u64])
-}
-
 /// Writes the records of a reply after what a writer holds.
 ///
 /// It asks for no memory, and fails only where the sink fails; then a prefix of what was held and
@@ -190,16 +56,33 @@ pub fn put_reply<K: Sink>(
         (K.faults sink.new) writer.new (writer.old ++ records_text (spec.reply_records reply.now)) }
 {
     match reply {
-        Reply::Sent { message } => put_sent(sink, writer, *message),
-        Reply::Took { message, forced } => put_took(sink, writer, *message, *forced),
+        Reply::Sent { message } => put_numbers(sink, writer, b"sent", &numbers_of(*message)),
+        Reply::Took { message, forced } => {
+            let last = number_field(*forced);
+            put_ending(sink, writer, b"took", &numbers_of(*message), last)
+        }
         Reply::Marked { round, forced } => put_marked(sink, writer, *round, *forced),
-        Reply::Stale { message } => put_stale(sink, writer, *message),
-        Reply::Repeated { message } => put_repeated(sink, writer, *message),
-        Reply::Checked { at, check } => put_checked(sink, writer, *at, *check),
-        Reply::Begun { at, check, round } => put_begun(sink, writer, *at, *check, *round),
-        Reply::Turned { at, check, round } => put_turned(sink, writer, *at, *check, *round),
-        Reply::Damaged { at, check } => put_damaged(sink, writer, *at, *check),
-        Reply::Barred { at, check } => put_barred(sink, writer, *at, *check),
+        Reply::Stale { message } => put_numbers(sink, writer, b"stale", &numbers_of(*message)),
+        Reply::Repeated { message } => {
+            put_numbers(sink, writer, b"repeated", &numbers_of(*message))
+        }
+        Reply::Checked { at, check } => {
+            put_numbers(sink, writer, b"checked", &[at.get() as u64, *check as u64])
+        }
+        Reply::Begun { at, check, round } => {
+            let numbers = [at.get() as u64, *check as u64, *round as u64];
+            put_numbers(sink, writer, b"begun", &numbers)
+        }
+        Reply::Turned { at, check, round } => {
+            let numbers = [at.get() as u64, *check as u64, *round as u64];
+            put_numbers(sink, writer, b"turned", &numbers)
+        }
+        Reply::Damaged { at, check } => {
+            put_numbers(sink, writer, b"damaged", &[at.get() as u64, *check as u64])
+        }
+        Reply::Barred { at, check } => {
+            put_numbers(sink, writer, b"barred", &[at.get() as u64, *check as u64])
+        }
         Reply::Recovered {
             plan,
             states,
@@ -220,13 +103,6 @@ pub fn put_refusal<K: Sink>(
 {
     let name = name_of(code).as_bytes();
     put_ending(sink, writer, b"refused", &[code as u64], Field::Word(name))
-}
-
-/// The number of a refused step.
-pub fn refusal_code(error: StepError) -> u32
-    ensures { result ≡ numbers.refusal_code error }
-{
-    error.code()
 }
 
 // Writes a reply into memory.

@@ -26,7 +26,7 @@ pub returns-in_ok-put_refusal-in-Err-clause-ok : goal.returns-in_ok-put_refusal-
 returns-in_ok-put_refusal-in-Err-clause-ok g c old new step told =
     let differs : c.in-Err.error ≢ errors.OutOfMemory = search rules in
     let takes = rw c.in-Err.is at told in
-    refusal_does _ _ _ _ _ _ _ _ _ (takes differs) c.refusal_code.ensures c.in_ok-put_refusal-in-Err.ensures.ok
+    refusal_does _ _ _ _ _ _ _ _ _ (takes differs) c.code.ensures c.in_ok-put_refusal-in-Err.ensures.ok
 
 pub returns-in_err-put_refusal-in-Err-clause-memory : goal.returns-in_err-put_refusal-in-Err-clause-memory
 returns-in_err-put_refusal-in-Err-clause-memory g c =
@@ -36,7 +36,7 @@ returns-in_err-put_refusal-in-Err-clause-memory g c =
 pub returns-in_err-put_refusal-in-Err-clause-write : goal.returns-in_err-put_refusal-in-Err-clause-write
 returns-in_err-put_refusal-in-Err-clause-write g c old new step told =
     let passed_on = err_from_is_err_and c.from_residual-in_err-put_refusal-in-Err.result c.from_residual-in_err-put_refusal-in-Err.ensures.1 in
-    rw passed_on.1 (λ same. let differs : c.in-Err.error ≢ errors.OutOfMemory = search rules in let takes = rw c.in-Err.is at told in refusal_front _ _ _ _ _ _ _ _ (takes differs) c.refusal_code.ensures c.in_err-put_refusal-in-Err.ensures.err)
+    rw passed_on.1 (λ same. let differs : c.in-Err.error ≢ errors.OutOfMemory = search rules in let takes = rw c.in-Err.is at told in refusal_front _ _ _ _ _ _ _ _ (takes differs) c.code.ensures c.in_err-put_refusal-in-Err.ensures.err)
 
 pub returns-in_err-put_refusal-in-Err-clause-failed : goal.returns-in_err-put_refusal-in-Err-clause-failed
 returns-in_err-put_refusal-in-Err-clause-failed g c =
