@@ -102,6 +102,43 @@ fn serve_lines<S: Source, K: Sink>(
     Err(ServeError::Read)
 }
 
+/// Serves until nothing is left of the source, and answers what is pending then.
+fn serve_all<S: Source, K: Sink>(
+    service: &mut Service,
+    room: &mut [u8],
+    source: &mut S,
+    sink: &mut K,
+) -> Result<Outcome, ServeError>
+    requires fresh { service.old ≡ fresh }
+    requires room { 0 < length room.old }
+    ensures done { IfOk result (λ outcome. (text : List ℕ)
+        × GivesText text (S.left source.old) (S.left source.new) (S.given source.old)
+        (S.given source.new)
+        × spec.AnswersText text outcome (K.taken sink.old) (K.taken sink.new)) }
+    ensures read { result ≡ Err errors.Read → spec.AnswersUntilFailure (S.left source.old)
+        (S.left source.new) (S.given source.old) (S.given source.new) (K.taken sink.old)
+        (K.taken sink.new) }
+    ensures cause { result ≡ Err errors.Read
+        → (S.faults source.new ≡ one_more (S.faults source.old))
+        ⊎ (S.given source.old + (2 ^ 64 - 1) ≤ S.given source.new) }
+    ensures write { result ≡ Err errors.Write
+        → spec.AnswersFrontOf (S.left source.old) (S.left source.new) (S.given source.old)
+        (S.given source.new) (K.taken sink.old) (K.taken sink.new) }
+    ensures codes { result ≡ Err errors.OutOfMemory → ⊥ }
+    ensures heard { OnOk result (S.faults source.new ≡ S.faults source.old) }
+    ensures sound { OnOk result (K.faults sink.new ≡ K.faults sink.old) }
+    ensures kept { result ≡ Err errors.Read → K.faults sink.new ≡ K.faults sink.old }
+    ensures blamed { result ≡ Err errors.Write → (S.faults source.new ≡ S.faults source.old)
+        × (K.faults sink.new ≡ one_more (K.faults sink.old)) }
+    ensures ended { OnOk result (S.ends source.new ≡ one_more (S.ends source.old)) }
+{
+    serve_lines(service, room, source, sink)?;
+    match service.end(sink) {
+        Ok(()) => Ok(service.outcome()),
+        Err(_) => Err(ServeError::Write),
+    }
+}
+
 /// Reads the records of a script from a source for as long as it gives bytes, and puts the answers
 /// to them.
 ///
@@ -148,15 +185,11 @@ pub fn serve<S: Source, K: Sink>(
     // Once the source said that nothing is left, it is asked no more.
     ensures ended { OnOk result (S.ends source.new ≡ one_more (S.ends source.old)) }
 {
-    let Ok(mut service) = Service::new(alloc) else {
-        return Err(ServeError::OutOfMemory);
-    };
     let Ok(mut room) = vec![in alloc; 0u8; CHUNK] else {
         return Err(ServeError::OutOfMemory);
     };
-    serve_lines(&mut service, &mut room, source, sink)?;
-    match service.end(sink) {
-        Ok(()) => Ok(service.outcome()),
-        Err(_) => Err(ServeError::Write),
-    }
+    let Ok(mut service) = Service::new(alloc) else {
+        return Err(ServeError::OutOfMemory);
+    };
+    serve_all(&mut service, &mut room, source, sink)
 }

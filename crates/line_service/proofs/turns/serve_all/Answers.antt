@@ -3,7 +3,7 @@ use Rattle.std.specs.Prelude.{Err}
 use Rattle.std.proofs.lemmas.Result.{err_from_is_err_and}
 use Rattle.line_service.specs.declared.faults.ServeError.TheVariants as errors
 use Rattle.line_service.proofs.TurnLemmas.{answers_whole, breaks_at_end, breaks_before}
-use Rattle.line_service.proofs.turns.serve.Goals as goal
+use Rattle.line_service.proofs.turns.serve_all.Goals as goal
 
 pub returns-in_err-serve_lines-clause-read : goal.returns-in_err-serve_lines-clause-read
 returns-in_err-serve_lines-clause-read g c is =
@@ -26,10 +26,10 @@ returns-in_err-serve_lines-clause-write g c is =
     let same : c.serve_lines.result ≡ Err errors.Write = cc in
     breaks_before _ _ _ _ _ _ (c.serve_lines.ensures.write same)
 
-pub returns-in-Ok-end-clause-done : goal.returns-in-Ok-end-clause-done
-returns-in-Ok-end-clause-done g c =
+pub returns-in-Ok-clause-done : goal.returns-in-Ok-clause-done
+returns-in-Ok-clause-done g c =
     let lines = c.in_ok-serve_lines.ensures.ok in
-    (lines.text, lines.gives, answers_whole _ _ _ _ _ _ _ lines.answered c.in-Ok-end.ensures.ok c.outcome.ensures)
+    (lines.text, lines.gives, answers_whole _ _ _ _ _ _ _ lines.answered c.in-Ok.ensures.ok c.outcome.ensures)
 
-pub returns-clause-write : goal.returns-clause-write
-returns-clause-write g c is = breaks_at_end _ _ _ _ _ _ _ _ c.in_ok-serve_lines.ensures.ok c.in-Err.ensures.err
+pub returns-in-Err-clause-write : goal.returns-in-Err-clause-write
+returns-in-Err-clause-write g c is = breaks_at_end _ _ _ _ _ _ _ _ c.in_ok-serve_lines.ensures.ok c.in-Err.ensures.err
