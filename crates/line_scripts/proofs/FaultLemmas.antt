@@ -1,30 +1,27 @@
 -- A fault of a script is one that scripts have.
-use Rattle.std.proofs.Common.{inl, inr, ◌≡◌, ◌⊎◌, ◌<◌, ℕ, ◌+◌, List, [], ◌∷◌, drop, length, Result, Ok, Err, true, false, refl, subst, arith}
+use Rattle.std.proofs.Common.{◌≡◌, ◌<◌, ℕ, ◌+◌, List, [], ◌∷◌, drop, length, Option, Some, None, Result, Ok, Err, true, false, subst, arith}
 use Rattle.std.specs.Prelude.{Bool, IfErr, codes, if◌then◌else◌, nat_le, ◌&&◌, ◌==◌, not, ◌-◌}
 use Rattle.std.specs.Str.{all_ascii_digits, bytes_eq}
 use Rattle.std.specs.Str.Parse.{digits_value}
 use Rattle.line_fields.specs.declared.faults.Fault.{Fault}
 use Rattle.line_fields.specs.declared.faults.Fault.TheVariants as faults
-use Rattle.line_fields.specs.Bytes.{is_input_text}
 use Rattle.line_fields.specs.Faults.{code_of}
 use Rattle.line_fields.specs.Fields.{◌>>=◌, digit, hex, num, want}
-use Rattle.line_fields.specs.Records.{Record, field, records_of_text}
+use Rattle.line_fields.specs.Records.{Record, field}
 use Rattle.line_fields.specs.Shapes.{Reader, alone, four, three, two}
 use Rattle.line_moves.specs.declared.modes.Mode.TheVariants.{Fifo, Unordered}
 use Rattle.line_world.specs.declared.steps.Step.{Step}
 use Rattle.line_world.specs.declared.steps.Step.TheVariants.{Begin, Check, Damage, Bar, Recover, Turn}
 use Rattle.line_claims.specs.declared.faults.TextFault.{TextFault}
-use Rattle.line_claims.specs.declared.faults.TextError.{TextError}
-use Rattle.line_claims.specs.declared.faults.TextError.TheVariants as errors
 use Rattle.line_claims.specs.declared.versions.TheConstants.{LAST_VERSION}
 use Rattle.line_claims.specs.Numbers.{numbers, plain}
-use Rattle.line_claims.specs.Reads.{FailsText, fault_at, no_memory, numbered, told}
-use Rattle.line_claims.specs.Texts.{records_in}
+use Rattle.line_claims.specs.Reads.{numbered}
 use Rattle.line_claims.specs.Versions.{most_in}
 use Rattle.line_scripts.specs.declared.commands.Command.{Command}
 use Rattle.line_scripts.specs.declared.commands.Command.TheVariants.{Bundle, Do, History, Rounds}
+use Rattle.line_scripts.specs.Pieces.{begun_of, begun_on, with_front}
 use Rattle.line_scripts.specs.Reads.{IsOfScript}
-use Rattle.line_scripts.specs.Scripts.{command_of, commands_from, deliver_of, mode_named, pick, script_of, script_of_text, send_of, with_check, with_failed, with_state, world_of}
+use Rattle.line_scripts.specs.Scripts.{Script, command_of, commands_from, deliver_of, mode_named, pick, script_of, send_of, with_check, with_failed, with_state, world_of}
 
 -- the fault of a record is one that scripts have
 abbrev IsLow : Fault → Type 0
@@ -195,20 +192,22 @@ rows_faults (first ∷ rest) =
     both_faults (numbered 1 (world_of first)) _ (numbered_faults 1 (world_of first) (world_low first))
     (λ world. both_faults (commands_from world.0 2 rest) _ (commands_faults world.0 2 rest) (λ commands. tt))
 
--- of the records of a text
-text_faults : (plain : Bool) (records : List Record) → OnlyOfScript (if plain then Ok records else Err (fault_at 0 faults.BadRecord))
-text_faults true records = tt
-text_faults false records = low_record
+-- of the records behind those that were read
+begun_faults : (records : List Record) → OnlyOfScript (begun_of records)
+unfolding begun_of
+begun_faults [] = tt
+begun_faults (first ∷ rest) = both_faults (script_of (first ∷ rest)) _ (rows_faults (first ∷ rest)) (λ script. tt)
 
-script_faults : (text : List ℕ) → OnlyOfScript (script_of_text text)
-unfolding script_of_text
-script_faults text = both_faults (records_in text) script_of (text_faults (is_input_text text) (records_of_text text)) rows_faults
+front_faults : (front : List Command) (read : Result (List Command) TextFault) → OnlyOfScript read → OnlyOfScript (with_front front read)
+front_faults front read h = both_faults read _ h (λ others. tt)
 
--- so is the fault of a call that read it
-fault_is_of_script : {A : Type 0} (read : Result A TextFault) (fault : TextFault) → OnlyOfScript read → read ≡ Err fault → IsOfScript fault
-fault_is_of_script {A} read fault all h = subst (λ (r : Result A TextFault). IfErr r IsOfScript) h all
+on_faults : (script : Option Script) (records : List Record) → OnlyOfScript (begun_on script records)
+on_faults None records = begun_faults records
+on_faults (Some script) records =
+    both_faults (with_front script.commands (commands_from script.n (length script.commands + 2) records)) _
+    (front_faults script.commands (commands_from script.n (length script.commands + 2) records) (commands_faults script.n (length script.commands + 2) records))
+    (λ commands. tt)
 
--- what a caller is told is want of memory, or a fault that scripts have
-pub told_codes : (error : TextError) (text : List ℕ) → FailsText error (script_of_text text) → (told error ≡ no_memory) ⊎ IsOfScript (told error)
-told_codes errors.OutOfMemory text h = inl refl
-told_codes (errors.Fault fault) text h = inr (fault_is_of_script (script_of_text text) fault (script_faults text) h)
+-- so is the fault of a call that read them
+pub fault_is_of_script : (script : Option Script) (records : List Record) (fault : TextFault) → begun_on script records ≡ Err fault → IsOfScript fault
+fault_is_of_script script records fault h = subst (λ (r : Result (Option Script) TextFault). IfErr r IsOfScript) h (on_faults script records)

@@ -1,5 +1,5 @@
 -- Commands with all their bytes: one more behind the others, and the first one out.
-use Rattle.std.proofs.Common.{◌≡◌, ◌≤◌, ◌<◌, ℕ, ◌+◌, List, [], ◌∷◌, ◌++◌, drop, get_or, length, take, sym, ap, ◌∙◌, subst, arith, length-append, length-drop}
+use Rattle.std.proofs.Common.{◌≡◌, ◌≤◌, ◌<◌, ℕ, ◌+◌, List, [], ◌∷◌, ◌++◌, drop, get_or, length, take, refl, sym, ap, ◌∙◌, subst, arith, length-append}
 use Rattle.std.proofs.lemmas.List.{take-append-drop, take-append-le, drop-append-le, drop_more, drop-drop}
 use Rattle.std.proofs.Math.Seq.{take-length, drop-length}
 use Rattle.line_scripts.specs.declared.commands.Command.{Command}
@@ -67,3 +67,8 @@ first_packed ks bytes gone at k within is packed =
     let all : ArePacked (k ∷ drop (gone + 1) ks) (drop at bytes) = subst (λ (xs : List Kept). ArePacked xs (drop at bytes)) (first_left ks gone k within is) packed in
     let rest : drop (long_of k) (drop at bytes) ≡ drop (at + long_of k) bytes = drop-drop (long_of k) at bytes in
     (all.0, all.1, subst (λ (bs : List ℕ). ArePacked (drop (gone + 1) ks) bs) rest all.2)
+
+-- there are as many commands as are kept
+pub length-unpacked : (ks : List Kept) (bytes : List ℕ) → length (unpacked ks bytes) ≡ length ks
+length-unpacked [] bytes = refl
+length-unpacked (k ∷ ks) bytes = let others = length-unpacked ks (drop (long_of k) bytes) in omega (arith, others)

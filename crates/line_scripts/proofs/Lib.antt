@@ -1,3 +1,4 @@
+mod ApartLemmas
 mod BehindLemmas
 pub mod AgainLemmas
 pub mod FailedLemmas
@@ -5,4 +6,5 @@ pub mod FaultLemmas
 pub mod KeepingLemmas
 pub mod LaterLemmas
 pub mod NameLemmas
+pub mod PieceLemmas
 pub mod ReadLemmas

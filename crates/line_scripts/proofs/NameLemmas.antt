@@ -1,6 +1,5 @@
 -- A first field that is the name of no command.
 use Rattle.std.proofs.Common.{◌≡◌, ◌≢◌, ℕ, List, false, Err, refl, sym, inl, inr}
-use Rattle.std.specs.Prelude.{codes}
 use Rattle.std.specs.Str.{bytes_eq}
 use Rattle.std.proofs.lemmas.Bool.{cases_Bool}
 use Rattle.std.proofs.lemmas.Slice.Eq.{bytes_eq-Decides}

@@ -4,4 +4,5 @@ pub mod Records
 pub mod Ranges
 pub mod Keeping
 pub mod Names
+pub mod Pieces
 pub mod Shown

@@ -5,11 +5,13 @@ mod commands;
 mod keeping;
 mod laws;
 mod names;
+mod pieces;
 mod readers;
 mod scripts;
 
 pub use commands::{Command, CommandRef, world_of};
 pub use keeping::Commands;
 pub use laws::{scripts_are_read_again, version_2_reads_scripts_of_version_1};
+pub use pieces::ScriptReader;
 pub use readers::CommandReader;
 pub use scripts::{KeptScript, Script, keep_script, read_script};

@@ -1,19 +1,17 @@
-//! Scripts, read record by record.
+//! Scripts: a whole text, and the commands that it spells.
 
-ghost use Rattle.std.specs.Prelude.{◌≡◌, ◌+◌, ◌^◌, ◌≤◌, ◌<◌, ◌⊎◌, length, take, IfErr, IfOk};
+ghost use Rattle.std.specs.Prelude.{◌≡◌, ◌+◌, ◌^◌, ◌≤◌, ◌<◌, ◌⊎◌, length, IfErr, IfOk};
 ghost use Rattle.line_names.specs.declared.limits.TheConstants.{MOST_BODY, MOST_PROCESSES};
 ghost use Rattle.line_scripts.specs.Scripts as spec;
-ghost use Rattle.line_claims.specs.Reads.{Reads, Yields, no_memory};
-ghost use Rattle.line_claims.specs.Reads as reads;
-ghost use Rattle.line_scripts.specs.Keeping.{IsShort, behind, long_of, with_bytes};
+ghost use Rattle.line_claims.specs.Reads.{Reads, no_memory};
 ghost use Rattle.line_scripts.specs.Reads.{IsOfScript, seen, seen_kept};
 ghost use Rattle.line_scripts.specs.Shown.{HasShortBody, shown};
 ghost use Rattle.line_world.specs.Shown as steps;
 
-use crate::commands::{Command, CommandRef, command_of, world_of};
-use crate::keeping::{Commands, Kept, keep};
-use line_claims::{TextError, TextFault, error_at, fault_at, told};
-use line_fields::{Fault, RecordReader, Row, is_plain};
+use crate::commands::{Command, CommandRef};
+use crate::keeping::Commands;
+use crate::pieces::ScriptReader;
+use line_claims::{TextError, TextFault, told};
 use line_names::Body;
 use line_tape::State;
 use line_world::{Mode, Step, StepRef};
@@ -43,72 +41,6 @@ pub struct KeptScript {
     pub commands: Commands,
 }
 
-// The number of processes and how links deliver, as the first record says.
-fn world_at(row: &Row) -> Result<(u32, Mode), TextError>
-    ensures exact { Yields (λ world. world) result (reads.numbered 1 (spec.world_of row.now)) }
-    ensures within { IfOk result (λ world. (1 ≤ world.0) × (world.0 ≤ MOST_PROCESSES)) }
-{
-    match world_of(row) {
-        Ok(world) => Ok(world),
-        Err(fault) => Err(fault_at(1, fault)),
-    }
-}
-
-// What the record with that number asks for; the bytes that it carries are put after those that a
-// list has.
-fn command_at(
-    alloc: Global,
-    n: u32,
-    record_number: u64,
-    row: &Row,
-    bytes: &mut Vec<u8>,
-) -> Result<Kept, TextError>
-    requires { n ≤ MOST_PROCESSES }
-    ensures exact { Yields (λ kept. with_bytes kept (behind bytes.old.items bytes.new.items)) result
-        (reads.numbered record_number (spec.command_of n row.now)) }
-    ensures long { IfOk result
-        (λ kept. long_of kept ≡ length (behind bytes.old.items bytes.new.items)) }
-    ensures short { IfOk result IsShort }
-    ensures kept { take (length bytes.old.items) bytes.new.items ≡ bytes.old.items }
-{
-    match command_of(alloc, n, row, bytes) {
-        Ok(kept) => Ok(kept),
-        Err(error) => Err(error_at(record_number, error)),
-    }
-}
-
-// The script that a text spells.
-fn read(alloc: Global, text: &[u8]) -> Result<KeptScript, TextError>
-    ensures exact { Yields seen_kept result (spec.script_of_text text.now) }
-    ensures within { IfOk result (λ script. (1 ≤ script.n) × (script.n ≤ MOST_PROCESSES)) }
-    ensures few { IfOk result (λ script. length script.commands + 2 < 2 ^ 64) }
-{
-    if !is_plain(text) {
-        return Err(fault_at(0, Fault::BadRecord));
-    }
-    let mut records = RecordReader::open(alloc, text);
-    let mut row = Row::new(alloc);
-    if !records.next_row(&mut row)? {
-        return Err(fault_at(1, Fault::NoWorld));
-    }
-    let (n, mode) = world_at(&row)?;
-    let mut kept = Vec::new(alloc);
-    let mut bytes = Vec::new(alloc);
-    let mut record_number = 2u64;
-    'records: loop {
-        if !records.next_row(&mut row)? {
-            return Ok(KeptScript {
-                n,
-                mode,
-                commands: Commands::of(kept, bytes),
-            });
-        }
-        let command = command_at(alloc, n, record_number, &row, &mut bytes)?;
-        keep(&mut kept, command)?;
-        record_number += 1;
-    }
-}
-
 /// The script that a text spells, in little memory: 16 bytes for a command, beside those of
 /// its message or state. What it refuses, and how, is as of `read_script`.
 pub fn keep_script(alloc: Global, text: &[u8]) -> Result<KeptScript, TextFault>
@@ -117,9 +49,10 @@ pub fn keep_script(alloc: Global, text: &[u8]) -> Result<KeptScript, TextFault>
     ensures within { IfOk result (λ script. (1 ≤ script.n) × (script.n ≤ MOST_PROCESSES)) }
     ensures few { IfOk result (λ script. length script.commands + 2 < 2 ^ 64) }
 {
-    match read(alloc, text) {
-        Ok(script) => Ok(script),
-        Err(error) => Err(told(error)),
+    let mut reader = ScriptReader::new(alloc);
+    match reader.take(text) {
+        Ok(()) => reader.into_script(),
+        Err(_) => Err(told(TextError::OutOfMemory)),
     }
 }
 

@@ -1,0 +1,263 @@
+//! Scripts whose texts come in pieces of whole lines.
+
+ghost use Rattle.std.specs.Prelude.{◌≡◌, ◌+◌, ◌^◌, ◌≤◌, ◌<◌, ◌++◌, [], ℕ, List, None, Ok, Err};
+ghost use Rattle.std.specs.Prelude.{length, take, IfErr, IfOk, IfSome, IsTrue, OnErr, OnOk};
+ghost use Rattle.line_names.specs.declared.limits.TheConstants.{MOST_PROCESSES};
+ghost use Rattle.line_fields.specs.Bytes.{is_input_text};
+ghost use Rattle.line_fields.specs.Records.{records_of_text};
+ghost use Rattle.line_claims.specs.Reads as reads;
+ghost use Rattle.line_claims.specs.Reads.{Yields};
+ghost use Rattle.line_scripts.specs.Keeping.{ArePacked, IsShort, behind, long_of, unpacked};
+ghost use Rattle.line_scripts.specs.Keeping.{with_bytes};
+ghost use Rattle.line_scripts.specs.Pieces as spec;
+ghost use Rattle.line_scripts.specs.Reads.{IsOfScript, seen_kept};
+ghost use Rattle.line_scripts.specs.Scripts.{command_of, commands_from, world_of};
+
+use crate::commands::{command_of, world_of};
+use crate::keeping::{Commands, Kept, keep};
+use crate::scripts::KeptScript;
+use line_claims::{TextError, TextFault, error_at, fault_at};
+use line_fields::{Fault, RecordReader, Row, is_plain};
+use line_world::Mode;
+use std::alloc::{AllocError, Global};
+use std::marker::Model;
+
+// The number of processes and how links deliver, as the first record says.
+fn world_at(row: &Row) -> Result<(u32, Mode), TextError>
+    ensures exact { Yields (λ world. world) result (reads.numbered 1 (world_of row.now)) }
+    ensures within { IfOk result (λ world. (1 ≤ world.0) × (world.0 ≤ MOST_PROCESSES)) }
+{
+    match world_of(row) {
+        Ok(world) => Ok(world),
+        Err(fault) => Err(fault_at(1, fault)),
+    }
+}
+
+// What the record with that number asks for; the bytes that it carries are put after those that a
+// list has.
+fn command_at(
+    alloc: Global,
+    n: u32,
+    record_number: u64,
+    row: &Row,
+    bytes: &mut Vec<u8>,
+) -> Result<Kept, TextError>
+    requires { n ≤ MOST_PROCESSES }
+    ensures exact { Yields (λ kept. with_bytes kept (behind bytes.old.items bytes.new.items)) result
+        (reads.numbered record_number (command_of n row.now)) }
+    ensures long { IfOk result
+        (λ kept. long_of kept ≡ length (behind bytes.old.items bytes.new.items)) }
+    ensures short { IfOk result IsShort }
+    ensures kept { take (length bytes.old.items) bytes.new.items ≡ bytes.old.items }
+{
+    match command_of(alloc, n, row, bytes) {
+        Ok(kept) => Ok(kept),
+        Err(error) => Err(error_at(record_number, error)),
+    }
+}
+
+// Keeps the commands of the records that are left, after those that are kept. The first command of
+// a script is that of record 2.
+fn keep_all(
+    alloc: Global,
+    n: u32,
+    records: &mut RecordReader<'_>,
+    row: &mut Row,
+    kept: &mut Vec<Kept>,
+    bytes: &mut Vec<u8>,
+) -> Result<(), TextError>
+    requires few { n ≤ MOST_PROCESSES }
+    requires packed { ArePacked kept.old.items bytes.old.items }
+    ensures exact { Yields (λ _. unpacked kept.new.items bytes.new.items) result
+        (spec.with_front (unpacked kept.old.items bytes.old.items)
+        (commands_from n (length (unpacked kept.old.items bytes.old.items) + 2) records.old)) }
+    ensures packed { OnOk result (ArePacked kept.new.items bytes.new.items) }
+{
+    'records: loop {
+        if !records.next_row(row)? {
+            return Ok(());
+        }
+        let record_number = kept.len() as u64 + 2;
+        let command = command_at(alloc, n, record_number, row, bytes)?;
+        keep(kept, command)?;
+    }
+}
+
+// Takes the first record, if there is one, and keeps the commands of those after it.
+fn begin(
+    alloc: Global,
+    records: &mut RecordReader<'_>,
+    row: &mut Row,
+    world: &mut Option<(u32, Mode)>,
+    kept: &mut Vec<Kept>,
+    bytes: &mut Vec<u8>,
+) -> Result<(), TextError>
+    requires none { world.old ≡ None }
+    requires kept { spec.AreKept world.old kept.old.items bytes.old.items }
+    ensures exact { Yields (λ _. spec.script_kept world.new kept.new.items bytes.new.items) result
+        (spec.begun_of records.old) }
+    ensures kept { OnOk result (spec.AreKept world.new kept.new.items bytes.new.items) }
+{
+    if !records.next_row(row)? {
+        return Ok(());
+    }
+    let first = world_at(row)?;
+    *world = Some(first);
+    keep_all(alloc, first.0, records, row, kept, bytes)
+}
+
+// Takes the records of a piece after those that were taken.
+fn take_records(
+    alloc: Global,
+    piece: &[u8],
+    row: &mut Row,
+    world: &mut Option<(u32, Mode)>,
+    kept: &mut Vec<Kept>,
+    bytes: &mut Vec<u8>,
+) -> Result<(), TextError>
+    requires input { IsTrue (is_input_text piece.now) }
+    requires kept { spec.AreKept world.old kept.old.items bytes.old.items }
+    ensures exact { Yields (λ _. spec.script_kept world.new kept.new.items bytes.new.items) result
+        (spec.begun_on (spec.script_kept world.old kept.old.items bytes.old.items)
+        (records_of_text piece.now)) }
+    ensures kept { OnOk result (spec.AreKept world.new kept.new.items bytes.new.items) }
+{
+    let mut records = RecordReader::open(alloc, piece);
+    let Some((n, _)) = *world else {
+        return begin(alloc, &mut records, row, world, kept, bytes);
+    };
+    keep_all(alloc, n, &mut records, row, kept, bytes)
+}
+
+// Takes the records of a piece, and where that is refused lets go all that was taken.
+fn take_or_let_go(
+    alloc: Global,
+    piece: &[u8],
+    row: &mut Row,
+    world: &mut Option<(u32, Mode)>,
+    kept: &mut Vec<Kept>,
+    bytes: &mut Vec<u8>,
+) -> Result<(), TextError>
+    requires input { IsTrue (is_input_text piece.now) }
+    requires kept { spec.AreKept world.old kept.old.items bytes.old.items }
+    ensures exact { Yields (λ _. spec.script_kept world.new kept.new.items bytes.new.items) result
+        (spec.begun_on (spec.script_kept world.old kept.old.items bytes.old.items)
+        (records_of_text piece.now)) }
+    ensures kept { spec.AreKept world.new kept.new.items bytes.new.items }
+{
+    match take_records(alloc, piece, row, world, kept, bytes) {
+        Ok(()) => Ok(()),
+        Err(error) => {
+            *world = None;
+            *kept = Vec::new(alloc);
+            *bytes = Vec::new(alloc);
+            Err(error)
+        }
+    }
+}
+
+/// Reads a script whose text comes in pieces of whole lines, the last of which may lack its line
+/// feed.
+///
+/// It keeps the commands, and no text. Once a record has a fault it keeps that alone, and only
+/// looks at the bytes of further pieces: a byte that no text has comes before all else.
+#[derive(Drop)]
+pub struct ScriptReader {
+    alloc: Global,
+    row: Row,
+    // The number of processes and how links deliver, once the first record was taken.
+    world: Option<(u32, Mode)>,
+    kept: Vec<Kept>,
+    bytes: Vec<u8>,
+    fault: Option<TextFault>,
+}
+
+impl Model for ScriptReader {
+    ghost use Rattle.std.specs.Prelude.{IfSome, Option, Result};
+    ghost use Rattle.line_claims.specs.declared.faults.TextFault.{TextFault};
+    ghost use Rattle.line_scripts.specs.Pieces.{AreKept, found, script_kept};
+    ghost use Rattle.line_scripts.specs.Reads.{IsOfScript};
+    ghost use Rattle.line_scripts.specs.Scripts.{Script};
+
+    ghost Value = { Result (Option Script) TextFault };
+
+    ghost view = { λ s. found s.fault (script_kept s.world s.kept.items s.bytes.items) };
+
+    ghost invariant = { λ s. AreKept s.world s.kept.items s.bytes.items
+        × IfSome s.fault IsOfScript };
+}
+
+impl ScriptReader {
+    /// A reader that has taken nothing. It takes no memory.
+    pub fn new(alloc: Global) -> ScriptReader
+        ensures { result ≡ Ok None }
+    {
+        ScriptReader {
+            alloc,
+            row: Row::new(alloc),
+            world: None,
+            kept: Vec::new(alloc),
+            bytes: Vec::new(alloc),
+            fault: None,
+        }
+    }
+
+    /// Takes the next piece of the text.
+    ///
+    /// It takes time in proportion to the piece, and memory in proportion to the commands. Where
+    /// memory is refused what was taken is gone.
+    pub fn take(&mut self, piece: &[u8]) -> Result<(), AllocError>
+        ensures { OnOk result ((front : List ℕ) → spec.EndsLine front
+            → self.old ≡ spec.begun_in front → self.new ≡ spec.begun_in (front ++ piece.now)) }
+    {
+        if !is_plain(piece) {
+            self.fault = Some(TextFault {
+                record_number: 0,
+                code: Fault::BadRecord.code(),
+            });
+            return Ok(());
+        }
+        if self.fault.is_some() {
+            return Ok(());
+        }
+        match take_or_let_go(
+            self.alloc,
+            piece,
+            &mut self.row,
+            &mut self.world,
+            &mut self.kept,
+            &mut self.bytes,
+        ) {
+            Ok(()) => Ok(()),
+            Err(TextError::Fault(fault)) => {
+                self.fault = Some(fault);
+                Ok(())
+            }
+            Err(TextError::OutOfMemory) => Err(AllocError),
+        }
+    }
+
+    /// The script that all pieces spell, or its first fault. It takes no memory.
+    pub fn into_script(self) -> Result<KeptScript, TextFault>
+        ensures ok { IfOk result (λ script. spec.at_end self ≡ Ok (seen_kept script)) }
+        ensures err { IfErr result (λ fault. spec.at_end self ≡ Err fault) }
+        ensures codes { IfErr result IsOfScript }
+        ensures within { IfOk result (λ script. (1 ≤ script.n) × (script.n ≤ MOST_PROCESSES)) }
+        ensures few { IfOk result (λ script. length script.commands + 2 < 2 ^ 64) }
+    {
+        if let Some(fault) = self.fault {
+            return Err(fault);
+        }
+        let Some((n, mode)) = self.world else {
+            return Err(TextFault {
+                record_number: 1,
+                code: Fault::NoWorld.code(),
+            });
+        };
+        Ok(KeptScript {
+            n,
+            mode,
+            commands: Commands::of(self.kept, self.bytes),
+        })
+    }
+}
