@@ -28,8 +28,9 @@ SCRIPT = {
     **dict.fromkeys(["rounds", "history"], "Shapes.alone"),
 }
 CHECK_TEXT = {
-    "history": "Histories.head_in", "tape": "Histories.tape_of", "send": "Events.send_of",
-    "recv": "Events.recv_of", "check": "Events.check_of", "mark": "Events.mark_of",
+    "history": "Histories.head_in", "tape": "Histories.tape_of",
+    "send": "Events.send_of", "recv": "Events.recv_of",
+    "check": "Events.check_of", "mark": "Events.mark_of",
     "damage": "Entries.damage_of", "bar": "Entries.bar_of", "failed": "Entries.failed_of",
     "line": "Entries.line_of", "pass": "Entries.passed_of", "end": "Entries.end_of",
 }
@@ -177,7 +178,7 @@ def asked() -> dict[str, list[str]]:
     found, steps = {}, asked_in_steps()
     of_records = [it.name for it in refusals() if it.error == "Fault"]
     for command, reader in SCRIPT.items():
-        said = set(re.findall(r"refused faults\.(\w+)", lines_reached(reader)))
+        said = set(re.findall(r"refused(?:_command)? faults\.(\w+)", lines_reached(reader)))
         first = sorted(said, key=of_records.index)
         rest = [name for name in steps.get(command, []) if name not in first]
         if first or rest:
@@ -190,7 +191,7 @@ def faulty(is_script: bool) -> dict[str, list[str]]:
     """The records of a kind of text that can have each fault."""
     found: dict[str, list[str]] = {}
     for record, reader in (SCRIPT if is_script else CHECK_TEXT).items():
-        text = re.sub(r"refused faults\.\w+", "", lines_reached(reader))
+        text = re.sub(r"refused(?:_command)? faults\.\w+", "", lines_reached(reader))
         if record in EVENTS and not is_script:
             text += "\n".join(definitions.definitions()[PUT].lines)
         for name in set(re.findall(r"\bfaults\.(\w+)", text)) - OF_ALL:
