@@ -1,4 +1,8 @@
-"""How many instructions a program takes, by valgrind or else by perf."""
+"""What a program takes, by valgrind or else by perf: instructions, and the data that caches miss.
+
+Only valgrind simulates caches. Their sizes are given here, so that no machine's own change what is
+counted: a first level of 32 KiB, 8 ways, and a last level of 1 MiB, 16 ways, lines of 64 bytes.
+"""
 
 import os
 import pathlib
@@ -9,25 +13,32 @@ from typing import NamedTuple
 
 
 class Tool(NamedTuple):
-    """What counts instructions: its words before the program's, and how its report shows them."""
+    """What counts: its words before the program's, and how its report shows each measure."""
 
     name: str
     words: list[str]
-    shown: str
+    shown: list[str]
 
 
+CACHEGRIND = ["valgrind", "--tool=cachegrind", "--cachegrind-out-file=/dev/null"]
+CACHES = ["--cache-sim=yes", "--I1=32768,8,64", "--D1=32768,8,64", "--LL=1048576,16,64"]
+INSTRUCTIONS = r"I +refs: +([\d,]+)"
 TOOLS = [
-    Tool(
-        "valgrind",
-        ["valgrind", "--tool=cachegrind", "--cache-sim=no", "--cachegrind-out-file=/dev/null"],
-        r"I +refs: +([\d,]+)",
-    ),
-    Tool("perf", ["perf", "stat", "-x;", "-e", "instructions:u"], r"^(\d+);"),
+    Tool("valgrind", [*CACHEGRIND, "--cache-sim=no"], [INSTRUCTIONS]),
+    Tool("perf", ["perf", "stat", "-x;", "-e", "instructions:u"], [r"^(\d+);"]),
 ]
+# By the name of a tool what counts misses of both levels too, which takes longer.
+WITH_MISSES = {
+    "valgrind": Tool(
+        "valgrind",
+        [*CACHEGRIND, *CACHES],
+        [INSTRUCTIONS, r"D1 +misses: +([\d,]+)", r"LLd +misses: +([\d,]+)"],
+    ),
+}
 
 
-def counted(tool: Tool, words: list[str], path: pathlib.Path) -> int | None:
-    """The instructions of a run on a text; none where the tool cannot tell them."""
+def all_counted(tool: Tool, words: list[str], path: pathlib.Path) -> list[int] | None:
+    """Each measure of a run on a text; none where the tool cannot tell them."""
     with open(path, "rb") as source:
         run = subprocess.run(
             [*tool.words, *words],
@@ -37,8 +48,15 @@ def counted(tool: Tool, words: list[str], path: pathlib.Path) -> int | None:
             stderr=subprocess.PIPE,
             text=True,
         )
-    shown = re.search(tool.shown, run.stderr, re.MULTILINE)
-    return int(shown[1].replace(",", "")) if shown and run.returncode in (0, 1) else None
+    found = [re.search(it, run.stderr, re.MULTILINE) for it in tool.shown]
+    counts = [int(it[1].replace(",", "")) for it in found if it]
+    return counts if len(counts) == len(found) and run.returncode in (0, 1) else None
+
+
+def counted(tool: Tool, words: list[str], path: pathlib.Path) -> int | None:
+    """The instructions of a run on a text; none where the tool cannot tell them."""
+    counts = all_counted(tool, words, path)
+    return counts[0] if counts else None
 
 
 def tool_at_hand() -> Tool | None:
@@ -47,3 +65,8 @@ def tool_at_hand() -> Tool | None:
         if shutil.which(tool.words[0]) and counted(tool, ["true"], pathlib.Path(os.devnull)):
             return tool
     return None
+
+
+def with_misses(tool: Tool) -> Tool:
+    """The same tool, with misses where it can count them."""
+    return WITH_MISSES.get(tool.name, tool)
