@@ -16,7 +16,7 @@ use line_catalogue::{AddError, Catalogue};
 use line_names::{MOST_PROCESSES, ProcId, ProcSet};
 use line_plan::{Plan, PlanError};
 use line_rings::{front_at, look_at, take_at};
-use line_tape::{Event, History};
+use line_tape::{Event, History, Marks};
 use rtrb::Consumer;
 use std::alloc::Global;
 use std::marker::Model;
@@ -90,6 +90,13 @@ impl Collector {
         ensures known { IsCollector self.now }
     {
         self.catalogue.history()
+    }
+
+    /// The marks of damage that it was given: those of the history that its generation opened with.
+    pub fn marks(&self) -> &Marks
+        ensures { result.now ≡ self.now.marks }
+    {
+        self.catalogue.marks()
     }
 
     /// Plans the recovery line of what was collected so far, as if every process failed now.

@@ -30,7 +30,7 @@ use crate::refusals::GatherWhy;
 use line_catalogue::{Catalogue, DamageError};
 use line_names::{ProcId, ProcSet};
 use line_plan::{Plan, PlanError};
-use line_tape::History;
+use line_tape::{History, Marks};
 use std::alloc::Global;
 use std::marker::Model;
 
@@ -72,6 +72,20 @@ impl Gathered {
             (channel_fifo self.now.processes r) }
     {
         self.catalogue.history()
+    }
+
+    /// The marks of damage: those that the collector was given, and those that came by `damage`.
+    pub fn marks(&self) -> &Marks
+        ensures { result.now ≡ self.now.marks }
+    {
+        self.catalogue.marks()
+    }
+
+    /// Which processes failed.
+    pub fn failed(&self) -> &ProcSet
+        ensures { result.now ≡ self.now.failed }
+    {
+        &self.failed
     }
 
     /// Marks a check as damaged.

@@ -1,14 +1,14 @@
 //! A worker's own side of its links: its tape, and the ends of the rings to each other worker.
-ghost use Rattle.std.specs.Prelude.{◌≡◌, ◌≢◌, ◌<◌, ◌≤◌, ◌↔◌, IfOk, IfErr, IsErrOf, OnOk, OnErr};
-ghost use Rattle.std.specs.Prelude.{length};
-ghost use Rattle.std.specs.Prelude.{map};
+ghost use Rattle.std.specs.Prelude.{◌≡◌, ◌≢◌, ◌<◌, ◌≤◌, ◌+◌, ◌↔◌, IfOk, IfErr, IsErrOf};
+ghost use Rattle.std.specs.Prelude.{length, map, OnOk, OnErr};
 ghost use Rattle.std.specs.VecDeque.{deque_items};
 ghost use Rattle.line_tape.specs.Event.{checks};
 ghost use Rattle.line_tape.specs.Fit.{IsFitFifo};
 ghost use Rattle.line_tape.specs.History.{IsTape};
 ghost use Rattle.line_rings.specs.Ends.{free_at, out_ends, in_ends, known_rows, producer_end};
 ghost use Rattle.line_journals.specs.Journals.{IsSameJournal};
-ghost use Rattle.line_posts.specs.Posts.{checked_alone, next_name, post_of, sent_by, IsPost};
+ghost use Rattle.line_posts.specs.Posts.{checked_alone, incarnation_of_post, next_name, post_of};
+ghost use Rattle.line_posts.specs.Posts.{reported_count, sent_by, IsPost};
 ghost use Rattle.line_posts.specs.Posts.{PostView};
 ghost use Rattle.line_posts.specs.Refusals.{IsNotSent, MaySend};
 ghost use Rattle.line_posts.specs.Generations.{IsSamePost};
@@ -201,6 +201,20 @@ impl Post {
         ensures known { IsPost self.now }
     {
         self.journal.tape()
+    }
+
+    /// The incarnation under which it sends, which is how often its process has gone back.
+    pub fn incarnation(&self) -> u16
+        ensures { result ≡ incarnation_of_post self.now }
+    {
+        self.incarnation
+    }
+
+    /// How many events of its tape it has not reported.
+    pub fn unreported(&self) -> u32
+        ensures { reported_count self.now + result ≡ length self.now.tape }
+    {
+        self.journal.len() - self.reported
     }
 
     /// Sends a message to another process, whose name is answered; a refusal hands the body back.
