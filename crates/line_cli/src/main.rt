@@ -7,16 +7,15 @@
 #![tactic(auto)]
 
 ghost use Rattle.std.specs.Prelude.{◌≡◌, ◌≤◌};
-ghost use Rattle.line_cli.specs.Status.{status_of};
+ghost use Rattle.line_cli.specs.Status.{status_of_service};
+ghost use Rattle.line_statuses.specs.Status.{status_of};
 
-mod statuses;
-
-use crate::statuses::{status_of_drill, status_of_fault, status_of_service};
 use line_check::CertFault;
 use line_devices::{Sink, put_all};
 use line_drill_texts::drill_text;
 use line_posts::MOST_WORKERS;
 use line_service::{Outcome, ServeError};
+use line_statuses::{status_of_drill, status_of_fault};
 use line_streams::{ReadSource, WriteSink};
 use line_text::{Done, TextFault, check_text, run_text};
 use line_words::{Job, WordsFault, command_of, fault_of_reading};
@@ -61,6 +60,18 @@ fn serve_input(rt: &(impl Input + Print), alloc: Global) -> Result<Outcome, Serv
     let mut source = ReadSource::new(rt.reader());
     let mut sink = WriteSink::new(io::writer(rt));
     line_service::serve(alloc, &mut source, &mut sink)
+}
+
+/// The status that goes with what a service answered: 0 where all was done, 1 where a command was
+/// refused, and 2 where a fault was answered.
+fn status_of_service(outcome: Outcome) -> u8
+    ensures { result ≡ status_of_service outcome }
+{
+    match outcome {
+        Outcome::Done => 0,
+        Outcome::Refused => 1,
+        Outcome::Faulted => 2,
+    }
 }
 
 /// Answers the records on standard input as they come, and says how that went.

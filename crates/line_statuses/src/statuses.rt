@@ -1,8 +1,6 @@
-//! How the program ends.
+//! Which status goes with which fault.
 ghost use Rattle.std.specs.Prelude.{◌≡◌};
-ghost use Rattle.line_cli.specs.Status.{status_of, status_of_drill, status_of_service};
-
-use line_service::Outcome;
+ghost use Rattle.line_statuses.specs.Status.{status_of, status_of_drill};
 
 /// The status that goes with a fault of a text, by its number: 3 where memory is out (0), or a
 /// source (36), a sink (37) or a thread (39) failed, and 2 for the others.
@@ -12,18 +10,6 @@ pub fn status_of_fault(code: u32) -> u8
     match code {
         0 | 36 | 37 | 39 => 3,
         _ => 2,
-    }
-}
-
-/// The status that goes with what a service answered: 0 where all was done, 1 where a command was
-/// refused, and 2 where a fault was answered.
-pub fn status_of_service(outcome: Outcome) -> u8
-    ensures { result ≡ status_of_service outcome }
-{
-    match outcome {
-        Outcome::Done => 0,
-        Outcome::Refused => 1,
-        Outcome::Faulted => 2,
     }
 }
 
