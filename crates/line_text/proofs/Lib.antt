@@ -1,3 +1,4 @@
 pub mod JudgeLemmas
 pub mod LawLemmas
 pub mod RunLemmas
+pub mod WindowLemmas

@@ -13,12 +13,13 @@ ghost use Rattle.line_text.specs.Inputs.{HearsEnd};
 ghost use Rattle.line_text.specs.Runs as spec;
 ghost use Rattle.line_scripts.specs.Scripts.{script_of_text};
 
-use crate::ends::{WRITE_FAULT, fault_of, put, read_input};
+use crate::ends::{WRITE_FAULT, fault_of, put};
+use crate::windows::read_lines;
 use line_answers::{Halt, do_command};
 use line_claims::TextFault;
 use line_devices::{Sink, Source};
 use line_fields::RecordWriter;
-use line_scripts::{Command, Commands, KeptScript, keep_script};
+use line_scripts::{Command, Commands, KeptScript, ScriptReader};
 use line_tape::CountError;
 use line_world::World;
 use std::alloc::Global;
@@ -177,7 +178,7 @@ fn world_of(alloc: Global, script: &KeptScript) -> Result<World, TextFault>
     }
 }
 
-// The script that the whole input spells. The text of the input is let go.
+// The script that the whole input spells. No text of the input is kept.
 fn script_of<S: Source>(alloc: Global, source: &mut S) -> Result<KeptScript, TextFault>
     ensures spelt { IfOk result
         (λ script. (text : List ℕ)
@@ -203,8 +204,9 @@ fn script_of<S: Source>(alloc: Global, source: &mut S) -> Result<KeptScript, Tex
         (λ fault. fault.code ≢ READ_FAULT → S.faults source.new ≡ S.faults source.old) }
     ensures ended { HearsEnd result (S.ends source.old) (S.ends source.new) }
 {
-    let text = read_input(alloc, source)?;
-    keep_script(alloc, &text)
+    let mut reader = ScriptReader::new(alloc);
+    read_lines(alloc, source, &mut reader)?;
+    reader.into_script()
 }
 
 /// Reads a script, runs it, and writes the replies.

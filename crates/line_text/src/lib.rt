@@ -6,6 +6,7 @@ mod ends;
 mod engines;
 mod judgings;
 mod laws;
+mod windows;
 
 pub use engines::{Done, run_text};
 pub use judgings::check_text;
