@@ -65,6 +65,29 @@ def markers_of_many(m: int) -> Iterator[str]:
                     yield f"deliver,{p},{q},0,"
 
 
+def markers_by_receiver(m: int) -> Iterator[str]:
+    """The same, but each process takes all its markers in turn."""
+    yield f"world,1,{MANY},fifo"
+    for _ in range(m):
+        yield "begin,0,"
+        for p in range(1, MANY):
+            yield f"deliver,0,{p},0,"
+        for q in range(MANY):
+            for p in range(1, MANY):
+                if p != q:
+                    yield f"deliver,{p},{q},0,"
+
+
+def lost(m: int) -> Iterator[str]:
+    """Messages of which one of nine is never taken, three checks for each, and no recovery."""
+    yield "world,1,2,unordered"
+    for k in range(m):
+        yield "send,0,1,"
+        if k % 9 != 8:
+            yield f"deliver,0,1,{k},"
+        yield from ["check,0,", "check,1,", "check,1,"]
+
+
 def marks(m: int) -> Iterator[str]:
     """Checks that are all damaged, and as many recoveries of nobody."""
     yield "world,1,2,fifo"
@@ -253,6 +276,8 @@ FAMILIES: dict[str, Family] = {
     "rounds_in_transit": Family("run", 17_000, rounds_in_transit),
     "rounds_of_many": Family("run", 8_000, rounds_of_many),
     "markers_of_many": Family("run", 200, markers_of_many),
+    "markers_by_receiver": Family("run", 200, markers_by_receiver),
+    "lost": Family("run", 150_000, lost),
     "checks": Family("run", 64_000, checks),
     "checks_failed": Family("run", 64_000, checks_failed),
     "delivered": Family("run", 50_000, delivered),
