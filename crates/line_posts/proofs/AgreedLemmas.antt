@@ -17,7 +17,8 @@ use Rattle.line_posts.specs.Gathering.{IsBetween}
 name_agrees : (gathered own : List Process) → IsBetween gathered own → (m : MsgName) → Holds (tape_at own m.from) m.inc m.number → NameAgrees gathered m
 name_agrees gathered own b m held =
     let p = m.from in
-    let (lost, is) = b.begins p in
+    let (lost, joins) = b.begins p in
+    let is = sym joins in
     let joined : slice_get (incarnations_sent (tape_at gathered p) ++ incarnations_sent lost) m.number ≡ Some m.inc =
     ap (λ (t : List ℕ). slice_get t m.number) (sym (filter_map-append incarnation_of (tape_at gathered p) lost)) ∙ (ap (λ t. slice_get (incarnations_sent t) m.number) (sym is) ∙ held) in
     elim (cases_lt m.number (sends (tape_at gathered p))) [
@@ -28,7 +29,8 @@ name_agrees gathered own b m held =
 event_agrees : (gathered own : List Process) → IsFitFifo own → IsBetween gathered own → (q : ℕ) (e : Event) → Contains (tape_at gathered q) e → EventAgrees gathered e
 event_agrees gathered own fit b q (Send to inc body) here = tt
 event_agrees gathered own fit b q (Recv m) here =
-    let (lost, is) = b.begins q in
+    let (lost, joins) = b.begins q in
+    let is = sym joins in
     let there : Contains (tape_at own q) (Recv m) = subst (λ t. Contains t (Recv m)) (sym is) (Contains-append_left (tape_at gathered q) lost (Recv m) here) in
     name_agrees gathered own b m (((ordered_fit own fit).held q m there).held)
 event_agrees gathered own fit b q (Check state round) here = tt

@@ -13,23 +13,21 @@ use Rattle.line_tape.specs.Survival.{is_allowed, survives, IsRecoverable}
 use Rattle.line_tape.specs.Views.{bar_at, MarksView}
 use Rattle.line_tape.proofs.ChoiceLemmas.{survives_within}
 use Rattle.line_tape.proofs.SnapshotLemmas.{consistent_same, front_more}
+use Rattle.line_rings.proofs.EndLemmas.{prefix_self, prefix_then}
 use Rattle.line_posts.specs.Extension.{Extends}
 
 pub extends_self : (history : List Process) → Extends history history
 extends_self history = record {
   count = refl;
   incarnations = λ p. refl;
-  tapes = λ p. ([], sym (append-nil (tape_at history p)));
+  tapes = λ p. prefix_self (tape_at history p);
 }
 
 pub extends_then : (a b c : List Process) → Extends b a → Extends c b → Extends c a
 extends_then a b c h k = record {
   count = k.count ∙ h.count;
   incarnations = λ p. k.incarnations p ∙ h.incarnations p;
-  tapes = λ p.
-      let (first, t) = h.tapes p in
-      let (second, u) = k.tapes p in
-      (first ++ second, u ∙ (ap (λ v. v ++ second) t ∙ append_assoc (tape_at a p) first second));
+  tapes = λ p. prefix_then (tape_at a p) (tape_at b p) (tape_at c p) (h.tapes p) (k.tapes p);
 }
 
 module _ (old new : List Process) (more : Extends new old) (marks : MarksView) (failed : List Bool) (line : List Choice)
@@ -38,7 +36,8 @@ module _ (old new : List Process) (more : Extends new old) (marks : MarksView) (
   same_choice : (p : ℕ) (choice : Choice) → choice_at line p ≡ choice → survives old marks failed p choice ≡ true
       → front (tape_at new p) choice ≡ front (tape_at old p) choice
   same_choice p (AtCheck c) e s =
-      let (later, grown) = more.tapes p in
+      let (later, joins) = more.tapes p in
+      let grown = sym joins in
       ap (λ t. front t (AtCheck c)) grown ∙ front_more (tape_at old p) later c (survives_within old marks failed p c s)
   same_choice p Now e s = elim (cases_lt p (length old)) [
     | inl lt ↦ (let a : false ≡ true = ap (λ (failed : Bool). not failed && is_allowed (bar_at marks p) Now) (sym (all p lt)) ∙ s in absurd (false≢true a))

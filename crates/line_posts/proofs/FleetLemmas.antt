@@ -1,6 +1,6 @@
 -- The workers of a fleet, one by one.
 use Rattle.std.proofs.Common.{add-one, zero, suc, ◌≡◌, ◌∙◌, ◌+◌, ◌<◌, ◌++◌, ◌∷◌, [], ℕ, List, Some, length, map, drop, replicate, refl, sym, ap, inl, inr, arith, subst}
-use Rattle.std.specs.Prelude.{slice_get, option_map, Result, Ok, Err, IfOk}
+use Rattle.std.specs.Prelude.{slice_get, option_map}
 use Rattle.std.proofs.lemmas.List.{length-map, length-drop, length-replicate, length_push, get_or-replicate}
 use Rattle.std.proofs.lemmas.Option.{slice_get_within}
 use Rattle.line_marker.specs.Recording.{Recorded}
@@ -34,11 +34,6 @@ next_row [] zero row rest e = cc e
 next_row [] (suc q) row rest e = cc e
 next_row (x ∷ xs) zero row rest e = (cc e, cc e)
 next_row (x ∷ xs) (suc q) row rest e = next_row xs q row rest e
-
--- what follows where a call succeeded
-pub if_ok : {T E : Type 0} (r : Result T E) (P Q : T → Type 0) → ((x : T) → P x → Q x) → IfOk r P → IfOk r Q
-if_ok (Ok x) P Q f h = f x h
-if_ok (Err e) P Q f h = h
 
 -- the next item, and those after it
 pub next_item : {X : Type 0} (xs : List X) (q : ℕ) (x : X) (rest : List X) → x ∷ rest ≡ drop q xs → (slice_get xs q ≡ Some x) × (drop (suc q) xs ≡ rest)
@@ -141,9 +136,6 @@ opened_of opening floor capacity outs ins lines in_lines posts n row rest long l
           ∙ (ap (λ t. ring_at t p) first ∙ ap (ring_at row) (sym x.number)));
       fresh = λ p. ap (λ t. items_at t p) (sym first) ∙ (ap items_of (sym (m.linked p 0)) ∙ m.fresh p 0);
     }
-
-pub no_rounds_fresh : (n : ℕ) → ArePlain (replicate n fresh)
-no_rounds_fresh n p = ap rounds_checked (tape_start n p)
 
 -- nothing is kept where nothing was sent
 pub no_replays_fresh : (n : ℕ) (kept : List (List (List Packet))) → kept ≡ replicate n (replicate n []) → AreAllReplays (replicate n fresh) kept

@@ -71,7 +71,7 @@ alone_begins post h =
     let kept = items_of_packets p (row_at post.kept p) in
     let got : filter_map (item_received p) post.tape ++ kept ≡ sent post.opening p p =
     h.receipts_are p ∙ (ap (λ t. sent post.opening p p ++ I t) h.alone ∙ append-nil (sent post.opening p p)) in
-    let tape_is : post.tape ≡ opening_tape post ++ later = h.reports.1 ∙ append_assoc (opening_tape post) post.line.items h.reports.0 in
+    let tape_is : post.tape ≡ opening_tape post ++ later = sym h.reports.1 ∙ append_assoc (opening_tape post) post.line.items h.reports.0 in
     let all : items_sent p p 0 post.tape ≡ sent post.opening p p ++ I (parcels_sent p (0 + k) later) =
     ap (items_sent p p 0) tape_is ∙ (sym (parcels_names p p 0 (opening_tape post ++ later))
     ∙ (ap I (parcels_append p 0 (opening_tape post) later)

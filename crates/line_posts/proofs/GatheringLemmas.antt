@@ -120,12 +120,12 @@ module _ (history : List Process) (further : List (List Event)) (own : List Proc
     fit = may.fit;
     limits = λ q. subst (λ n. IsProcess n (process_at own q)) (sym (length-set history p _)) (may.limits q);
     incarnations = λ q. incarnation_event history p e q within ∙ may.incarnations q;
-    begins = λ q. ((may.begins q).0, (may.begins q).1 ∙ ap (λ t. t ++ (may.begins q).0) (sym (joined q)));
+    begins = λ q. ((may.begins q).0, ap (λ t. t ++ (may.begins q).0) (joined q) ∙ (may.begins q).1);
     present = λ q k inc le held. may.present q k inc (let g = sends_grow q in omega (arith, le, g)) held;
   }
 
   own_is : tape_at own p ≡ tape_at history p ++ e ∷ (rest ++ (may.begins p).0)
-  own_is = (may.begins p).1 ∙ (ap (λ t. (tape_at history p ++ t) ++ (may.begins p).0) first ∙ append_assoc (tape_at history p) (e ∷ rest) (may.begins p).0)
+  own_is = sym (may.begins p).1 ∙ (ap (λ t. (tape_at history p ++ t) ++ (may.begins p).0) first ∙ append_assoc (tape_at history p) (e ∷ rest) (may.begins p).0)
 
   pub addable : IsAddable history p e
   addable =
@@ -138,7 +138,7 @@ module _ (history : List Process) (further : List (List Event)) (own : List Proc
         agrees = record {
           agrees = gathered_agree (with_event history p e) own may.fit (record {
             incarnation = may_next.incarnations;
-            begins = λ q. (row_at (without_first further p) q ++ (may_next.begins q).0, (may_next.begins q).1 ∙ append_assoc (tape_at (with_event history p e) q) (row_at (without_first further p) q) ((may_next.begins q).0));
+            begins = λ q. (row_at (without_first further p) q ++ (may_next.begins q).0, sym (append_assoc (tape_at (with_event history p e) q) (row_at (without_first further p) q) ((may_next.begins q).0)) ∙ (may_next.begins q).1);
             present = may_next.present;
           });
           present = sent_now history p e (λ inc is. may.present p (sends (tape_at history p)) inc (omega arith) (subst (λ t. Holds t inc (sends (tape_at history p))) (sym own_is) (held_here (tape_at history p) more e inc is)) ∙ sym (may.incarnations p));
@@ -192,7 +192,8 @@ pub gathered_known : (failed : Bool) (post : PostView) (popped known : List Even
 gathered_known true post popped known h e = (known, ap (λ t. opening_tape post ++ t) (sym e) ∙ sym (append_assoc (opening_tape post) popped known))
 gathered_known false post popped known h e =
     let O = opening_tape post in
-    let (r, is) = h.reports in
+    let (r, joins) = h.reports in
+    let is = sym joins in
     (known ++ r, is ∙ (ap (λ t. (O ++ t) ++ r) (sym e) ∙ (ap (λ t. t ++ r) (sym (append_assoc O popped known)) ∙ append_assoc (O ++ popped) known r)))
 
 -- the further events of one more worker

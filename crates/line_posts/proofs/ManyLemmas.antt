@@ -70,7 +70,8 @@ drop_front (x ∷ xs) rest (suc n) e = drop_front xs rest n (omega (arith, e))
 -- no more is reported than there is
 pub reported_within : (post : PostView) → IsPost post → reported_count post ≤ length post.tape
 reported_within post h =
-    let (rest, is) = h.reports in
+    let (rest, joins) = h.reports in
+    let is = sym joins in
     let a = ap length is in
     let b = length-append (opening_tape post ++ post.line.items) rest in
     let d = length-append (opening_tape post) post.line.items in
@@ -83,7 +84,8 @@ pub report_all : (post : PostView) (k : ℕ) (line : End Event) → IsPost post 
 report_all post k line h el =
     let O = opening_tape post in
     let L = post.line.items in
-    let (rest, is) = h.reports in
+    let (rest, joins) = h.reports in
+    let is = sym joins in
     let long : reported_count post ≡ length (O ++ L) = sym (length-append O L) in
     let new = take k (drop (reported_count post) post.tape) in
     let left : drop (reported_count post) post.tape ≡ rest = ap (drop (reported_count post)) is ∙ drop_front (O ++ L) rest (reported_count post) long in
@@ -94,7 +96,7 @@ report_all post k line h el =
       in_count = h.in_count;
       kept_count = h.kept_count;
       named = h.named;
-      reports = (drop k rest, is ∙ (ap (λ t. (O ++ L) ++ t) split ∙ (sym (append_assoc (O ++ L) new (drop k rest)) ∙ ap (λ t. t ++ drop k rest) (append_assoc O L new))));
+      reports = (drop k rest, sym (is ∙ (ap (λ t. (O ++ L) ++ t) split ∙ (sym (append_assoc (O ++ L) new (drop k rest)) ∙ ap (λ t. t ++ drop k rest) (append_assoc O L new)))));
       sends_are = h.sends_are;
       receipts_are = h.receipts_are;
       replays = h.replays;

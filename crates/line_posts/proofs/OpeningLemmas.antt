@@ -49,7 +49,7 @@ opens post o fit named =
       in_count = o.in_count;
       kept_count = o.kept_count;
       named = subst (All (NamesBelow (length post.opening))) (sym o.tape) named;
-      reports = ([], o.tape ∙ (sym (append-nil T) ∙ (sym (append-nil (T ++ [])) ∙ ap (λ t. (T ++ t) ++ []) (sym o.line))));
+      reports = ([], sym (o.tape ∙ (sym (append-nil T) ∙ (sym (append-nil (T ++ [])) ∙ ap (λ t. (T ++ t) ++ []) (sym o.line)))));
       sends_are = λ q lt ne. ap (parcels_sent q 0) o.tape ∙ (sym (append-nil (parcels_sent q 0 T)) ∙ ap (λ t. parcels_sent q 0 T ++ t) (sym (o.outs q)));
       receipts_are = λ p.
           ap (λ t. filter_map (item_received p) t ++ items_of_packets p (row_at post.kept p)) o.tape

@@ -38,7 +38,7 @@ fresh_fits n = record { tape = record { few = omega arith; short = All-nil IsSho
 
 -- what is gathered of a worker begins its tape
 pub rest_lost : (failed : Bool) (post : PostView) → IsPost post → (lost : List Event) × (post.tape ≡ gathered_tape failed post ++ lost)
-rest_lost true post h = h.reports
+rest_lost true post h = (h.reports.0, sym h.reports.1)
 rest_lost false post h = ([], sym (append-nil post.tape))
 
 sends_front : (xs ys : List Event) → sends xs ≤ sends (xs ++ ys)
@@ -117,12 +117,12 @@ module _ (v : CollectorView) (posts : List PostView) (back : AreBack v posts) wh
           | inl lt ↦
               let (post, at) = in_list posts p lt in
               let (lost, is) = rest_lost (is_member failed p) post ((back.known p post at).0) in
-              (lost, own_tape posts p post at ∙ (is ∙ ap (λ t. t ++ lost) (sym (given p post at))))
+              (lost, sym (own_tape posts p post at ∙ (is ∙ ap (λ t. t ++ lost) (sym (given p post at)))))
           | inr past ↦ (
             [],
-            own_past posts p past
+            sym (own_past posts p past
                 ∙ (ap (λ t. ([] ++ t) ++ []) (sym (get_or_past further p [] (let c = more.count in omega (arith, c, past))))
-                ∙ ap (λ t. (t ++ row_at further p) ++ []) (sym (tape_past v.processes p (omega (arith, past, whole))))),
+                ∙ ap (λ t. (t ++ row_at further p) ++ []) (sym (tape_past v.processes p (omega (arith, past, whole)))))),
           )
         ];
         present = λ p k inc le held. elim (cases_lt p (length posts)) [
@@ -155,7 +155,7 @@ module _ (v : CollectorView) (posts : List PostView) (back : AreBack v posts) wh
       extends_of = record {
         count = long;
         incarnations = λ p. ap (λ (t : Process). t.incarnation) (each p);
-        tapes = λ p. (row_at further p, ap (λ (t : Process). t.tape) (each p));
+        tapes = λ p. (row_at further p, sym (ap (λ (t : Process). t.tape) (each p)));
       }
 
       gathered_past : (p : ℕ) → length posts ≤ p → process_at gathered p ≡ process_at (own_history posts) p
@@ -172,8 +172,8 @@ module _ (v : CollectorView) (posts : List PostView) (back : AreBack v posts) wh
           | inl lt ↦
               let (post, at) = in_list posts p lt in
               let (lost, is) = rest_lost (is_member failed p) post ((back.known p post at).0) in
-              (lost, own_tape posts p post at ∙ (is ∙ ap (λ t. t ++ lost) (sym (ap (λ (t : Process). t.tape) (gathered_of.each p post at)))))
-          | inr past ↦ ([], ap (λ (t : Process). t.tape) (sym (gathered_past p past)) ∙ sym (append-nil (tape_at gathered p)))
+              (lost, sym (own_tape posts p post at ∙ (is ∙ ap (λ t. t ++ lost) (sym (ap (λ (t : Process). t.tape) (gathered_of.each p post at))))))
+          | inr past ↦ ([], append-nil (tape_at gathered p) ∙ ap (λ (t : Process). t.tape) (gathered_past p past))
         ];
         whole = λ p alive. elim (cases_lt p (length posts)) [
           | inl lt ↦ (let (post, at) = in_list posts p lt in ap (λ (t : Process). t.tape) (gathered_of.each p post at) ∙ (ap (λ b. gathered_tape b post) alive ∙ sym (own_tape posts p post at)))

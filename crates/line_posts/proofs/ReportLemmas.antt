@@ -90,7 +90,7 @@ pub more_extends : (a b : CollectorView) → HasCollectedMore a b → Extends b.
 more_extends a b h = record {
   count = h.count;
   incarnations = h.incarnations;
-  tapes = λ p. ((h.tapes p).0, (h.tapes p).1);
+  tapes = λ p. ((h.tapes p).0, sym (h.tapes p).1);
 }
 
 pub more_then : (a b c : CollectorView) → HasCollectedMore a b → HasCollectedMore b c → HasCollectedMore a c

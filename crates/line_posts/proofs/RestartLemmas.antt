@@ -72,7 +72,8 @@ module _ (gathered : List Process) (marks : MarksView) (failed : List Bool) (lin
   same_front p =
       let choice = choice_at line p in
       let alive = latest.recoverable.surviving p in
-      let (lost, begins) = has.2.begins p in
+      let (lost, joins) = has.2.begins p in
+      let begins = sym joins in
       front_kept (tape_at gathered p) lost (tape_at has.0 p) choice begins (has_choice gathered marks failed p choice alive)
       (λ e. nothing_lost (tape_at gathered p) lost (has.2.whole p (stays_alive gathered marks failed p choice alive e) ∙ begins))
 

@@ -92,7 +92,7 @@ module _ (gathered own : List Process) (r : ℕ) (fit : IsFitFifo own) (long : l
 
 -- a round that is completed in what was gathered is a snapshot there
 pub rounds_hold : (failed : List Bool) (gathered : List Process) → HasOwn failed gathered → (r : ℕ) → is_completed_fifo gathered r ≡ true → IsSnapshot gathered (checks_of gathered r) (channel_fifo gathered r)
-rounds_hold failed gathered has r done = gathered_snapshot gathered has.0 r has.1 has.2.count has.2.begins done
+rounds_hold failed gathered has r done = gathered_snapshot gathered has.0 r has.1 has.2.count (λ q. ((has.2.begins q).0, sym (has.2.begins q).1)) done
 
 -- where its checks survive, the latest line is nowhere before a completed round
 pub rounds_reached : (failed : List Bool) (gathered : List Process) (marks : MarksView) (line : List Choice) → HasOwn failed gathered → IsLatest gathered marks failed line → (r : ℕ) → is_completed_fifo gathered r ≡ true

@@ -65,7 +65,7 @@ post_step post event kept outs ins floor rounds h s = record {
   in_count = s.in_count ∙ h.in_count;
   kept_count = s.kept_count ∙ h.kept_count;
   named = All-push (NamesBelow (length post.opening)) post.tape event h.named s.named;
-  reports = (h.reports.0 ++ event ∷ [], ap (λ t. t ++ event ∷ []) h.reports.1 ∙ append_assoc (opening_tape post ++ post.line.items) h.reports.0 (event ∷ []));
+  reports = (h.reports.0 ++ event ∷ [], sym (ap (λ t. t ++ event ∷ []) (sym h.reports.1) ∙ append_assoc (opening_tape post ++ post.line.items) h.reports.0 (event ∷ [])));
   sends_are = λ q lt ne.
       parcels_append q 0 post.tape (event ∷ [])
       ∙ (ap (λ n. parcels_sent q 0 post.tape ++ parcels_sent q n (event ∷ [])) (omega arith)

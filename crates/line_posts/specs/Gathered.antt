@@ -1,6 +1,7 @@
 -- What is gathered of the workers of a generation.
 use Rattle.std.specs.Prelude.{◌≡◌, ◌<◌, ℕ, Bool, false, IsTrue, List, ◌++◌, if◌then◌else◌, length}
 use Rattle.std.specs.Prelude.{slice_get, Some}
+use mathlib.Core.List.{IsPrefix}
 use Rattle.line_names.specs.Sets.{is_member}
 use Rattle.line_tape.specs.declared.events.Event.{Event}
 use Rattle.line_tape.specs.Fit.{IsFitFifo}
@@ -48,7 +49,7 @@ pub record GatheredView : Type 0 where
 pub record ArePrefixes (failed : List Bool) (gathered own : List Process) : Type 0 where
   pub count : length gathered ≡ length own
   pub incarnations : (p : ℕ) → incarnation_at gathered p ≡ incarnation_at own p
-  pub begins : (p : ℕ) → (lost : List Event) × (tape_at own p ≡ tape_at gathered p ++ lost)
+  pub begins : (p : ℕ) → IsPrefix (tape_at gathered p) (tape_at own p)
   pub whole : (p : ℕ) → is_member failed p ≡ false → tape_at gathered p ≡ tape_at own p
 
 -- the other is one that links in order can lead to: the workers' own tapes

@@ -37,7 +37,7 @@ AreMet posts = (i j : ℕ) (from to : PostView) → slice_get posts i ≡ Some f
 -- its present incarnation
 pub record IsBetween (gathered own : List Process) : Type 0 where
   pub incarnation : (p : ℕ) → incarnation_at gathered p ≡ incarnation_at own p
-  pub begins : (p : ℕ) → (lost : List Event) × (tape_at own p ≡ tape_at gathered p ++ lost)
+  pub begins : (p : ℕ) → IsPrefix (tape_at gathered p) (tape_at own p)
   pub present : (p k inc : ℕ) → sends (tape_at gathered p) ≤ k → Holds (tape_at own p) inc k
       → inc ≡ incarnation_at own p
 
@@ -67,8 +67,7 @@ pub record MayTake (history : List Process) (further : List (List Event)) (own :
   pub fit : IsFitFifo own
   pub limits : (p : ℕ) → IsProcess (length history) (process_at own p)
   pub incarnations : (p : ℕ) → incarnation_at history p ≡ incarnation_at own p
-  pub begins : (p : ℕ) → (lost : List Event)
-      × (tape_at own p ≡ (tape_at history p ++ row_at further p) ++ lost)
+  pub begins : (p : ℕ) → IsPrefix (tape_at history p ++ row_at further p) (tape_at own p)
   pub present : (p k inc : ℕ) → sends (tape_at history p) ≤ k → Holds (tape_at own p) inc k
       → inc ≡ incarnation_at own p
 

@@ -2,6 +2,7 @@
 use Rattle.std.specs.Prelude.{◌≡◌, ◌≢◌, ◌<◌, ◌≤◌, ◌⊎◌, ◌+◌, ℕ, List, [], ◌∷◌, ◌++◌, length}
 use Rattle.std.specs.Prelude.{None, All}
 use Rattle.std.specs.List.{filter_map}
+use mathlib.Core.List.{IsPrefix}
 use Rattle.line_marker.specs.Recording.{Recorded}
 use Rattle.line_names.specs.declared.messages.MsgName.{MsgName}
 use Rattle.line_tape.specs.declared.events.Event.{Event}
@@ -63,7 +64,7 @@ pub record IsPost (post : PostView) : Type 0 where
   pub kept_count : length post.kept ≡ length post.opening
   pub named : All (NamesBelow (length post.opening)) post.tape
   -- reports: its tape is the opening tape, then what it reported, then the rest
-  pub reports : (rest : List Event) × (post.tape ≡ (opening_tape post ++ post.line.items) ++ rest)
+  pub reports : IsPrefix (opening_tape post ++ post.line.items) post.tape
   -- links: what its tape sends to another is what the opening tape does, and then what it pushed
   pub sends_are : (q : ℕ) → q < length post.opening → q ≢ post.number
       → parcels_sent q 0 post.tape ≡ parcels_sent q 0 (opening_tape post) ++ items_at post.outs q

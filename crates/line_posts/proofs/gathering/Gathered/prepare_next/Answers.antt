@@ -11,7 +11,7 @@ use Rattle.line_posts.specs.Openings.{parcels_left, ArePlain}
 use Rattle.line_posts.specs.Parcels.{items_of_parcels}
 use Rattle.line_posts.specs.Preparations.{AreJournals, IsPrepared}
 use Rattle.line_posts.specs.Replays.{packets_of, AreAllReplays}
-use Rattle.line_posts.proofs.FleetLemmas.{if_ok}
+use Rattle.line_posts.proofs.RoundsGathered.{if_ok_then}
 use Rattle.line_posts.proofs.RestartLemmas.{restart_fits, restart_plain, restart_links}
 use Rattle.line_posts.proofs.gathering.Gathered.prepare_next.Goals as goal
 
@@ -56,7 +56,7 @@ pub returns-clause-prepared : goal.returns-clause-prepared
 returns-clause-prepared c =
     let line = c.args.plan.now.line in
     let inside = c.self.inside in
-    if_ok c.prepare.result
+    if_ok_then c.prepare.result
     (λ prepared. (opening : List Process) (floor : ℕ) → AreJournals opening floor c.in_ok-journals.journals.items → AreAllReplays opening (packets_of c.in_ok-replays.replays.items) → IsPrepared opening floor inside.capacity prepared)
     (λ prepared. IsPrepared (restarted c.args.self.now.processes line) c.args.self.now.floor c.args.self.now.capacity prepared)
     (λ prepared f.
