@@ -14,6 +14,7 @@ mod histories;
 mod judgements;
 mod kept;
 mod laws;
+mod marks;
 mod numbers;
 mod spellings;
 mod texts;

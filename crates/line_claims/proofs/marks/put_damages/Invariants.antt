@@ -4,7 +4,7 @@ use Rattle.std.specs.List.{range_with_len}
 use Rattle.line_devices.proofs.OutputLemmas.{IsOut}
 use Rattle.line_fields.specs.Texts.{records_text}
 use Rattle.line_claims.specs.Records.{damaged_of, damages_records, in_order}
-use Rattle.line_claims.proofs.judgements.put_damages.Given as goal
+use Rattle.line_claims.proofs.marks.put_damages.Given as goal
 
 abbrev pub invariant-loop-value : goal.invariant-loop-value
 invariant-loop-value g l =

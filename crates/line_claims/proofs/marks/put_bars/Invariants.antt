@@ -5,7 +5,7 @@ use Rattle.line_devices.proofs.OutputLemmas.{IsOut}
 use Rattle.line_fields.specs.Texts.{records_text}
 use Rattle.line_tape.specs.Views.{bar_at}
 use Rattle.line_claims.specs.Records.{bars_records, in_order}
-use Rattle.line_claims.proofs.judgements.put_bars.Given as goal
+use Rattle.line_claims.proofs.marks.put_bars.Given as goal
 
 abbrev pub invariant-loop-value : goal.invariant-loop-value
 invariant-loop-value g l =

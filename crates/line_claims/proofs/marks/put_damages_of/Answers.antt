@@ -1,8 +1,8 @@
 use Rattle.std.proofs.Common.{◌<◌, ◌≤◌, sym, ◌∙◌, arith}
 use Rattle.line_devices.proofs.OutputLemmas.{out_all, out_front, out_left, out_more, out_none}
 use Rattle.line_claims.proofs.PartLemmas.{next_damaged, next_sound, no_check}
-use Rattle.line_claims.proofs.judgements.put_damages_of.Goals.{then-has+in_ok-put_damage, else-has}
-use Rattle.line_claims.proofs.judgements.put_damages_of.Goals as goal
+use Rattle.line_claims.proofs.marks.put_damages_of.Goals.{then-has+in_ok-put_damage, else-has}
+use Rattle.line_claims.proofs.marks.put_damages_of.Goals as goal
 
 pub loop-before-init : goal.loop-before-init
 loop-before-init g c = out_none _ _ _ _

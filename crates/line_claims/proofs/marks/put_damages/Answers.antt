@@ -3,7 +3,7 @@ use Rattle.line_devices.proofs.OutputLemmas.{out_all, out_front, out_more, out_n
 use Rattle.line_tape.specs.History.{Process}
 use Rattle.line_claims.specs.Records.{damaged_of}
 use Rattle.line_claims.proofs.PartLemmas.{next_damages, no_damages}
-use Rattle.line_claims.proofs.judgements.put_damages.Goals as goal
+use Rattle.line_claims.proofs.marks.put_damages.Goals as goal
 
 pub loop-value-init : goal.loop-value-init
 loop-value-init g c = out_none _ _ _ _

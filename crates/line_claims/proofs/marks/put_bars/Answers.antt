@@ -3,7 +3,7 @@ use Rattle.line_devices.proofs.OutputLemmas.{out_all, out_front, out_more, out_n
 use Rattle.line_tape.specs.History.{Process}
 use Rattle.line_tape.specs.Views.{bar_at}
 use Rattle.line_claims.proofs.PartLemmas.{next_bars, no_bars}
-use Rattle.line_claims.proofs.judgements.put_bars.Goals as goal
+use Rattle.line_claims.proofs.marks.put_bars.Goals as goal
 
 pub loop-value-init : goal.loop-value-init
 loop-value-init g c = out_none _ _ _ _
