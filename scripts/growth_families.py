@@ -301,3 +301,14 @@ FAMILIES: dict[str, Family] = {
     "markers_of": Family("run", MOST_PROCESSES, markers_of),
     "claims_of": Family("check", MOST_PROCESSES, claims_of),
 }
+
+# The jobs of the program bench/plan_growth, each with its greatest number of turns: plans on the
+# way, without a recovery, of a computation that goes on.
+PLANS: dict[str, int] = {
+    # All messages are received.
+    "received": 400_000,
+    # More than an eighth of them are never received.
+    "waiting": 400_000,
+    # Processes that never take a check, and all fail.
+    "unchecked": 400_000,
+}
