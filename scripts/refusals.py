@@ -29,8 +29,8 @@ SCRIPT = {
 }
 CHECK_TEXT = {
     "history": "Histories.head_in", "tape": "Histories.tape_of",
-    "send": "Events.send_of", "recv": "Events.recv_of",
-    "check": "Events.check_of", "mark": "Events.mark_of",
+    "send": "Events.send_event_of", "recv": "Events.recv_event_of",
+    "check": "Events.check_event_of", "mark": "Events.mark_event_of",
     "damage": "Entries.damage_of", "bar": "Entries.bar_of", "failed": "Entries.failed_of",
     "line": "Entries.line_of", "pass": "Entries.passed_of", "end": "Entries.end_of",
 }

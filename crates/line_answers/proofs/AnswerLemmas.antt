@@ -25,36 +25,36 @@ use Rattle.line_world.specs.declared.replies.StepError.TheVariants as errors
 use Rattle.line_world.specs.declared.replies.Answer.TheVariants as answers
 use Rattle.line_world.specs.Runs.{Takes}
 use Rattle.line_world.specs.Codes.{refusal_code}
-use Rattle.line_replies.specs.Replies.{reply_records, refused as refused_record}
+use Rattle.line_replies.specs.Replies.{reply_records, refusal_record as refused_record}
 use Rattle.line_replies.specs.Rounds.{rounds_records}
 use Rattle.line_answers.specs.declared.halts.Halt.TheVariants as halts
-use Rattle.line_answers.specs.Answers.{Answers, Told, Answered, Refused, Listing, Shown, Claimed, IsClaimFor, told_records, is_refused, Tells, TellsAll, text_of, refusals, Does, DoesFront}
+use Rattle.line_answers.specs.Answers.{Answers, CommandAnswer, Answered, Refused, Listing, Shown, Claimed, IsClaimFor, command_answer_records, is_refused, Tells, TellsAll, text_of, refusals, DoesCommand, DoesFront}
 
 -- runs, one after the other
-pub TellsAll-both : (old mid new : Machine) (commands others : List Command) (told more : List Told) → TellsAll old commands told mid → TellsAll mid others more new → TellsAll old (commands ++ others) (told ++ more) new
+pub TellsAll-both : (old mid new : Machine) (commands others : List Command) (told more : List CommandAnswer) → TellsAll old commands told mid → TellsAll mid others more new → TellsAll old (commands ++ others) (told ++ more) new
 TellsAll-both old mid new [] others [] more h k = subst (λ (m : Machine). TellsAll m others more new) h k
 TellsAll-both old mid new [] others (one ∷ told) more h k = absurd h
 TellsAll-both old mid new (c ∷ commands) others [] more h k = absurd h
 TellsAll-both old mid new (c ∷ commands) others (one ∷ told) more (next, is, h) k = (next, is, TellsAll-both next mid new commands others told more h k)
 
 -- the text of answers behind others
-pub text_of-append : (told more : List Told) → text_of (told ++ more) ≡ text_of told ++ text_of more
-text_of-append told more = ap records_text (flat_map-append told_records told more) ∙ flat_map-append record_text (flat_map told_records told) (flat_map told_records more)
+pub text_of-append : (told more : List CommandAnswer) → text_of (told ++ more) ≡ text_of told ++ text_of more
+text_of-append told more = ap records_text (flat_map-append command_answer_records told more) ∙ flat_map-append record_text (flat_map command_answer_records told) (flat_map command_answer_records more)
 
 -- of one answer
-pub text_of-one : (one : Told) → text_of (one ∷ []) ≡ records_text (told_records one)
-text_of-one one = ap records_text (append-nil (told_records one))
+pub text_of-one : (one : CommandAnswer) → text_of (one ∷ []) ≡ records_text (command_answer_records one)
+text_of-one one = ap records_text (append-nil (command_answer_records one))
 
 -- its refusal, if it is one, is one more
-pub refusals-push : (told : List Told) (one : Told) → refusals (told ++ one ∷ []) ≡ refusals told + refusals (one ∷ [])
+pub refusals-push : (told : List CommandAnswer) (one : CommandAnswer) → refusals (told ++ one ∷ []) ≡ refusals told + refusals (one ∷ [])
 refusals-push told one = sum_by-append (λ x. cond (is_refused x) 1 0) told (one ∷ [])
 
 -- of one answer there is one refusal at most
-pub refusals_one : (one : Told) → refusals (one ∷ []) ≤ 1
+pub refusals_one : (one : CommandAnswer) → refusals (one ∷ []) ≤ 1
 refusals_one one = count_by-le-length is_refused (one ∷ [])
 
 -- whether it is one
-pub one_refusal : (told : Told) → refusals (told ∷ []) ≡ cond (is_refused told) 1 0
+pub one_refusal : (told : CommandAnswer) → refusals (told ∷ []) ≡ cond (is_refused told) 1 0
 one_refusal (Answered (answers.Done reply)) = omega arith
 one_refusal (Answered (answers.Refused error)) = omega arith
 one_refusal (Refused code) = omega arith
@@ -69,19 +69,19 @@ answered old new step (Ok reply) done refused = done
 answered old new step (Err error) done refused = refused
 
 -- a text was put but for its end, seen as what a command is told
-does : (old new : Machine) (command : Command) (told : Told) (taken now : Option (List ℕ)) (held later text : List ℕ) → Tells old command told new → records_text (told_records told) ≡ text → PutsButEnd taken now later (held ++ text)
-    → Does old command new taken now held later (is_refused told)
+does : (old new : Machine) (command : Command) (told : CommandAnswer) (taken now : Option (List ℕ)) (held later text : List ℕ) → Tells old command told new → records_text (command_answer_records told) ≡ text → PutsButEnd taken now later (held ++ text)
+    → DoesCommand old command new taken now held later (is_refused told)
 does old new command told taken now held later text tells same put =
     record { told = told; tells = tells; counted = refl; put = subst (λ (t : List ℕ). PutsButEnd taken now later (held ++ t)) (sym same) put }
 
-does_front : (old new : Machine) (command : Command) (told : Told) (taken now : Option (List ℕ)) (held text : List ℕ) → Tells old command told new → records_text (told_records told) ≡ text → PutsFront taken now (held ++ text)
+does_front : (old new : Machine) (command : Command) (told : CommandAnswer) (taken now : Option (List ℕ)) (held text : List ℕ) → Tells old command told new → records_text (command_answer_records told) ≡ text → PutsFront taken now (held ++ text)
     → DoesFront old command new taken now held
 does_front old new command told taken now held text tells same put =
     record { told = told; tells = tells; put = subst (λ (t : List ℕ). PutsFront taken now (held ++ t)) (sym same) put }
 
 -- a step that was done
 pub reply_does : (old new : Machine) (step : Step) (reply : Reply) (taken now : Option (List ℕ)) (held later : List ℕ) → Takes old step (answers.Done reply) new → PutsButEnd taken now later (held ++ records_text (reply_records reply))
-    → Does old (commands.Do step) new taken now held later false
+    → DoesCommand old (commands.Do step) new taken now held later false
 reply_does old new step reply taken now held later takes put = does old new (commands.Do step) (Answered (answers.Done reply)) taken now held later (records_text (reply_records reply)) takes refl put
 
 pub reply_front : (old new : Machine) (step : Step) (reply : Reply) (taken now : Option (List ℕ)) (held : List ℕ) → Takes old step (answers.Done reply) new → PutsFront taken now (held ++ records_text (reply_records reply))
@@ -90,7 +90,7 @@ reply_front old new step reply taken now held takes put = does_front old new (co
 
 -- a step that was refused
 pub refusal_does : (old new : Machine) (step : Step) (error : StepError) (code : ℕ) (taken now : Option (List ℕ)) (held later : List ℕ) → Takes old step (answers.Refused error) new → code ≡ refusal_code error
-    → PutsButEnd taken now later (held ++ record_text (refused_record code)) → Does old (commands.Do step) new taken now held later true
+    → PutsButEnd taken now later (held ++ record_text (refused_record code)) → DoesCommand old (commands.Do step) new taken now held later true
 refusal_does old new step error code taken now held later takes same put =
     does old new (commands.Do step) (Answered (answers.Refused error)) taken now held later (record_text (refused_record code)) takes
     (one_text (refused_record (refusal_code error)) ∙ ap (λ (i : ℕ). record_text (refused_record i)) (sym same)) put
@@ -102,21 +102,21 @@ refusal_front old new step error code taken now held takes same put =
     (one_text (refused_record (refusal_code error)) ∙ ap (λ (i : ℕ). record_text (refused_record i)) (sym same)) put
 
 -- a command that was refused before any step
-pub told_does : (old : Machine) (code : ℕ) (taken now : Option (List ℕ)) (held later : List ℕ) → PutsButEnd taken now later (held ++ record_text (refused_record code)) → Does old (commands.Refused code) old taken now held later true
+pub told_does : (old : Machine) (code : ℕ) (taken now : Option (List ℕ)) (held later : List ℕ) → PutsButEnd taken now later (held ++ record_text (refused_record code)) → DoesCommand old (commands.Refused code) old taken now held later true
 told_does old code taken now held later put = does old old (commands.Refused code) (Refused code) taken now held later (record_text (refused_record code)) (refl, refl) (one_text (refused_record code)) put
 
 pub told_front : (old : Machine) (code : ℕ) (taken now : Option (List ℕ)) (held : List ℕ) → PutsFront taken now (held ++ record_text (refused_record code)) → DoesFront old (commands.Refused code) old taken now held
 told_front old code taken now held put = does_front old old (commands.Refused code) (Refused code) taken now held (record_text (refused_record code)) (refl, refl) (one_text (refused_record code)) put
 
 -- rounds that were listed
-pub rounds_does : (old : Machine) (taken now : Option (List ℕ)) (held later : List ℕ) → PutsButEnd taken now later (held ++ records_text (rounds_records (length old.history) old.rounds)) → Does old commands.Rounds old taken now held later false
+pub rounds_does : (old : Machine) (taken now : Option (List ℕ)) (held later : List ℕ) → PutsButEnd taken now later (held ++ records_text (rounds_records (length old.history) old.rounds)) → DoesCommand old commands.Rounds old taken now held later false
 rounds_does old taken now held later put = does old old commands.Rounds (Listing (length old.history) old.rounds) taken now held later (records_text (rounds_records (length old.history) old.rounds)) (refl, refl, refl) refl put
 
 pub rounds_front : (old : Machine) (taken now : Option (List ℕ)) (held : List ℕ) → PutsFront taken now (held ++ records_text (rounds_records (length old.history) old.rounds)) → DoesFront old commands.Rounds old taken now held
 rounds_front old taken now held put = does_front old old commands.Rounds (Listing (length old.history) old.rounds) taken now held (records_text (rounds_records (length old.history) old.rounds)) (refl, refl, refl) refl put
 
 -- a history that was shown
-pub shown_does : (old : Machine) (taken now : Option (List ℕ)) (held later : List ℕ) → PutsButEnd taken now later (held ++ records_text (history_records old.history)) → Does old commands.History old taken now held later false
+pub shown_does : (old : Machine) (taken now : Option (List ℕ)) (held later : List ℕ) → PutsButEnd taken now later (held ++ records_text (history_records old.history)) → DoesCommand old commands.History old taken now held later false
 shown_does old taken now held later put = does old old commands.History (Shown old.history) taken now held later (records_text (history_records old.history)) (refl, refl) refl put
 
 pub shown_front : (old : Machine) (taken now : Option (List ℕ)) (held : List ℕ) → PutsFront taken now (held ++ records_text (history_records old.history)) → DoesFront old commands.History old taken now held
@@ -131,7 +131,7 @@ claim_for old failed plan there planned = record { there = there; plan = plan; p
 
 -- a claim that was written
 pub claim_does : (old : Machine) (failed : List Bool) (plan : Plan) (taken now : Option (List ℕ)) (held later : List ℕ) → (IsTrue (has_stranger old failed) → ⊥) → IsPlan old failed plan
-    → PutsButEnd taken now later (held ++ records_text (check_records old.history (claim_of old failed plan))) → Does old (commands.Bundle failed) old taken now held later false
+    → PutsButEnd taken now later (held ++ records_text (check_records old.history (claim_of old failed plan))) → DoesCommand old (commands.Bundle failed) old taken now held later false
 claim_does old failed plan taken now held later there planned put =
     does old old (commands.Bundle failed) (Claimed old.history (claim_of old failed plan)) taken now held later (records_text (check_records old.history (claim_of old failed plan))) (refl, claim_for old failed plan there planned, refl) refl put
 
@@ -142,7 +142,7 @@ claim_front old failed plan taken now held there planned put =
 
 -- a claim that was refused
 pub stranger_does : (old : Machine) (failed : List Bool) (code : ℕ) (taken now : Option (List ℕ)) (held later : List ℕ) → IsTrue (has_stranger old failed) → code ≡ code_of NoSuchProcess
-    → PutsButEnd taken now later (held ++ record_text (refused_record code)) → Does old (commands.Bundle failed) old taken now held later true
+    → PutsButEnd taken now later (held ++ record_text (refused_record code)) → DoesCommand old (commands.Bundle failed) old taken now held later true
 stranger_does old failed code taken now held later stranger same put =
     does old old (commands.Bundle failed) (Refused code) taken now held later (record_text (refused_record code)) (stranger, same, refl) (one_text (refused_record code)) put
 

@@ -5,9 +5,9 @@ use Rattle.std.proofs.lemmas.List.{length-map}
 use Rattle.std.proofs.lemmas.List.Elements.{All-weaker}
 use Rattle.line_names.specs.declared.choices.Choice.TheVariants.{Check as AtCheck}
 use Rattle.line_tape.specs.History.{Process}
-use Rattle.line_moves.specs.Listed.{Listed, IsSnapshotOf}
+use Rattle.line_moves.specs.Listed.{ListedRound, IsSnapshotOf}
 
 -- a snapshot of a history has a check of each of its processes
-pub rounds_long : (history : List Process) (rounds : List Listed) → All (IsSnapshotOf history) rounds → All (λ (round : Listed). length round.checks ≡ length history) rounds
+pub rounds_long : (history : List Process) (rounds : List ListedRound) → All (IsSnapshotOf history) rounds → All (λ (round : ListedRound). length round.checks ≡ length history) rounds
 rounds_long history rounds snapshots =
-    All-weaker (IsSnapshotOf history) (λ (round : Listed). length round.checks ≡ length history) (λ (round : Listed) (snapshot : IsSnapshotOf history round). sym (length-map round.checks (λ (c : ℕ). AtCheck c)) ∙ snapshot.line.length_is) rounds snapshots
+    All-weaker (IsSnapshotOf history) (λ (round : ListedRound). length round.checks ≡ length history) (λ (round : ListedRound) (snapshot : IsSnapshotOf history round). sym (length-map round.checks (λ (c : ℕ). AtCheck c)) ∙ snapshot.line.length_is) rounds snapshots

@@ -14,7 +14,7 @@ use Rattle.line_world.specs.declared.replies.Reply.{Reply}
 use Rattle.line_world.specs.declared.replies.StepError.{StepError}
 use Rattle.line_world.specs.declared.replies.StepError.TheVariants as errors
 use Rattle.line_world.specs.declared.steps.Step.{Step}
-use Rattle.line_moves.specs.Listed.{Listed}
+use Rattle.line_moves.specs.Listed.{ListedRound}
 use Rattle.line_world.specs.Machine.{Machine}
 use Rattle.line_plan.specs.declared.plans.Plan.{Plan}
 use Rattle.line_tape.specs.History.{Process}
@@ -23,29 +23,29 @@ use Rattle.line_world.specs.Runs.{Takes}
 use Rattle.line_world.specs.Steps.{IsPlan}
 use Rattle.line_scripts.specs.declared.commands.Command.{Command}
 use Rattle.line_scripts.specs.declared.commands.Command.TheVariants as commands
-use Rattle.line_replies.specs.Replies.{answer_records, refused}
+use Rattle.line_replies.specs.Replies.{answer_records, refusal_record}
 use Rattle.line_replies.specs.Rounds.{rounds_records}
 use Rattle.line_devices.specs.Devices.{PutsButEnd, PutsFront}
 
 -- what a command is told: the machine's answer, the number of its refusal before any step, rounds
 -- among so many processes, a history, or a history with a claim on it
-pub data Told : Type 0 where
-  Answered : Answer → Told
-  Refused : ℕ → Told
-  Listing : ℕ → List Listed → Told
-  Shown : List Process → Told
-  Claimed : List Process → Claim → Told
+pub data CommandAnswer : Type 0 where
+  Answered : Answer → CommandAnswer
+  Refused : ℕ → CommandAnswer
+  Listing : ℕ → List ListedRound → CommandAnswer
+  Shown : List Process → CommandAnswer
+  Claimed : List Process → Claim → CommandAnswer
 
 -- the records of what a command is told
-abbrev pub told_records : Told → List Record
-told_records (Answered answer) = answer_records answer
-told_records (Refused code) = refused code ∷ []
-told_records (Listing n rounds) = rounds_records n rounds
-told_records (Shown history) = history_records history
-told_records (Claimed history claim) = check_records history claim
+abbrev pub command_answer_records : CommandAnswer → List Record
+command_answer_records (Answered answer) = answer_records answer
+command_answer_records (Refused code) = refusal_record code ∷ []
+command_answer_records (Listing n rounds) = rounds_records n rounds
+command_answer_records (Shown history) = history_records history
+command_answer_records (Claimed history claim) = check_records history claim
 
 -- a command was refused, by the machine or before any step
-abbrev pub is_refused : Told → Bool
+abbrev pub is_refused : CommandAnswer → Bool
 is_refused (Answered (answers.Done reply)) = false
 is_refused (Answered (answers.Refused error)) = true
 is_refused (Refused code) = true
@@ -74,7 +74,7 @@ Answers old step (Err error) new =
     error ≢ errors.OutOfMemory → Takes old step (answers.Refused error) new
 
 -- from old, a command may be told this, and leaves new
-abbrev pub Tells : Machine → Command → Told → Machine → Type 0
+abbrev pub Tells : Machine → Command → CommandAnswer → Machine → Type 0
 Tells old (commands.Do step) (Answered answer) new = Takes old step answer new
 Tells old (commands.Refused code) (Refused shown) new = (shown ≡ code) × (new ≡ old)
 Tells old commands.Rounds (Listing n rounds) new =
@@ -87,7 +87,7 @@ Tells old (commands.Bundle failed) (Refused code) new =
 Tells old command told new = ⊥
 
 -- from old, commands may be told these, one after another
-abbrev pub TellsAll : Machine → List Command → List Told → Machine → Type 0
+abbrev pub TellsAll : Machine → List Command → List CommandAnswer → Machine → Type 0
 TellsAll old [] [] new = new ≡ old
 TellsAll old (command ∷ commands) (one ∷ others) new =
     (mid : Machine) × Tells old command one mid × TellsAll mid commands others new
@@ -95,25 +95,26 @@ TellsAll old [] (one ∷ others) new = ⊥
 TellsAll old (command ∷ commands) [] new = ⊥
 
 -- the text of what commands are told
-abbrev pub text_of : List Told → List ℕ
-text_of all = records_text (flat_map told_records all)
+abbrev pub text_of : List CommandAnswer → List ℕ
+text_of all = records_text (flat_map command_answer_records all)
 
 -- how many of them are refusals
-abbrev pub refusals : List Told → ℕ
+abbrev pub refusals : List CommandAnswer → ℕ
 refusals all = count_by is_refused all
 
 -- a command was told something, and whether it was refused; what was held and the text of that are
 -- put but for their end, which is held
-pub record Does (old : Machine) (command : Command) (new : Machine) (taken now : Option (List ℕ))
+pub record DoesCommand (old : Machine) (command : Command) (new : Machine)
+    (taken now : Option (List ℕ))
     (held later : List ℕ) (refused : Bool) : Type 0 where
-  pub told : Told
+  pub told : CommandAnswer
   pub tells : Tells old command told new
   pub counted : refused ≡ is_refused told
-  pub put : PutsButEnd taken now later (held ++ records_text (told_records told))
+  pub put : PutsButEnd taken now later (held ++ records_text (command_answer_records told))
 
 -- a command was told something, and of what was held and the text of that a front was put
 pub record DoesFront (old : Machine) (command : Command) (new : Machine)
     (taken now : Option (List ℕ)) (held : List ℕ) : Type 0 where
-  pub told : Told
+  pub told : CommandAnswer
   pub tells : Tells old command told new
-  pub put : PutsFront taken now (held ++ records_text (told_records told))
+  pub put : PutsFront taken now (held ++ records_text (command_answer_records told))

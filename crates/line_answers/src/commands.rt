@@ -6,7 +6,7 @@ ghost use Rattle.line_claims.specs.Records.{history_records};
 ghost use Rattle.line_devices.specs.Devices.{Outputs, one_more};
 ghost use Rattle.line_fields.specs.Texts.{records_text};
 ghost use Rattle.line_replies.specs.Rounds.{rounds_records};
-ghost use Rattle.line_scripts.specs.Shown.{HasShortBody, shown};
+ghost use Rattle.line_scripts.specs.Shown.{HasShortBodyInStep, command_of_ref};
 ghost use Rattle.line_world.specs.declared.steps.Step.{Step};
 ghost use Rattle.line_world.specs.Machine.{Machine};
 
@@ -32,7 +32,8 @@ fn bundle<K: Sink>(
     failed: &ProcSet,
 ) -> Result<bool, Halt>
     ensures ok { IfOk result
-        (λ refused. spec.Does world.now (Command.Bundle failed.now) world.now (K.taken sink.old)
+        (λ refused. spec.DoesCommand world.now (Command.Bundle failed.now) world.now
+        (K.taken sink.old)
         (K.taken sink.new) writer.old writer.new refused) }
     ensures memory { IfErr result
         (λ halt. halt ≡ Halt.Memory → (sink.new ≡ sink.old) × (writer.new ≡ writer.old)) }
@@ -101,7 +102,7 @@ fn tell_step<K: Sink>(
 ) -> Result<bool, Halt>
     ensures ok { (old new : Machine) (step : Step) → spec.Answers old step answer new
         → IfOk result
-        (λ refused. spec.Does old (Command.Do step) new (K.taken sink.old) (K.taken sink.new)
+        (λ refused. spec.DoesCommand old (Command.Do step) new (K.taken sink.old) (K.taken sink.new)
         writer.old writer.new refused) }
     ensures memory { IfErr result
         (λ halt. halt ≡ Halt.Memory
@@ -146,16 +147,17 @@ pub fn do_command<K: Sink>(
     writer: &mut RecordWriter,
     command: &CommandRef<'_>,
 ) -> Result<bool, Halt>
-    requires { HasShortBody command.now }
+    requires { HasShortBodyInStep command.now }
     ensures ok { IfOk result
-        (λ refused. spec.Does world.old (shown command.now) world.new (K.taken sink.old)
+        (λ refused. spec.DoesCommand world.old (command_of_ref command.now) world.new
+        (K.taken sink.old)
         (K.taken sink.new) writer.old writer.new refused) }
     ensures memory { IfErr result
         (λ halt. halt ≡ Halt.Memory
         → (world.new ≡ world.old) × (sink.new ≡ sink.old) × (writer.new ≡ writer.old)) }
     ensures write { IfErr result
         (λ halt. halt ≡ Halt.Write
-        → spec.DoesFront world.old (shown command.now) world.new (K.taken sink.old)
+        → spec.DoesFront world.old (command_of_ref command.now) world.new (K.taken sink.old)
         (K.taken sink.new) writer.old) }
     ensures sound { OnOk result (K.faults sink.new ≡ K.faults sink.old) }
     ensures failed { IfErr result

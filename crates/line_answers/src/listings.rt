@@ -10,7 +10,7 @@ ghost use Rattle.line_replies.specs.Rounds as records;
 use line_devices::{DeviceFault, Sink};
 use line_fields::RecordWriter;
 use line_names::{MOST_PROCESSES, MsgName, ProcId};
-use line_replies::{put_message, put_round, put_rounds_head};
+use line_replies::{put_channel_message, put_round, put_rounds_head};
 use line_world::Round;
 
 // Writes the messages of a channel.
@@ -27,7 +27,7 @@ fn put_messages<K: Sink>(
         (writer.old ++ records_text (map (records.channel_record round from to) messages.now)) }
 {
     for i in 0..messages.len() {
-        put_message(sink, writer, round, from, to, messages[i])?;
+        put_channel_message(sink, writer, round, from, to, messages[i])?;
     }
     Ok(())
 }
@@ -89,7 +89,7 @@ fn put_channels<K: Sink>(
     requires checks { length round.now.checks ≡ n }
     ensures { Outputs result (K.taken sink.old) (K.taken sink.new) (K.faults sink.old)
         (K.faults sink.new) writer.new
-        (writer.old ++ records_text (records.channels_of n round.now)) }
+        (writer.old ++ records_text (records.channels_records n round.now)) }
 {
     for value in 0..n {
         let Ok(from) = ProcId::try_new(value, n) else {

@@ -41,20 +41,20 @@ struct Copy {
 
 /// The messages of a computation whose links keep no order.
 #[derive(Drop)]
-struct Links {
+struct UnorderedLinks {
     /// How many copies each link has.
     counts: Vec<u32>,
     /// The copies that were not received yet.
     waiting: Vec<Copy>,
 }
 
-impl Links {
-    fn new(alloc: Global) -> Result<Links, AllocError> {
+impl UnorderedLinks {
+    fn new(alloc: Global) -> Result<UnorderedLinks, AllocError> {
         let mut counts = Vec::new(alloc);
         for _link in 0..MANY * MANY {
             counts.push(0)?;
         }
-        Ok(Links {
+        Ok(UnorderedLinks {
             counts,
             waiting: Vec::new(alloc),
         })
@@ -92,7 +92,11 @@ impl Links {
 }
 
 /// A delivery of a copy, often of one that waits.
-fn deliver_any(text: &mut Text, dice: &mut Dice, links: &mut Links) -> Result<(), AllocError> {
+fn deliver_any(
+    text: &mut Text,
+    dice: &mut Dice,
+    links: &mut UnorderedLinks,
+) -> Result<(), AllocError> {
     if dice.below(10) > 0 {
         if let Some(copy) = links.take(dice) {
             return text.deliver(dice, copy.from, copy.to, copy.place, 0);
@@ -114,7 +118,7 @@ pub fn unordered(
     records: u32,
 ) -> Result<(), AllocError> {
     text.world(MANY, "unordered")?;
-    let mut links = Links::new(alloc)?;
+    let mut links = UnorderedLinks::new(alloc)?;
     for record in 0..records {
         let p = dice.below(MANY);
         let kind = dice.below(1_000);

@@ -21,7 +21,7 @@ use Rattle.line_vectors.specs.declared.limits.TheConstants.{LAST_NUMBER}
 use Rattle.line_vectors.specs.Reach.{reach_from, reach_before, sent_count, sents_of, IsReceivedFrom}
 use Rattle.line_vectors.specs.Vectors.{Fits}
 use Rattle.line_vectors.proofs.ReachLemmas.{reach-above, reach-received, reach-at, length-reach, sents-at}
-use Rattle.line_catalogue.specs.Agreement.{NameAgrees, EventAgrees, Agrees, named}
+use Rattle.line_catalogue.specs.Agreement.{NameAgrees, EventAgrees, Agrees, name_of_number}
 
 -- what stands in a front stands on the tape
 pub on_tape : (tape : List Event) (choice : Choice) (event : Event) → Contains (front tape choice) event → Contains tape event
@@ -123,7 +123,7 @@ fits-decide history line q choice is agrees =
     )
 
 -- a name that agrees is the name of its number
-pub agreed-name : (history : List Process) (message : MsgName) → NameAgrees history message → message ≡ named history message.from message.number
+pub agreed-name : (history : List Process) (message : MsgName) → NameAgrees history message → message ≡ name_of_number history message.from message.number
 agreed-name history message agrees = ap (λ inc. let name : MsgName = record { from = message.from; inc = inc; number = message.number } in name) (inc-is agrees)
   where
     inc-is : NameAgrees history message → message.inc ≡ get_or (incarnations_sent (tape_at history message.from)) message.number (incarnation_at history message.from)
@@ -132,12 +132,12 @@ agreed-name history message agrees = ap (λ inc. let name : MsgName = record { f
 
 -- a lane over the sends names an orphan
 pub beyond-names : (history : List Process) (line : List Choice) (q : ℕ) (choice : Choice) (p number : ℕ) → Agrees history → reach_from (front (tape_at history q) choice) p ≡ number + 1 → sent_count history line p ≤ number
-    → IsOrphanAmong history line (front (tape_at history q) choice) (named history p number)
+    → IsOrphanAmong history line (front (tape_at history q) choice) (name_of_number history p number)
 beyond-names history line q choice p number agrees lane beyond =
     let events : List Event = front (tape_at history q) choice in
     let from : IsReceivedFrom events p number = reach-received events p number lane in
     let m : MsgName = from.message in
     let agreed : NameAgrees history m = agrees_at history q m agrees (on_tape (tape_at history q) choice (Recv m) from.received) in
-    let is : m ≡ named history p number = agreed-name history m agreed ∙ ap (λ k. named history k m.number) from.from_is ∙ ap (named history p) from.number_is in
+    let is : m ≡ name_of_number history p number = agreed-name history m agreed ∙ ap (λ k. name_of_number history k m.number) from.from_is ∙ ap (name_of_number history p) from.number_is in
     let unsent : IsSentBefore history line m → ⊥ = λ sent. absurd (omega (arith, (number-decides history line m agreed).0 sent, from.number_is, beyond, ap (sent_count history line) from.from_is)) in
     subst (IsOrphanAmong history line events) is (record { received = from.received; unsent = unsent })

@@ -17,8 +17,8 @@ use Rattle.line_tape.specs.Fit.{IsSentTo}
 use Rattle.line_tape.specs.Front.{place, front, HasChoice}
 use Rattle.line_tape.specs.History.{Process, tape_at, with_event}
 use Rattle.line_tape.specs.Line.{events_before, IsLine}
-use Rattle.line_tape.specs.Restart.{restarted}
-use Rattle.line_tape.specs.Transit.{Letter, letters, is_open, open_letters, in_transit, has_received, names_received, addressee_of, addressees}
+use Rattle.line_tape.specs.Restart.{restarted_history}
+use Rattle.line_tape.specs.Transit.{Letter, letters, is_open_letter, open_letters, in_transit, has_received, names_received, addressee_of, addressees}
 use Rattle.line_tape.proofs.ChainLemmas.{choice-past}
 use Rattle.line_tape.proofs.CopyLemmas.{length_addressees, slice_get_front}
 use Rattle.line_tape.proofs.CutLemmas.{contains_nothing, cons_cases, sends_take}
@@ -30,7 +30,7 @@ use Rattle.line_tape.proofs.ReceivedLemmas.{length-letters}
 use Rattle.line_tape.proofs.SpentLemmas.{tape_grows, incs_restarted, length_restarted}
 use Rattle.line_tape.proofs.StayLemmas.{names_restarted}
 use Rattle.line_tape.proofs.TransitLemmas.{letter_of, has_received-iff, names_contain}
-use Rattle.line_catalogue.specs.Left.{open_first, place_at, start_at, numbers_at, AreEnds, AreLeft, AreCandidates, AreSettled, HasOpen, HaveLeft}
+use Rattle.line_catalogue.specs.Left.{open_first, place_at, start_at, numbers_at, AreEnds, AreLeft, AreCandidates, AreSettledUpTo, HasOpen, HaveLeft}
 use Rattle.line_catalogue.proofs.OpenLemmas.{letter_at}
 
 -- what is left and what is received behind the line, but before its place, is enough to look at
@@ -139,9 +139,9 @@ in-transit history line q m inside i a unseen =
     let number : 0 + m.number ≡ m.number = omega arith in
     let at : get_or all m.number letter ≡ letter = letter_at m.from 0 before m.number m.inc q letter i a ∙ ap (λ j. letter_of m.from m.inc j q) number in
     let within : m.number < length all = omega (arith, length-letters m.from 0 before, slice_get_within (incarnations_sent before) m.number m.inc i) in
-    let passes : is_open history line letter ≡ true = ap not unseen in
+    let passes : is_open_letter history line letter ≡ true = ap not unseen in
     let among : Contains all letter = contains_at all m.number letter within at in
-    in_flat_map (λ p. map (λ (letter : Letter). letter.message) (open_letters history line p)) (length history) 0 m.from m (omega arith) (omega (arith, inside)) (in_map (λ (letter : Letter). letter.message) (open_letters history line m.from) letter (in_filter (is_open history line) all letter passes among))
+    in_flat_map (λ p. map (λ (letter : Letter). letter.message) (open_letters history line p)) (length history) 0 m.from m (omega arith) (omega (arith, inside)) (in_map (λ (letter : Letter). letter.message) (open_letters history line m.from) letter (in_filter (is_open_letter history line) all letter passes among))
   where
     contains_at : {X : Type 0} (xs : List X) (k : ℕ) (x : X) → k < length xs → get_or xs k x ≡ x → Contains xs x
     contains_at xs k x within at = (k, within, at)
@@ -197,8 +197,8 @@ in-first history line q m k low i a unseen =
     let within : m.number < length all = omega (arith, length-letters m.from 0 before, slice_get_within (incarnations_sent before) m.number m.inc i) in
     let short : m.number < length (take k all) = omega (arith, low, within, length-take k all) in
     let first : get_or (take k all) m.number letter ≡ letter = get_or-take k all m.number letter low ∙ at in
-    let passes : is_open history line letter ≡ true = ap not unseen in
-    in_map (λ (letter : Letter). letter.message) (filter (is_open history line) (take k all)) letter (in_filter (is_open history line) (take k all) letter passes (m.number, short, first))
+    let passes : is_open_letter history line letter ≡ true = ap not unseen in
+    in_map (λ (letter : Letter). letter.message) (filter (is_open_letter history line) (take k all)) letter (in_filter (is_open_letter history line) (take k all) letter passes (m.number, short, first))
 
 -- what is in transit of a process is all that is left of it
 pub have-open : (history : List Process) (line : List Choice) (p : ℕ) (before : List MsgName) → HaveLeft history line p (sends (events_before history line p)) (before ++ open_first history line p (sends (events_before history line p)))
@@ -215,7 +215,7 @@ sender-before history line p k low = elim (cases_lt p (length history)) [
 ]
 
 -- what has settled at a line is enough to be left, with the sends behind the starts
-pub AreLeft-settled : (history : List Process) (line : List Choice) (starts places : List ℕ) (left : List MsgName) → AreSettled history line starts left → length places ≡ length history → ((p : ℕ) → place_at places p ≡ place (tape_at history p) (choice_at line p)) → AreLeft history starts places left
+pub AreLeft-settled : (history : List Process) (line : List Choice) (starts places : List ℕ) (left : List MsgName) → AreSettledUpTo history line starts left → length places ≡ length history → ((p : ℕ) → place_at places p ≡ place (tape_at history p) (choice_at line p)) → AreLeft history starts places left
 AreLeft-settled history line starts places left are places_count at =
     record {
       count = are.count;
@@ -229,8 +229,8 @@ AreLeft-settled history line starts places left are places_count at =
     }
 
 -- after a restart what was in transit at the line is left to look at, from where the tapes go on
-pub AreLeft-restarted : (history : List Process) (line : List Choice) (starts places : List ℕ) → length line ≡ length history → length starts ≡ length history → length places ≡ length (restarted history line) → ((p : ℕ) → start_at starts p ≡ sends (events_before history line p)) → ((p : ℕ) → place_at places p ≡ length (tape_at (restarted history line) p))
-    → AreLeft (restarted history line) starts places (in_transit history line)
+pub AreLeft-restarted : (history : List Process) (line : List Choice) (starts places : List ℕ) → length line ≡ length history → length starts ≡ length history → length places ≡ length (restarted_history history line) → ((p : ℕ) → start_at starts p ≡ sends (events_before history line p)) → ((p : ℕ) → place_at places p ≡ length (tape_at (restarted_history history line) p))
+    → AreLeft (restarted_history history line) starts places (in_transit history line)
 AreLeft-restarted history line starts places e count places_count are at =
     record {
       count = count ∙ sym (length_restarted history line e);
@@ -239,10 +239,10 @@ AreLeft-restarted history line starts places e count places_count are at =
       within = λ p. omega (arith, are p, ap (λ (xs : List ℕ). length xs) (incs_restarted history line p e));
       held = λ q m sent low unseen.
           let i : slice_get (incarnations_sent (events_before history line m.from)) m.number ≡ Some m.inc = ap (λ (xs : List ℕ). slice_get xs m.number) (sym (incs_restarted history line m.from e)) ∙ sent.held in
-          let tos : addressees (tape_at (restarted history line) m.from) ≡ addressees (events_before history line m.from) = ap addressees (tape_restarted history line m.from e) ∙ addressees_restarted (events_before history line m.from) in
-          let names : names_received (tape_at (restarted history line) q) ≡ names_received (events_before history line q) = ap names_received (tape_restarted history line q e) ∙ names_restarted (events_before history line q) in
-          let whole : take (place_at places q) (tape_at (restarted history line) q) ≡ tape_at (restarted history line) q = take_all (place_at places q) (tape_at (restarted history line) q) (omega (arith, at q)) in
-          let unread : has_received (tape_at (restarted history line) q) m ≡ false = ap (λ (es : List Event). has_received es m) (sym whole) ∙ unseen in
+          let tos : addressees (tape_at (restarted_history history line) m.from) ≡ addressees (events_before history line m.from) = ap addressees (tape_restarted history line m.from e) ∙ addressees_restarted (events_before history line m.from) in
+          let names : names_received (tape_at (restarted_history history line) q) ≡ names_received (events_before history line q) = ap names_received (tape_restarted history line q e) ∙ names_restarted (events_before history line q) in
+          let whole : take (place_at places q) (tape_at (restarted_history history line) q) ≡ tape_at (restarted_history history line) q = take_all (place_at places q) (tape_at (restarted_history history line) q) (omega (arith, at q)) in
+          let unread : has_received (tape_at (restarted_history history line) q) m ≡ false = ap (λ (es : List Event). has_received es m) (sym whole) ∙ unseen in
           in-transit history line q m (sender-within history line starts m.from m.number (are m.from) low) i (ap (λ (xs : List ℕ). slice_get xs m.number) (sym tos) ∙ sent.to_is) (ap (list_any (is_name m)) (sym names) ∙ unread);
     }
 

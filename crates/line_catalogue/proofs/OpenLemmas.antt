@@ -15,7 +15,7 @@ use Rattle.line_tape.specs.Fit.{IsSentTo}
 use Rattle.line_tape.specs.Front.{place}
 use Rattle.line_tape.specs.History.{Process, tape_at}
 use Rattle.line_tape.specs.Line.{events_before}
-use Rattle.line_tape.specs.Transit.{Letter, letters, is_open, open_letters, has_received, addressee_of, addressees}
+use Rattle.line_tape.specs.Transit.{Letter, letters, is_open_letter, open_letters, has_received, addressee_of, addressees}
 use Rattle.line_tape.proofs.CopyLemmas.{length_addressees, slice_get_front}
 use Rattle.line_tape.proofs.FrontLemmas.{slice_get-append_left}
 use Rattle.line_tape.proofs.ReceivedLemmas.{length-letters}
@@ -61,10 +61,10 @@ module _ (history : List Process) (line : List Choice) (p : ℕ) where
       let number : 0 + k ≡ k = omega arith in
       let letter : get_or all k d ≡ d = letter_at p 0 before k inc to d i a ∙ ap (λ j. letter_of p inc j to) number in
       let received : Bool = has_received (events_before history line to) (name_of p inc k) in
-      let last : map (λ (letter : Letter). letter.message) (filter (is_open history line) (get_or all k d ∷ [])) ≡ cond received [] (name_of p inc k ∷ []) = ap (λ (x : Letter). map (λ (letter : Letter). letter.message) (filter (is_open history line) (x ∷ []))) letter ∙ swapped received in
-      ap (λ (xs : List Letter). map (λ (letter : Letter). letter.message) (filter (is_open history line) xs)) (take_more all k d within)
-      ∙ ap (map (λ (letter : Letter). letter.message)) (filter-append (is_open history line) (take k all) (get_or all k d ∷ []))
-      ∙ map-append (λ (letter : Letter). letter.message) (filter (is_open history line) (take k all)) (filter (is_open history line) (get_or all k d ∷ []))
+      let last : map (λ (letter : Letter). letter.message) (filter (is_open_letter history line) (get_or all k d ∷ [])) ≡ cond received [] (name_of p inc k ∷ []) = ap (λ (x : Letter). map (λ (letter : Letter). letter.message) (filter (is_open_letter history line) (x ∷ []))) letter ∙ swapped received in
+      ap (λ (xs : List Letter). map (λ (letter : Letter). letter.message) (filter (is_open_letter history line) xs)) (take_more all k d within)
+      ∙ ap (map (λ (letter : Letter). letter.message)) (filter-append (is_open_letter history line) (take k all) (get_or all k d ∷ []))
+      ∙ map-append (λ (letter : Letter). letter.message) (filter (is_open_letter history line) (take k all)) (filter (is_open_letter history line) (get_or all k d ∷ []))
       ∙ ap (λ xs. open_first history line p k ++ xs) last
     where
       swapped : (b : Bool) → map (λ (letter : Letter). letter.message) (cond (not b) (letter_of p inc k to ∷ []) []) ≡ cond b [] (name_of p inc k ∷ [])
@@ -129,4 +129,4 @@ pub open-all : (history : List Process) (line : List Choice) (p : ℕ) → open_
 open-all history line p =
     let before : List Event = events_before history line p in
     let all : List Letter = letters p 0 before in
-    ap (λ (xs : List Letter). map (λ (letter : Letter). letter.message) (filter (is_open history line) xs)) (take_all (sends before) all (omega (arith, length-letters p 0 before)))
+    ap (λ (xs : List Letter). map (λ (letter : Letter). letter.message) (filter (is_open_letter history line) xs)) (take_all (sends before) all (omega (arith, length-letters p 0 before)))

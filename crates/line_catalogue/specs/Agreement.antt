@@ -40,8 +40,8 @@ pub record AgreesNext (history : List Process) (p : ℕ) (event : Event) : Type 
 
 -- the name of the message of process p with this number: under the incarnation of that send, and
 -- where it is still to come under the present one
-abbrev pub named : List Process → ℕ → ℕ → MsgName
-named history p number =
+abbrev pub name_of_number : List Process → ℕ → ℕ → MsgName
+name_of_number history p number =
     record {
       from = p;
       inc =

@@ -2,10 +2,10 @@
 use Rattle.std.specs.Prelude.{◌≡◌, ℕ, ◌+◌, ◌-◌, ◌*◌, ◌<◌, ◌≤◌, Bool, false, List, drop, length}
 use Rattle.std.specs.Prelude.{slice_index_or, take}
 use Rattle.line_catalogue.specs.declared.kept_rows.KeptRow.{KeptRow}
-use Rattle.line_catalogue.specs.declared.kept_rows.Row.{Row}
+use Rattle.line_catalogue.specs.declared.kept_rows.VectorRow.{VectorRow}
 
 -- the row that is kept so, with its vector of n lanes from among these
-abbrev pub row_of : ℕ → List ℕ → KeptRow → Row
+abbrev pub row_of : ℕ → List ℕ → KeptRow → VectorRow
 row_of n lanes row =
     record {
       place = row.place;
@@ -37,6 +37,6 @@ pub record AreLaid (lanes : List ℕ) (rows : List KeptRow) (heard : Bool)
   pub last : heard ≡ false → EndWith lanes present
 
 -- there are so many further places for rows, and lanes for as many vectors of n lanes
-pub record HaveRoom (room places lanes n : ℕ) : Type 0 where
+pub record HaveRowRoom (room places lanes n : ℕ) : Type 0 where
   pub rows_fit : room ≤ places
   pub vectors_fit : room * n ≤ lanes

@@ -13,7 +13,7 @@ use Rattle.line_tape.specs.Fit.{IsSentTo}
 use Rattle.line_tape.specs.Front.{place}
 use Rattle.line_tape.specs.History.{Process, tape_at}
 use Rattle.line_tape.specs.Line.{events_before}
-use Rattle.line_tape.specs.Transit.{Letter, letters, is_open, has_received, names_received}
+use Rattle.line_tape.specs.Transit.{Letter, letters, is_open_letter, has_received, names_received}
 
 -- how many first sends of process p are not to be looked at again, but for those that are left
 abbrev pub start_at : List ℕ → ℕ → ℕ
@@ -85,7 +85,7 @@ HasOpen history line p end row =
 abbrev pub open_first : List Process → List Choice → ℕ → ℕ → List MsgName
 open_first history line p k =
     map (λ (letter : Letter). letter.message)
-    (filter (is_open history line) (take k (letters p 0 (events_before history line p))))
+    (filter (is_open_letter history line) (take k (letters p 0 (events_before history line p))))
 
 -- the messages have all that process p sent among its first k ones and isn't received before the
 -- line
@@ -97,7 +97,7 @@ HaveLeft history line p k messages =
 
 -- for each process a start before the line, and all that was sent before it and isn't received
 -- before the line is left
-pub record AreSettled (history : List Process) (line : List Choice) (starts : List ℕ)
+pub record AreSettledUpTo (history : List Process) (line : List Choice) (starts : List ℕ)
     (left : List MsgName) : Type 0 where
   pub count : length starts ≡ length history
   pub before : (p : ℕ) → start_at starts p ≤ sends (events_before history line p)

@@ -9,7 +9,7 @@ use Rattle.line_catalogue.specs.declared.refusals.DamageError.TheVariants.{Initi
 use Rattle.line_catalogue.specs.declared.refusals.DamageError.TheVariants.{AlreadyDamaged}
 
 -- the same word
-abbrev pub refusal_of : MarkError → DamageError
-refusal_of mark_memory = OutOfMemory
-refusal_of mark_initial = InitialDamage
-refusal_of mark_already = AlreadyDamaged
+abbrev pub mark_error : MarkError → DamageError
+mark_error mark_memory = OutOfMemory
+mark_error mark_initial = InitialDamage
+mark_error mark_already = AlreadyDamaged

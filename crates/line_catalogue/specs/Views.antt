@@ -10,8 +10,8 @@ pub record CatalogueView : Type 0 where
   pub rooms : List ℕ
 
 -- how many further events of process p it takes with no more memory
-abbrev pub room_at : CatalogueView → ℕ → ℕ
-room_at catalogue p = slice_index_or catalogue.rooms p 0
+abbrev pub catalogue_room_at : CatalogueView → ℕ → ℕ
+catalogue_room_at catalogue p = slice_index_or catalogue.rooms p 0
 
 -- the lesser of two rooms, process by process
 abbrev pub lesser_rooms : List ℕ → List ℕ → List ℕ

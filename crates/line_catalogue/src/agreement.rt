@@ -2,7 +2,7 @@
 ghost use Rattle.std.specs.Prelude.{◌≡◌, ◌<◌, ◌≤◌, ◌↔◌, IsTrue, All, IfSome, length};
 ghost use Rattle.line_tape.specs.Event.{NamesBelow};
 ghost use Rattle.line_tape.specs.History.{tape_at};
-ghost use Rattle.line_tape.specs.Shown.{shown};
+ghost use Rattle.line_tape.specs.Shown.{event_of_ref};
 ghost use Rattle.line_tape.specs.Views.{bar_at, damaged_at};
 ghost use Rattle.line_catalogue.specs.Agreement.{NameAgrees, EventAgrees, Agrees};
 ghost use Rattle.line_catalogue.specs.Damage.{AreOnChecks};
@@ -26,8 +26,8 @@ pub fn name_agrees(history: &History, message: &MsgName) -> bool
 
 /// Whether the name of a message that the event receives agrees with its sender.
 pub fn event_agrees(history: &History, event: &EventRef<'_>) -> bool
-    requires { NamesBelow (length history.now.processes) (shown event.now) }
-    ensures { IsTrue result ↔ EventAgrees history.now.processes (shown event.now) }
+    requires { NamesBelow (length history.now.processes) (event_of_ref event.now) }
+    ensures { IsTrue result ↔ EventAgrees history.now.processes (event_of_ref event.now) }
 {
     match event {
         EventRef::Send { .. } => true,

@@ -9,14 +9,14 @@ ghost use Rattle.line_tape.specs.Event.{checks, HasLongState, NamesBelow};
 ghost use Rattle.line_tape.specs.History.{fresh, tape_at, with_event, IsHistory};
 ghost use Rattle.line_tape.specs.Front.{front, HasChoice};
 ghost use Rattle.line_tape.specs.Line.{IsLine, IsConsistent, AreSentBefore};
-ghost use Rattle.line_tape.specs.Restart.{restarted, restarted_marks, HaveFurther};
+ghost use Rattle.line_tape.specs.Restart.{restarted_history, restarted_marks, HaveFurther};
 ghost use Rattle.line_tape.specs.Survival.{survives, is_barred, is_damaged};
 ghost use Rattle.line_tape.specs.Transit.{in_transit};
 ghost use Rattle.line_tape.specs.Views.{damaged_at, no_marks, with_bar, with_mark};
 ghost use Rattle.line_catalogue.specs.Agreement.{Agrees, AgreesNext};
 ghost use Rattle.line_catalogue.specs.Damage.{AreOnChecks};
 ghost use Rattle.line_catalogue.specs.Rows.{AreRows};
-ghost use Rattle.line_catalogue.specs.Views.{room_at};
+ghost use Rattle.line_catalogue.specs.Views.{catalogue_room_at};
 ghost use Rattle.line_vectors.specs.Reach.{reach_before, sents_of};
 ghost use Rattle.line_vectors.specs.Vectors.{Fits};
 
@@ -228,10 +228,11 @@ impl Catalogue {
         requires { p < length self.old.processes }
         ensures processes { self.new.processes ≡ self.old.processes }
         ensures marks { self.new.marks ≡ self.old.marks }
-        ensures ok { OnOk result (k ≤ room_at self.new p) }
-        ensures succeeds { k ≤ room_at self.old p → IsOk result }
-        ensures room { room_at self.old p ≤ room_at self.new p }
-        ensures others { (q : ℕ) → q ≢ p → room_at self.new q ≡ room_at self.old q }
+        ensures ok { OnOk result (k ≤ catalogue_room_at self.new p) }
+        ensures succeeds { k ≤ catalogue_room_at self.old p → IsOk result }
+        ensures room { catalogue_room_at self.old p ≤ catalogue_room_at self.new p }
+        ensures others { (q : ℕ) → q ≢ p
+            → catalogue_room_at self.new q ≡ catalogue_room_at self.old q }
     {
         self.ledger.reserve(p, k)?;
         self.rows.reserve(p, k)
@@ -244,7 +245,7 @@ impl Catalogue {
         ensures ok { OnOk result (self.new.processes ≡ with_event self.old.processes p event) }
         ensures err { OnErr result (self.new.processes ≡ self.old.processes) }
         ensures marks { self.new.marks ≡ self.old.marks }
-        ensures kept { OnErr result (room_at self.old p ≤ room_at self.new p) }
+        ensures kept { OnErr result (catalogue_room_at self.old p ≤ catalogue_room_at self.new p) }
 
         // The refusals, in their order: p and the processes that the event names are asked first.
         ensures process { IsErrOf result AddError.NoSuchProcess
@@ -262,9 +263,10 @@ impl Catalogue {
             × (AgreesNext self.old.processes p event → ⊥)) }
 
         // With room memory is never refused, and one event takes room for one at most.
-        ensures room { 0 < room_at self.old p → result ≢ Err AddError.OutOfMemory }
-        ensures spent { room_at self.old p ≤ room_at self.new p + 1 }
-        ensures others { (q : ℕ) → q ≢ p → room_at self.new q ≡ room_at self.old q }
+        ensures room { 0 < catalogue_room_at self.old p → result ≢ Err AddError.OutOfMemory }
+        ensures spent { catalogue_room_at self.old p ≤ catalogue_room_at self.new p + 1 }
+        ensures others { (q : ℕ) → q ≢ p
+            → catalogue_room_at self.new q ≡ catalogue_room_at self.old q }
     {
         self.test(p, &event)?;
         self.reserve(p, 1)?;
@@ -350,9 +352,9 @@ impl Catalogue {
         requires consistent { IsConsistent self.old.processes line.now }
         requires further { HaveFurther self.old.processes line.now }
         requires left { IfSome left (λ left. left.items ≡ in_transit self.old.processes line.now) }
-        ensures processes { self.new.processes ≡ restarted self.old.processes line.now }
+        ensures processes { self.new.processes ≡ restarted_history self.old.processes line.now }
         ensures marks { self.new.marks ≡ restarted_marks self.old.marks line.now }
-        ensures room { (p : ℕ) → room_at self.old p ≤ room_at self.new p }
+        ensures room { (p : ℕ) → catalogue_room_at self.old p ≤ catalogue_room_at self.new p }
     {
         self.ledger.restart(line, left);
         self.marks.restart(line);
@@ -371,9 +373,9 @@ impl Catalogue {
         requires line { IsLine self.old.processes line.now }
         requires consistent { IsConsistent self.old.processes line.now }
         requires further { HaveFurther self.old.processes line.now }
-        ensures processes { self.new.processes ≡ restarted self.old.processes line.now }
+        ensures processes { self.new.processes ≡ restarted_history self.old.processes line.now }
         ensures marks { self.new.marks ≡ restarted_marks self.old.marks line.now }
-        ensures room { (p : ℕ) → room_at self.old p ≤ room_at self.new p }
+        ensures room { (p : ℕ) → catalogue_room_at self.old p ≤ catalogue_room_at self.new p }
     {
         self.go_on(line, None);
     }
@@ -385,9 +387,9 @@ impl Catalogue {
         requires consistent { IsConsistent self.old.processes line.now }
         requires further { HaveFurther self.old.processes line.now }
         requires left { left.items ≡ in_transit self.old.processes line.now }
-        ensures processes { self.new.processes ≡ restarted self.old.processes line.now }
+        ensures processes { self.new.processes ≡ restarted_history self.old.processes line.now }
         ensures marks { self.new.marks ≡ restarted_marks self.old.marks line.now }
-        ensures room { (p : ℕ) → room_at self.old p ≤ room_at self.new p }
+        ensures room { (p : ℕ) → catalogue_room_at self.old p ≤ catalogue_room_at self.new p }
     {
         self.go_on(line, Some(left));
     }

@@ -6,7 +6,7 @@ ghost use Rattle.line_names.specs.declared.choices.Choice.{Choice};
 ghost use Rattle.line_tape.specs.Event.{NamesBelow};
 ghost use Rattle.line_tape.specs.Fit.{IsSentTo};
 ghost use Rattle.line_tape.specs.Line.{events_before, IsLine};
-ghost use Rattle.line_tape.specs.Shown.{shown};
+ghost use Rattle.line_tape.specs.Shown.{event_of_ref};
 ghost use Rattle.line_tape.specs.Transit.{has_received};
 ghost use Rattle.line_catalogue.specs.Known.{AreKnown, AreMarkRows, HasMark};
 
@@ -184,11 +184,11 @@ fn mark_receipt(
     starts: &[usize],
     marks: &mut [bool],
 )
-    requires names { NamesBelow (length history.now.processes) (shown event.now) }
+    requires names { NamesBelow (length history.now.processes) (event_of_ref event.now) }
     requires ends { length ends.now ≡ length history.now.processes }
     requires rows { AreMarkRows history.now.processes starts.now marks.old }
     ensures { (line : List Choice)
-        → Contains (events_before history.now.processes line q) (shown event.now)
+        → Contains (events_before history.now.processes line q) (event_of_ref event.now)
         → AreKnown history.now.processes line ends.now starts.now marks.old
         → AreKnown history.now.processes line ends.now starts.now marks.new }
 {

@@ -9,7 +9,7 @@ ghost use Rattle.line_tape.specs.History.{Process, tape_at, IsHistory};
 ghost use Rattle.line_tape.specs.Line.{IsSentBefore, IsOrphanAmong, AreSentBefore};
 ghost use Rattle.line_vectors.specs.Reach.{reach_before, reach_from, sent_count, sents_of};
 ghost use Rattle.line_vectors.specs.Vectors.{Fits};
-ghost use Rattle.line_catalogue.specs.Agreement.{Agrees, named};
+ghost use Rattle.line_catalogue.specs.Agreement.{Agrees, name_of_number};
 
 /// In a history that agrees, a message that is received is sent before a line exactly where its
 /// number is below the sends before its sender's choice.
@@ -37,5 +37,6 @@ pub fn lanes_name_orphans()
         → Agrees history
         → reach_from (front (tape_at history q) choice) p ≡ number + 1
         → sent_count history line p ≤ number
-        → IsOrphanAmong history line (front (tape_at history q) choice) (named history p number) }
+        → IsOrphanAmong history line (front (tape_at history q) choice)
+        (name_of_number history p number) }
 {}

@@ -6,10 +6,10 @@ ghost use Rattle.line_tape.specs.Event.{sends, HasLongState, NamesBelow};
 ghost use Rattle.line_tape.specs.Front.{place};
 ghost use Rattle.line_tape.specs.History.{tape_at, with_event};
 ghost use Rattle.line_tape.specs.Line.{events_before, IsLine};
-ghost use Rattle.line_tape.specs.Restart.{restarted, HaveFurther};
+ghost use Rattle.line_tape.specs.Restart.{restarted_history, HaveFurther};
 ghost use Rattle.line_tape.specs.Transit.{in_transit};
 ghost use Rattle.line_tape.specs.Views.{room_at};
-ghost use Rattle.line_catalogue.specs.Left.{place_at, start_at, AreLeft, AreSettled};
+ghost use Rattle.line_catalogue.specs.Left.{place_at, start_at, AreLeft, AreSettledUpTo};
 ghost use Rattle.line_catalogue.specs.Left.{AreStrangers};
 
 mod appends;
@@ -188,7 +188,7 @@ impl Ledger {
     /// Goes on from where it has settled.
     fn keep_settled(&mut self, line: &Line, settled: Settled, credit: usize)
         requires line { IsLine self.old.processes line.now }
-        requires settled { AreSettled self.old.processes line.now settled.starts.items
+        requires settled { AreSettledUpTo self.old.processes line.now settled.starts.items
             settled.left.items }
         ensures { self.new ≡ self.old }
     {
@@ -321,7 +321,7 @@ impl Ledger {
     fn restart_anew(&mut self, line: &Line)
         requires line { IsLine self.old.processes line.now }
         requires further { HaveFurther self.old.processes line.now }
-        ensures processes { self.new.processes ≡ restarted self.old.processes line.now }
+        ensures processes { self.new.processes ≡ restarted_history self.old.processes line.now }
         ensures rooms { (p : ℕ) → room_at self.old p ≤ room_at self.new p }
     {
         self.history.restart(line);
@@ -338,7 +338,7 @@ impl Ledger {
         requires line { IsLine self.old.processes line.now }
         requires further { HaveFurther self.old.processes line.now }
         requires left { left.items ≡ in_transit self.old.processes line.now }
-        ensures processes { self.new.processes ≡ restarted self.old.processes line.now }
+        ensures processes { self.new.processes ≡ restarted_history self.old.processes line.now }
         ensures rooms { (p : ℕ) → room_at self.old p ≤ room_at self.new p }
     {
         move_starts(&self.history, line, &mut self.starts);
@@ -357,7 +357,7 @@ impl Ledger {
         requires line { IsLine self.old.processes line.now }
         requires further { HaveFurther self.old.processes line.now }
         requires left { IfSome left (λ left. left.items ≡ in_transit self.old.processes line.now) }
-        ensures processes { self.new.processes ≡ restarted self.old.processes line.now }
+        ensures processes { self.new.processes ≡ restarted_history self.old.processes line.now }
         ensures rooms { (p : ℕ) → room_at self.old p ≤ room_at self.new p }
     {
         match left {

@@ -3,7 +3,7 @@ ghost use Rattle.std.specs.Prelude.{◌≡◌, ◌++◌, ◌∷◌, [], ℕ, Lis
 ghost use Rattle.std.specs.Prelude.{IfOk, OnOk};
 ghost use Rattle.std.specs.List.Sorted.{IsNonDecreasing};
 ghost use Rattle.line_names.specs.declared.messages.MsgName.{MsgName};
-ghost use Rattle.line_tape.specs.Shown.{shown};
+ghost use Rattle.line_tape.specs.Shown.{event_of_ref};
 ghost use Rattle.line_tape.specs.Transit.{names_received};
 ghost use Rattle.line_catalogue.specs.Left.{AreIn};
 
@@ -108,7 +108,7 @@ fn add_receipt(
 ) -> Result<(), AllocError>
     ensures count { length rows.new.items ≡ length rows.old.items }
     ensures added { OnOk result ((names : List MsgName) → AreIn names ends.now rows.old.items
-        → AreIn (names ++ names_received (shown event.now ∷ [])) ends.now rows.new.items) }
+        → AreIn (names ++ names_received (event_of_ref event.now ∷ [])) ends.now rows.new.items) }
 {
     match event {
         EventRef::Recv { message } => add_name(message, ends, rows),

@@ -116,9 +116,9 @@ impl DamageError {
 
 impl From<MarkError> for DamageError {
     ghost use Rattle.std.specs.Prelude.{◌≡◌};
-    ghost use Rattle.line_catalogue.specs.Refusals.{refusal_of};
+    ghost use Rattle.line_catalogue.specs.Refusals.{mark_error};
 
-    ghost from_gives = { λ m e. e ≡ refusal_of m };
+    ghost from_gives = { λ m e. e ≡ mark_error m };
 
     fn from(error: MarkError) -> DamageError {
         match error {

@@ -4,11 +4,12 @@ ghost use Rattle.std.specs.Prelude.{◌++◌, if◌then◌else◌, length, map, 
 ghost use Rattle.std.specs.Prelude.{vec_capacity, IfOk, IsOk, OnOk};
 ghost use Rattle.line_names.specs.declared.choices.Choice.TheVariants.{Check as AtCheck};
 ghost use Rattle.line_tape.specs.Event.{checks, sends, NamesBelow};
-ghost use Rattle.line_tape.specs.Shown.{shown};
+ghost use Rattle.line_tape.specs.Shown.{event_of_ref};
 ghost use Rattle.line_vectors.specs.Reach.{nearest};
-ghost use Rattle.line_vectors.specs.Vectors.{noted};
-ghost use Rattle.line_catalogue.specs.Laid.{AreLaid, EndWith, HaveRoom, row_of};
-ghost use Rattle.line_catalogue.specs.Rows.{AreInStep, WithPlaces, heard_more, new_row, row_added};
+ghost use Rattle.line_vectors.specs.Vectors.{lanes_with_message};
+ghost use Rattle.line_catalogue.specs.Laid.{AreLaid, EndWith, HaveRowRoom, row_of};
+ghost use Rattle.line_catalogue.specs.Rows.{AreInStep, WithPlaces, vector_after_event, new_row};
+ghost use Rattle.line_catalogue.specs.Rows.{row_added};
 ghost use Rattle.line_catalogue.specs.Rows.{rows_kept, vector_at, with_damage, with_row};
 
 use crate::kept_rows::{KeptRow, Rows};
@@ -35,7 +36,7 @@ pub struct ProcessRows {
 impl Model for ProcessRows {
     ghost use Rattle.std.specs.Prelude.{◌-◌, map, length, vec_len, vec_capacity};
     ghost use Rattle.line_catalogue.specs.Kept.{RowsView};
-    ghost use Rattle.line_catalogue.specs.Laid.{AreLaid, HaveRoom, row_of};
+    ghost use Rattle.line_catalogue.specs.Laid.{AreLaid, HaveRowRoom, row_of};
 
     ghost Value = { RowsView };
 
@@ -46,7 +47,7 @@ impl Model for ProcessRows {
     } };
 
     ghost invariant = { λ p. AreLaid p.lanes.items p.rows.items p.heard p.present
-        × HaveRoom p.room (vec_capacity p.rows - vec_len p.rows)
+        × HaveRowRoom p.room (vec_capacity p.rows - vec_len p.rows)
         (vec_capacity p.lanes - vec_len p.lanes) (length p.present) };
 }
 
@@ -195,10 +196,10 @@ fn set_damaged(rows: &mut Vec<KeptRow>, check: u32)
 /// For how many further rows with a vector each of `n` lanes there is room.
 fn count_room(rows: &Vec<KeptRow>, lanes: &Vec<u32>, n: usize) -> u32
     requires { 0 < n }
-    ensures room { HaveRoom result (vec_capacity rows.now - vec_len rows.now)
+    ensures room { HaveRowRoom result (vec_capacity rows.now - vec_len rows.now)
         (vec_capacity lanes.now - vec_len lanes.now) n }
     ensures most { (k : ℕ) → k < 4294967296
-        → HaveRoom k (vec_capacity rows.now - vec_len rows.now)
+        → HaveRowRoom k (vec_capacity rows.now - vec_len rows.now)
         (vec_capacity lanes.now - vec_len lanes.now) n → k ≤ result }
 {
     let vectors = (lanes.capacity() - lanes.len()) / n;
@@ -292,7 +293,8 @@ impl ProcessRows {
     fn hear(&mut self, message: &MsgName)
         requires { message.now.from < length self.old.present }
         ensures rows { self.new.rows ≡ self.old.rows }
-        ensures present { self.new.present ≡ noted self.old.present (nearest message.now) }
+        ensures present { self.new.present
+            ≡ lanes_with_message self.old.present (nearest message.now) }
         ensures room { self.new.room ≡ self.old.room }
     {
         self.present.note(&nearest(message));
@@ -326,10 +328,12 @@ impl ProcessRows {
     pub fn append(&mut self, event: &EventRef<'_>, place: u32, sends: u32)
         requires few { length self.old.rows ≤ MOST_EVENTS }
         requires room { 0 < self.old.room }
-        requires named { NamesBelow (length self.old.present) (shown event.now) }
+        requires named { NamesBelow (length self.old.present) (event_of_ref event.now) }
         ensures rows { self.new.rows
-            ≡ with_row self.old.rows (row_added place sends self.old.present (shown event.now)) }
-        ensures present { self.new.present ≡ heard_more self.old.present (shown event.now) }
+            ≡ with_row self.old.rows
+            (row_added place sends self.old.present (event_of_ref event.now)) }
+        ensures present { self.new.present
+            ≡ vector_after_event self.old.present (event_of_ref event.now) }
         ensures lanes { length self.new.present ≡ length self.old.present }
         ensures room { self.old.room ≤ self.new.room + 1 }
     {
@@ -351,7 +355,7 @@ impl ProcessRows {
         ensures rows { self.new.rows
             ≡ with_row self.old.rows (row_added (length tape.now.events + 1)
             (sends tape.now.events) self.old.present event.now) }
-        ensures present { self.new.present ≡ heard_more self.old.present event.now }
+        ensures present { self.new.present ≡ vector_after_event self.old.present event.now }
         ensures lanes { length self.new.present ≡ length self.old.present }
         ensures room { self.old.room ≤ self.new.room + 1 }
     {

@@ -6,7 +6,7 @@ ghost use Rattle.line_tape.specs.Event.{sends};
 ghost use Rattle.line_tape.specs.Fit.{IsSentTo};
 ghost use Rattle.line_tape.specs.Line.{events_before, IsLine};
 ghost use Rattle.line_catalogue.specs.Known.{AreReceived};
-ghost use Rattle.line_catalogue.specs.Left.{open_first, AreLeft, AreSettled, HasOpen, HaveLeft};
+ghost use Rattle.line_catalogue.specs.Left.{open_first, AreLeft, AreSettledUpTo, HasOpen, HaveLeft};
 
 use crate::candidates::candidates;
 use crate::ends::ends_before;
@@ -168,7 +168,7 @@ pub fn find_settled(
 ) -> Result<Settled, AllocError>
     requires line { IsLine history.now.processes line.now }
     requires left { AreLeft history.now.processes starts.now places.now left.now }
-    ensures { IfOk result (λ settled. AreSettled history.now.processes line.now
+    ensures { IfOk result (λ settled. AreSettledUpTo history.now.processes line.now
         settled.starts.items settled.left.items) }
 {
     let n = history.n();

@@ -6,13 +6,14 @@ ghost use Rattle.line_names.specs.Lines.{choice_at};
 ghost use Rattle.line_tape.specs.declared.events.Event.{Event};
 ghost use Rattle.line_tape.specs.Event.{checks, sends, NamesBelow};
 ghost use Rattle.line_tape.specs.History.{tape_at};
-ghost use Rattle.line_tape.specs.Shown.{shown};
+ghost use Rattle.line_tape.specs.Shown.{event_of_ref};
 ghost use Rattle.line_tape.specs.Survival.{is_damaged};
 ghost use Rattle.line_tape.specs.Views.{damaged_at};
 ghost use Rattle.line_vectors.specs.Reach.{reach_of};
 ghost use Rattle.line_catalogue.specs.Damage.{AreOnChecks};
 ghost use Rattle.line_catalogue.specs.Kept.{present_at, rows_at};
-ghost use Rattle.line_catalogue.specs.Rows.{AreInStep, AreRows, WithPlaces, heard_more, row_added};
+ghost use Rattle.line_catalogue.specs.Rows.{AreInStep, AreRows, WithPlaces, vector_after_event};
+ghost use Rattle.line_catalogue.specs.Rows.{row_added};
 ghost use Rattle.line_catalogue.specs.Rows.{rows_kept, vector_at, with_damage, with_row};
 
 use crate::kept_rows::Rows;
@@ -35,12 +36,12 @@ impl Model for RowTable {
 
     ghost Value = { TableView };
 
-    ghost use Rattle.line_catalogue.specs.Plain.{plain, present_of, room_of};
+    ghost use Rattle.line_catalogue.specs.Plain.{check_rows_of, present_of, rows_room};
 
     ghost view = { λ t. record {
-      rows = map plain t.table.items;
+      rows = map check_rows_of t.table.items;
       presents = map present_of t.table.items;
-      rooms = map room_of t.table.items;
+      rooms = map rows_room t.table.items;
     } };
 }
 
@@ -48,7 +49,7 @@ impl Model for RowTable {
 fn sends_with(event: &EventRef<'_>, before: u32) -> u32
     requires { before < MOST_EVENTS }
     ensures { (tape : List Event) → before ≡ sends tape
-        → result ≡ sends (tape ++ shown event.now ∷ []) }
+        → result ≡ sends (tape ++ event_of_ref event.now ∷ []) }
 {
     match event {
         EventRef::Send { .. } => before + 1,
@@ -184,7 +185,7 @@ impl RowTable {
             (present_at self.old.presents p) event.now)) }
         ensures presents { self.new.presents
             ≡ slice_set self.old.presents p
-            (heard_more (present_at self.old.presents p) event.now) }
+            (vector_after_event (present_at self.old.presents p) event.now) }
         ensures room { slice_index_or self.old.rooms p 0 ≤ slice_index_or self.new.rooms p 0 + 1 }
         ensures others { (q : ℕ) → q ≢ p
             → slice_index_or self.new.rooms q 0 ≡ slice_index_or self.old.rooms q 0 }

@@ -8,7 +8,7 @@ use Rattle.line_names.specs.declared.choices.Choice.{Choice}
 use Rattle.line_names.specs.Lines.{choice_at}
 use Rattle.line_tape.specs.declared.events.Event.TheVariants.{Recv}
 use Rattle.line_tape.specs.declared.limits.TheConstants.{MOST_EVENTS}
-use Rattle.line_tape.specs.Chain.{next_lower, first_ceilings, lowered, LeadsTo, IsRight, IsChain, IsLed}
+use Rattle.line_tape.specs.Chain.{next_lower, first_ceilings, lowered_ceilings, LeadsTo, IsRight, IsChain, IsLed}
 use Rattle.line_tape.specs.Height.{height}
 use Rattle.line_tape.specs.History.{Process, IsHistory}
 use Rattle.line_tape.specs.Views.{MarksView}
@@ -29,18 +29,18 @@ module _ (history : List Process) (marks : MarksView) (failed : List Bool) where
   -- a chain goes on from the ceilings that its first entries leave
   led-rest : (start ceilings line : List Choice) (entries rest : List Passed) → LeadsTo history marks failed start entries ceilings → LeadsTo history marks failed start (entries ++ rest) line → LeadsTo history marks failed ceilings rest line
   led-rest start ceilings line [] rest e l = subst (λ (c : List Choice). LeadsTo history marks failed c rest line) e l
-  led-rest start ceilings line (first ∷ entries) rest (r, l) (s, m) = led-rest (lowered history marks failed start first.at) ceilings line entries rest l m
+  led-rest start ceilings line (first ∷ entries) rest (r, l) (s, m) = led-rest (lowered_ceilings history marks failed start first.at) ceilings line entries rest l m
 
   -- entries lead to one line alone
   led-same : (start ceilings line : List Choice) (entries : List Passed) → LeadsTo history marks failed start entries ceilings → LeadsTo history marks failed start entries line → ceilings ≡ line
   led-same start ceilings line [] d e = sym d ∙ e
-  led-same start ceilings line (first ∷ entries) (r, l) (s, m) = led-same (lowered history marks failed start first.at) ceilings line entries l m
+  led-same start ceilings line (first ∷ entries) (r, l) (s, m) = led-same (lowered_ceilings history marks failed start first.at) ceilings line entries l m
 
   -- each entry that is right costs height
   height-led : (ceilings line : List Choice) (entries : List Passed) → length ceilings ≡ length history → LeadsTo history marks failed ceilings entries line → length entries + height history line ≤ height history ceilings
   height-led ceilings line [] e l = omega (arith, ap (height history) l)
   height-led ceilings line (first ∷ entries) e (r, l) = elim (cases_lt first.at (length history)) [
-    | inl within ↦ omega (arith, height-lowered history marks failed ceilings first.at first.message within e r.orphan, height-led (lowered history marks failed ceilings first.at) line entries (length-set ceilings first.at (next_lower history marks failed first.at (choice_at ceilings first.at)) ∙ e) l)
+    | inl within ↦ omega (arith, height-lowered history marks failed ceilings first.at first.message within e r.orphan, height-led (lowered_ceilings history marks failed ceilings first.at) line entries (length-set ceilings first.at (next_lower history marks failed first.at (choice_at ceilings first.at)) ∙ e) l)
     | inr past ↦ absurd (Contains-past history ceilings first.at (Recv first.message) past r.orphan.received)
   ]
 
@@ -50,10 +50,10 @@ module _ (history : List Process) (marks : MarksView) (failed : List Bool) where
       omega (arith, length-take-le k entries h, height-led (first_ceilings history marks failed) ceilings (take k entries) (first-length history marks failed) led, height-first history marks failed is_history)
 
   -- one right entry more
-  pub led-more : (entries : List Passed) (k : ℕ) (ceilings : List Choice) (entry : Passed) → k < length entries → entry ≡ get_or entries k entry → IsLed history marks failed (take k entries) ceilings → IsRight history ceilings entry → IsLed history marks failed (take (k + 1) entries) (lowered history marks failed ceilings entry.at)
+  pub led-more : (entries : List Passed) (k : ℕ) (ceilings : List Choice) (entry : Passed) → k < length entries → entry ≡ get_or entries k entry → IsLed history marks failed (take k entries) ceilings → IsRight history ceilings entry → IsLed history marks failed (take (k + 1) entries) (lowered_ceilings history marks failed ceilings entry.at)
   led-more entries k ceilings entry h is led right =
       let more : take (k + 1) entries ≡ take k entries ++ entry ∷ [] = take_more entries k entry h ∙ ap (λ (e : Passed). take k entries ++ e ∷ []) (sym is) in
-      subst (λ (es : List Passed). IsLed history marks failed es (lowered history marks failed ceilings entry.at)) (sym more) (LeadsTo-push history marks failed (first_ceilings history marks failed) (take k entries) ceilings entry led right)
+      subst (λ (es : List Passed). IsLed history marks failed es (lowered_ceilings history marks failed ceilings entry.at)) (sym more) (LeadsTo-push history marks failed (first_ceilings history marks failed) (take k entries) ceilings entry led right)
 
   -- no chain has an entry with a fault
   wrong-led : (entries : List Passed) (line : List Choice) (k : ℕ) (entry : Passed) (ceilings : List Choice) (code : FaultCode) → IsLed history marks failed (take k entries) ceilings → slice_get entries k ≡ Some entry → IsEntryFault history ceilings entry code

@@ -15,8 +15,8 @@ use Rattle.line_claims.specs.declared.faults.TextFault.{TextFault}
 use Rattle.line_claims.specs.declared.numbers.TheConstants.{MOST_NUMBER}
 use Rattle.line_claims.specs.Events.{is_event}
 use Rattle.line_claims.specs.Histories.{event_at, front_of, head_in, tape_from, tape_of, tapes_from}
-use Rattle.line_claims.specs.Parts.{Part, begins, many, named, one}
-use Rattle.line_claims.specs.Ranges.{IsHistoryInRange, IsInRange, IsTapeInRange}
+use Rattle.line_claims.specs.Parts.{Part, begins, many, is_named, one}
+use Rattle.line_claims.specs.Ranges.{IsHistoryInRange, IsEventInRange, IsTapeInRange}
 use Rattle.line_claims.specs.Records.{event_record, front_records, tape_record, tapes_records}
 use Rattle.line_claims.specs.Texts.{history_of}
 use Rattle.line_claims.specs.Versions.{IsVersion, most_in}
@@ -37,7 +37,7 @@ part_to x number left = record { value = x; number = number; left = left }
 
 -- a record with the name that is asked for
 pub one_again : {A : Type 0} (name : List ℕ) (read : Record → Result A Fault) (i : ℕ) (r : Record) (rest : List Record) (x : A)
-    → named name r ≡ true → read r ≡ Ok x → one name read i (r ∷ rest) ≡ Ok (part_to x (i + 1) rest)
+    → is_named name r ≡ true → read r ≡ Ok x → one name read i (r ∷ rest) ≡ Ok (part_to x (i + 1) rest)
 unfolding one
 one_again name read i r rest x it h = rw (it, h) refl
 
@@ -55,7 +55,7 @@ incarnation_between done after h b inc is at =
 
 -- the events of a tape are read one after another
 events_again : (n : ℕ) (done after : List Process) (inc : ℕ) (tape events : List Event) (more : List Record) (i : ℕ)
-    → length done + (1 + length after) ≡ n → n ≤ MOST_PROCESSES → length tape + length events ≤ MOST_EVENTS → AllByRecursion (IsInRange n) events
+    → length done + (1 + length after) ≡ n → n ≤ MOST_PROCESSES → length tape + length events ≤ MOST_EVENTS → AllByRecursion (IsEventInRange n) events
     → (j : ℕ) × (many is_event (event_at (length done)) (between done (process_with inc tape) after) i (map event_record events ++ more)
     ≡ many is_event (event_at (length done)) (between done (process_with inc (tape ++ events)) after) j more)
 events_again n done after inc tape [] more i is few room fit =
@@ -77,7 +77,7 @@ events_again n done after inc tape (event ∷ events) more i is few room fit =
 -- a tape is read with its events
 tape_from_again : (n : ℕ) (done after h : List Process) (b inc : ℕ) (tape : List Event) (more : List Record) (i : ℕ)
     → begins is_event more ≡ false → h ≡ between done fresh after → b ≡ length done → length done + (1 + length after) ≡ n → n ≤ MOST_PROCESSES
-    → inc ≤ LAST_INCARNATION → length tape ≤ MOST_EVENTS → AllByRecursion (IsInRange n) tape
+    → inc ≤ LAST_INCARNATION → length tape ≤ MOST_EVENTS → AllByRecursion (IsEventInRange n) tape
     → (j : ℕ) × (tape_from b h i (tape_record b inc ∷ (map event_record tape ++ more)) ≡ Ok (part_to (between done (process_with inc tape) after) j more))
 unfolding tape_from
 tape_from_again n done after h b inc tape more i ends is at total few small short fit =

@@ -1,24 +1,23 @@
 -- A claim that is written is read again.
 use Rattle.std.proofs.Common.{cond, ◌≡◌, ◌≤◌, ◌<◌, ℕ, suc, ◌+◌, ◌==◌, ◌&&◌, not, Bool, true, false, Option, Some, None, List, [], ◌∷◌, ◌++◌, length, Result, Ok, refl, sym, ap, ◌∙◌, arith, append_assoc, length-append}
-use Rattle.std.specs.Prelude.{codes, map, replicate}
+use Rattle.std.specs.Prelude.{codes, map, nat_le, replicate}
 use Rattle.std.specs.List.{AllByRecursion, list_any}
-use Rattle.std.specs.Option.{is_some}
+use Rattle.std.specs.Option.{is_some, option_map_or}
 use Rattle.std.proofs.Math.ListN.{set}
 use Rattle.std.proofs.Math.Seq.{get_or-append_seam, set-append_seam}
 use Rattle.std.proofs.lemmas.List.{append-nil}
 use Rattle.line_names.specs.declared.certificates.Passed.{Passed}
 use Rattle.line_names.specs.declared.choices.Choice.{Choice}
-use Rattle.line_names.specs.declared.choices.Choice.TheVariants.{Check as AtCheck}
 use Rattle.line_names.specs.declared.limits.TheConstants.{MOST_PROCESSES}
 use Rattle.line_fields.specs.declared.faults.Fault.{Fault}
 use Rattle.line_fields.specs.Records.{Record}
-use Rattle.line_tape.specs.Survival.{is_allowed, is_barred, is_damaged}
+use Rattle.line_tape.specs.Survival.{is_barred, is_damaged}
 use Rattle.line_tape.specs.Views.{MarksView, no_marks, with_bar, with_mark}
 use Rattle.line_claims.specs.declared.faults.TextFault.{TextFault}
 use Rattle.line_claims.specs.Claims.{Claim, claim_from, is_bar}
 use Rattle.line_claims.specs.Entries.{bar_of, damage_of, end_of, entry_of, failed_of, line_of}
 use Rattle.line_claims.specs.Events.{is_event}
-use Rattle.line_claims.specs.Parts.{Part, begins, many, named}
+use Rattle.line_claims.specs.Parts.{Part, begins, many, is_named}
 use Rattle.line_claims.specs.Ranges.{AreMarks, IsBar, IsClaimInRange, IsEntryInRange}
 use Rattle.line_claims.specs.Records.{bar_record, bars_records, claim_records, damage_record, damages_records, end_record, failed_record, judged_records, line_record, pass_record, version_of}
 use Rattle.line_claims.specs.Versions.{earliest_version}
@@ -31,7 +30,7 @@ marks_of bars damaged = record { damaged = damaged; bars = bars }
 
 -- the marks of records, behind those so far
 abbrev marks_from : ℕ → MarksView → ℕ → List Record → Result (Part MarksView) TextFault
-marks_from n marks i records = many (named (codes "damage")) (damage_of n) marks i records
+marks_from n marks i records = many (is_named (codes "damage")) (damage_of n) marks i records
 
 mark_between : (bars : List (Option ℕ)) (done after : List (List ℕ)) (front : List ℕ) (check : ℕ) → with_mark (marks_of bars (done ++ front ∷ after)) (length done) check ≡ marks_of bars (done ++ (front ++ check ∷ []) ∷ after)
 mark_between bars done after front check =
@@ -50,7 +49,7 @@ marks_again n bars done after front (check ∷ checks) more i few there fit =
     let ok : MarksView → Result MarksView Fault = λ m. Ok m in
     let read : damage_of n marks (damage_record (length done) check) ≡ Ok next
     = damage_again n (length done) check marks few there fit.0 fit.1 new ∙ ap ok (mark_between bars done after front check) in
-    let first = first_more (named (codes "damage")) (damage_of n) marks next i (damage_record (length done) check) (map (damage_record (length done)) checks ++ more) refl read in
+    let first = first_more (is_named (codes "damage")) (damage_of n) marks next i (damage_record (length done) check) (map (damage_record (length done)) checks ++ more) refl read in
     let rest = marks_again n bars done after (front ++ check ∷ []) checks more (i + 1) few there fit.3 in
     (rest.0, first ∙ rest.1 ∙ ap (λ (listed : List ℕ). marks_from n (marks_of bars (done ++ listed ∷ after)) rest.0 more) (append_assoc front (check ∷ []) checks))
 
@@ -79,7 +78,7 @@ damages_again n bars done (checks ∷ others) p i more few at room fit =
 
 -- the entries of records, behind those so far
 abbrev entries_from : ℕ → List Passed → ℕ → List Record → Result (Part (List Passed)) TextFault
-entries_from n entries i records = many (named (codes "pass")) (entry_of n) entries i records
+entries_from n entries i records = many (is_named (codes "pass")) (entry_of n) entries i records
 
 -- the entries are read one after another
 passes_again : (n : ℕ) (front entries : List Passed) (more : List Record) (i : ℕ) → n ≤ MOST_PROCESSES → AllByRecursion (IsEntryInRange n) entries
@@ -87,7 +86,7 @@ passes_again : (n : ℕ) (front entries : List Passed) (more : List Record) (i :
 passes_again n front [] more i few fit = (i, ap (λ (entries : List Passed). entries_from n entries i more) (sym (append-nil front)))
 passes_again n front (entry ∷ entries) more i few fit =
     let next : List Passed = front ++ entry ∷ [] in
-    let first = first_more (named (codes "pass")) (entry_of n) front next i (pass_record entry) (map pass_record entries ++ more) refl (entry_again n front entry few fit.0) in
+    let first = first_more (is_named (codes "pass")) (entry_of n) front next i (pass_record entry) (map pass_record entries ++ more) refl (entry_again n front entry few fit.0) in
     let rest = passes_again n next entries more (i + 1) few fit.1 in
     (rest.0, first ∙ rest.1 ∙ ap (λ (listed : List Passed). entries_from n listed rest.0 more) (append_assoc front (entry ∷ []) entries))
 
@@ -126,7 +125,7 @@ bars_again version n damaged done (Some check ∷ others) p i more few at room f
     let marks : MarksView = marks_of (done ++ None ∷ after) damaged in
     let next : MarksView = marks_of (done ++ Some check ∷ after) damaged in
     let there : length done < n = omega arith in
-    let lower : is_barred marks (length done) check ≡ false = ap (λ (bar : Option ℕ). not (is_allowed bar (AtCheck (suc check)))) (get_or-append_seam done None after None) in
+    let lower : is_barred marks (length done) check ≡ false = ap (λ (bar : Option ℕ). option_map_or (λ (c : ℕ). nat_le c check) bar false) (get_or-append_seam done None after None) in
     let ok : MarksView → Result MarksView Fault = λ m. Ok m in
     let read : bar_of n marks (bar_record (length done) check) ≡ Ok next = bar_again n (length done) check marks few there fit.0 lower ∙ ap ok (bar_between damaged done after check) in
     let known : is_bar version (bar_record (length done) check) ≡ true = rw (knows refl) refl in
@@ -142,7 +141,7 @@ bars_again version n damaged done (Some check ∷ others) p i more few at room f
 
 -- no bar is a mark of damage
 bars_end_damage : (p n : ℕ) (bars : List (Option ℕ)) (failed : List Bool) (line : List Choice) (entries : List Passed)
-    → begins (named (codes "damage")) (bars_records p bars ++ judged_records n failed line entries) ≡ false
+    → begins (is_named (codes "damage")) (bars_records p bars ++ judged_records n failed line entries) ≡ false
 bars_end_damage p n [] failed line entries = refl
 bars_end_damage p n (None ∷ others) failed line entries = bars_end_damage (p + 1) n others failed line entries
 bars_end_damage p n (Some check ∷ others) failed line entries = refl
@@ -170,7 +169,7 @@ claim_again claim i fit =
     let damage : marks_from n (no_marks n) i (claim_records claim) ≡ Ok (part_to (marks_of free damaged) marked.0 barred)
     = ap (λ (marks : MarksView). marks_from n marks i (claim_records claim)) begun
     ∙ ap (marks_from n (marks_of free (replicate n [])) i) (append_assoc (damages_records 0 damaged) (bars_records 0 bars) judged)
-    ∙ marked.1 ∙ many_end (named (codes "damage")) (damage_of n) (marks_of free damaged) marked.0 barred (bars_end_damage 0 n bars claim.failed claim.line claim.certificate) in
+    ∙ marked.1 ∙ many_end (is_named (codes "damage")) (damage_of n) (marks_of free damaged) marked.0 barred (bars_end_damage 0 n bars claim.failed claim.line claim.certificate) in
     let all : 0 + length bars ≤ n = omega (arith, same) in
     let told = bars_again version n damaged [] bars 0 marked.0 judged few refl all fit.bars (λ some. two_if (list_any is_some bars) (earliest_version n) some) in
     let marks : bars_from version n (marks_of free damaged) marked.0 barred ≡ Ok (part_to claim.marks told.0 judged)
@@ -179,7 +178,7 @@ claim_again claim i fit =
     let line = one_again (codes "line") (line_of version) (told.0 + 1) (line_record claim.line) passes claim.line refl (line_again version claim.line fit.some fit.short fit.choices) in
     let listed = passes_again n [] claim.certificate (end_record ∷ []) ((told.0 + 1) + 1) fit.few fit.entries in
     let entries : entries_from n [] ((told.0 + 1) + 1) passes ≡ Ok (part_to claim.certificate listed.0 (end_record ∷ []))
-    = listed.1 ∙ many_end (named (codes "pass")) (entry_of n) claim.certificate listed.0 (end_record ∷ []) refl in
+    = listed.1 ∙ many_end (is_named (codes "pass")) (entry_of n) claim.certificate listed.0 (end_record ∷ []) refl in
     let end = one_again (codes "end") end_of listed.0 end_record [] tt refl refl in
     rw (damage, marks, failed, line, entries, end) refl
 

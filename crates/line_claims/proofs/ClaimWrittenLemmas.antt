@@ -17,7 +17,7 @@ use Rattle.line_claims.specs.declared.numbers.TheConstants.{MOST_NUMBER}
 use Rattle.line_claims.specs.Claims.{Claim}
 use Rattle.line_claims.specs.Ranges.{AreMarks, IsBar, IsChoice, IsClaimInRange, IsEntryInRange, IsHistoryInRange}
 use Rattle.line_claims.specs.Records.{bars_records, choice_text, claim_records, damage_record, damages_records, end_record, front_records, judged_records, marks_records, members, pass_record, version_of}
-use Rattle.line_claims.specs.Texts.{certificate_of, certificate_of_text, check_of, check_of_text}
+use Rattle.line_claims.specs.Texts.{certificate_of, certificate_of_text, check_text_of, check_of_text}
 use Rattle.line_claims.specs.Versions.{IsVersion, most_in}
 use Rattle.line_claims.proofs.AgainLemmas.{first_again, front_again}
 use Rattle.line_claims.proofs.ClaimAgainLemmas.{claim_again, claim_ends_front}
@@ -100,7 +100,7 @@ claim_text_again claim fit =
 -- a history and a claim on it are read again
 pub check_text_again : (history : List Process) (claim : Claim) → IsHistoryInRange history → IsClaimInRange claim → length claim.marks.damaged ≡ length history
     → check_of_text (records_text (front_records (version_of claim.marks) history ++ claim_records claim)) ≡ Ok (record { history = history; claim = claim })
-unfolding check_of
+unfolding check_text_of
 check_text_again history claim fit good same =
     let version : ℕ = version_of claim.marks in
     let n : ℕ = length claim.marks.damaged in

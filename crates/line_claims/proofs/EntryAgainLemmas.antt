@@ -16,7 +16,7 @@ use Rattle.line_tape.specs.Views.{MarksView, with_bar, with_mark}
 use Rattle.line_fields.specs.declared.faults.Fault.{Fault}
 use Rattle.line_fields.specs.Shapes.{two, five}
 use Rattle.line_claims.specs.declared.numbers.TheConstants.{MOST_NUMBER}
-use Rattle.line_claims.specs.Entries.{bar_of, barred, damage_of, entry_of, failed_of, line_of, marked, passed_of}
+use Rattle.line_claims.specs.Entries.{bar_of, one_bar_more, damage_of, entry_of, failed_of, line_of, one_mark_more, passed_of}
 use Rattle.line_claims.specs.Numbers.{choice, choices, numbers}
 use Rattle.line_claims.specs.Ranges.{IsChoice, IsEntryInRange}
 use Rattle.line_claims.specs.Records.{bar_record, choice_text, damage_record, failed_record, line_record, members, pass_record}
@@ -25,14 +25,14 @@ use Rattle.line_claims.proofs.SpellLemmas.{incarnation_again, not_word, plain_ag
 
 pub damage_again : (n p check : ℕ) (marks : MarksView) → n ≤ MOST_PROCESSES → p < n → 1 ≤ check → check ≤ MOST_NUMBER → is_damaged marks p check ≡ false
     → damage_of n marks (damage_record p check) ≡ Ok (with_mark marks p check)
-unfolding damage_of marked two
+unfolding damage_of one_mark_more two
 damage_again n p check marks few there some wide new =
     let later : (check == 0) ≡ false = ne_eqb check 0 (λ e. omega arith) in
     rw (plain_again p (omega arith), plain_again check wide, lt-ltb p n there, later, new) refl
 
 pub bar_again : (n p check : ℕ) (marks : MarksView) → n ≤ MOST_PROCESSES → p < n → check ≤ MOST_NUMBER → is_barred marks p check ≡ false
     → bar_of n marks (bar_record p check) ≡ Ok (with_bar marks p check)
-unfolding bar_of barred two
+unfolding bar_of one_bar_more two
 bar_again n p check marks few there wide lower = rw (plain_again p (omega arith), plain_again check wide, lt-ltb p n there, lower) refl
 
 pub choice_again : (c : Choice) → IsChoice c → choice (choice_text c) ≡ Ok c

@@ -15,15 +15,15 @@ use Rattle.line_claims.specs.Claims.{claim_from, is_bar, is_none}
 use Rattle.line_claims.specs.Entries.{bar_of, damage_of, end_of, entry_of, failed_of, line_of}
 use Rattle.line_claims.specs.Events.{is_event}
 use Rattle.line_claims.specs.Histories.{event_at, front_of, head_in, head_of, tape_from, tape_of, tapes_from}
-use Rattle.line_claims.specs.Parts.{Part, begins, first, many, named, one}
-use Rattle.line_claims.specs.Reads.{FailsText, IsOfText, fault_at, no_memory, numbered, told}
-use Rattle.line_claims.specs.Texts.{certificate_of, certificate_of_text, check_of, check_of_text, history_of, history_of_text, records_in}
+use Rattle.line_claims.specs.Parts.{Part, begins, first, many, is_named, one}
+use Rattle.line_claims.specs.Reads.{FailsText, IsOfText, fault_of_record, no_memory, at_record, fault_of_error}
+use Rattle.line_claims.specs.Texts.{certificate_of, certificate_of_text, check_text_of, check_of_text, history_of, history_of_text, records_in}
 
 -- each fault that is read is one of the text
 abbrev pub OnlyOfText : {A : Type 0} → Result A TextFault → Type 0
 OnlyOfText read = IfErr read IsOfText
 
-pub code_is_of_text : (i : ℕ) (fault : Fault) → IsOfText (fault_at i fault)
+pub code_is_of_text : (i : ℕ) (fault : Fault) → IsOfText (fault_of_record i fault)
 code_is_of_text i faults.NoSuchProcess = inl (omega arith, omega arith)
 code_is_of_text i faults.BodyTooLong = inl (omega arith, omega arith)
 code_is_of_text i faults.TapeFull = inl (omega arith, omega arith)
@@ -37,7 +37,7 @@ code_is_of_text i faults.BadNumber = inl (omega arith, omega arith)
 code_is_of_text i faults.NoWorld = inl (omega arith, omega arith)
 code_is_of_text i faults.BadVersion = inl (omega arith, omega arith)
 
-pub numbered_faults : {A : Type 0} (i : ℕ) (read : Result A Fault) → OnlyOfText (numbered i read)
+pub numbered_faults : {A : Type 0} (i : ℕ) (read : Result A Fault) → OnlyOfText (at_record i read)
 numbered_faults i (Ok x) = tt
 numbered_faults i (Err fault) = code_is_of_text i fault
 
@@ -51,26 +51,26 @@ pub fault_is_of_text : {A : Type 0} (read : Result A TextFault) (fault : TextFau
 fault_is_of_text {A} read fault all h = subst (λ (r : Result A TextFault). IfErr r IsOfText) h all
 
 -- what a caller is told is want of memory, or a fault of the text
-pub told_codes : {A : Type 0} (error : TextError) (read : Result A TextFault) → OnlyOfText read → FailsText error read → (told error ≡ no_memory) ⊎ IsOfText (told error)
+pub told_codes : {A : Type 0} (error : TextError) (read : Result A TextFault) → OnlyOfText read → FailsText error read → (fault_of_error error ≡ no_memory) ⊎ IsOfText (fault_of_error error)
 told_codes errors.OutOfMemory read all h = inl refl
 told_codes (errors.Fault fault) read all h = inr (fault_is_of_text read fault all h)
 
 head_faults : (records : List Record) → OnlyOfText (head_in records)
-head_faults records = numbered_faults 1 (want (begins (named (codes "history")) records) faults.NoWorld >>= λ it. head_of (first records))
+head_faults records = numbered_faults 1 (want (begins (is_named (codes "history")) records) faults.NoWorld >>= λ it. head_of (first records))
 
 one_faults : {A : Type 0} (name : List ℕ) (read : Record → Result A Fault) (i : ℕ) (records : List Record) → OnlyOfText (one name read i records)
 unfolding one
 one_faults name read i records =
-    let next = want (begins (named name) records) faults.BadRecord >>= λ it. read (first records) in
-    both_faults (numbered i next) _ (numbered_faults i next) (λ x. tt)
+    let next = want (begins (is_named name) records) faults.BadRecord >>= λ it. read (first records) in
+    both_faults (at_record i next) _ (numbered_faults i next) (λ x. tt)
 
 many_faults : {A : Type 0} (is : Record → Bool) (read : A → Record → Result A Fault) (before : A) (i : ℕ) (records : List Record) → OnlyOfText (many is read before i records)
 unfolding many
 many_faults is read before i [] = tt
 many_faults {A} is read before i (r ∷ rest) =
     let stop : Result (Part A) TextFault = Ok (record { value = before; number = i; left = r ∷ rest }) in
-    elim (is r) as (λ b. OnlyOfText (cond b (numbered i (read before r) >>= λ more. many is read more (i + 1) rest) stop)) [
-      | true ↦ both_faults (numbered i (read before r)) _ (numbered_faults i (read before r)) (λ more. many_faults is read more (i + 1) rest)
+    elim (is r) as (λ b. OnlyOfText (cond b (at_record i (read before r) >>= λ more. many is read more (i + 1) rest) stop)) [
+      | true ↦ both_faults (at_record i (read before r)) _ (numbered_faults i (read before r)) (λ more. many_faults is read more (i + 1) rest)
       | false ↦ tt
     ]
 
@@ -93,27 +93,27 @@ front_of_faults n records = tapes_faults 0 n (replicate n fresh) 2 (drop 1 recor
 claim_faults : (version n i : ℕ) (records : List Record) → OnlyOfText (claim_from version n i records)
 unfolding claim_from
 claim_faults version n i records =
-    both_faults (many (named (codes "damage")) (damage_of n) (no_marks n) i records) _ (many_faults (named (codes "damage")) (damage_of n) (no_marks n) i records)
+    both_faults (many (is_named (codes "damage")) (damage_of n) (no_marks n) i records) _ (many_faults (is_named (codes "damage")) (damage_of n) (no_marks n) i records)
     (λ damage. both_faults (many (is_bar version) (bar_of n) damage.value damage.number damage.left) _ (many_faults (is_bar version) (bar_of n) damage.value damage.number damage.left)
     (λ marks. both_faults (one (codes "failed") (failed_of n) marks.number marks.left) _ (one_faults (codes "failed") (failed_of n) marks.number marks.left)
     (λ failed. both_faults (one (codes "line") (line_of version) failed.number failed.left) _ (one_faults (codes "line") (line_of version) failed.number failed.left)
-    (λ line. both_faults (many (named (codes "pass")) (entry_of n) [] line.number line.left) _ (many_faults (named (codes "pass")) (entry_of n) [] line.number line.left)
+    (λ line. both_faults (many (is_named (codes "pass")) (entry_of n) [] line.number line.left) _ (many_faults (is_named (codes "pass")) (entry_of n) [] line.number line.left)
     (λ entries. both_faults (one (codes "end") end_of entries.number entries.left) _ (one_faults (codes "end") end_of entries.number entries.left)
-    (λ end. both_faults (numbered end.number (want (is_none end.left) faults.BadRecord)) _ (numbered_faults end.number (want (is_none end.left) faults.BadRecord)) (λ last. tt)))))))
+    (λ end. both_faults (at_record end.number (want (is_none end.left) faults.BadRecord)) _ (numbered_faults end.number (want (is_none end.left) faults.BadRecord)) (λ last. tt)))))))
 
 history_faults : (records : List Record) → OnlyOfText (history_of records)
 unfolding history_of
 history_faults records =
     both_faults (head_in records) _ (head_faults records)
     (λ head. both_faults (front_of head.1 records) _ (front_of_faults head.1 records)
-    (λ front. both_faults (numbered front.number (want (is_none front.left) faults.BadRecord)) _ (numbered_faults front.number (want (is_none front.left) faults.BadRecord)) (λ ended. tt)))
+    (λ front. both_faults (at_record front.number (want (is_none front.left) faults.BadRecord)) _ (numbered_faults front.number (want (is_none front.left) faults.BadRecord)) (λ ended. tt)))
 
 certificate_faults : (version n : ℕ) (records : List Record) → OnlyOfText (certificate_of version n records)
 unfolding certificate_of
 certificate_faults version n records = claim_faults version n 1 records
 
-check_faults : (records : List Record) → OnlyOfText (check_of records)
-unfolding check_of
+check_faults : (records : List Record) → OnlyOfText (check_text_of records)
+unfolding check_text_of
 check_faults records =
     both_faults (head_in records) _ (head_faults records)
     (λ head. both_faults (front_of head.1 records) _ (front_of_faults head.1 records)
@@ -121,7 +121,7 @@ check_faults records =
 
 -- of the records of a text
 pub records_faults : (text : List ℕ) → OnlyOfText (records_in text)
-records_faults text = elim (is_input_text text) as (λ b. OnlyOfText (cond b (Ok (records_of_text text)) (Err (fault_at 0 faults.BadRecord)))) [
+records_faults text = elim (is_input_text text) as (λ b. OnlyOfText (cond b (Ok (records_of_text text)) (Err (fault_of_record 0 faults.BadRecord)))) [
   | true ↦ tt
   | false ↦ code_is_of_text 0 faults.BadRecord
 ]
@@ -133,4 +133,4 @@ pub certificate_text_faults : (version n : ℕ) (text : List ℕ) → OnlyOfText
 certificate_text_faults version n text = both_faults (records_in text) (certificate_of version n) (records_faults text) (certificate_faults version n)
 
 pub check_text_faults : (text : List ℕ) → OnlyOfText (check_of_text text)
-check_text_faults text = both_faults (records_in text) check_of (records_faults text) check_faults
+check_text_faults text = both_faults (records_in text) check_text_of (records_faults text) check_faults

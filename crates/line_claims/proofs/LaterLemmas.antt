@@ -19,10 +19,10 @@ use Rattle.line_claims.specs.Claims.{Claim, claim_from, is_bar, is_none}
 use Rattle.line_claims.specs.Entries.{bar_of, damage_of, end_of, entry_of, failed_of, line_of}
 use Rattle.line_claims.specs.Histories.{front_of, head_in, head_of}
 use Rattle.line_claims.specs.Numbers.{choices, plain}
-use Rattle.line_claims.specs.Parts.{Part, begins, first, many, named, one}
-use Rattle.line_claims.specs.Reads.{numbered}
+use Rattle.line_claims.specs.Parts.{Part, begins, first, many, is_named, one}
+use Rattle.line_claims.specs.Reads.{at_record}
 use Rattle.line_claims.specs.Records.{in_version}
-use Rattle.line_claims.specs.Texts.{Check, certificate_of, certificate_of_text, check_of, check_of_text, history_of, history_of_text, records_in}
+use Rattle.line_claims.specs.Texts.{Check, certificate_of, certificate_of_text, check_text_of, check_of_text, history_of, history_of_text, records_in}
 use Rattle.line_claims.specs.Versions.{IsVersion, most_in}
 use Rattle.line_claims.proofs.AgainLemmas.{part_to}
 use Rattle.line_claims.proofs.SpellLemmas.{plain_again}
@@ -35,7 +35,7 @@ then_later : {A B F : Type 0} (read later : Result A F) (next after : A → Resu
 then_later (Ok x) later next after y same more h = rw (same x refl) (more x h)
 then_later (Err fault) later next after y same more h = cc
 
-numbered_later : {A : Type 0} (i : ℕ) (read later : Result A Fault) → ((x : A) → read ≡ Ok x → later ≡ Ok x) → (x : A) → numbered i read ≡ Ok x → numbered i later ≡ Ok x
+numbered_later : {A : Type 0} (i : ℕ) (read later : Result A Fault) → ((x : A) → read ≡ Ok x → later ≡ Ok x) → (x : A) → at_record i read ≡ Ok x → at_record i later ≡ Ok x
 numbered_later i (Ok y) later same x h = rw (same y refl) h
 numbered_later i (Err fault) later same x h = cc
 
@@ -51,12 +51,12 @@ one_later : {A : Type 0} (name : List ℕ) (read later : Record → Result A Fau
     → ((r : Record) (x : A) → read r ≡ Ok x → later r ≡ Ok x) → (part : Part A) → one name read i records ≡ Ok part → one name later i records ≡ Ok part
 unfolding one
 one_later {A} name read later i records same part h =
-    let asked : Result Unit Fault = want (begins (named name) records) faults.BadRecord in
+    let asked : Result Unit Fault = want (begins (is_named name) records) faults.BadRecord in
     let before : Result A Fault = asked >>= λ it. read (first records) in
     let now : Result A Fault = asked >>= λ it. later (first records) in
     let alike : (x : A) → before ≡ Ok x → now ≡ Ok x = λ x k. then_later asked asked (λ it. read (first records)) (λ it. later (first records)) x (λ it l. l) (λ it l. same (first records) x l) k in
     let made : A → Result (Part A) TextFault = λ x. Ok (part_to x (i + 1) (drop 1 records)) in
-    then_later (numbered i before) (numbered i now) made made part (numbered_later i before now alike) (λ x k. k) h
+    then_later (at_record i before) (at_record i now) made made part (numbered_later i before now alike) (λ x k. k) h
 
 -- ---- a claim
 
@@ -77,9 +77,9 @@ line_later r line h =
 -- the claim with these marks, failed processes and line, by what stands behind them
 abbrev behind_line : ℕ → MarksView → List Bool → Part (List Choice) → Result Claim TextFault
 behind_line n marks failed line = do
-  entries ← many (named (codes "pass")) (entry_of n) [] line.number line.left
+  entries ← many (is_named (codes "pass")) (entry_of n) [] line.number line.left
   end ← one (codes "end") end_of entries.number entries.left
-  last ← numbered end.number (want (is_none end.left) faults.BadRecord)
+  last ← at_record end.number (want (is_none end.left) faults.BadRecord)
   Ok (record { marks = marks; failed = failed; line = line.value; certificate = entries.value })
 
 -- with these marks and failed processes
@@ -101,10 +101,10 @@ same_rest n marks claim h =
     then_later failed failed (behind_failed 1 n marks.value) (behind_failed 2 n marks.value) claim (λ x k. k) (same_failed n marks.value claim) h
 
 -- a bar is no list of failed processes
-bar_is_not_failed : (r : Record) → named (codes "bar") r ≡ true → named (codes "failed") r ≡ false
+bar_is_not_failed : (r : Record) → is_named (codes "bar") r ≡ true → is_named (codes "failed") r ≡ false
 bar_is_not_failed r is = ap (λ (name : List ℕ). bytes_eq name (codes "failed")) ((bytes_eq-Decides (field r 0) (codes "bar")).0 is)
 
-not_failed : (n i : ℕ) (m : MarksView) (r : Record) (rest : List Record) (claim : Claim) → named (codes "failed") r ≡ false → behind 1 n (part_to m i (r ∷ rest)) ≡ Ok claim → ⊥
+not_failed : (n i : ℕ) (m : MarksView) (r : Record) (rest : List Record) (claim : Claim) → is_named (codes "failed") r ≡ false → behind 1 n (part_to m i (r ∷ rest)) ≡ Ok claim → ⊥
 unfolding one
 not_failed n i m r rest claim is h = cc (rw is at h)
 
@@ -112,8 +112,8 @@ same_behind : (n i : ℕ) (m : MarksView) (left : List Record) (claim : Claim) �
 unfolding many
 same_behind n i m [] claim h = same_rest n (part_to m i []) claim h
 same_behind n i m (r ∷ rest) claim h =
-    let one_more : Result (Part MarksView) TextFault = numbered i (bar_of n m r) >>= λ more. many (is_bar 2) (bar_of n) more (i + 1) rest in
-    elim (named (codes "bar") r) as (λ (b : Bool). named (codes "bar") r ≡ b → (cond b one_more (Ok (part_to m i (r ∷ rest))) >>= behind 2 n) ≡ Ok claim) [
+    let one_more : Result (Part MarksView) TextFault = at_record i (bar_of n m r) >>= λ more. many (is_bar 2) (bar_of n) more (i + 1) rest in
+    elim (is_named (codes "bar") r) as (λ (b : Bool). is_named (codes "bar") r ≡ b → (cond b one_more (Ok (part_to m i (r ∷ rest))) >>= behind 2 n) ≡ Ok claim) [
       | true ↦ λ is. absurd (not_failed n i m r rest claim (bar_is_not_failed r is) h)
       | false ↦ λ is. same_rest n (part_to m i (r ∷ rest)) claim h
     ] refl
@@ -127,7 +127,7 @@ same_claim : (version n i : ℕ) (records : List Record) (claim : Claim) → ver
 unfolding claim_from
 same_claim version n i records claim is h =
     let before : claim_from 1 n i records ≡ Ok claim = sym (ap (λ (v : ℕ). claim_from v n i records) is) ∙ h in
-    same_marks n (many (named (codes "damage")) (damage_of n) (no_marks n) i records) claim before
+    same_marks n (many (is_named (codes "damage")) (damage_of n) (no_marks n) i records) claim before
 
 same_certificate : (n : ℕ) (records : List Record) (claim : Claim) → certificate_of 1 n records ≡ Ok claim → certificate_of 2 n records ≡ Ok claim
 unfolding certificate_of
@@ -165,7 +165,7 @@ plain_later : (read : Result ℕ Fault) (x : ℕ × ℕ) → (read >>= counted 1
 plain_later (Ok n) x h = count_later n (nat_le 1 n && nat_le n (most_in 1)) x refl h
 plain_later (Err fault) x h = cc
 
-numbered_ok : {A : Type 0} (i : ℕ) (read : Result A Fault) (x : A) → numbered i read ≡ Ok x → read ≡ Ok x
+numbered_ok : {A : Type 0} (i : ℕ) (read : Result A Fault) (x : A) → at_record i read ≡ Ok x → read ≡ Ok x
 numbered_ok i (Ok y) x h = cc
 numbered_ok i (Err fault) x h = cc
 
@@ -174,10 +174,10 @@ head_later : (number : List ℕ) (rest : List Record) (x : ℕ × ℕ) → head_
 head_later number rest x h =
     let read : (plain number >>= counted 1) ≡ Ok x = sym (head_is 1 number (omega arith, omega arith)) ∙ numbered_ok 1 (head_of (codes "history" ∷ decimal 1 ∷ number ∷ [])) x h in
     let both = plain_later (plain number) x read in
-    (both.0, ap (numbered 1) (head_is 2 number (omega arith, omega arith) ∙ both.1))
+    (both.0, ap (at_record 1) (head_is 2 number (omega arith, omega arith) ∙ both.1))
 
 history_with : (number : List ℕ) (rest : List Record) (head : Result (ℕ × ℕ) TextFault) (history : List Process) → head_in (in_version 1 number rest) ≡ head
-    → (head >>= λ x. front_of x.1 (in_version 1 number rest) >>= λ front. numbered front.number (want (is_none front.left) faults.BadRecord) >>= λ ended. Ok front.value) ≡ Ok history
+    → (head >>= λ x. front_of x.1 (in_version 1 number rest) >>= λ front. at_record front.number (want (is_none front.left) faults.BadRecord) >>= λ ended. Ok front.value) ≡ Ok history
     → history_of (in_version 2 number rest) ≡ Ok history
 unfolding history_of front_of
 history_with number rest (Ok x) history is h = rw (head_later number rest x is).1 h
@@ -199,16 +199,16 @@ same_with_claim version n check front is h =
     then_later (claim_from version n front.number front.left) (claim_from 2 n front.number front.left) made made check (λ claim k. same_claim version n front.number front.left claim is k) (λ claim k. k) h
 
 check_with : (number : List ℕ) (rest : List Record) (head : Result (ℕ × ℕ) TextFault) (check : Check) → head_in (in_version 1 number rest) ≡ head
-    → (head >>= λ x. front_of x.1 (in_version 1 number rest) >>= with_claim x.0 x.1) ≡ Ok check → check_of (in_version 2 number rest) ≡ Ok check
-unfolding check_of front_of
+    → (head >>= λ x. front_of x.1 (in_version 1 number rest) >>= with_claim x.0 x.1) ≡ Ok check → check_text_of (in_version 2 number rest) ≡ Ok check
+unfolding check_text_of front_of
 check_with number rest (Ok x) check is h =
     let head = head_later number rest x is in
     let front : Result (Part (List Process)) TextFault = front_of x.1 (in_version 1 number rest) in
     rw head.1 (then_later front front (with_claim x.0 x.1) (with_claim 2 x.1) check (λ y k. k) (λ y k. same_with_claim x.0 x.1 check y head.0 k) h)
 check_with number rest (Err fault) check is h = cc
 
-pub check_later : (number : List ℕ) (rest : List Record) (check : Check) → check_of (in_version 1 number rest) ≡ Ok check → check_of (in_version 2 number rest) ≡ Ok check
-unfolding check_of
+pub check_later : (number : List ℕ) (rest : List Record) (check : Check) → check_text_of (in_version 1 number rest) ≡ Ok check → check_text_of (in_version 2 number rest) ≡ Ok check
+unfolding check_text_of
 check_later number rest check h = check_with number rest (head_in (in_version 1 number rest)) check refl h
 
 -- two texts of such records
@@ -225,4 +225,4 @@ history_text_later number rest text later history is also h =
 pub check_text_later : (number : List ℕ) (rest : List Record) (text later : List ℕ) (check : Check)
     → records_in text ≡ Ok (in_version 1 number rest) → records_in later ≡ Ok (in_version 2 number rest) → check_of_text text ≡ Ok check → check_of_text later ≡ Ok check
 check_text_later number rest text later check is also h =
-    texts_later (records_in text) (records_in later) (in_version 1 number rest) (in_version 2 number rest) check_of check is also (check_later number rest check) h
+    texts_later (records_in text) (records_in later) (in_version 1 number rest) (in_version 2 number rest) check_text_of check is also (check_later number rest check) h

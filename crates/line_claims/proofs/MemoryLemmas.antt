@@ -18,7 +18,7 @@ use Rattle.line_tape.specs.declared.limits.TheConstants.{LAST_INCARNATION, LAST_
 use Rattle.line_tape.specs.Event.{IsShort, NamesBelow}
 use Rattle.line_tape.specs.History.{IsHistory, IsProcess, Process}
 use Rattle.line_claims.specs.declared.numbers.TheConstants.{MOST_NUMBER}
-use Rattle.line_claims.specs.Ranges.{AreRoundsInRange, FitsMemory, FitsProcess, FitsWords, IsHistoryInRange, IsInRange, IsRoundInRange, IsTapeInRange}
+use Rattle.line_claims.specs.Ranges.{AreRoundsInRange, FitsMemory, FitsProcess, FitsWords, IsHistoryInRange, IsEventInRange, IsRoundInRange, IsTapeInRange}
 use Rattle.line_claims.specs.Records.{event_record, front_records, history_record, number_text, tape_record, tapes_records}
 
 -- what holds of each place holds of each element
@@ -43,7 +43,7 @@ bytes_fit (byte ∷ rest) fit = let here : byte < 256 = fit 0 in (omega arith, b
 
 -- ---- in range
 
-event_in_range : (n : ℕ) (event : Event) → IsShort event → NamesBelow n event → FitsWords event → IsRoundInRange event → IsInRange n event
+event_in_range : (n : ℕ) (event : Event) → IsShort event → NamesBelow n event → FitsWords event → IsRoundInRange event → IsEventInRange n event
 event_in_range n (Send to inc body) short named fits round = let small : inc < 2 ^ 16 = fits.1 in (named, omega arith, record { few = short; fit = fits.2 })
 event_in_range n (Recv m) short named fits round =
     let small : m.inc < 2 ^ 16 = fits.1 in
@@ -53,7 +53,7 @@ event_in_range n (Check state None) short named fits round = (record { few = sho
 event_in_range n (Check state (Some r)) short named fits round = (record { few = short; fit = fits.0 }, round)
 event_in_range n (Mark from r) short named fits round = (named, round)
 
-events_in_range : (n : ℕ) (events : List Event) → AllByRecursion IsShort events → AllByRecursion (NamesBelow n) events → AllByRecursion FitsWords events → AllByRecursion IsRoundInRange events → AllByRecursion (IsInRange n) events
+events_in_range : (n : ℕ) (events : List Event) → AllByRecursion IsShort events → AllByRecursion (NamesBelow n) events → AllByRecursion FitsWords events → AllByRecursion IsRoundInRange events → AllByRecursion (IsEventInRange n) events
 events_in_range n [] short named fits rounds = tt
 events_in_range n (event ∷ others) short named fits rounds =
     (event_in_range n event short.0 named.0 fits.0 rounds.0, events_in_range n others short.1 named.1 fits.1 rounds.1)
@@ -79,7 +79,7 @@ history_in_range history kept fits rounds = record {
 
 -- ---- the other way round
 
-event_fits : (n : ℕ) (event : Event) → n ≤ MOST_PROCESSES → IsInRange n event → FitsWords event
+event_fits : (n : ℕ) (event : Event) → n ≤ MOST_PROCESSES → IsEventInRange n event → FitsWords event
 event_fits n (Send to inc body) few h =
     let there : to < n = h.0 in
     let small : inc ≤ LAST_INCARNATION = h.1 in
@@ -96,7 +96,7 @@ event_fits n (Mark from r) few h =
     let high : r ≤ LAST_ROUND = h.1.1 in
     (omega (arith, there, few), omega (arith, high))
 
-events_fit : (n : ℕ) (events : List Event) → n ≤ MOST_PROCESSES → AllByRecursion (IsInRange n) events → AllByRecursion FitsWords events
+events_fit : (n : ℕ) (events : List Event) → n ≤ MOST_PROCESSES → AllByRecursion (IsEventInRange n) events → AllByRecursion FitsWords events
 events_fit n [] few fit = tt
 events_fit n (event ∷ others) few fit = (event_fits n event few fit.0, events_fit n others few fit.1)
 

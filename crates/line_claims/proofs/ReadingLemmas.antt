@@ -11,7 +11,7 @@ use Rattle.line_claims.specs.declared.faults.TextError.TheVariants as texts
 use Rattle.line_claims.specs.declared.faults.TextFault.{TextFault}
 use Rattle.line_claims.specs.Histories.{tape_from, tapes_from}
 use Rattle.line_claims.specs.Parts.{Part, begins, many}
-use Rattle.line_claims.specs.Reads.{FailsText, error_at, fault_at}
+use Rattle.line_claims.specs.Reads.{FailsText, error_at, fault_of_record}
 
 pub first_more : {A : Type 0} (is : Record → Bool) (read : A → Record → Result A Fault) (before more : A) (i : ℕ) (r : Record) (rest : List Record)
     → is r ≡ true → read before r ≡ Ok more → many is read before i (r ∷ rest) ≡ many is read more (i + 1) rest
@@ -38,13 +38,13 @@ many_fault is read before i left r e total it same h k =
     rw k at there
 
 first_refused : {A : Type 0} (is : Record → Bool) (read : A → Record → Result A Fault) (before : A) (i : ℕ) (r : Record) (rest : List Record) (f : Fault)
-    → is r ≡ true → read before r ≡ Err f → many is read before i (r ∷ rest) ≡ Err (fault_at i f)
+    → is r ≡ true → read before r ≡ Err f → many is read before i (r ∷ rest) ≡ Err (fault_of_record i f)
 unfolding many
 first_refused is read before i r rest f it h = rw (it, h) refl
 
 -- the same of a reader that takes no memory
 pub many_refused : {A : Type 0} (is : Record → Bool) (read : A → Record → Result A Fault) (before : A) (i : ℕ) (left : List Record) (r : Record) (f : Fault)
-    → begins is left ≡ true → left ≡ r ∷ drop 1 left → read before r ≡ Err f → many is read before i left ≡ Err (fault_at i f)
+    → begins is left ≡ true → left ≡ r ∷ drop 1 left → read before r ≡ Err f → many is read before i left ≡ Err (fault_of_record i f)
 many_refused is read before i left r f it same h =
     ap (many is read before i) same ∙ first_refused is read before i r (drop 1 left) f (sym (ap (begins is) same) ∙ it) h
 

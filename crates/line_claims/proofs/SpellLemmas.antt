@@ -14,10 +14,10 @@ use Rattle.line_fields.specs.Shapes.{two, three}
 use Rattle.line_tape.specs.History.{Process, tape_at, with_event, with_incarnation}
 use Rattle.line_claims.specs.declared.versions.TheConstants.{LAST_VERSION}
 use Rattle.line_claims.specs.declared.numbers.TheConstants.{MOST_NUMBER}
-use Rattle.line_claims.specs.Events.{send_of, recv_of, check_of, mark_of, is_event}
+use Rattle.line_claims.specs.Events.{send_event_of, recv_event_of, check_event_of, mark_event_of, is_event}
 use Rattle.line_claims.specs.Histories.{event_at, head_of, tape_of}
 use Rattle.line_claims.specs.Numbers.{plain, incarnation, round, round_or_none}
-use Rattle.line_claims.specs.Ranges.{AreBytes, IsInRange, IsRound}
+use Rattle.line_claims.specs.Ranges.{AreBytes, IsEventInRange, IsRoundNumber}
 use Rattle.line_claims.specs.Records.{event_record, history_record, number_text, tape_record}
 use Rattle.line_claims.specs.Versions.{IsVersion, most_in}
 use Rattle.line_claims.proofs.VersionLemmas.{most_in_few}
@@ -38,7 +38,7 @@ not_word n word fits h = elim (cases_Bool (bytes_eq (decimal n) word)) [
   | inr e ↦ e
 ]
 
-pub round_or_none_again : (r : Option ℕ) → IsRound r → round_or_none (number_text r) ≡ Ok r
+pub round_or_none_again : (r : Option ℕ) → IsRoundNumber r → round_or_none (number_text r) ≡ Ok r
 round_or_none_again None h = refl
 round_or_none_again (Some r) h =
     let low : 1 ≤ r = h.0 in
@@ -55,28 +55,28 @@ head_again version n known low high =
     let small : n ≤ MOST_NUMBER = omega (arith, high, few) in
     rw (plain_again version wide, plain_again n small, le-leb 1 version first, le-leb version LAST_VERSION last, le-leb 1 n low, le-leb n (most_in version) high) refl
 
-send_again : (n to inc : ℕ) (body : List ℕ) → n ≤ MOST_PROCESSES → to < n → inc ≤ LAST_INCARNATION → AreBytes MOST_BODY body → send_of n (event_record (Send to inc body)) ≡ Ok (Send to inc body)
-unfolding send_of three
+send_again : (n to inc : ℕ) (body : List ℕ) → n ≤ MOST_PROCESSES → to < n → inc ≤ LAST_INCARNATION → AreBytes MOST_BODY body → send_event_of n (event_record (Send to inc body)) ≡ Ok (Send to inc body)
+unfolding send_event_of three
 send_again n to inc body few there small bytes =
     rw (plain_again to (omega arith), incarnation_again inc small, hex_hex_text body bytes.fit, lt-ltb to n there, le-leb (length body) MOST_BODY bytes.few) refl
 
-recv_again : (n : ℕ) (m : MsgName) → n ≤ MOST_PROCESSES → m.from < n → m.inc ≤ LAST_INCARNATION → m.number ≤ MOST_NUMBER → recv_of n (event_record (Recv m)) ≡ Ok (Recv m)
-unfolding recv_of three
+recv_again : (n : ℕ) (m : MsgName) → n ≤ MOST_PROCESSES → m.from < n → m.inc ≤ LAST_INCARNATION → m.number ≤ MOST_NUMBER → recv_event_of n (event_record (Recv m)) ≡ Ok (Recv m)
+unfolding recv_event_of three
 recv_again n m few there small wide =
     let sender : m.from ≤ MOST_NUMBER = omega arith in
     rw (plain_again m.from sender, incarnation_again m.inc small, plain_again m.number wide, lt-ltb m.from n there) refl
 
-check_again : (state : List ℕ) (r : Option ℕ) → AreBytes MOST_STATE state → IsRound r → check_of (event_record (Check state r)) ≡ Ok (Check state r)
-unfolding check_of two
+check_again : (state : List ℕ) (r : Option ℕ) → AreBytes MOST_STATE state → IsRoundNumber r → check_event_of (event_record (Check state r)) ≡ Ok (Check state r)
+unfolding check_event_of two
 check_again state r bytes h =
     rw (hex_hex_text state bytes.fit, round_or_none_again r h, le-leb (length state) MOST_STATE bytes.few) refl
 
-mark_again : (n from r : ℕ) → n ≤ MOST_PROCESSES → from < n → 1 ≤ r → r ≤ LAST_ROUND → mark_of n (event_record (Mark from r)) ≡ Ok (Mark from r)
-unfolding mark_of two
+mark_again : (n from r : ℕ) → n ≤ MOST_PROCESSES → from < n → 1 ≤ r → r ≤ LAST_ROUND → mark_event_of n (event_record (Mark from r)) ≡ Ok (Mark from r)
+unfolding mark_event_of two
 mark_again n from r few there low high =
     rw (plain_again from (omega arith), round_again r low high, lt-ltb from n there) refl
 
-pub event_again : (p n : ℕ) (history : List Process) (event : Event) → length history ≡ n → n ≤ MOST_PROCESSES → IsInRange n event → length (tape_at history p) < MOST_EVENTS
+pub event_again : (p n : ℕ) (history : List Process) (event : Event) → length history ≡ n → n ≤ MOST_PROCESSES → IsEventInRange n event → length (tape_at history p) < MOST_EVENTS
     → event_at p history (event_record event) ≡ Ok (with_event history p event)
 unfolding event_at
 event_again p n history (Send to inc body) is few h room = rw (is, send_again n to inc body few h.0 h.1 h.2, lt-ltb (length (tape_at history p)) MOST_EVENTS room) refl

@@ -9,8 +9,8 @@ use Rattle.line_tape.specs.Views.{MarksView, no_marks}
 use Rattle.line_claims.specs.declared.claims.Claim as made
 use Rattle.line_claims.specs.declared.faults.TextFault.{TextFault}
 use Rattle.line_claims.specs.Entries.{damage_of, bar_of, failed_of, line_of, entry_of, end_of}
-use Rattle.line_claims.specs.Parts.{many, named, one}
-use Rattle.line_claims.specs.Reads.{numbered}
+use Rattle.line_claims.specs.Parts.{many, is_named, one}
+use Rattle.line_claims.specs.Reads.{at_record}
 
 -- the marks of damage and the bars, the failed processes, a line, and the entries of its
 -- certificate
@@ -21,8 +21,8 @@ pub record Claim : Type 0 where
   pub certificate : List Passed
 
 -- a claim with its certificate as a list
-abbrev pub seen : made.Claim → Claim
-seen claim =
+abbrev pub claim_view : made.Claim → Claim
+claim_view claim =
     record {
       marks = claim.marks;
       failed = claim.failed;
@@ -37,19 +37,19 @@ is_none (r ∷ rest) = false
 
 -- a record that bars a process, which version 1 does not know
 abbrev pub is_bar : ℕ → Record → Bool
-is_bar version r = (version == 2) && named (codes "bar") r
+is_bar version r = (version == 2) && is_named (codes "bar") r
 
 -- the claim of that version among n processes that records spell, the first of which is the i-th of
 -- the text
 unfoldable pub claim_from : ℕ → ℕ → ℕ → List Record → Result Claim TextFault
 claim_from version n i records = do
-  damage ← many (named (codes "damage")) (damage_of n) (no_marks n) i records
+  damage ← many (is_named (codes "damage")) (damage_of n) (no_marks n) i records
   marks ← many (is_bar version) (bar_of n) damage.value damage.number damage.left
   failed ← one (codes "failed") (failed_of n) marks.number marks.left
   line ← one (codes "line") (line_of version) failed.number failed.left
-  entries ← many (named (codes "pass")) (entry_of n) [] line.number line.left
+  entries ← many (is_named (codes "pass")) (entry_of n) [] line.number line.left
   end ← one (codes "end") end_of entries.number entries.left
-  last ← numbered end.number (want (is_none end.left) faults.BadRecord)
+  last ← at_record end.number (want (is_none end.left) faults.BadRecord)
   Ok
       (record {
         marks = marks.value;

@@ -3,7 +3,7 @@ use Rattle.std.specs.Prelude.{ℕ, List, [], ◌∷◌, Bool, if◌then◌else�
 use Rattle.line_fields.specs.Records.{Record}
 
 -- the number of the record that stands there, and that record with those after it
-pub record Place : Type 0 where
+pub record TextPlace : Type 0 where
   pub number : ℕ
   pub left : List Record
 

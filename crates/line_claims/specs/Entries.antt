@@ -16,24 +16,26 @@ use Rattle.line_claims.specs.Numbers.{plain, incarnation, choice, choices, numbe
 use Rattle.line_claims.specs.Versions.{most_in}
 
 -- one mark more, of no initial state and not there yet
-unfoldable pub marked : MarksView → ℕ → ℕ → Result MarksView Fault
-marked marks p check = do
+unfoldable pub one_mark_more : MarksView → ℕ → ℕ → Result MarksView Fault
+one_mark_more marks p check = do
   later ← want (not (check == 0)) faults.InitialDamage
   fresh ← want (not (is_damaged marks p check)) faults.AlreadyDamaged
   Ok (with_mark marks p check)
 
 -- damage,P,C
 unfoldable pub damage_of : ℕ → MarksView → Record → Result MarksView Fault
-damage_of n marks = two plain plain (λ number check. process n number >>= λ p. marked marks p check)
+damage_of n marks =
+    two plain plain (λ number check. process n number >>= λ p. one_mark_more marks p check)
 
 -- one bar more, lower than the one before
-unfoldable pub barred : MarksView → ℕ → ℕ → Result MarksView Fault
-barred marks p check =
+unfoldable pub one_bar_more : MarksView → ℕ → ℕ → Result MarksView Fault
+one_bar_more marks p check =
     want (not (is_barred marks p check)) faults.BarNotLower >>= λ lower. Ok (with_bar marks p check)
 
 -- bar,P,C
 unfoldable pub bar_of : ℕ → MarksView → Record → Result MarksView Fault
-bar_of n marks = two plain plain (λ number check. process n number >>= λ p. barred marks p check)
+bar_of n marks =
+    two plain plain (λ number check. process n number >>= λ p. one_bar_more marks p check)
 
 -- failed or failed,P,..
 unfoldable pub failed_of : ℕ → Record → Result (List Bool) Fault

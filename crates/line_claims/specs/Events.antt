@@ -12,49 +12,49 @@ use Rattle.line_tape.specs.declared.limits.TheConstants.{MOST_STATE}
 use Rattle.line_claims.specs.declared.events.Kind.{Kind}
 use Rattle.line_claims.specs.declared.events.Kind.TheVariants as kinds
 use Rattle.line_claims.specs.Numbers.{plain, incarnation, round, round_or_none, process}
-use Rattle.line_claims.specs.Parts.{named}
+use Rattle.line_claims.specs.Parts.{is_named}
 
 -- send,TO,INC,HEX
-unfoldable pub send_of : ℕ → Record → Result Event Fault
-send_of n = three plain incarnation hex (λ number inc body. do
+unfoldable pub send_event_of : ℕ → Record → Result Event Fault
+send_event_of n = three plain incarnation hex (λ number inc body. do
   to ← process n number
   short ← want (nat_le (length body) MOST_BODY) faults.BodyTooLong
   Ok (Send to inc body))
 
 -- recv,FROM,INC,NUMBER
-unfoldable pub recv_of : ℕ → Record → Result Event Fault
-recv_of n =
+unfoldable pub recv_event_of : ℕ → Record → Result Event Fault
+recv_event_of n =
     three plain incarnation plain
     (λ sender inc number. process n sender >>= λ from. Ok
     (Recv (record { from = from; inc = inc; number = number })))
 
 -- check,HEX,ROUND
-unfoldable pub check_of : Record → Result Event Fault
-check_of =
+unfoldable pub check_event_of : Record → Result Event Fault
+check_event_of =
     two hex round_or_none
     (λ state round. want (nat_le (length state) MOST_STATE) faults.StateTooLong >>= λ short. Ok
     (Check state round))
 
 -- mark,FROM,ROUND
-unfoldable pub mark_of : ℕ → Record → Result Event Fault
-mark_of n =
+unfoldable pub mark_event_of : ℕ → Record → Result Event Fault
+mark_event_of n =
     two plain round (λ sender of_round. process n sender >>= λ from. Ok (Mark from of_round))
 
 -- the records that spell events
 abbrev pub is_event : Record → Bool
 is_event r =
-    named (codes "send") r
-    || named (codes "recv") r
-    || named (codes "check") r
-    || named (codes "mark") r
+    is_named (codes "send") r
+    || is_named (codes "recv") r
+    || is_named (codes "check") r
+    || is_named (codes "mark") r
 
 -- the event of such a record
 abbrev pub event_of : ℕ → Record → Result Event Fault
 event_of n r =
-    if named (codes "send") r then send_of n r
-    else if named (codes "recv") r then recv_of n r
-    else if named (codes "check") r then check_of r
-    else mark_of n r
+    if is_named (codes "send") r then send_event_of n r
+    else if is_named (codes "recv") r then recv_event_of n r
+    else if is_named (codes "check") r then check_event_of r
+    else mark_event_of n r
 
 -- the name of the records of a kind
 abbrev pub kind_text : Kind → List ℕ

@@ -12,8 +12,8 @@ use Rattle.line_claims.specs.declared.faults.TextFault.{TextFault}
 use Rattle.line_claims.specs.declared.versions.TheConstants.{LAST_VERSION}
 use Rattle.line_claims.specs.Events.{is_event, event_of}
 use Rattle.line_claims.specs.Numbers.{plain, incarnation}
-use Rattle.line_claims.specs.Parts.{Part, begins, first, many, named, one}
-use Rattle.line_claims.specs.Reads.{numbered}
+use Rattle.line_claims.specs.Parts.{Part, begins, first, many, is_named, one}
+use Rattle.line_claims.specs.Reads.{at_record}
 use Rattle.line_claims.specs.Versions.{most_in}
 
 -- history,V,N: the version and the number of processes
@@ -26,8 +26,8 @@ head_of = two plain plain (λ version n. do
 -- the version and the number of processes that the first record announces
 abbrev pub head_in : List Record → Result (ℕ × ℕ) TextFault
 head_in records =
-    numbered 1
-    (want (begins (named (codes "history")) records) faults.NoWorld >>= λ it. head_of
+    at_record 1
+    (want (begins (is_named (codes "history")) records) faults.NoWorld >>= λ it. head_of
     (first records))
 
 -- tape,P,INC of process p

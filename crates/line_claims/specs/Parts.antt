@@ -8,8 +8,8 @@ use Rattle.line_fields.specs.Fields.{◌>>=◌, want}
 use Rattle.line_fields.specs.Records.{Record, field}
 use Rattle.line_claims.specs.declared.faults.TextError.{TextError}
 use Rattle.line_claims.specs.declared.faults.TextFault.{TextFault}
-use Rattle.line_claims.specs.Cursors.{Place}
-use Rattle.line_claims.specs.Reads.{FailsText, numbered}
+use Rattle.line_claims.specs.Cursors.{TextPlace}
+use Rattle.line_claims.specs.Reads.{FailsText, at_record}
 
 -- what a part spells, the number of the record after it, and that record with those after it
 pub record Part (A : Type 0) : Type 0 where
@@ -18,8 +18,8 @@ pub record Part (A : Type 0) : Type 0 where
   pub left : List Record
 
 -- the first field of a record is that name
-abbrev pub named : List ℕ → Record → Bool
-named name r = bytes_eq (field r 0) name
+abbrev pub is_named : List ℕ → Record → Bool
+is_named name r = bytes_eq (field r 0) name
 
 -- the record that stands next, and past the last an empty one
 abbrev pub first : List Record → Record
@@ -34,8 +34,8 @@ begins is (r ∷ rest) = is r
 unfoldable pub one : {A : Type 0} → List ℕ → (Record → Result A Fault) → ℕ → List Record
     → Result (Part A) TextFault
 one name read i records = do
-  x ← numbered i
-      (want (begins (named name) records) faults.BadRecord >>= λ it. read (first records))
+  x ← at_record i
+      (want (begins (is_named name) records) faults.BadRecord >>= λ it. read (first records))
   Ok (record { value = x; number = i + 1; left = drop 1 records })
 
 -- all records of a kind up to the first of another, from the i-th on, each read after those before
@@ -44,12 +44,12 @@ unfoldable pub many : {A : Type 0} → (Record → Bool) → (A → Record → R
     → List Record → Result (Part A) TextFault
 many is read before i [] = Ok (record { value = before; number = i; left = [] })
 many is read before i (r ∷ rest) =
-    if is r then (numbered i (read before r) >>= λ more. many is read more (i + 1) rest)
+    if is r then (at_record i (read before r) >>= λ more. many is read more (i + 1) rest)
     else Ok (record { value = before; number = i; left = r ∷ rest })
 
 -- a part was read, seen as a value, and the place after it was left
 abbrev pub Leaves : {A B : Type 0} → (A → B) → Result A TextError → Result (Part B) TextFault
-    → Place → Type 0
+    → TextPlace → Type 0
 Leaves seen (Ok x) read place =
     read ≡ Ok (record { value = seen x; number = place.number; left = place.left })
 Leaves seen (Err e) read place = FailsText e read

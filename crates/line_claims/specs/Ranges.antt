@@ -23,23 +23,23 @@ pub record AreBytes (most : ℕ) (bytes : List ℕ) : Type 0 where
   pub fit : AllByRecursion (λ byte. byte < 256) bytes
 
 -- a round, if there is one, is from 1 to 65,535
-abbrev pub IsRound : Option ℕ → Type 0
-IsRound None = Unit {0}
-IsRound (Some round) = (1 ≤ round) × (round ≤ LAST_ROUND)
+abbrev pub IsRoundNumber : Option ℕ → Type 0
+IsRoundNumber None = Unit {0}
+IsRoundNumber (Some round) = (1 ≤ round) × (round ≤ LAST_ROUND)
 
 -- the numbers of an event, and what it carries; the processes that it names are below n
-abbrev pub IsInRange : ℕ → Event → Type 0
-IsInRange n (Send to inc body) = (to < n) × (inc ≤ LAST_INCARNATION) × AreBytes MOST_BODY body
-IsInRange n (Recv message) =
+abbrev pub IsEventInRange : ℕ → Event → Type 0
+IsEventInRange n (Send to inc body) = (to < n) × (inc ≤ LAST_INCARNATION) × AreBytes MOST_BODY body
+IsEventInRange n (Recv message) =
     (message.from < n) × (message.inc ≤ LAST_INCARNATION) × (message.number ≤ MOST_NUMBER)
-IsInRange n (Check state round) = AreBytes MOST_STATE state × IsRound round
-IsInRange n (Mark from round) = (from < n) × IsRound (Some round)
+IsEventInRange n (Check state round) = AreBytes MOST_STATE state × IsRoundNumber round
+IsEventInRange n (Mark from round) = (from < n) × IsRoundNumber (Some round)
 
 -- a process, among n
 pub record IsTapeInRange (n : ℕ) (process : Process) : Type 0 where
   pub incarnation : process.incarnation ≤ LAST_INCARNATION
   pub few : length process.tape ≤ MOST_EVENTS
-  pub events : AllByRecursion (IsInRange n) process.tape
+  pub events : AllByRecursion (IsEventInRange n) process.tape
 
 -- a history
 pub record IsHistoryInRange (history : List Process) : Type 0 where
@@ -70,8 +70,8 @@ pub record FitsMemory (history : List Process) : Type 0 where
 
 -- the round of an event, if it has one, is from 1 to 65,535
 abbrev pub IsRoundInRange : Event → Type 0
-IsRoundInRange (Check state round) = IsRound round
-IsRoundInRange (Mark from round) = IsRound (Some round)
+IsRoundInRange (Check state round) = IsRoundNumber round
+IsRoundInRange (Mark from round) = IsRoundNumber (Some round)
 IsRoundInRange other = Unit {0}
 
 -- so are the rounds of a history

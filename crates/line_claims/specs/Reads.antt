@@ -10,18 +10,18 @@ use Rattle.line_claims.specs.declared.faults.TextError.{TextError}
 use Rattle.line_claims.specs.declared.faults.TextError.TheVariants as errors
 
 -- a fault of a record
-abbrev pub fault_at : ℕ → Fault → TextFault
-fault_at i fault = record { record_number = i; code = code_of fault }
+abbrev pub fault_of_record : ℕ → Fault → TextFault
+fault_of_record i fault = record { record_number = i; code = code_of fault }
 
 -- what a record reads, where a fault has the record's number
-abbrev pub numbered : {A : Type 0} → ℕ → Result A Fault → Result A TextFault
-numbered i (Ok x) = Ok x
-numbered i (Err fault) = Err (fault_at i fault)
+abbrev pub at_record : {A : Type 0} → ℕ → Result A Fault → Result A TextFault
+at_record i (Ok x) = Ok x
+at_record i (Err fault) = Err (fault_of_record i fault)
 
 -- why the record with that number was not read
 abbrev pub error_at : ℕ → ReadError → TextError
 error_at i memory.OutOfMemory = errors.OutOfMemory
-error_at i (memory.Fault fault) = errors.Fault (fault_at i fault)
+error_at i (memory.Fault fault) = errors.Fault (fault_of_record i fault)
 
 -- a fault is the first one, unless memory ran out
 abbrev pub FailsText : {A : Type 0} → TextError → Result A TextFault → Type 0
@@ -43,9 +43,9 @@ abbrev pub no_memory : TextFault
 no_memory = record { record_number = 0; code = 0 }
 
 -- what a caller is told of an error
-abbrev pub told : TextError → TextFault
-told errors.OutOfMemory = no_memory
-told (errors.Fault fault) = fault
+abbrev pub fault_of_error : TextError → TextFault
+fault_of_error errors.OutOfMemory = no_memory
+fault_of_error (errors.Fault fault) = fault
 
 -- what was read, seen as a value, or the first fault, unless memory ran out
 abbrev pub Reads : {A B : Type 0} → (A → B) → Result A TextFault → Result B TextFault → Type 0

@@ -7,21 +7,22 @@ use Rattle.line_fields.specs.Records.{Record, records_of_text}
 use Rattle.line_tape.specs.History.{Process}
 use Rattle.line_claims.specs.declared.faults.TextFault.{TextFault}
 use Rattle.line_claims.specs.declared.texts.CheckText as made
-use Rattle.line_claims.specs.Claims.{Claim, claim_from, is_none, seen}
+use Rattle.line_claims.specs.Claims.{Claim, claim_from, is_none, claim_view}
 use Rattle.line_claims.specs.Histories.{front_of, head_in}
-use Rattle.line_claims.specs.Reads.{fault_at, numbered}
+use Rattle.line_claims.specs.Reads.{fault_of_record, at_record}
 
 -- the records of a text, where it has no byte that no text has
 abbrev pub records_in : List ℕ → Result (List Record) TextFault
 records_in text =
-    if is_input_text text then Ok (records_of_text text) else Err (fault_at 0 faults.BadRecord)
+    if is_input_text text
+    then Ok (records_of_text text) else Err (fault_of_record 0 faults.BadRecord)
 
 -- a history: a front with nothing after it
 unfoldable pub history_of : List Record → Result (List Process) TextFault
 history_of records = do
   head ← head_in records
   front ← front_of head.1 records
-  ended ← numbered front.number (want (is_none front.left) faults.BadRecord)
+  ended ← at_record front.number (want (is_none front.left) faults.BadRecord)
   Ok front.value
 
 -- a claim of a version among n processes
@@ -34,12 +35,12 @@ pub record Check : Type 0 where
   pub claim : Claim
 
 -- both as lists
-abbrev pub seen_check : made.CheckText → Check
-seen_check text = record { history = text.history.processes; claim = seen text.claim }
+abbrev pub check_view : made.CheckText → Check
+check_view text = record { history = text.history.processes; claim = claim_view text.claim }
 
 -- a history and a claim on it: a front with a claim after it
-unfoldable pub check_of : List Record → Result Check TextFault
-check_of records = do
+unfoldable pub check_text_of : List Record → Result Check TextFault
+check_text_of records = do
   head ← head_in records
   front ← front_of head.1 records
   claim ← claim_from head.0 head.1 front.number front.left
@@ -55,4 +56,4 @@ certificate_of_text version n text = records_in text >>= certificate_of version 
 
 -- the history and the claim on it that a text spells
 abbrev pub check_of_text : List ℕ → Result Check TextFault
-check_of_text text = records_in text >>= check_of
+check_of_text text = records_in text >>= check_text_of

@@ -4,7 +4,7 @@ ghost use Rattle.std.specs.Prelude.{◌≡◌, ◌≤◌, [], codes, length, IfO
 ghost use Rattle.line_names.specs.declared.limits.TheConstants.{MOST_PROCESSES};
 ghost use Rattle.line_claims.specs.Claims as spec;
 ghost use Rattle.line_claims.specs.Entries as entries;
-ghost use Rattle.line_claims.specs.Parts.{Leaves, many, named, one};
+ghost use Rattle.line_claims.specs.Parts.{Leaves, many, is_named, one};
 ghost use Rattle.line_claims.specs.Reads.{Yields};
 ghost use Rattle.line_tape.specs.Views.{no_marks};
 
@@ -34,7 +34,7 @@ pub struct Claim {
 fn read_damage(alloc: Global, n: u32, cursor: &mut Cursor<'_>) -> Result<Marks, TextError>
     requires { n ≤ MOST_PROCESSES }
     ensures exact { Leaves (λ marks. marks) result
-        (many (named (codes "damage")) (entries.damage_of n) (no_marks n) cursor.old.number
+        (many (is_named (codes "damage")) (entries.damage_of n) (no_marks n) cursor.old.number
         cursor.old.left)
         cursor.new }
     ensures whole { IfOk result (λ marks. length marks.damaged ≡ n) }
@@ -111,7 +111,7 @@ fn read_line(version: u32, cursor: &mut Cursor<'_>) -> Result<Line, TextError>
 fn read_entries(alloc: Global, n: u32, cursor: &mut Cursor<'_>) -> Result<Certificate, TextError>
     requires { n ≤ MOST_PROCESSES }
     ensures { Leaves (λ certificate. certificate.items) result
-        (many (named (codes "pass")) (entries.entry_of n) [] cursor.old.number cursor.old.left)
+        (many (is_named (codes "pass")) (entries.entry_of n) [] cursor.old.number cursor.old.left)
         cursor.new }
 {
     let mut certificate = Certificate::new(alloc);
@@ -149,7 +149,7 @@ pub(crate) fn read_claim(
     cursor: &mut Cursor<'_>,
 ) -> Result<Claim, TextError>
     requires { n ≤ MOST_PROCESSES }
-    ensures { Yields spec.seen result
+    ensures { Yields spec.claim_view result
         (spec.claim_from version n cursor.old.number cursor.old.left) }
 {
     let mut marks = read_damage(alloc, n, cursor)?;

@@ -6,7 +6,7 @@ ghost use Rattle.line_fields.specs.Bytes.{is_input_text};
 ghost use Rattle.line_fields.specs.Records.{Record, field, records_of_text};
 ghost use Rattle.line_claims.specs.Claims.{is_bar};
 ghost use Rattle.line_claims.specs.Events as spec;
-ghost use Rattle.line_claims.specs.Parts.{begins, named};
+ghost use Rattle.line_claims.specs.Parts.{begins, is_named};
 
 use crate::events::{Kind, kind_of};
 use line_fields::{RecordReader, Row};
@@ -25,9 +25,9 @@ pub(crate) struct Cursor<'a> {
 
 impl<'a> Model for Cursor<'a> {
     ghost use Rattle.std.specs.Prelude.{◌<◌, ◌+◌, ◌^◌, length};
-    ghost use Rattle.line_claims.specs.Cursors.{Place, from_found};
+    ghost use Rattle.line_claims.specs.Cursors.{TextPlace, from_found};
 
-    ghost Value = { Place };
+    ghost Value = { TextPlace };
 
     ghost view = { λ s. record { number = s.number; left = from_found s.found s.row s.records } };
 
@@ -69,8 +69,8 @@ impl<'a> Cursor<'a> {
 
     /// The record that stands here, where it has that name.
     pub fn named(&self, name: &[u8]) -> Option<&Row>
-        ensures { MatchOption result (begins (named name.now) self.now.left ≡ false)
-            (λ row. (begins (named name.now) self.now.left ≡ true)
+        ensures { MatchOption result (begins (is_named name.now) self.now.left ≡ false)
+            (λ row. (begins (is_named name.now) self.now.left ≡ true)
             × (self.now.left ≡ row.now ∷ drop 1 self.now.left)) }
     {
         match self.row() {

@@ -13,7 +13,7 @@ use line_names::{Certificate, Line, MsgName, Passed, ProcId, ProcSet};
 use line_tape::{BarError, MarkError, Marks};
 
 /// Adds the mark of `damage,P,C`.
-#[tactic(auto, unfolding(crate::specs::Entries::damage_of, crate::specs::Entries::marked, line_fields::specs::Shapes::two))]
+#[tactic(auto, unfolding(crate::specs::Entries::damage_of, crate::specs::Entries::one_mark_more, line_fields::specs::Shapes::two))]
 pub(crate) fn damage_of(marks: &mut Marks, n: u32, row: &Row) -> Result<(), ReadError>
     requires few { n ≤ MOST_PROCESSES }
     requires whole { length marks.old.damaged ≡ n }
@@ -33,7 +33,7 @@ pub(crate) fn damage_of(marks: &mut Marks, n: u32, row: &Row) -> Result<(), Read
 }
 
 /// Adds the bar of `bar,P,C`.
-#[tactic(auto, unfolding(crate::specs::Entries::bar_of, crate::specs::Entries::barred, line_fields::specs::Shapes::two))]
+#[tactic(auto, unfolding(crate::specs::Entries::bar_of, crate::specs::Entries::one_bar_more, line_fields::specs::Shapes::two))]
 pub(crate) fn bar_of(marks: &mut Marks, n: u32, row: &Row) -> Result<(), Fault>
     requires few { n ≤ MOST_PROCESSES }
     requires whole { length marks.old.damaged ≡ n }

@@ -17,11 +17,15 @@ use std::alloc::Global;
 
 /// The addressee and the incarnation of `send,TO,INC,HEX`. The bytes of the message take the place
 /// of those of a list.
-#[tactic(auto, unfolding(crate::specs::Events::send_of, line_fields::specs::Shapes::three))]
-pub(crate) fn send_of(n: u32, row: &Row, bytes: &mut Vec<u8>) -> Result<(ProcId, u16), ReadError>
+#[tactic(auto, unfolding(crate::specs::Events::send_event_of, line_fields::specs::Shapes::three))]
+pub(crate) fn send_event_of(
+    n: u32,
+    row: &Row,
+    bytes: &mut Vec<u8>,
+) -> Result<(ProcId, u16), ReadError>
     requires { n ≤ MOST_PROCESSES }
     ensures exact { Gives (λ parts. events.Send parts.0 parts.1 bytes.new.items) result
-        (spec.send_of n row.now) }
+        (spec.send_event_of n row.now) }
     ensures to { IfOk result (λ parts. parts.0 < n) }
     ensures short { OnOk result (length bytes.new.items ≤ MOST_BODY) }
 {
@@ -35,11 +39,11 @@ pub(crate) fn send_of(n: u32, row: &Row, bytes: &mut Vec<u8>) -> Result<(ProcId,
 }
 
 /// The message of `recv,FROM,INC,NUMBER`.
-#[tactic(auto, unfolding(crate::specs::Events::recv_of, line_fields::specs::Shapes::three))]
-pub(crate) fn recv_of(n: u32, row: &Row) -> Result<MsgName, Fault>
+#[tactic(auto, unfolding(crate::specs::Events::recv_event_of, line_fields::specs::Shapes::three))]
+pub(crate) fn recv_event_of(n: u32, row: &Row) -> Result<MsgName, Fault>
     requires { n ≤ MOST_PROCESSES }
-    ensures ok { IfOk result (λ message. spec.recv_of n row.now ≡ Ok (events.Recv message)) }
-    ensures err { IfErr result (λ fault. spec.recv_of n row.now ≡ Err fault) }
+    ensures ok { IfOk result (λ message. spec.recv_event_of n row.now ≡ Ok (events.Recv message)) }
+    ensures err { IfErr result (λ fault. spec.recv_event_of n row.now ≡ Err fault) }
     ensures from { IfOk result (λ message. message.from < n) }
 {
     want(row.len() == 4, Fault::BadRecord)?;
@@ -51,9 +55,10 @@ pub(crate) fn recv_of(n: u32, row: &Row) -> Result<MsgName, Fault>
 }
 
 /// The state and the round of `check,HEX,ROUND`.
-#[tactic(auto, unfolding(crate::specs::Events::check_of, line_fields::specs::Shapes::two))]
-pub(crate) fn check_of(alloc: Global, row: &Row) -> Result<(State, Option<u32>), ReadError>
-    ensures exact { Gives (λ parts. events.Check parts.0 parts.1) result (spec.check_of row.now) }
+#[tactic(auto, unfolding(crate::specs::Events::check_event_of, line_fields::specs::Shapes::two))]
+pub(crate) fn check_event_of(alloc: Global, row: &Row) -> Result<(State, Option<u32>), ReadError>
+    ensures exact { Gives (λ parts. events.Check parts.0 parts.1) result
+        (spec.check_event_of row.now) }
     ensures short { IfOk result (λ parts. length parts.0 ≤ MOST_STATE) }
 {
     want(row.len() == 3, Fault::BadRecord)?;
@@ -64,11 +69,12 @@ pub(crate) fn check_of(alloc: Global, row: &Row) -> Result<(State, Option<u32>),
 }
 
 /// The sender and the round of `mark,FROM,ROUND`.
-#[tactic(auto, unfolding(crate::specs::Events::mark_of, line_fields::specs::Shapes::two))]
-pub(crate) fn mark_of(n: u32, row: &Row) -> Result<(ProcId, u32), Fault>
+#[tactic(auto, unfolding(crate::specs::Events::mark_event_of, line_fields::specs::Shapes::two))]
+pub(crate) fn mark_event_of(n: u32, row: &Row) -> Result<(ProcId, u32), Fault>
     requires { n ≤ MOST_PROCESSES }
-    ensures ok { IfOk result (λ parts. spec.mark_of n row.now ≡ Ok (events.Mark parts.0 parts.1)) }
-    ensures err { IfErr result (λ fault. spec.mark_of n row.now ≡ Err fault) }
+    ensures ok { IfOk result
+        (λ parts. spec.mark_event_of n row.now ≡ Ok (events.Mark parts.0 parts.1)) }
+    ensures err { IfErr result (λ fault. spec.mark_event_of n row.now ≡ Err fault) }
     ensures from { IfOk result (λ parts. parts.0 < n) }
 {
     want(row.len() == 3, Fault::BadRecord)?;

@@ -4,7 +4,7 @@ ghost use Rattle.std.specs.Prelude.{◌≡◌, IsTrue};
 ghost use Rattle.line_fields.specs.Faults.{code_of};
 ghost use Rattle.line_fields.specs.Texts.{is_plain_field};
 ghost use Rattle.line_claims.specs.Faults.{name_of};
-ghost use Rattle.line_claims.specs.Reads.{error_at, told};
+ghost use Rattle.line_claims.specs.Reads.{error_at, fault_of_error};
 
 use line_fields::{Fault, ReadError};
 use std::alloc::{AllocError, AllocFailed};
@@ -118,7 +118,7 @@ pub fn error_at(record_number: u64, error: ReadError) -> TextError
 
 /// What a caller is told of an error: out of memory is the fault 0 of record 0.
 pub fn told(error: TextError) -> TextFault
-    ensures { result ≡ told error }
+    ensures { result ≡ fault_of_error error }
 {
     match error {
         TextError::OutOfMemory => TextFault {

@@ -14,7 +14,7 @@ ghost use Rattle.line_claims.specs.Parts.{Leaves, many, one};
 ghost use Rattle.line_claims.specs.Reads.{Steps};
 
 use crate::cursors::Cursor;
-use crate::events::{Kind, check_of, mark_of, recv_of, send_of};
+use crate::events::{Kind, check_event_of, mark_event_of, recv_event_of, send_event_of};
 use crate::faults::{TextError, error_at, fault_at};
 use crate::numbers::{incarnation, plain, want};
 use crate::versions::{LAST_VERSION, most_in};
@@ -87,7 +87,7 @@ fn send_at(
         history.new.processes }
     ensures same { length history.new.processes ≡ length history.old.processes }
 {
-    let (to, inc) = send_of(history.n(), row, bytes)?;
+    let (to, inc) = send_event_of(history.n(), row, bytes)?;
     make_room(history, at)?;
     history.append_send(at, to, inc, bytes.as_slice());
     Ok(())
@@ -102,7 +102,7 @@ fn recv_at(history: &mut History, at: ProcId, row: &Row) -> Result<(), ReadError
         history.new.processes }
     ensures same { length history.new.processes ≡ length history.old.processes }
 {
-    let message = recv_of(history.n(), row)?;
+    let message = recv_event_of(history.n(), row)?;
     make_room(history, at)?;
     history.append_receipt(at, &message);
     Ok(())
@@ -118,7 +118,7 @@ fn check_at(alloc: Global, history: &mut History, at: ProcId, row: &Row) -> Resu
         history.new.processes }
     ensures same { length history.new.processes ≡ length history.old.processes }
 {
-    let (state, round) = check_of(alloc, row)?;
+    let (state, round) = check_event_of(alloc, row)?;
     make_room(history, at)?;
     history.append(at, Event::Check { state, round });
     Ok(())
@@ -133,7 +133,7 @@ fn mark_at(history: &mut History, at: ProcId, row: &Row) -> Result<(), ReadError
         history.new.processes }
     ensures same { length history.new.processes ≡ length history.old.processes }
 {
-    let (from, round) = mark_of(history.n(), row)?;
+    let (from, round) = mark_event_of(history.n(), row)?;
     make_room(history, at)?;
     history.append_mark(at, from, round);
     Ok(())

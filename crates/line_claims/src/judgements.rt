@@ -13,7 +13,7 @@ use crate::versions::earliest_version;
 use crate::writers::put_history;
 use line_devices::{DeviceFault, Sink};
 use line_fields::{
-    Field, RecordWriter, add_field, begin_record, end_record, put_fields, put_numbers,
+    Field, RecordWriter, add_field, begin_record, close_record, put_fields, put_numbers,
 };
 use line_names::{Choice, Line, MOST_PROCESSES, Passed, ProcId, ProcSet};
 use line_tape::{History, Marks};
@@ -55,7 +55,7 @@ fn put_failed<K: Sink>(
 {
     begin_record(sink, writer, b"failed", &[])?;
     add_members(sink, writer, n, failed)?;
-    end_record(sink, writer)
+    close_record(sink, writer)
 }
 
 // Writes a comma before each of some choices, and the choice.
@@ -86,7 +86,7 @@ fn put_line<K: Sink>(
 {
     begin_record(sink, writer, b"line", &[])?;
     add_choices(sink, writer, line.choices())?;
-    end_record(sink, writer)
+    close_record(sink, writer)
 }
 
 // Writes `pass,P,CHOICE,FROM,INC,NUMBER`, whatever the choice is.

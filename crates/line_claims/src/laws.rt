@@ -7,7 +7,7 @@ ghost use Rattle.line_tape.specs.History.{Process};
 ghost use Rattle.line_claims.specs.Claims.{Claim};
 ghost use Rattle.line_claims.specs.Ranges.{FitsMemory, IsClaimInRange, IsHistoryInRange};
 ghost use Rattle.line_claims.specs.Records.{claim_records, front_records, in_version, version_of};
-ghost use Rattle.line_claims.specs.Texts.{Check, certificate_of_text, check_of, check_of_text};
+ghost use Rattle.line_claims.specs.Texts.{Check, certificate_of_text, check_text_of, check_of_text};
 ghost use Rattle.line_claims.specs.Texts.{history_of, history_of_text, records_in};
 ghost use Rattle.line_claims.specs.Versions.{IsVersion, most_in};
 
@@ -60,8 +60,8 @@ pub fn version_2_reads_version_1()
         → history_of (in_version 1 number rest) ≡ Ok history
         → history_of (in_version 2 number rest) ≡ Ok history }
     ensures checks { (number : List ℕ) (rest : List Record) (check : Check)
-        → check_of (in_version 1 number rest) ≡ Ok check
-        → check_of (in_version 2 number rest) ≡ Ok check }
+        → check_text_of (in_version 1 number rest) ≡ Ok check
+        → check_text_of (in_version 2 number rest) ≡ Ok check }
     ensures history_texts { (number : List ℕ) (rest : List Record) (text later : List ℕ)
         (history : List Process)
         → records_in text ≡ Ok (in_version 1 number rest)

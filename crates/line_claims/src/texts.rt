@@ -83,15 +83,15 @@ fn history_in(alloc: Global, text: &[u8]) -> Result<History, TextError>
 #[tactic(auto, unfolding(crate::specs::Texts::certificate_of))]
 fn certificate_in(alloc: Global, text: &[u8], n: u32, version: u32) -> Result<Claim, TextError>
     requires { n ≤ MOST_PROCESSES }
-    ensures { Yields claims.seen result (spec.certificate_of_text version n text.now) }
+    ensures { Yields claims.claim_view result (spec.certificate_of_text version n text.now) }
 {
     let mut cursor = open(alloc, text)?;
     read_claim(alloc, version, n, &mut cursor)
 }
 
-#[tactic(auto, unfolding(crate::specs::Texts::check_of))]
+#[tactic(auto, unfolding(crate::specs::Texts::check_text_of))]
 fn check_in(alloc: Global, text: &[u8]) -> Result<CheckText, TextError>
-    ensures { Yields spec.seen_check result (spec.check_of_text text.now) }
+    ensures { Yields spec.check_view result (spec.check_of_text text.now) }
 {
     let mut cursor = open(alloc, text)?;
     let (version, n) = read_first(&cursor)?;
@@ -141,7 +141,7 @@ pub fn read_certificate(
 ) -> Result<Claim, TextFault>
     requires few { n ≤ MOST_PROCESSES }
     requires version { IsVersion version }
-    ensures exact { Reads claims.seen result (spec.certificate_of_text version n text.now) }
+    ensures exact { Reads claims.claim_view result (spec.certificate_of_text version n text.now) }
     ensures codes { IfErr result (λ fault. (fault ≡ no_memory) ⊎ IsOfText fault) }
 {
     match certificate_in(alloc, text, n, version) {
@@ -154,7 +154,7 @@ pub fn read_certificate(
 ///
 /// Refused as a history and a claim are, the records numbered through. The text is read once.
 pub fn read_check_text(alloc: Global, text: &[u8]) -> Result<CheckText, TextFault>
-    ensures exact { Reads spec.seen_check result (spec.check_of_text text.now) }
+    ensures exact { Reads spec.check_view result (spec.check_of_text text.now) }
     ensures codes { IfErr result (λ fault. (fault ≡ no_memory) ⊎ IsOfText fault) }
 {
     match check_in(alloc, text) {

@@ -5,7 +5,7 @@ ghost use Rattle.std.specs.List.{AllByRecursion};
 ghost use Rattle.line_devices.specs.Devices.{Outputs};
 ghost use Rattle.line_fields.specs.Texts.{record_text, records_text};
 ghost use Rattle.line_tape.specs.History.{process_at};
-ghost use Rattle.line_tape.specs.Shown.{shown};
+ghost use Rattle.line_tape.specs.Shown.{event_of_ref};
 ghost use Rattle.line_claims.specs.Ranges.{AreRoundsInRange, FitsMemory, FitsProcess, FitsWords};
 ghost use Rattle.line_claims.specs.Ranges.{IsHistoryInRange};
 ghost use Rattle.line_claims.specs.Records as spec;
@@ -89,8 +89,8 @@ fn put_event<K: Sink>(
 ) -> Result<(), DeviceFault>
     ensures put { Outputs result (K.taken sink.old) (K.taken sink.new) (K.faults sink.old)
         (K.faults sink.new) writer.new
-        (writer.old ++ record_text (spec.event_record (shown event.now))) }
-    ensures fits { OnOk result (FitsWords (shown event.now)) }
+        (writer.old ++ record_text (spec.event_record (event_of_ref event.now))) }
+    ensures fits { OnOk result (FitsWords (event_of_ref event.now)) }
 {
     match event {
         EventRef::Send { to, inc, body } => put_send(sink, writer, *to, *inc, body),

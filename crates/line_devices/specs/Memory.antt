@@ -3,7 +3,7 @@ use Rattle.std.specs.Prelude.{ℕ, ◌-◌, List, Option, option_map}
 
 -- a source: the bytes still to come, how many it gave, the most that come at a time, how many calls
 -- ahead the failing one is, the faults so far, and how often it gave nothing
-pub record GivesOf : Type 0 where
+pub record MemSourceView : Type 0 where
   pub left : List ℕ
   pub given : ℕ
   pub step : ℕ
@@ -13,7 +13,7 @@ pub record GivesOf : Type 0 where
 
 -- a sink: the bytes put so far, the most that are taken at a time, how many calls ahead the failing
 -- one is, and the faults so far
-pub record Holds : Type 0 where
+pub record MemSinkView : Type 0 where
   pub bytes : List ℕ
   pub step : ℕ
   pub fail_at : Option ℕ

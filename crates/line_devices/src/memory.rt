@@ -53,9 +53,9 @@ pub struct MemSource {
 
 impl Model for MemSource {
     ghost use Rattle.std.specs.Prelude.{◌<◌, ◌≤◌, drop, vec_len};
-    ghost use Rattle.line_devices.specs.Memory.{GivesOf};
+    ghost use Rattle.line_devices.specs.Memory.{MemSourceView};
 
-    ghost Value = { GivesOf };
+    ghost Value = { MemSourceView };
 
     ghost view = { λ s. record {
       left = drop s.at s.bytes.items;
@@ -158,9 +158,9 @@ pub struct MemSink {
 
 impl Model for MemSink {
     ghost use Rattle.std.specs.Prelude.{◌<◌};
-    ghost use Rattle.line_devices.specs.Memory.{Holds};
+    ghost use Rattle.line_devices.specs.Memory.{MemSinkView};
 
-    ghost Value = { Holds };
+    ghost Value = { MemSinkView };
 
     ghost view = { λ s. record {
       bytes = s.bytes.items;

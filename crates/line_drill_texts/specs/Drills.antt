@@ -19,13 +19,13 @@ before n p = if p == 0 then n - 1 else p - 1
 
 -- what worker p of n does in a round: it sends its number to the worker after it, receives from the
 -- one before it, and takes a check that stores its number
-abbrev pub round_of : ℕ → ℕ → List Order
-round_of n p = Send (after n p) (p ∷ []) ∷ Receive (before n p) ∷ Check (p ∷ []) ∷ []
+abbrev pub round_orders : ℕ → ℕ → List Order
+round_orders n p = Send (after n p) (p ∷ []) ∷ Receive (before n p) ∷ Check (p ∷ []) ∷ []
 
 -- what worker p of n does in so many rounds
 abbrev pub orders_of : ℕ → ℕ → ℕ → List Order
 orders_of n p zero = []
-orders_of n p (suc rounds) = orders_of n p rounds ++ round_of n p
+orders_of n p (suc rounds) = orders_of n p rounds ++ round_orders n p
 
 -- the scripts of a drill, one for each worker
 abbrev pub drill_scripts : ℕ → ℕ → List (List Order)

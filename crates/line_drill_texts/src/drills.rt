@@ -3,7 +3,8 @@
 ghost use Rattle.std.specs.Prelude.{◌≡◌, ◌≤◌, ◌<◌, ◌++◌, IfOk, IfErr, OnOk};
 ghost use Rattle.line_drills.specs.Faults.{HasFilledRing, IsFault};
 ghost use Rattle.line_drills.specs.Scripts as drills;
-ghost use Rattle.line_drill_texts.specs.Drills.{IsDrillText, drill_scripts, orders_of, round_of};
+ghost use Rattle.line_drill_texts.specs.Drills.{IsDrillText, drill_scripts, orders_of};
+ghost use Rattle.line_drill_texts.specs.Drills.{round_orders};
 
 use line_claims::write_history;
 use line_drills::{DrillError, DrillWhy, Gate, Order, drill};
@@ -45,7 +46,7 @@ fn push_round(
 ) -> Result<(), AllocError>
     requires worker { p < workers }
     requires count { workers ≤ MOST_WORKERS }
-    ensures { OnOk result (orders.new.items ≡ orders.old.items ++ round_of workers p) }
+    ensures { OnOk result (orders.new.items ≡ orders.old.items ++ round_orders workers p) }
 {
     let after = if p + 1 == workers { 0 } else { p + 1 };
     let before = if p == 0 { workers - 1 } else { p - 1 };

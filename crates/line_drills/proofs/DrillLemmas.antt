@@ -16,7 +16,7 @@ use Rattle.line_tape.proofs.NextLemmas.{slice_get_push}
 use Rattle.line_tape.proofs.SpentLemmas.{tape_start}
 use Rattle.line_posts.specs.Gathered.{AreGathered, gathered_tape}
 use Rattle.line_posts.specs.Generations.{own_history, AreSamePosts, IsSamePost}
-use Rattle.line_marker.specs.Recording.{latest, Recorded}
+use Rattle.line_marker.specs.Recording.{latest, RecordedRound}
 use Rattle.line_posts.specs.Markers.{recorded_by}
 use Rattle.line_posts.specs.Openings.{HasBegun, IsOpening}
 use Rattle.line_posts.specs.Posts.{PostView, incarnation_of_post, checked_alone, sent_by}
@@ -82,7 +82,7 @@ taken_tape : (a b : PostView) (name : MsgName) (body : List ℕ) → HasTaken a 
 taken_tape a b name body (e, way) = ap (λ (v : PostView). v.tape) e
 
 taken_begun : (a b : PostView) (name : MsgName) (body : List ℕ) → HasTaken a name body b → (f : ℕ) → HasBegun f a → HasBegun f b
-taken_begun a b name body (e, way) f (floor, rounds) = (ap (λ (v : PostView). v.floor) e ∙ floor, ap (λ (v : PostView). v.rounds) e ∙ ap (λ (r : List Recorded). recorded_by (record a { rounds = r }) (Recv name)) rounds)
+taken_begun a b name body (e, way) f (floor, rounds) = (ap (λ (v : PostView). v.floor) e ∙ floor, ap (λ (v : PostView). v.rounds) e ∙ ap (λ (r : List RecordedRound). recorded_by (record a { rounds = r }) (Recv name)) rounds)
 
 pub done_taken : (a b : PostView) (from : ℕ) → HasReceivedFrom a from b → HasDone (Receive from ∷ []) a b
 done_taken a b from (name, body, f, t) = (same_taken a b name body t, taken_begun a b name body t, Recv name ∷ [], taken_tape a b name body t, ((name, f, refl), tt))

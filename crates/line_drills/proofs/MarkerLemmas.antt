@@ -10,7 +10,7 @@ use Rattle.line_posts.specs.declared.refusals.ReceiveWhy.TheVariants.{TapeFull}
 use Rattle.line_posts.specs.Parcels.{parcels_of}
 use Rattle.line_posts.specs.Posts.{PostView}
 use Rattle.line_posts.specs.Receipts.{HasMarked, HasOnlySeen}
-use Rattle.line_posts.specs.Refusals.{IsNotReceived, MayReceive, events_of}
+use Rattle.line_posts.specs.Refusals.{IsNotReceived, MayReceive, event_count}
 use Rattle.line_drills.specs.Faults.{HasMetMarker}
 
 -- a marker that it took
@@ -23,7 +23,7 @@ none_kept : (kept : List Packet) (shown rest : List Parcel) (round : ℕ) → pa
 none_kept [] shown rest round e = e
 none_kept (packet ∷ more) shown rest round e = cc e
 
-alone : (a : PostView) (shown : List Parcel) (from : ℕ) (next : Parcel) (rest : List Parcel) → parcels_of (row_at a.kept from) ++ shown ≡ next ∷ rest → MOST_EVENTS < length a.tape + events_of a next
+alone : (a : PostView) (shown : List Parcel) (from : ℕ) (next : Parcel) (rest : List Parcel) → parcels_of (row_at a.kept from) ++ shown ≡ next ∷ rest → MOST_EVENTS < length a.tape + event_count a next
     → length a.tape < MOST_EVENTS → (round : ℕ) × (shown ≡ Marker round ∷ rest)
 alone a shown from (Message packet) rest comes over few = absurd (omega (arith, over, few))
 alone a shown from (Marker round) rest comes over few = (round, none_kept (row_at a.kept from) shown rest round comes)

@@ -12,12 +12,12 @@ use Rattle.line_tape.specs.declared.events.Event.{Event}
 use Rattle.line_tape.specs.declared.events.Event.TheVariants.{Recv}
 use Rattle.line_tape.specs.declared.items.Item.{Item}
 use Rattle.line_tape.specs.declared.items.Item.TheVariants.{Message}
-use Rattle.line_tape.specs.Fit.{IsFitFifo, items_sent, item_received, sent, received}
+use Rattle.line_tape.specs.Fit.{IsFitFifo, items_sent, item_received, sent_between, received_from}
 use Rattle.line_tape.specs.History.{Process, tape_at}
 use Rattle.line_drills.specs.declared.orders.Order.{Order}
 use Rattle.line_drills.specs.declared.orders.Order.TheVariants.{Send, Receive, Check}
 use Rattle.line_drills.specs.Scripts.{script_at, names_ordered, is_received_from, receives, IsEventOf, IsScripted}
-use Rattle.line_drills.specs.Followed.{Does, Follows}
+use Rattle.line_drills.specs.Followed.{DoesOrder, Follows}
 
 abbrev items_of : List MsgName → List Item
 items_of names = map (λ m. Message m) names
@@ -35,7 +35,7 @@ sent_ordered p q k (Receive from ∷ os) (e ∷ es) h = ap (λ x. items_sent p q
 sent_ordered p q k (Check state ∷ os) (e ∷ es) h = ap (λ x. items_sent p q k (x ∷ es)) h.0 ∙ sent_ordered p q k os es h.1
 
 -- as many receipts as orders to receive
-one_each : (p : ℕ) (o : Order) (e : Event) → Does 0 o e → length (filter_map (item_received p) (e ∷ [])) ≡ receives p (o ∷ [])
+one_each : (p : ℕ) (o : Order) (e : Event) → DoesOrder 0 o e → length (filter_map (item_received p) (e ∷ [])) ≡ receives p (o ∷ [])
 one_each p (Send to body) e h = ap (λ x. length (filter_map (item_received p) (x ∷ []))) h
 one_each p (Receive from) e (m, f, h) =
     ap (λ x. length (filter_map (item_received p) (x ∷ []))) h
@@ -43,7 +43,7 @@ one_each p (Receive from) e (m, f, h) =
     ∙ elim (from == p) as (λ b. length (filter_map (λ (o : Option Item). o) (cond b (Some (Message m)) None ∷ [])) ≡ length (filter (λ (o : Order). b) (Receive from ∷ []))) [ true ↦ refl | false ↦ refl ])
 one_each p (Check state) e h = ap (λ x. length (filter_map (item_received p) (x ∷ []))) h
 
-more_each : (p : ℕ) (before : List Order) (done : List Event) (o : Order) (e : Event) → Does 0 o e → length (filter_map (item_received p) done) ≡ receives p before
+more_each : (p : ℕ) (before : List Order) (done : List Event) (o : Order) (e : Event) → DoesOrder 0 o e → length (filter_map (item_received p) done) ≡ receives p before
     → length (filter_map (item_received p) (done ++ e ∷ [])) ≡ receives p (before ++ o ∷ [])
 more_each p before done o e h same =
     let f = item_received p in
@@ -73,7 +73,7 @@ taken from names done tape rest m f is =
     unmapped (slice_get names (length r)) m (sym (slice_get-map (λ x. Message x) names (length r)) ∙ (ap (λ v. slice_get v (length r)) all ∙ get_at r (Message m) (t ++ rest)))
 
 event_is : (scripts : List (List Order)) (q : ℕ) (before : List Order) (done : List Event) (o : Order) (e : Event) (es : List Event)
-    → ((p : ℕ) → length (filter_map (item_received p) done) ≡ receives p before) → Does 0 o e
+    → ((p : ℕ) → length (filter_map (item_received p) done) ≡ receives p before) → DoesOrder 0 o e
     → ((p : ℕ) → (rest : List Item) × (items_of (names_ordered p q 0 (script_at scripts p)) ≡ filter_map (item_received p) (done ++ e ∷ es) ++ rest))
     → IsEventOf scripts q before o e
 event_is scripts q before done (Send to body) e es count h all = h
@@ -125,7 +125,7 @@ all_of scripts q before (o ∷ os) (e ∷ es) h = ap suc (all_of scripts q (befo
 pub scripted : (scripts : List (List Order)) (history : List Process) → IsFitFifo history → ((p : ℕ) → Follows 0 (script_at scripts p) (tape_at history p)) → (q : ℕ) → IsScripted scripts q (tape_at history q)
 scripted scripts history fit follows q =
     let events : AreEventsOf scripts q [] (script_at scripts q) (tape_at history q) = follow scripts q [] [] (script_at scripts q) (tape_at history q) (λ p. refl) (follows q)
-    (λ p. (drop (length (received history q p)) (sent history p q), sym (sent_ordered p q 0 (script_at scripts p) (tape_at history p) (follows p)) ∙ sym (fit.order p q))) in
+    (λ p. (drop (length (received_from history q p)) (sent_between history p q), sym (sent_ordered p q 0 (script_at scripts p) (tape_at history p) (follows p)) ∙ sym (fit.order p q))) in
     record {
       count = all_of scripts q [] (script_at scripts q) (tape_at history q) events;
       each = λ k order event at here. at_place scripts q [] (script_at scripts q) (tape_at history q) k order event events at here;

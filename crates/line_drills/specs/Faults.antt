@@ -30,18 +30,18 @@ use Rattle.line_drills.specs.Followed.{Follows, HasDone}
 use Rattle.line_drills.specs.Scripts.{names_ordered, script_at}
 
 -- the name that stands beside the number of a refusal
-abbrev pub name_of : DrillWhy → List ℕ
-name_of OutOfMemory = codes "OutOfMemory"
-name_of NoSuchProcess = codes "NoSuchProcess"
-name_of TapeFull = codes "TapeFull"
-name_of StateTooLong = codes "StateTooLong"
-name_of BadCount = codes "BadCount"
-name_of ToSelf = codes "ToSelf"
-name_of WrongMode = codes "WrongMode"
-name_of HeldOut = codes "HeldOut"
-name_of WaitedOut = codes "WaitedOut"
-name_of BadCapacity = codes "BadCapacity"
-name_of NoThread = codes "NoThread"
+abbrev pub name_of_why : DrillWhy → List ℕ
+name_of_why OutOfMemory = codes "OutOfMemory"
+name_of_why NoSuchProcess = codes "NoSuchProcess"
+name_of_why TapeFull = codes "TapeFull"
+name_of_why StateTooLong = codes "StateTooLong"
+name_of_why BadCount = codes "BadCount"
+name_of_why ToSelf = codes "ToSelf"
+name_of_why WrongMode = codes "WrongMode"
+name_of_why HeldOut = codes "HeldOut"
+name_of_why WaitedOut = codes "WaitedOut"
+name_of_why BadCapacity = codes "BadCapacity"
+name_of_why NoThread = codes "NoThread"
 
 -- it names no order
 abbrev pub of_no_order : DrillWhy → DrillError

@@ -19,15 +19,16 @@ HasReceivedFrom old from new = (name : MsgName) × (body : List ℕ) × (name.fr
 
 -- what a worker that sends under this incarnation knows alone: the event does what the order says,
 -- whatever message it took
-abbrev pub Does : ℕ → Order → Event → Type 0
-Does inc (Send to body) event = event ≡ SendEvent to inc body
-Does inc (Receive from) event = (message : MsgName) × (message.from ≡ from) × (event ≡ Recv message)
-Does inc (Check state) event = event ≡ CheckEvent state None
+abbrev pub DoesOrder : ℕ → Order → Event → Type 0
+DoesOrder inc (Send to body) event = event ≡ SendEvent to inc body
+DoesOrder inc (Receive from) event =
+    (message : MsgName) × (message.from ≡ from) × (event ≡ Recv message)
+DoesOrder inc (Check state) event = event ≡ CheckEvent state None
 
 -- one event for each order
 abbrev pub Follows : ℕ → List Order → List Event → Type 0
 Follows inc [] [] = Unit {0}
-Follows inc (order ∷ rest) (event ∷ tape) = Does inc order event × Follows inc rest tape
+Follows inc (order ∷ rest) (event ∷ tape) = DoesOrder inc order event × Follows inc rest tape
 Follows inc [] (event ∷ tape) = ⊥
 Follows inc (order ∷ rest) [] = ⊥
 

@@ -1,6 +1,6 @@
 //! Why a drill did not end well, and where.
 ghost use Rattle.std.specs.Prelude.{◌≡◌};
-ghost use Rattle.line_drills.specs.Faults.{name_of, of_no_order, of_order};
+ghost use Rattle.line_drills.specs.Faults.{name_of_why, of_no_order, of_order};
 
 use line_posts::{FleetError, MOST_CAPACITY, MOST_WORKERS};
 use line_tape::MOST_STATE;
@@ -65,7 +65,7 @@ impl DrillWhy {
 
     /// The name that stands beside the number.
     pub fn name(self) -> &'static str
-        ensures { result.now ≡ name_of self }
+        ensures { result.now ≡ name_of_why self }
     {
         match self {
             DrillWhy::OutOfMemory => "OutOfMemory",

@@ -2,7 +2,7 @@
 use Rattle.std.proofs.Common.{◌≡◌, ◌≤◌, ◌<◌, ◌∙◌, ◌++◌, ◌∷◌, ◌+◌, ◌-◌, ℕ, List, [], Bool, true, false, All, length, take, map, get_or, refl, ap, sym, subst, arith, zero, suc}
 use Rattle.std.proofs.lemmas.List.{length-map}
 use Rattle.line_fields.specs.Records.{Record, field, parts}
-use Rattle.line_fields.specs.Rows.{IsLineEnd, IsWithin, Span, begin_at, fields_held, fields_in, is_end, is_mark, part_of, spans_from}
+use Rattle.line_fields.specs.Rows.{IsLineEnd, IsFieldWithin, FieldSpan, begin_at, fields_held, fields_in, is_end, is_mark, part_of, spans_from}
 use Rattle.line_fields.proofs.SpanLemmas.{IsCut, cut_at_comma, cut_begins, cut_ends, cut_runs, ends_within, line_ends, span_of}
 
 -- where the field behind the last of these ends begins
@@ -13,7 +13,7 @@ begin_after start (end ∷ ends) = begin_after (end + 1) ends
 spans_more : (start : ℕ) (ends : List ℕ) (end : ℕ) → spans_from start (ends ++ end ∷ []) ≡ spans_from start ends ++ span_of (begin_after start ends) end ∷ []
 unfolding spans_from begin_after
 spans_more start [] end = refl
-spans_more start (first ∷ ends) end = ap (λ (spans : List Span). span_of start first ∷ spans) (spans_more (first + 1) ends end)
+spans_more start (first ∷ ends) end = ap (λ (spans : List FieldSpan). span_of start first ∷ spans) (spans_more (first + 1) ends end)
 
 begin_more : (start : ℕ) (ends : List ℕ) (end : ℕ) → begin_after start (ends ++ end ∷ []) ≡ end + 1
 unfolding begin_after
@@ -34,18 +34,18 @@ parted_runs text ends at k = cut_runs text (spans_from 0 ends) (begin_after 0 en
 
 pub parted_at_comma : (text ends : List ℕ) (at : ℕ) → IsParted text ends at → at < length text → get_or text at 0 ≡ 44 → IsParted text (ends ++ at ∷ []) (at + 1)
 parted_at_comma text ends at so lt comma =
-    subst (λ (spans : List Span). IsCut text spans (begin_after 0 (ends ++ at ∷ [])) (at + 1)) (sym (spans_more 0 ends at))
+    subst (λ (spans : List FieldSpan). IsCut text spans (begin_after 0 (ends ++ at ∷ [])) (at + 1)) (sym (spans_more 0 ends at))
     (subst (λ (start : ℕ). IsCut text (spans_from 0 ends ++ span_of (begin_after 0 ends) at ∷ []) start (at + 1)) (sym (begin_more 0 ends at))
     (cut_at_comma text (spans_from 0 ends) (begin_after 0 ends) at so lt comma))
 
 -- the last field of a line ends with it
-pub parted_within : (text ends : List ℕ) (at : ℕ) → IsParted text ends at → All (IsWithin (take at text)) (spans_from 0 (ends ++ at ∷ []))
+pub parted_within : (text ends : List ℕ) (at : ℕ) → IsParted text ends at → All (IsFieldWithin (take at text)) (spans_from 0 (ends ++ at ∷ []))
 parted_within text ends at so =
-    subst (λ (spans : List Span). All (IsWithin (take at text)) spans) (sym (spans_more 0 ends at)) (ends_within text (spans_from 0 ends) (begin_after 0 ends) at so)
+    subst (λ (spans : List FieldSpan). All (IsFieldWithin (take at text)) spans) (sym (spans_more 0 ends at)) (ends_within text (spans_from 0 ends) (begin_after 0 ends) at so)
 
 pub parted_ends : (text ends : List ℕ) (at : ℕ) → IsParted text ends at → fields_in (take at text) (ends ++ at ∷ []) ≡ parts 44 (take at text)
 parted_ends text ends at so =
-    ap (λ (spans : List Span). map (part_of (take at text)) spans) (spans_more 0 ends at) ∙ cut_ends text (spans_from 0 ends) (begin_after 0 ends) at so
+    ap (λ (spans : List FieldSpan). map (part_of (take at text)) spans) (spans_more 0 ends at) ∙ cut_ends text (spans_from 0 ends) (begin_after 0 ends) at so
 
 pub parted_line : (text ends : List ℕ) (at : ℕ) → IsParted text ends at → (at < length text → is_end (get_or text at 0) ≡ true) → IsLineEnd text at
 parted_line text ends at = line_ends text (spans_from 0 ends) (begin_after 0 ends) at
@@ -79,23 +79,23 @@ pub length-fields_in : (bytes ends : List ℕ) → length (fields_in bytes ends)
 length-fields_in bytes ends = length-map (spans_from 0 ends) (part_of bytes) ∙ length-spans_from 0 ends
 
 -- the span at a place
-span_at : (start : ℕ) (ends : List ℕ) (place : ℕ) (d : Span) → place < length ends → get_or (spans_from start ends) place d ≡ span_of (begins start ends place) (get_or ends place 0)
+span_at : (start : ℕ) (ends : List ℕ) (place : ℕ) (d : FieldSpan) → place < length ends → get_or (spans_from start ends) place d ≡ span_of (begins start ends place) (get_or ends place 0)
 unfolding spans_from begins
 span_at start [] place d lt = absurd (omega (arith, lt))
 span_at start (first ∷ ends) zero d lt = refl
 span_at start (first ∷ ends) (suc place) d lt =
     span_at (first + 1) ends place d (omega (arith, lt)) ∙ ap (λ (n : ℕ). span_of n (get_or ends place 0)) (begins_more start first ends place)
 
-span_within : (bytes ends : List ℕ) (place : ℕ) → All (IsWithin bytes) (spans_from 0 ends) → place < length ends → IsWithin bytes (span_of (begin_at ends place) (get_or ends place 0))
+span_within : (bytes ends : List ℕ) (place : ℕ) → All (IsFieldWithin bytes) (spans_from 0 ends) → place < length ends → IsFieldWithin bytes (span_of (begin_at ends place) (get_or ends place 0))
 span_within bytes ends place all lt =
     let long = length-spans_from 0 ends in
-    subst (IsWithin bytes) (span_at 0 ends place (span_of 0 0) lt ∙ ap (λ (n : ℕ). span_of n (get_or ends place 0)) (begins_line ends place))
+    subst (IsFieldWithin bytes) (span_at 0 ends place (span_of 0 0) lt ∙ ap (λ (n : ℕ). span_of n (get_or ends place 0)) (begins_line ends place))
     (all place (span_of 0 0) (omega (arith, long, lt)))
 
-pub begin_ordered : (bytes ends : List ℕ) (place : ℕ) → All (IsWithin bytes) (spans_from 0 ends) → place < length ends → begin_at ends place ≤ get_or ends place 0
+pub begin_ordered : (bytes ends : List ℕ) (place : ℕ) → All (IsFieldWithin bytes) (spans_from 0 ends) → place < length ends → begin_at ends place ≤ get_or ends place 0
 begin_ordered bytes ends place all lt = (span_within bytes ends place all lt).ordered
 
-pub end_within : (bytes ends : List ℕ) (place : ℕ) → All (IsWithin bytes) (spans_from 0 ends) → place < length ends → get_or ends place 0 ≤ length bytes
+pub end_within : (bytes ends : List ℕ) (place : ℕ) → All (IsFieldWithin bytes) (spans_from 0 ends) → place < length ends → get_or ends place 0 ≤ length bytes
 end_within bytes ends place all lt = (span_within bytes ends place all lt).within
 
 -- the field at a place, and past the last one

@@ -4,20 +4,20 @@ use Rattle.std.proofs.lemmas.List.{append-nil}
 use Rattle.std.proofs.lemmas.Bool.{and_parts, cases_Bool, eqb-true}
 use Rattle.csv.specs.declared.parser.State.TheVariants as st
 use Rattle.csv.specs.Reading.{strip_bom}
-use Rattle.line_fields.specs.Bytes.{begins_with_feed, is_allowed, is_input_text}
+use Rattle.line_fields.specs.Bytes.{begins_with_feed, is_input_byte, is_input_text}
 use Rattle.line_fields.specs.Records.{Record, without, cut, records_of_lines, records_of_text}
 use Rattle.line_fields.specs.Rows.{rows_from}
 
 -- a byte that is allowed is no byte that isn't
-not_byte : (c byte : ℕ) (rest : List ℕ) → is_allowed c rest ≡ true → is_allowed byte rest ≡ false → (c == byte) ≡ false
+not_byte : (c byte : ℕ) (rest : List ℕ) → is_input_byte c rest ≡ true → is_input_byte byte rest ≡ false → (c == byte) ≡ false
 not_byte c byte rest allowed bad = elim (cases_Bool (c == byte)) [
-  | inl same ↦ let at : is_allowed byte rest ≡ true = subst (λ n. is_allowed n rest ≡ true) (eqb-true c byte same) allowed in cc (sym bad ∙ at)
+  | inl same ↦ let at : is_input_byte byte rest ≡ true = subst (λ n. is_input_byte n rest ≡ true) (eqb-true c byte same) allowed in cc (sym bad ∙ at)
   | inr other ↦ other
 ]
 
-first_and_rest : (c : ℕ) (rest : List ℕ) → is_input_text (c ∷ rest) ≡ true → (is_allowed c rest ≡ true) × (is_input_text rest ≡ true)
+first_and_rest : (c : ℕ) (rest : List ℕ) → is_input_text (c ∷ rest) ≡ true → (is_input_byte c rest ≡ true) × (is_input_text rest ≡ true)
 unfolding is_input_text
-first_and_rest c rest plain = and_parts (is_allowed c rest) (is_input_text rest) plain
+first_and_rest c rest plain = and_parts (is_input_byte c rest) (is_input_text rest) plain
 
 -- an input text has no byte order mark
 pub no_byte_order_mark : (xs : List ℕ) → is_input_text xs ≡ true → strip_bom xs ≡ xs
@@ -95,7 +95,7 @@ unfolding rows_from cut without
 return_at_start rest start = start
 
 -- any other byte begins a record
-other_at_start : (c : ℕ) (rest : List ℕ) → is_allowed c rest ≡ true → (c == 10) ≡ false → (c == 13) ≡ false → FromInside (c ∷ rest) → FromStart (c ∷ rest)
+other_at_start : (c : ℕ) (rest : List ℕ) → is_input_byte c rest ≡ true → (c == 10) ≡ false → (c == 13) ≡ false → FromInside (c ∷ rest) → FromStart (c ∷ rest)
 unfolding rows_from cut without
 other_at_start c rest allowed no_feed no_return inside =
     let same : rows_from st.StartRecord [] [] (c ∷ rest) ≡ rows_from st.InField [] [] (c ∷ rest) = rw (no_return, no_feed, not_byte c 34 rest allowed refl) refl in
@@ -114,7 +114,7 @@ rows_are (c ∷ rest) plain =
       | inr no_feed ↦ elim (cases_Bool (c == 13)) [
         | inl return ↦
             let at = eqb-true c 13 return in
-            let before_feed : begins_with_feed rest ≡ true = subst (λ n. is_allowed n rest ≡ true) at allowed in
+            let before_feed : begins_with_feed rest ≡ true = subst (λ n. is_input_byte n rest ≡ true) at allowed in
             (subst (λ n. FromInside (n ∷ rest)) (sym at) (return_inside rest before_feed start), subst (λ n. FromStart (n ∷ rest)) (sym at) (return_at_start rest start))
         | inr no_return ↦ elim (cases_Bool (c == 44)) [
           | inl comma ↦

@@ -5,7 +5,7 @@ use Rattle.std.specs.List.{list_all, join_with_byte}
 use Rattle.std.proofs.lemmas.List.Folds.{list_all-append}
 use Rattle.std.proofs.lemmas.Bool.{and_parts}
 use Rattle.line_fields.specs.Bytes.{is_input_text}
-use Rattle.line_fields.specs.Records.{Record, cut, is_line, parts, records_of_lines, records_of_text, without}
+use Rattle.line_fields.specs.Records.{Record, cut, has_byte, parts, records_of_lines, records_of_text, without}
 use Rattle.line_fields.specs.Texts.{has_name, is_field_byte, is_plain_field, is_written, record_text, records_text}
 use Rattle.line_fields.proofs.PlainLemmas.{not_mark, not_true}
 
@@ -69,13 +69,13 @@ fields_of_line field (next ∷ others) plain =
     parts-mark 44 field (join_with_byte 44 (next ∷ others)) (plain_is_clear 44 field refl p.0) ∙ ap (λ (r : Record). field ∷ r) (fields_of_line next others p.1)
 
 -- a record with a name has a line with a byte
-named_line : (fields : Record) → has_name fields ≡ true → is_line (join_with_byte 44 fields) ≡ true
+named_line : (fields : Record) → has_name fields ≡ true → has_byte (join_with_byte 44 fields) ≡ true
 named_line [] named = cc named
 named_line ([] ∷ others) named = cc named
 named_line ((b ∷ bs) ∷ []) named = refl
 named_line ((b ∷ bs) ∷ next ∷ others) named = refl
 
-kept : (line : List ℕ) (lines : List (List ℕ)) → is_line line ≡ true → records_of_lines (line ∷ lines) ≡ parts 44 line ∷ records_of_lines lines
+kept : (line : List ℕ) (lines : List (List ℕ)) → has_byte line ≡ true → records_of_lines (line ∷ lines) ≡ parts 44 line ∷ records_of_lines lines
 kept line lines some = rw some refl
 
 joined : (fields : Record) → has_name fields ≡ true → list_all is_plain_field fields ≡ true → parts 44 (join_with_byte 44 fields) ≡ fields

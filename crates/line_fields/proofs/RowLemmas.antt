@@ -9,7 +9,7 @@ use Rattle.csv.specs.declared.reader.Trim.TheVariants as trim
 use Rattle.csv.specs.declared.parser.State.{State}
 use Rattle.csv.specs.declared.parser.State.TheVariants as st
 use Rattle.csv.proofs.ReadFacts.{rows-end, rows-more}
-use Rattle.line_fields.specs.Rows.{rows_from, rows_at, rows_left, IsReading}
+use Rattle.line_fields.specs.Rows.{rows_from, rows_if_known, rows_left, IsReading}
 
 -- the rows of what a read gives
 unfoldable pub rows_then : Option Read → List (List (List ℕ))
@@ -49,8 +49,8 @@ row_read a b f h r first flexible =
       flexible = flexible ∙ h.flexible;
       known = rw at_z refl;
     } in
-    let before : rows_left a ≡ p.0 ∷ rows_from p.1 [] [] p.2 = ap (rows_at a.state) at_y ∙ (rows_of_next a.state [] [] y ∙ ap rows_then next) in
-    let after : rows_left b ≡ rows_from b.state [] [] z = ap (rows_at b.state) at_z in
+    let before : rows_left a ≡ p.0 ∷ rows_from p.1 [] [] p.2 = ap (rows_if_known a.state) at_y ∙ (rows_of_next a.state [] [] y ∙ ap rows_then next) in
+    let after : rows_left b ≡ rows_from b.state [] [] z = ap (rows_if_known b.state) at_z in
     let moved : rows_from p.1 [] [] p.2 ≡ rows_left b = ap (λ s. rows_from s [] [] p.2) is_state ∙ (ap (λ w. rows_from b.state [] [] w) is_rest ∙ sym after) in
     (new, before ∙ (ap (λ h. h ∷ rows_from p.1 [] [] p.2) (sym is_f) ∙ ap (λ t. f ∷ t) moved))
 
@@ -60,7 +60,7 @@ unfolding rows_then
 row_end a b f h r =
     let rem : Bor (List ℕ) → Option (List ℕ) = λ s. Some s.now in
     let (y, at_y) = some_from (source_of rem a) h.known in
-    ap (rows_at a.state) at_y ∙ (rows_of_next a.state [] [] y ∙ ap rows_then (rows-end rem a b f default_config y h.config at_y r))
+    ap (rows_if_known a.state) at_y ∙ (rows_of_next a.state [] [] y ∙ ap rows_then (rows-end rem a b f default_config y h.config at_y r))
 
 -- what a call of `read_byte_record` says
 pub reads : (a b : Reader (Bor (List ℕ))) (f : List (List ℕ)) (r : Result Bool Error) → IsReading a

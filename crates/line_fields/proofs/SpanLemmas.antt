@@ -6,47 +6,47 @@ use Rattle.std.proofs.lemmas.Bool.{and_parts, cases_Bool, eqb-true}
 use Rattle.std.proofs.lemmas.List.{append-nil, take-append-drop, length-append, length-drop, length-take-le, take_all, drop_all, take-append-le, drop-append-le, drop_more, get_or-drop, map-append}
 use Rattle.std.proofs.lemmas.List.Elements.{All-nil, All-push, All-head, All-tail}
 use Rattle.std.proofs.lemmas.List.Folds.{list_all-append}
-use Rattle.line_fields.specs.Bytes.{begins_with_feed, is_allowed, is_input_text}
-use Rattle.line_fields.specs.Records.{Record, cut, is_line, parts, records_of_lines, records_of_text, without}
-use Rattle.line_fields.specs.Rows.{IsLineEnd, IsWithin, Span, begins_with_end, has_no_end, is_end, is_mark, part_of}
+use Rattle.line_fields.specs.Bytes.{begins_with_feed, is_input_byte, is_input_text}
+use Rattle.line_fields.specs.Records.{Record, cut, has_byte, parts, records_of_lines, records_of_text, without}
+use Rattle.line_fields.specs.Rows.{IsLineEnd, IsFieldWithin, FieldSpan, begins_with_end, has_no_end, is_end, is_mark, part_of}
 use Rattle.line_fields.proofs.ReadAgain.{is_clear, parts-clear, parts-mark, without-clear}
 use Rattle.line_fields.proofs.TextLemmas.{rest_is}
 
 -- a span, made of where it begins and ends
-abbrev pub span_of : ℕ → ℕ → Span
+abbrev pub span_of : ℕ → ℕ → FieldSpan
 span_of start end = record { start = start; end = end }
 
 -- bytes that are added behind leave what spans name as it is
-all_stay : (bytes more : List ℕ) (spans : List Span) → All (IsWithin bytes) spans → All (IsWithin (bytes ++ more)) spans
+all_stay : (bytes more : List ℕ) (spans : List FieldSpan) → All (IsFieldWithin bytes) spans → All (IsFieldWithin (bytes ++ more)) spans
 all_stay bytes more spans all = λ k d lt.
     let w = all k d lt in
     let long = length-append bytes more in
     record { ordered = w.ordered; within = omega (arith, long, w.within) }
 
-part_stays : (bytes more : List ℕ) (span : Span) → IsWithin bytes span → part_of (bytes ++ more) span ≡ part_of bytes span
+part_stays : (bytes more : List ℕ) (span : FieldSpan) → IsFieldWithin bytes span → part_of (bytes ++ more) span ≡ part_of bytes span
 part_stays bytes more span w =
     let long = length-drop span.start bytes in
     ap (λ (xs : List ℕ). take (span.end - span.start) xs) (drop-append-le span.start bytes more (omega (arith, w.ordered, w.within)))
     ∙ take-append-le (span.end - span.start) (drop span.start bytes) more (omega (arith, long, w.ordered, w.within))
 
-parts_stay : (bytes more : List ℕ) (spans : List Span) → All (IsWithin bytes) spans → map (part_of (bytes ++ more)) spans ≡ map (part_of bytes) spans
+parts_stay : (bytes more : List ℕ) (spans : List FieldSpan) → All (IsFieldWithin bytes) spans → map (part_of (bytes ++ more)) spans ≡ map (part_of bytes) spans
 parts_stay bytes more [] all = refl
 parts_stay bytes more (span ∷ others) all =
-    let one = part_stays bytes more span (All-head (IsWithin bytes) span others all) in
-    let rest = parts_stay bytes more others (All-tail (IsWithin bytes) span others all) in
+    let one = part_stays bytes more span (All-head (IsFieldWithin bytes) span others all) in
+    let rest = parts_stay bytes more others (All-tail (IsFieldWithin bytes) span others all) in
     ap (λ (x : List ℕ). x ∷ map (part_of (bytes ++ more)) others) one ∙ ap (λ (xs : Record). part_of bytes span ∷ xs) rest
 
 -- a text is cut into fields as far as a place, where a field is at hand that began before it
-pub record IsCut (text : List ℕ) (spans : List Span) (start end : ℕ) : Type 0 where
+pub record IsCut (text : List ℕ) (spans : List FieldSpan) (start end : ℕ) : Type 0 where
   pub ordered : start ≤ end
   pub inside : end ≤ length text
-  pub within : All (IsWithin (take end text)) spans
+  pub within : All (IsFieldWithin (take end text)) spans
   pub clear : is_clear 44 (take (end - start) (drop start text)) ≡ true
   pub no_end : has_no_end (take end text) ≡ true
   pub cut : (rest : List ℕ) → parts 44 (take start text ++ rest) ≡ map (part_of text) spans ++ parts 44 rest
 
 pub cut_begins : (text : List ℕ) → IsCut text [] 0 0
-cut_begins text = record { ordered = omega arith; inside = omega arith; within = All-nil (IsWithin []); clear = refl; no_end = refl; cut = λ rest. refl }
+cut_begins text = record { ordered = omega arith; inside = omega arith; within = All-nil (IsFieldWithin []); clear = refl; no_end = refl; cut = λ rest. refl }
 
 plus_one : (n : ℕ) → n + 1 ≡ suc n
 plus_one n = omega arith
@@ -80,8 +80,8 @@ no_end_more xs b before here = rw (list_all-append (λ byte. not (is_end byte)) 
 clear_more : (mark : ℕ) (xs : List ℕ) (b : ℕ) → is_clear mark xs ≡ true → (b == mark) ≡ false → is_clear mark (xs ++ b ∷ []) ≡ true
 clear_more mark xs b clear other = rw (list_all-append (λ c. not (c == mark)) xs (b ∷ []), clear, other) refl
 
-within_more : (text : List ℕ) (spans : List Span) (end : ℕ) → end < length text → All (IsWithin (take end text)) spans → All (IsWithin (take (end + 1) text)) spans
-within_more text spans end lt all = subst (λ (xs : List ℕ). All (IsWithin xs) spans) (sym (further text end lt)) (all_stay (take end text) (get_or text end 0 ∷ []) spans all)
+within_more : (text : List ℕ) (spans : List FieldSpan) (end : ℕ) → end < length text → All (IsFieldWithin (take end text)) spans → All (IsFieldWithin (take (end + 1) text)) spans
+within_more text spans end lt all = subst (λ (xs : List ℕ). All (IsFieldWithin xs) spans) (sym (further text end lt)) (all_stay (take end text) (get_or text end 0 ∷ []) spans all)
 
 no_further : (n : ℕ) → n ≡ n + 0
 no_further n = omega arith
@@ -89,7 +89,7 @@ no_further n = omega arith
 one_more : (n k : ℕ) → (n + k) + 1 ≡ n + suc k
 one_more n k = omega arith
 
-pub cut_goes_on : (text : List ℕ) (spans : List Span) (start end : ℕ) → IsCut text spans start end → end < length text → (get_or text end 0 == 44) ≡ false → is_end (get_or text end 0) ≡ false
+pub cut_goes_on : (text : List ℕ) (spans : List FieldSpan) (start end : ℕ) → IsCut text spans start end → end < length text → (get_or text end 0 == 44) ≡ false → is_end (get_or text end 0) ≡ false
     → IsCut text spans start (end + 1)
 cut_goes_on text spans start end so lt other no_end = record {
   ordered = omega (arith, so.ordered);
@@ -108,7 +108,7 @@ no_mark b h = elim (cases_Bool (b == 44)) [
 ]
 
 -- as far as bytes go that end no field
-pub cut_runs : (text : List ℕ) (spans : List Span) (start end k : ℕ) → IsCut text spans start end → end + k ≤ length text
+pub cut_runs : (text : List ℕ) (spans : List FieldSpan) (start end k : ℕ) → IsCut text spans start end → end + k ≤ length text
     → ((i : ℕ) → end ≤ i → i < end + k → is_mark (get_or text i 0) ≡ false) → IsCut text spans start (end + k)
 cut_runs text spans start end zero so inside none = subst (λ n. IsCut text spans start n) (no_further end) so
 cut_runs text spans start end (suc k) so inside none =
@@ -122,7 +122,7 @@ nothing_is_clear xs n =
     let none : n - n ≡ 0 = omega arith in
     ap (λ (k : ℕ). is_clear 44 (take k (drop n xs))) none
 
-pub cut_at_comma : (text : List ℕ) (spans : List Span) (start end : ℕ) → IsCut text spans start end → end < length text → get_or text end 0 ≡ 44 → IsCut text (spans ++ span_of start end ∷ []) (end + 1) (end + 1)
+pub cut_at_comma : (text : List ℕ) (spans : List FieldSpan) (start end : ℕ) → IsCut text spans start end → end < length text → get_or text end 0 ≡ 44 → IsCut text (spans ++ span_of start end ∷ []) (end + 1) (end + 1)
 cut_at_comma text spans start end so lt comma =
     let part : List ℕ = take (end - start) (drop start text) in
     let front : take (end + 1) text ≡ (take start text ++ part) ++ (44 ∷ []) =
@@ -132,7 +132,7 @@ cut_at_comma text spans start end so lt comma =
     record {
       ordered = omega arith;
       inside = omega arith;
-      within = All-push (IsWithin (take (end + 1) text)) spans (span_of start end) (within_more text spans end lt so.within) (record { ordered = so.ordered; within = omega (arith, long) });
+      within = All-push (IsFieldWithin (take (end + 1) text)) spans (span_of start end) (within_more text spans end lt so.within) (record { ordered = so.ordered; within = omega (arith, long) });
       clear = nothing_is_clear text (end + 1);
       no_end = ap has_no_end (further text end lt) ∙ no_end_more (take end text) (get_or text end 0) so.no_end no_end;
       cut = λ rest.
@@ -145,15 +145,15 @@ cut_at_comma text spans start end so lt comma =
     }
 
 -- the last field of a line ends with it
-pub ends_within : (text : List ℕ) (spans : List Span) (start end : ℕ) → IsCut text spans start end → All (IsWithin (take end text)) (spans ++ span_of start end ∷ [])
+pub ends_within : (text : List ℕ) (spans : List FieldSpan) (start end : ℕ) → IsCut text spans start end → All (IsFieldWithin (take end text)) (spans ++ span_of start end ∷ [])
 ends_within text spans start end so =
     let long : length (take end text) ≡ end = length-take-le end text so.inside in
-    All-push (IsWithin (take end text)) spans (span_of start end) so.within (record { ordered = so.ordered; within = omega (arith, long) })
+    All-push (IsFieldWithin (take end text)) spans (span_of start end) so.within (record { ordered = so.ordered; within = omega (arith, long) })
 
-pub cut_ends : (text : List ℕ) (spans : List Span) (start end : ℕ) → IsCut text spans start end → map (part_of (take end text)) (spans ++ span_of start end ∷ []) ≡ parts 44 (take end text)
+pub cut_ends : (text : List ℕ) (spans : List FieldSpan) (start end : ℕ) → IsCut text spans start end → map (part_of (take end text)) (spans ++ span_of start end ∷ []) ≡ parts 44 (take end text)
 cut_ends text spans start end so =
     let part : List ℕ = take (end - start) (drop start text) in
-    let all : List Span = spans ++ span_of start end ∷ [] in
+    let all : List FieldSpan = spans ++ span_of start end ∷ [] in
     let whole : take end text ++ drop end text ≡ text = take-append-drop end text in
     sym (parts_stay (take end text) (drop end text) all (ends_within text spans start end so))
     ∙ ap (λ (xs : List ℕ). map (part_of xs) all) whole
@@ -161,7 +161,7 @@ cut_ends text spans start end so =
     ∙ ap (λ (fields : Record). map (part_of text) spans ++ fields) (sym (parts-clear 44 part so.clear))
     ∙ sym (so.cut part) ∙ ap (parts 44) (sym (between text start end so.ordered so.inside))
 
-pub line_ends : (text : List ℕ) (spans : List Span) (start end : ℕ) → IsCut text spans start end → (end < length text → is_end (get_or text end 0) ≡ true) → IsLineEnd text end
+pub line_ends : (text : List ℕ) (spans : List FieldSpan) (start end : ℕ) → IsCut text spans start end → (end < length text → is_end (get_or text end 0) ≡ true) → IsLineEnd text end
 line_ends text spans start end so there = record { within = so.inside; no_end = so.no_end; end_there = there }
 
 -- a list without an end of a line has neither of the two bytes
@@ -179,11 +179,11 @@ no_end_is_clear (b ∷ rest) h =
     let others = no_end_is_clear rest p.1 in
     (rw (here.0, others.0) refl, rw (here.1, others.1) refl)
 
-kept : (line : List ℕ) (lines : List (List ℕ)) → is_line line ≡ true → records_of_lines (line ∷ lines) ≡ parts 44 line ∷ records_of_lines lines
+kept : (line : List ℕ) (lines : List (List ℕ)) → has_byte line ≡ true → records_of_lines (line ∷ lines) ≡ parts 44 line ∷ records_of_lines lines
 kept line lines some = rw some refl
 
 -- the first line of a text that begins with no end of a line has a byte
-some_line : (text : List ℕ) (end : ℕ) → IsLineEnd text end → is_line text ≡ true → begins_with_end text ≡ false → is_line (take end text) ≡ true
+some_line : (text : List ℕ) (end : ℕ) → IsLineEnd text end → has_byte text ≡ true → begins_with_end text ≡ false → has_byte (take end text) ≡ true
 some_line [] end ends some begins = cc some
 some_line (c ∷ rest) zero ends some begins = cc (sym begins ∙ ends.end_there (omega arith))
 some_line (c ∷ rest) (suc end) ends some begins = refl
@@ -208,15 +208,15 @@ pub input_behind : (xs : List ℕ) (k : ℕ) → is_input_text xs ≡ true → i
 unfolding is_input_text
 input_behind xs zero h = h
 input_behind [] (suc k) h = h
-input_behind (b ∷ rest) (suc k) h = let p = and_parts (is_allowed b rest) (is_input_text rest) h in input_behind rest k p.1
+input_behind (b ∷ rest) (suc k) h = let p = and_parts (is_input_byte b rest) (is_input_text rest) h in input_behind rest k p.1
 
 -- a carriage return stands before a line feed
 before_feed : (rest : List ℕ) → is_input_text (13 ∷ rest) ≡ true → begins_with_feed rest ≡ true
 unfolding is_input_text
-before_feed rest h = let p = and_parts (is_allowed 13 rest) (is_input_text rest) h in p.0
+before_feed rest h = let p = and_parts (is_input_byte 13 rest) (is_input_text rest) h in p.0
 
 -- a line, a carriage return, and a line feed
-return_follows : (line rest : List ℕ) → has_no_end line ≡ true → is_line line ≡ true → begins_with_feed rest ≡ true
+return_follows : (line rest : List ℕ) → has_no_end line ≡ true → has_byte line ≡ true → begins_with_feed rest ≡ true
     → records_of_text (line ++ (13 ∷ rest)) ≡ parts 44 line ∷ records_of_text rest
 unfolding without cut
 return_follows line [] none some feed = cc feed
@@ -229,14 +229,14 @@ return_follows line (c ∷ more) none some feed =
     ∙ ap (λ (b : ℕ). parts 44 line ∷ records_of_text (b ∷ more)) (sym at)
 
 -- a line and a line feed
-feed_follows : (line rest : List ℕ) → has_no_end line ≡ true → is_line line ≡ true → records_of_text (line ++ (10 ∷ rest)) ≡ parts 44 line ∷ records_of_text rest
+feed_follows : (line rest : List ℕ) → has_no_end line ≡ true → has_byte line ≡ true → records_of_text (line ++ (10 ∷ rest)) ≡ parts 44 line ∷ records_of_text rest
 unfolding without
 feed_follows line rest none some =
     let clear = no_end_is_clear line none in
     ap (λ (t : List ℕ). records_of_lines (parts 10 t)) (without-clear 13 line (10 ∷ rest) clear.1)
     ∙ ap records_of_lines (parts-mark 10 line (without 13 rest) clear.0) ∙ kept line (parts 10 (without 13 rest)) some
 
-end_follows : (line : List ℕ) (c : ℕ) (rest : List ℕ) → is_end c ≡ true → is_input_text (c ∷ rest) ≡ true → has_no_end line ≡ true → is_line line ≡ true
+end_follows : (line : List ℕ) (c : ℕ) (rest : List ℕ) → is_end c ≡ true → is_input_text (c ∷ rest) ≡ true → has_no_end line ≡ true → has_byte line ≡ true
     → records_of_text (line ++ (c ∷ rest)) ≡ parts 44 line ∷ records_of_text rest
 end_follows line c rest h input none some = elim (cases_Bool (c == 10)) [
   | inl e ↦ ap (λ (b : ℕ). records_of_text (line ++ (b ∷ rest))) (eqb-true c 10 e) ∙ feed_follows line rest none some
@@ -250,7 +250,7 @@ unfolding cut without
 nothing_left = refl
 
 -- the last line of a text
-text_ends : (text : List ℕ) (end : ℕ) → IsLineEnd text end → end ≡ length text → is_line text ≡ true
+text_ends : (text : List ℕ) (end : ℕ) → IsLineEnd text end → end ≡ length text → has_byte text ≡ true
     → records_of_text text ≡ parts 44 (take end text) ∷ records_of_text (drop (end + 1) text)
 unfolding without
 text_ends text end ends at some =
@@ -262,7 +262,7 @@ text_ends text end ends at some =
     ∙ ap (λ (fields : Record). fields ∷ []) (ap (parts 44) (sym all))
     ∙ ap (λ (records : List Record). parts 44 (take end text) ∷ records) (sym (ap records_of_text none ∙ nothing_left))
 
-text_goes_on : (text : List ℕ) (end : ℕ) → IsLineEnd text end → end < length text → is_input_text text ≡ true → is_line (take end text) ≡ true
+text_goes_on : (text : List ℕ) (end : ℕ) → IsLineEnd text end → end < length text → is_input_text text ≡ true → has_byte (take end text) ≡ true
     → records_of_text text ≡ parts 44 (take end text) ∷ records_of_text (drop (end + 1) text)
 text_goes_on text end ends lt input some =
     let rest : drop end text ≡ get_or text end 0 ∷ drop (end + 1) text = drop_more text end 0 lt in
@@ -278,7 +278,7 @@ from_end text end ends = elim (eq-or-lt_of_le ends.within) [
 ]
 
 -- the first record of a text is that of its first line
-pub first_record : (text : List ℕ) (end : ℕ) → IsLineEnd text end → is_input_text text ≡ true → is_line text ≡ true → begins_with_end text ≡ false
+pub first_record : (text : List ℕ) (end : ℕ) → IsLineEnd text end → is_input_text text ≡ true → has_byte text ≡ true → begins_with_end text ≡ false
     → records_of_text text ≡ parts 44 (take end text) ∷ records_of_text (drop end text)
 first_record text end ends input some begins =
     let behind : records_of_text text ≡ parts 44 (take end text) ∷ records_of_text (drop (end + 1) text) = elim (eq-or-lt_of_le ends.within) [

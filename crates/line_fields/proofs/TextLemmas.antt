@@ -5,15 +5,15 @@ use Rattle.std.proofs.lemmas.List.{drop_all, drop_more, take_all, length-drop, l
 use Rattle.std.proofs.lemmas.List.Filters.{length-filter_both}
 use Rattle.std.proofs.lemmas.Bool.{and_parts, cases_Bool, eqb-true}
 use Rattle.std.specs.List.{list_all}
-use Rattle.line_fields.specs.Bytes.{begins_with_feed, is_allowed, is_common, is_input_text}
-use Rattle.line_fields.specs.Records.{without, cut, parts, is_line, records_of_text}
+use Rattle.line_fields.specs.Bytes.{begins_with_feed, is_input_byte, is_common, is_input_text}
+use Rattle.line_fields.specs.Records.{without, cut, parts, has_byte, records_of_text}
 
 -- a slice from a place on is all that follows that place
 pub rest_is : (xs : List ℕ) (n : ℕ) → take (length xs - n) (drop n xs) ≡ drop n xs
 rest_is xs n = let long = length-drop n xs in take_all (length xs - n) (drop n xs) (omega (arith, long))
 
 -- a text from a place on is plain if its first byte may stand there and the rest is plain
-pub plain_at : (xs : List ℕ) (i : ℕ) → i < length xs → is_input_text (drop i xs) ≡ (is_allowed (get_or xs i 0) (drop (i + 1) xs) && is_input_text (drop (i + 1) xs))
+pub plain_at : (xs : List ℕ) (i : ℕ) → i < length xs → is_input_text (drop i xs) ≡ (is_input_byte (get_or xs i 0) (drop (i + 1) xs) && is_input_text (drop (i + 1) xs))
 unfolding is_input_text
 plain_at xs i lt = ap is_input_text (drop_more xs i 0 lt)
 
@@ -32,11 +32,11 @@ or_false false false = refl
 
 -- the bytes up to a place were judged, and the next byte is, by the one behind it
 pub plain_more : (xs : List ℕ) (i : ℕ) (before now : Bool) → i + 1 < length xs → is_input_text xs ≡ (before && is_input_text (drop i xs))
-    → ((rest : List ℕ) → now ≡ is_allowed (get_or xs i 0) (get_or xs (i + 1) 0 ∷ rest)) → is_input_text xs ≡ ((before && now) && is_input_text (drop (i + 1) xs))
+    → ((rest : List ℕ) → now ≡ is_input_byte (get_or xs i 0) (get_or xs (i + 1) 0 ∷ rest)) → is_input_text xs ≡ ((before && now) && is_input_text (drop (i + 1) xs))
 plain_more xs i before now lt so is =
     let others : Bool = is_input_text (drop (i + 1) xs) in
     let next : drop (i + 1) xs ≡ get_or xs (i + 1) 0 ∷ drop (i + 1 + 1) xs = drop_more xs (i + 1) 0 lt in
-    let judged : is_allowed (get_or xs i 0) (drop (i + 1) xs) ≡ now = ap (is_allowed (get_or xs i 0)) next ∙ sym (is (drop (i + 1 + 1) xs)) in
+    let judged : is_input_byte (get_or xs i 0) (drop (i + 1) xs) ≡ now = ap (is_input_byte (get_or xs i 0)) next ∙ sym (is (drop (i + 1 + 1) xs)) in
     so ∙ ap (λ (b : Bool). before && b) (plain_at xs i (omega (arith, lt)) ∙ ap (λ (b : Bool). b && others) judged) ∙ and_assoc before now others
 
 -- nothing stands behind the last byte
@@ -45,7 +45,7 @@ unfolding is_input_text
 plain_last xs i before now long is =
     let none : drop (i + 1) xs ≡ [] = drop_all (i + 1) xs (omega (arith, long)) in
     let last : drop i xs ≡ get_or xs i 0 ∷ [] = drop_more xs i 0 (omega (arith, long)) ∙ ap (λ (ys : List ℕ). get_or xs i 0 ∷ ys) none in
-    let judged : is_input_text (get_or xs i 0 ∷ []) ≡ is_common (get_or xs i 0) = and_true (is_allowed (get_or xs i 0) []) ∙ or_false (is_common (get_or xs i 0)) (get_or xs i 0 == 13) in
+    let judged : is_input_text (get_or xs i 0 ∷ []) ≡ is_common (get_or xs i 0) = and_true (is_input_byte (get_or xs i 0) []) ∙ or_false (is_common (get_or xs i 0)) (get_or xs i 0 == 13) in
     ap (λ (b : Bool). before && b) (ap is_input_text last ∙ judged ∙ sym is)
 
 -- a third way in which a test may hold takes nothing from the first two
@@ -55,7 +55,7 @@ or_more false true c h = refl
 or_more false false c h = cc h
 
 -- a byte that may stand anywhere may stand before these
-common_is_allowed : (byte : ℕ) (rest : List ℕ) → is_common byte ≡ true → is_allowed byte rest ≡ true
+common_is_allowed : (byte : ℕ) (rest : List ℕ) → is_common byte ≡ true → is_input_byte byte rest ≡ true
 common_is_allowed byte rest h =
     or_more (nat_le 32 byte && nat_le byte 126 && not (byte == 34)) (byte == 10)
     ((byte == 13) && begins_with_feed rest) h
@@ -92,8 +92,8 @@ length-cut mark (c ∷ rest) =
 pub length-records_of_text : (xs : List ℕ) → length (records_of_text xs) ≤ length xs + 1
 length-records_of_text xs =
     let lines = parts 10 (without 13 xs) in
-    let records = length-map (filter is_line lines) (parts 44) in
-    let kept = length-filter_both is_line (λ l. not (is_line l)) (λ l. refl) lines in
+    let records = length-map (filter has_byte lines) (parts 44) in
+    let kept = length-filter_both has_byte (λ l. not (has_byte l)) (λ l. refl) lines in
     let feeds = length-cut 10 (without 13 xs) in
     let bytes = length-without 13 xs in
     omega (arith, records, kept, feeds, bytes)

@@ -9,8 +9,8 @@ begins_with_feed (byte ∷ rest) = byte == 10
 
 -- a byte that may stand before these: 32 to 126 but the double quote, a line feed, or a carriage
 -- return directly before one
-abbrev pub is_allowed : ℕ → List ℕ → Bool
-is_allowed byte rest =
+abbrev pub is_input_byte : ℕ → List ℕ → Bool
+is_input_byte byte rest =
     (nat_le 32 byte && nat_le byte 126 && not (byte == 34))
     || (byte == 10)
     || ((byte == 13) && begins_with_feed rest)
@@ -22,7 +22,7 @@ is_common byte = (nat_le 32 byte && nat_le byte 126 && not (byte == 34)) || (byt
 -- each byte is allowed where it stands
 unfoldable pub is_input_text : List ℕ → Bool
 is_input_text [] = true
-is_input_text (byte ∷ rest) = is_allowed byte rest && is_input_text rest
+is_input_text (byte ∷ rest) = is_input_byte byte rest && is_input_text rest
 
 -- a byte that may stand in a line: 32 to 126 but the double quote
 abbrev pub is_line_byte : ℕ → Bool

@@ -24,13 +24,13 @@ abbrev pub parts : ℕ → List ℕ → List (List ℕ)
 parts mark xs = (cut mark xs).0 ∷ (cut mark xs).1
 
 -- a line with a byte
-abbrev pub is_line : List ℕ → Bool
-is_line [] = false
-is_line (byte ∷ rest) = true
+abbrev pub has_byte : List ℕ → Bool
+has_byte [] = false
+has_byte (byte ∷ rest) = true
 
 -- each line with a byte is a record, whose fields are parted by commas
 abbrev pub records_of_lines : List (List ℕ) → List Record
-records_of_lines lines = map (parts 44) (filter is_line lines)
+records_of_lines lines = map (parts 44) (filter has_byte lines)
 
 -- the records of a text: its lines are parted by line feeds, and carriage returns don't count
 abbrev pub records_of_text : List ℕ → List Record

@@ -15,13 +15,13 @@ use Rattle.line_fields.specs.Bytes.{is_input_text}
 use Rattle.line_fields.specs.Records.{Record, records_of_text}
 
 -- where a field begins and ends in a line
-pub record Span : Type 0 where
+pub record FieldSpan : Type 0 where
   pub start : ℕ
   pub end : ℕ
 
 -- the fields of a line by where they end, each but the first after a comma, from where the first
 -- begins
-unfoldable pub spans_from : ℕ → List ℕ → List Span
+unfoldable pub spans_from : ℕ → List ℕ → List FieldSpan
 spans_from start [] = []
 spans_from start (end ∷ ends) = record { start = start; end = end } ∷ spans_from (end + 1) ends
 
@@ -31,11 +31,11 @@ begin_at ends zero = 0
 begin_at ends (suc place) = slice_index_or ends place 0 + 1
 
 -- the part of some bytes that a span names
-abbrev pub part_of : List ℕ → Span → List ℕ
+abbrev pub part_of : List ℕ → FieldSpan → List ℕ
 part_of bytes span = take (span.end - span.start) (drop span.start bytes)
 
 -- a span lies within some bytes
-pub record IsWithin (bytes : List ℕ) (span : Span) : Type 0 where
+pub record IsFieldWithin (bytes : List ℕ) (span : FieldSpan) : Type 0 where
   pub ordered : span.start ≤ span.end
   pub within : span.end ≤ length bytes
 
@@ -87,13 +87,13 @@ rows_from s fields field (c ∷ rest) =
     (field_after (step default_config s c).1 c field) rest
 
 -- the same of a text that may not be known
-abbrev pub rows_at : State → Option (List ℕ) → List (List (List ℕ))
-rows_at s None = []
-rows_at s (Some text) = rows_from s [] [] text
+abbrev pub rows_if_known : State → Option (List ℕ) → List (List (List ℕ))
+rows_if_known s None = []
+rows_if_known s (Some text) = rows_from s [] [] text
 
 -- the rows that a reader over a slice has left
 abbrev pub rows_left : Reader (Bor (List ℕ)) → List (List (List ℕ))
-rows_left r = rows_at (reader_state r) (source_of (λ s. Some s.now) r)
+rows_left r = rows_if_known (reader_state r) (source_of (λ s. Some s.now) r)
 
 -- the next read of a reader is of a row, with csv's own marks, and its text is known
 pub record IsReading (r : Reader (Bor (List ℕ))) : Type 0 where

@@ -2,7 +2,7 @@
 
 ghost use Rattle.std.specs.Prelude.{◌≡◌, ◌∷◌, ℕ, List};
 ghost use Rattle.std.specs.List.{list_all};
-ghost use Rattle.line_fields.specs.Bytes.{is_allowed, is_common, is_input_text, is_line_byte};
+ghost use Rattle.line_fields.specs.Bytes.{is_input_byte, is_common, is_input_text, is_line_byte};
 ghost use Rattle.line_fields.specs.Bytes.{is_line_text};
 
 // Bytes that may stand anywhere are looked for in blocks of so many.
@@ -29,7 +29,7 @@ fn are_common(text: &[u8]) -> bool
 
 // Whether a byte may stand before another.
 fn is_allowed_before(byte: u8, next: u8) -> bool
-    ensures { (rest : List ℕ) → result ≡ is_allowed byte (next ∷ rest) }
+    ensures { (rest : List ℕ) → result ≡ is_input_byte byte (next ∷ rest) }
 {
     is_common(byte) || (byte == b'\r' && next == b'\n')
 }

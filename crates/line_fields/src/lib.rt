@@ -21,7 +21,7 @@ pub use laws::{
     numbers_are_read_again, records_are_few, records_are_read_again,
 };
 pub use outlets::{
-    Field, add_field, begin_record, end_record, put_ending, put_fields, put_numbers,
+    Field, add_field, begin_record, close_record, put_ending, put_fields, put_numbers,
 };
 pub use records::{RecordReader, Row};
 pub use writers::RecordWriter;

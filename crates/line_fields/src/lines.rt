@@ -137,7 +137,7 @@ pub(crate) fn push_word(out: &mut Vec<u8>, word: &[u8])
 
 // Whether a list has room for so many bytes and one more.
 #[inline(always)]
-pub(crate) fn has_room(text: &Vec<u8>, bytes: usize) -> bool
+pub(crate) fn has_spare_room(text: &Vec<u8>, bytes: usize) -> bool
     ensures { IsTrue result ↔ vec_len text.now + bytes < vec_capacity text.now }
 {
     bytes < text.capacity() - text.len()

@@ -9,7 +9,7 @@ ghost use Rattle.line_fields.specs.Outlets.{field_text};
 
 use crate::RecordWriter;
 use crate::digits::push_eights;
-use crate::lines::{has_room, pair_of, push_hex, push_number, push_text, push_word};
+use crate::lines::{has_spare_room, pair_of, push_hex, push_number, push_text, push_word};
 use itoa::Buffer;
 use line_devices::{DeviceFault, Sink, put_all};
 
@@ -47,7 +47,7 @@ fn add_far<K: Sink>(sink: &mut K, text: &mut Vec<u8>, bytes: &[u8]) -> Result<()
 {
     put_all(sink, text.as_slice())?;
     text.clear();
-    if has_room(text, bytes.len()) {
+    if has_spare_room(text, bytes.len()) {
         push_text(text, bytes);
         return Ok(());
     }
@@ -61,7 +61,7 @@ fn add<K: Sink>(sink: &mut K, text: &mut Vec<u8>, bytes: &[u8]) -> Result<(), De
         (K.faults sink.old) (K.faults sink.new)
         text.new.items (text.old.items ++ bytes.now) }
 {
-    if !has_room(text, bytes.len()) {
+    if !has_spare_room(text, bytes.len()) {
         return add_far(sink, text, bytes);
     }
     push_word(text, bytes);
@@ -108,7 +108,7 @@ fn add_number<K: Sink>(sink: &mut K, text: &mut Vec<u8>, value: u64) -> Result<(
         (K.faults sink.old) (K.faults sink.new)
         text.new.items (text.old.items ++ 44 ∷ decimal value) }
 {
-    if value >= SHORT_NUMBER || !has_room(text, SHORT_ROOM) {
+    if value >= SHORT_NUMBER || !has_spare_room(text, SHORT_ROOM) {
         return add_number_far(sink, text, value);
     }
     text.push_reserved(b',');
@@ -141,7 +141,7 @@ fn add_bytes<K: Sink>(sink: &mut K, text: &mut Vec<u8>, bytes: &[u8]) -> Result<
         text.new.items (text.old.items ++ 44 ∷ hex_text bytes.now) }
 {
     add_comma(sink, text)?;
-    if !has_room(text, 2 * bytes.len()) {
+    if !has_spare_room(text, 2 * bytes.len()) {
         return add_digits_far(sink, text, bytes);
     }
     let left = push_eights(text, bytes);
@@ -255,7 +255,7 @@ fn has_room_for_all(text: &Vec<u8>, name: &[u8], numbers: &[u64]) -> bool
 {
     name.len() <= MOST_AT_ONCE
         && numbers.len() <= MOST_AT_ONCE
-        && has_room(text, name.len() + NUMBER_ROOM * numbers.len())
+        && has_spare_room(text, name.len() + NUMBER_ROOM * numbers.len())
 }
 
 /// Begins a record with its name and some numbers after what a writer holds.
@@ -301,7 +301,7 @@ pub fn add_field<K: Sink>(
 
 /// Ends a record after what a writer holds.
 #[inline(always)]
-pub fn end_record<K: Sink>(sink: &mut K, writer: &mut RecordWriter) -> Result<(), DeviceFault>
+pub fn close_record<K: Sink>(sink: &mut K, writer: &mut RecordWriter) -> Result<(), DeviceFault>
     ensures { Outputs result (K.taken sink.old) (K.taken sink.new)
         (K.faults sink.old) (K.faults sink.new)
         writer.new (writer.old ++ 10 ∷ []) }
@@ -325,7 +325,7 @@ pub fn put_numbers<K: Sink>(
         writer.new (writer.old ++ record_text (name.now ∷ map decimal numbers.now)) }
 {
     begin_record(sink, writer, name, numbers)?;
-    end_record(sink, writer)
+    close_record(sink, writer)
 }
 
 /// Writes a record of a name, some numbers and a last field after what a writer holds, as
@@ -345,7 +345,7 @@ pub fn put_ending<K: Sink>(
 {
     begin_record(sink, writer, name, numbers)?;
     add_field(sink, writer, last)?;
-    end_record(sink, writer)
+    close_record(sink, writer)
 }
 
 // Writes a comma before each of some fields and the field, after what a writer holds.
@@ -377,5 +377,5 @@ pub fn put_fields<K: Sink>(
 {
     begin_record(sink, writer, name, &[])?;
     add_fields(sink, writer, fields)?;
-    end_record(sink, writer)
+    close_record(sink, writer)
 }

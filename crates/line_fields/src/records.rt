@@ -5,8 +5,9 @@ ghost use Rattle.std.specs.Prelude.{IsTrue, MatchBool, OnErr, if◌then◌else�
 ghost use Rattle.std.specs.Prelude.{slice_index_or, take};
 ghost use Rattle.csv.specs.Records.{fields_of};
 ghost use Rattle.line_fields.specs.Bytes.{begins_with_feed, is_input_text, is_line_text};
-ghost use Rattle.line_fields.specs.Records.{field, is_line, parts, records_of_text};
-ghost use Rattle.line_fields.specs.Rows.{IsLineEnd, IsReading, IsReadingOn, IsWithin, begin_at};
+ghost use Rattle.line_fields.specs.Records.{field, has_byte, parts, records_of_text};
+ghost use Rattle.line_fields.specs.Rows.{IsLineEnd, IsReading, IsReadingOn, IsFieldWithin};
+ghost use Rattle.line_fields.specs.Rows.{begin_at};
 ghost use Rattle.line_fields.specs.Rows.{begins_with_end, begins_with_return, fields_in, rows_left};
 ghost use Rattle.line_fields.specs.Rows.{rows_left_in, spans_from};
 
@@ -30,13 +31,13 @@ pub struct Row {
 impl Model for Row {
     ghost use Rattle.std.specs.Prelude.{All, ℕ, List};
     ghost use Rattle.csv.specs.Records.{fields_of};
-    ghost use Rattle.line_fields.specs.Rows.{IsWithin, fields_held, spans_from};
+    ghost use Rattle.line_fields.specs.Rows.{IsFieldWithin, fields_held, spans_from};
 
     ghost Value = { List (List ℕ) };
 
     ghost view = { λ s. fields_held s.by_csv s.bytes.items s.ends.items (fields_of s.record) };
 
-    ghost invariant = { λ s. All (IsWithin s.bytes.items) (spans_from 0 s.ends.items) };
+    ghost invariant = { λ s. All (IsFieldWithin s.bytes.items) (spans_from 0 s.ends.items) };
 }
 
 // Where the field at a place of a line begins: after the end of the one before it.
@@ -57,7 +58,7 @@ fn begin_of(ends: &[usize], place: usize) -> usize
 #[inline(always)]
 #[tactic(auto, using(crate::proofs::EndLemmas::end_within, crate::proofs::EndLemmas::field_there, crate::proofs::EndLemmas::no_field))]
 fn field_in<'a>(bytes: &'a [u8], ends: &[usize], place: usize) -> &'a [u8]
-    requires { All (IsWithin bytes.now) (spans_from 0 ends.now) }
+    requires { All (IsFieldWithin bytes.now) (spans_from 0 ends.now) }
     ensures { result.now ≡ field (fields_in bytes.now ends.now) place }
 {
     if place < ends.len() {
@@ -253,7 +254,7 @@ fn begins_with_return(text: &[u8]) -> bool
 // from the end of that line on.
 fn read_first<'a>(text: &'a [u8], row: &mut Row) -> Result<&'a [u8], AllocError>
     requires input { is_input_text text.now ≡ true }
-    requires some { is_line text.now ≡ true }
+    requires some { has_byte text.now ≡ true }
     requires begins { begins_with_end text.now ≡ false }
     ensures input { IfOk result (λ rest. is_input_text rest.now ≡ true) }
     ensures ok { IfOk result

@@ -3,7 +3,7 @@
 ghost use Rattle.std.specs.Prelude.{◌≡◌, ◌+◌, ◌≤◌, All, IfOk, length, map, take};
 ghost use Rattle.std.specs.Simd.Lanes.{chunk, mask_l};
 ghost use Rattle.line_fields.specs.Records.{parts};
-ghost use Rattle.line_fields.specs.Rows.{IsLineEnd, IsWithin, fields_in, is_mark, spans_from};
+ghost use Rattle.line_fields.specs.Rows.{IsLineEnd, IsFieldWithin, fields_in, is_mark, spans_from};
 
 use std::alloc::AllocError;
 use std::simd::prelude::*;
@@ -33,7 +33,7 @@ fn marks_of_sixteen(text: &[u8], at: usize) -> u64
 pub(crate) fn split(text: &[u8], ends: &mut Vec<usize>) -> Result<usize, AllocError>
     ensures line { IfOk result (λ end. IsLineEnd text.now end) }
     ensures within { IfOk result
-        (λ end. All (IsWithin (take end text.now)) (spans_from 0 ends.new.items)) }
+        (λ end. All (IsFieldWithin (take end text.now)) (spans_from 0 ends.new.items)) }
     ensures fields { IfOk result
         (λ end. fields_in (take end text.now) ends.new.items ≡ parts 44 (take end text.now)) }
 {

@@ -3,7 +3,7 @@ use Rattle.std.proofs.Common.{◌≡◌, ◌≢◌, ℕ, zero, suc, ◌<◌, Boo
 use Rattle.std.specs.Prelude.{Contains, slice_index_or, slice_set, ◌||◌, All, IsTrue, MatchOption, nat_lt, Result, Ok, Err, IfOk, OnOk, OnErr, IsErrOf, ◌↔◌}
 use Rattle.std.proofs.lemmas.Bool.{cases_eq, eq-eqb, ne_eqb, lt-ltb, le-ltb}
 use Rattle.std.proofs.lemmas.List.Elements.{All-nil, All-head, All-tail}
-use Rattle.line_marker.specs.Recording.{Channel, MarkerView, Recorded, open_channel, channel_at, with_channel, with_marker, with_round, round_of, latest, effect_by, effect_of, rounds_after, IsRepeated, IsSameProcess}
+use Rattle.line_marker.specs.Recording.{Channel, MarkerView, RecordedRound, open_channel, channel_at, with_channel, with_marker, with_round, round_of, latest, effect_by, effect_of, rounds_after, IsRepeated, IsSameProcess}
 use Rattle.line_marker.specs.declared.markers.Effect.{Effect}
 use Rattle.line_marker.specs.declared.markers.Effect.TheVariants.{Closed, Forced, Ignored}
 use Rattle.line_marker.specs.declared.errors.MarkerError.{MarkerError}
@@ -22,7 +22,7 @@ set_same [] i d x lt e = absurd (omega (arith, lt))
 set_same (y ∷ ys) zero d x lt e = ap (λ v. v ∷ ys) (sym e)
 set_same (y ∷ ys) (suc i) d x lt e = ap (λ v. y ∷ v) (set_same ys i d x (omega (arith, lt)) e)
 
-pub marked-again : (n : ℕ) (tape : List Event) (rounds : List Recorded) (from r : ℕ) → from < n → All (IsRoundOn n tape) rounds → has_mark_of from r tape ≡ true → with_marker rounds from r ≡ rounds
+pub marked-again : (n : ℕ) (tape : List Event) (rounds : List RecordedRound) (from r : ℕ) → from < n → All (IsRoundOn n tape) rounds → has_mark_of from r tape ≡ true → with_marker rounds from r ≡ rounds
 marked-again n tape [] from r lt h m = refl
 marked-again n tape (x ∷ xs) from r lt h m =
     let hx = All-head (IsRoundOn n tape) x xs h in
@@ -33,23 +33,23 @@ marked-again n tape (x ∷ xs) from r lt h m =
           let closed : channel_at x from ≡ record (channel_at x from) { is_closed = true } =
           channel_is (channel_at x from).messages (channel_at x from).messages (channel_at x from).is_closed true refl (ap (λ (c : Channel). c.is_closed) (hx.channels from) ∙ (ap (λ v. has_mark_of from v tape) same ∙ m)) in
           ap (λ b. cond b (with_channel x from (record (channel_at x from) { is_closed = true })) x ∷ with_marker xs from r) (eq-eqb x.number r same)
-          ∙ (ap (λ (cs : List Channel). let y : Recorded = record { number = x.number; channels = cs } in y ∷ with_marker xs from r)
+          ∙ (ap (λ (cs : List Channel). let y : RecordedRound = record { number = x.number; channels = cs } in y ∷ with_marker xs from r)
           (set_same x.channels from open_channel (record (channel_at x from) { is_closed = true }) (omega (arith, count, lt)) closed)
-          ∙ ap (λ (t : List Recorded). x ∷ t) rest))
+          ∙ ap (λ (t : List RecordedRound). x ∷ t) rest))
       | inr other ↦ ap (λ b. cond b (with_channel x from (record (channel_at x from) { is_closed = true })) x ∷ with_marker xs from r) (ne_eqb x.number r other)
-          ∙ ap (λ (t : List Recorded). x ∷ t) rest
+          ∙ ap (λ (t : List RecordedRound). x ∷ t) rest
     ]
 
-pub marked-none : (rounds : List Recorded) (from r : ℕ) → round_of rounds r ≡ None → with_marker rounds from r ≡ rounds
+pub marked-none : (rounds : List RecordedRound) (from r : ℕ) → round_of rounds r ≡ None → with_marker rounds from r ≡ rounds
 marked-none [] from r e = refl
 marked-none (x ∷ xs) from r e = elim (cases_eq x.number r) [
   | inl same ↦ (let f : Some x ≡ None = ap (λ b. cond b (Some x) (round_of xs r)) (sym (eq-eqb x.number r same)) ∙ e in cc f)
   | inr other ↦ ap (λ b. cond b (with_channel x from (record (channel_at x from) { is_closed = true })) x ∷ with_marker xs from r) (ne_eqb x.number r other)
-      ∙ ap (λ (t : List Recorded). x ∷ t) (marked-none xs from r (ap (λ b. cond b (Some x) (round_of xs r)) (sym (ne_eqb x.number r other)) ∙ e))
+      ∙ ap (λ (t : List RecordedRound). x ∷ t) (marked-none xs from r (ap (λ b. cond b (Some x) (round_of xs r)) (sym (ne_eqb x.number r other)) ∙ e))
 ]
 
 -- the marker of a channel that is closed already is on the tape
-pub repeated_marked : (n : ℕ) (tape : List Event) (rounds : List Recorded) (from r : ℕ) → All (IsRoundOn n tape) rounds → IsRepeated rounds from r → has_mark_of from r tape ≡ true
+pub repeated_marked : (n : ℕ) (tape : List Event) (rounds : List RecordedRound) (from r : ℕ) → All (IsRoundOn n tape) rounds → IsRepeated rounds from r → has_mark_of from r tape ≡ true
 repeated_marked n tape [] from r h e = absurd e
 repeated_marked n tape (x ∷ xs) from r h e = elim (cases_eq x.number r) [
   | inl same ↦ (let hx = All-head (IsRoundOn n tape) x xs h in
@@ -60,7 +60,7 @@ repeated_marked n tape (x ∷ xs) from r h e = elim (cases_eq x.number r) [
 ]
 
 -- what the marker of a round does to what is recorded, where the tape has the check of it
-pub marked_by : (n me floor room more : ℕ) (tape : List Event) (rounds new : List Recorded) (from r : ℕ) (result : Result Effect MarkerError) → IsRecorded n floor tape rounds → from < n
+pub marked_by : (n me floor room more : ℕ) (tape : List Event) (rounds new : List RecordedRound) (from r : ℕ) (result : Result Effect MarkerError) → IsRecorded n floor tape rounds → from < n
     → has_check_of r tape ≡ true → (result ≡ Err OutOfMemory → ⊥) → (IsErrOf result MarkerRepeated ↔ IsRepeated rounds from r)
     → IfOk result (λ effect. effect ≡ effect_of (record { n = n; me = me; floor = floor; rounds = rounds; room = room; round_room = more }) r)
     → IfOk result (λ effect. new ≡ rounds_after effect (record { n = n; me = me; floor = floor; rounds = rounds; room = room; round_room = more }) from r)
@@ -82,7 +82,7 @@ marked_by n me floor room more tape rounds new from r (Ok Forced) h lt t ample a
     ] refl
 
 -- and where it has not, so that the check comes first
-pub forced_by : (n me floor room more : ℕ) (tape : List Event) (rounds new : List Recorded) (from r : ℕ) (state : List ℕ) (result : Result Effect MarkerError) → IsRecorded n floor tape rounds → from < n
+pub forced_by : (n me floor room more : ℕ) (tape : List Event) (rounds new : List RecordedRound) (from r : ℕ) (state : List ℕ) (result : Result Effect MarkerError) → IsRecorded n floor tape rounds → from < n
     → has_check_of r tape ≡ false → (result ≡ Err OutOfMemory → ⊥) → (IsErrOf result MarkerRepeated ↔ IsRepeated rounds from r)
     → IfOk result (λ effect. effect ≡ effect_of (record { n = n; me = me; floor = floor; rounds = rounds; room = room; round_room = more }) r)
     → IfOk result (λ effect. new ≡ rounds_after effect (record { n = n; me = me; floor = floor; rounds = rounds; room = room; round_room = more }) from r)
@@ -125,17 +125,17 @@ pub journal_next : (old new : MarkerView) (floor : ℕ) (tape tape' : List Event
 journal_next old new floor tape tape' e h may same et er =
     (same.floor_is ∙ h.0, rw (same.n_is, et, er) (recorded_next old.n old.me floor tape old.rounds e h.1 may))
 
-floor_moved : (n floor floor' : ℕ) (tape : List Event) (rounds : List Recorded) → floor' ≡ floor → IsRecorded n floor tape rounds → IsRecorded n floor' tape rounds
+floor_moved : (n floor floor' : ℕ) (tape : List Event) (rounds : List RecordedRound) → floor' ≡ floor → IsRecorded n floor tape rounds → IsRecorded n floor' tape rounds
 floor_moved n floor floor' tape rounds e h = rw e h
 
 -- a round beyond those recorded has no check on the tape
-pub unchecked : (n floor : ℕ) (tape : List Event) (rounds : List Recorded) (r : ℕ) → IsRecorded n floor tape rounds → latest floor rounds < r → has_check_of r tape ≡ false
+pub unchecked : (n floor : ℕ) (tape : List Event) (rounds : List RecordedRound) (r : ℕ) → IsRecorded n floor tape rounds → latest floor rounds < r → has_check_of r tape ≡ false
 unchecked n floor tape rounds r h lt = elim (has_check_of r tape) as (λ b. has_check_of r tape ≡ b → has_check_of r tape ≡ false) [
   | true ↦ λ t. (let w = h.within r t in absurd (omega (arith, w, lt)))
   | false ↦ λ f. f
 ] refl
 
-pub begun_by : (n floor : ℕ) (rounds new : List Recorded) (state : List ℕ) (r : ℕ) → latest floor rounds < r → new ≡ with_round rounds n r → new ≡ rounds_by n floor rounds (Check state (Some r))
+pub begun_by : (n floor : ℕ) (rounds new : List RecordedRound) (state : List ℕ) (r : ℕ) → latest floor rounds < r → new ≡ with_round rounds n r → new ≡ rounds_by n floor rounds (Check state (Some r))
 begun_by n floor rounds new state r lt e = e ∙ ap (λ b. cond b (with_round rounds n r) rounds) (sym (lt-ltb (latest floor rounds) r lt))
 
 now_checked : (tape : List Event) (state : List ℕ) (r : ℕ) → has_check_of r (tape ++ Check state (Some r) ∷ []) ≡ true
@@ -165,7 +165,7 @@ forced_by_marker old new floor tape from r state result h lt f ample again effec
     ∙ ap (λ v. with_marker (rounds_by old.n v old.rounds (Check state (Some r))) from r) h.0
 
 -- a tape without rounds, of which nothing is recorded
-pub nothing_recorded : (n floor floor' : ℕ) (tape : List Event) (rounds : List Recorded) → floor' ≡ floor → rounds_checked tape ≡ [] → rounds ≡ [] → (floor' ≡ floor) × IsRecorded n floor tape rounds
+pub nothing_recorded : (n floor floor' : ℕ) (tape : List Event) (rounds : List RecordedRound) → floor' ≡ floor → rounds_checked tape ≡ [] → rounds ≡ [] → (floor' ≡ floor) × IsRecorded n floor tape rounds
 nothing_recorded n floor floor' tape rounds ef bare er = (
   ef,
   rw er (record {

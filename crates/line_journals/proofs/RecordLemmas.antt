@@ -6,7 +6,7 @@ use Rattle.std.proofs.lemmas.Bool.{cases_eq, eq-eqb, ne_eqb, eqb-true, and_left,
 use Rattle.std.proofs.lemmas.List.{append-nil, length-set, length-replicate, get_or-set_same, get_or-set_other}
 use Rattle.std.proofs.lemmas.List.Elements.{All-nil, All-cons, All-head, All-tail, All-append}
 use Rattle.line_names.specs.declared.messages.MsgName.{MsgName}
-use Rattle.line_marker.specs.Recording.{Channel, Recorded, open_channel, channel_at, with_channel, with_marker, with_round, heard, noted, round_of, latest}
+use Rattle.line_marker.specs.Recording.{Channel, RecordedRound, open_channel, channel_at, with_channel, with_marker, with_round, with_message, rounds_with_message, round_of, latest}
 use Rattle.line_tape.specs.declared.events.Event.{Event}
 use Rattle.line_tape.specs.declared.events.Event.TheVariants.{Send, Recv, Check, Mark}
 use Rattle.line_tape.specs.Rounds.{has_check_of, has_mark_of, channel_on, is_check_of, is_mark_of, names_from}
@@ -42,7 +42,7 @@ same_checked : (r : ℕ) (tape : List Event) (e : Event) → is_check_of r e ≡
 same_checked r tape e other = has_check_push tape e r ∙ ap (λ b. has_check_of r tape || b) other ∙ or-false (has_check_of r tape)
 
 -- an event that adds nothing to the channels of a round
-round-kept : (n : ℕ) (tape : List Event) (round : Recorded) (e : Event) → ((p : ℕ) → is_mark_of p round.number e ≡ false) → names_received (e ∷ []) ≡ [] → IsRoundOn n tape round → IsRoundOn n (tape ++ e ∷ []) round
+round-kept : (n : ℕ) (tape : List Event) (round : RecordedRound) (e : Event) → ((p : ℕ) → is_mark_of p round.number e ≡ false) → names_received (e ∷ []) ≡ [] → IsRoundOn n tape round → IsRoundOn n (tape ++ e ∷ []) round
 round-kept n tape round e no_mark none h = record {
   checked = still_checked round.number tape e h.checked;
   count = h.count;
@@ -50,7 +50,7 @@ round-kept n tape round e no_mark none h = record {
 }
 
 -- another channel from one process
-round-written : (n : ℕ) (tape : List Event) (round : Recorded) (from : ℕ) (e : Event) (new : Channel) → from < n → new ≡ channel_of from round.number (tape ++ e ∷ [])
+round-written : (n : ℕ) (tape : List Event) (round : RecordedRound) (from : ℕ) (e : Event) (new : Channel) → from < n → new ≡ channel_of from round.number (tape ++ e ∷ [])
     → ((p : ℕ) → p ≢ from → channel_of p round.number (tape ++ e ∷ []) ≡ channel_of p round.number tape) → IsRoundOn n tape round → IsRoundOn n (tape ++ e ∷ []) (with_channel round from new)
 round-written n tape round from e new within here there h =
     let c = h.count in
@@ -65,27 +65,27 @@ round-written n tape round from e new within here there h =
     }
 
 heard_by : (m : MsgName) (names : List MsgName) (b : Bool)
-    → (let x : Channel = record { messages = names ++ cond b [] (m ∷ []); is_closed = b } in x) ≡ heard (record { messages = names; is_closed = b }) m
+    → (let x : Channel = record { messages = names ++ cond b [] (m ∷ []); is_closed = b } in x) ≡ with_message (record { messages = names; is_closed = b }) m
 heard_by m names true = channel_is (names ++ []) names true true (append-nil names) refl
 heard_by m names false = refl
 
 -- a message
-round-noted : (n : ℕ) (tape : List Event) (round : Recorded) (m : MsgName) → m.from < n → IsRoundOn n tape round → IsRoundOn n (tape ++ Recv m ∷ []) (with_channel round m.from (heard (channel_at round m.from) m))
+round-noted : (n : ℕ) (tape : List Event) (round : RecordedRound) (m : MsgName) → m.from < n → IsRoundOn n tape round → IsRoundOn n (tape ++ Recv m ∷ []) (with_channel round m.from (with_message (channel_at round m.from) m))
 round-noted n tape round m within h =
     let r = round.number in
     let from = m.from in
     let one : names_from from (names_received (Recv m ∷ [])) ≡ m ∷ [] = ap (λ b. cond b (m ∷ []) (let none : List MsgName = [] in none)) (eq-eqb from from refl) in
-    let here : channel_of from r (tape ++ Recv m ∷ []) ≡ heard (channel_of from r tape) m =
+    let here : channel_of from r (tape ++ Recv m ∷ []) ≡ with_message (channel_of from r tape) m =
     channel_is (channel_on from r (tape ++ Recv m ∷ [])) (channel_on from r tape ++ cond (has_mark_of from r tape) [] (m ∷ [])) (has_mark_of from r (tape ++ Recv m ∷ [])) (has_mark_of from r tape)
     (channel_push tape (Recv m) from r h.checked ∙ ap (λ (ms : List MsgName). channel_on from r tape ++ cond (has_mark_of from r tape) [] ms) one)
     (has_mark_push tape (Recv m) from r h.checked ∙ or-false (has_mark_of from r tape))
     ∙ heard_by m (channel_on from r tape) (has_mark_of from r tape) in
-    round-written n tape round from (Recv m) (heard (channel_at round from) m) within
-    (ap (λ (c : Channel). heard c m) (h.channels from) ∙ sym here)
+    round-written n tape round from (Recv m) (with_message (channel_at round from) m) within
+    (ap (λ (c : Channel). with_message c m) (h.channels from) ∙ sym here)
     (λ p other. channel-kept p r tape (Recv m) h.checked refl (ap (λ b. cond b (m ∷ []) []) (ne_eqb from p (λ s. other (sym s))))) h
 
 -- a marker of the round
-round-marked : (n : ℕ) (tape : List Event) (round : Recorded) (from r : ℕ) → from < n → round.number ≡ r → IsRoundOn n tape round
+round-marked : (n : ℕ) (tape : List Event) (round : RecordedRound) (from r : ℕ) → from < n → round.number ≡ r → IsRoundOn n tape round
     → IsRoundOn n (tape ++ Mark from r ∷ []) (with_channel round from (record (channel_at round from) { is_closed = true }))
 round-marked n tape round from r within same h =
     let s = round.number in
@@ -101,7 +101,7 @@ round-marked n tape round from r within same h =
     (λ p other. channel-kept p s tape e h.checked (and_left (from == p) (r == s) (ne_eqb from p (λ v. other (sym v)))) refl) h
 
 -- a marker of any round
-round-heard : (n : ℕ) (tape : List Event) (round : Recorded) (from r : ℕ) → from < n → IsRoundOn n tape round
+round-heard : (n : ℕ) (tape : List Event) (round : RecordedRound) (from r : ℕ) → from < n → IsRoundOn n tape round
     → IsRoundOn n (tape ++ Mark from r ∷ []) (cond (round.number == r) (with_channel round from (record (channel_at round from) { is_closed = true })) round)
 round-heard n tape round from r within h = elim (cases_eq round.number r) [
   | inl same ↦ subst (λ b. IsRoundOn n (tape ++ Mark from r ∷ []) (cond b (with_channel round from (record (channel_at round from) { is_closed = true })) round)) (sym (eq-eqb round.number r same)) (round-marked n tape round from r within same h)
@@ -138,20 +138,20 @@ all_kept P Q [] step h = All-nil Q
 all_kept P Q (x ∷ xs) step h = All-cons Q x xs (step x (All-head P x xs h)) (all_kept P Q xs step (All-tail P x xs h))
 
 -- the latest of them
-latest-map : (floor : ℕ) (f : Recorded → Recorded) (rounds : List Recorded) → ((x : Recorded) → (f x).number ≡ x.number) → latest floor (map f rounds) ≡ latest floor rounds
+latest-map : (floor : ℕ) (f : RecordedRound → RecordedRound) (rounds : List RecordedRound) → ((x : RecordedRound) → (f x).number ≡ x.number) → latest floor (map f rounds) ≡ latest floor rounds
 latest-map floor f [] same = refl
 latest-map floor f (x ∷ xs) same = ap (λ (v : ℕ). max v (latest floor (map f xs))) (same x) ∙ ap (max x.number) (latest-map floor f xs same)
 
-latest-noted : (floor : ℕ) (rounds : List Recorded) (m : MsgName) → latest floor (noted rounds m) ≡ latest floor rounds
+latest-noted : (floor : ℕ) (rounds : List RecordedRound) (m : MsgName) → latest floor (rounds_with_message rounds m) ≡ latest floor rounds
 latest-noted floor rounds m = latest-map floor _ rounds (λ x. refl)
 
-latest-marked : (floor : ℕ) (rounds : List Recorded) (from r : ℕ) → latest floor (with_marker rounds from r) ≡ latest floor rounds
+latest-marked : (floor : ℕ) (rounds : List RecordedRound) (from r : ℕ) → latest floor (with_marker rounds from r) ≡ latest floor rounds
 latest-marked floor rounds from r = latest-map floor _ rounds (λ x. number_kept x (x.number == r)) where
-  number_kept : (x : Recorded) (b : Bool) → (cond b (with_channel x from (record (channel_at x from) { is_closed = true })) x).number ≡ x.number
+  number_kept : (x : RecordedRound) (b : Bool) → (cond b (with_channel x from (record (channel_at x from) { is_closed = true })) x).number ≡ x.number
   number_kept x true = refl
   number_kept x false = refl
 
-latest-round : (floor n r : ℕ) (rounds : List Recorded) → (latest floor rounds ≤ latest floor (with_round rounds n r)) × (r ≤ latest floor (with_round rounds n r))
+latest-round : (floor n r : ℕ) (rounds : List RecordedRound) → (latest floor rounds ≤ latest floor (with_round rounds n r)) × (r ≤ latest floor (with_round rounds n r))
 latest-round floor n r [] = (omega arith, omega arith)
 latest-round floor n r (x ∷ xs) = let (a, b) = latest-round floor n r xs in (omega (arith, a), omega (arith, b))
 
@@ -160,7 +160,7 @@ either_true true b e = inl refl
 either_true false b e = inr e
 
 -- an event keeps what is recorded as the tape has it
-pub recorded_next : (n me floor : ℕ) (tape : List Event) (rounds : List Recorded) (e : Event) → IsRecorded n floor tape rounds → MayCome n me tape e
+pub recorded_next : (n me floor : ℕ) (tape : List Event) (rounds : List RecordedRound) (e : Event) → IsRecorded n floor tape rounds → MayCome n me tape e
     → IsRecorded n floor (tape ++ e ∷ []) (rounds_by n floor rounds e)
 recorded_next n me floor tape rounds (Send to inc body) h may = record {
   each = all_kept (IsRoundOn n tape) (IsRoundOn n (tape ++ Send to inc body ∷ [])) rounds (λ x. round-kept n tape x (Send to inc body) (λ p. refl) refl) h.each;
@@ -177,7 +177,7 @@ recorded_next n me floor tape rounds (Check state None) h may = record {
 recorded_next n me floor tape rounds (Check state (Some s)) h may =
     let e : Event = Check state (Some s) in
     let kept = all_kept (IsRoundOn n tape) (IsRoundOn n (tape ++ e ∷ [])) rounds (λ x. round-kept n tape x e (λ p. refl) refl) h.each in
-    let one : Recorded = record { number = s; channels = replicate n open_channel } in
+    let one : RecordedRound = record { number = s; channels = replicate n open_channel } in
     let (more, reached) = latest-round floor n s rounds in
     elim (nat_lt (latest floor rounds) s) as (λ b. nat_lt (latest floor rounds) s ≡ b → IsRecorded n floor (tape ++ e ∷ []) (cond b (with_round rounds n s) rounds)) [
       | true ↦ λ new. record {
@@ -201,7 +201,7 @@ recorded_next n me floor tape rounds (Mark from s) h may = record {
 }
 
 -- of a round that is recorded the tape has the check
-pub found_checked : (n : ℕ) (tape : List Event) (rounds : List Recorded) (r : ℕ) (round : Recorded) → All (IsRoundOn n tape) rounds → round_of rounds r ≡ Some round → has_check_of r tape ≡ true
+pub found_checked : (n : ℕ) (tape : List Event) (rounds : List RecordedRound) (r : ℕ) (round : RecordedRound) → All (IsRoundOn n tape) rounds → round_of rounds r ≡ Some round → has_check_of r tape ≡ true
 found_checked n tape [] r round h e = cc e
 found_checked n tape (x ∷ xs) r round h e = elim (cases_eq x.number r) [
   | inl same ↦ subst (λ v. has_check_of v tape ≡ true) same (All-head (IsRoundOn n tape) x xs h).checked

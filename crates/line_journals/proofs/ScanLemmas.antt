@@ -2,7 +2,7 @@
 use Rattle.std.proofs.Common.{◌≡◌, ℕ, zero, suc, ◌+◌, true, false, List, [], ◌∷◌, ◌++◌, Option, Some, None, refl, sym, ap, ◌∙◌, arith}
 use Rattle.std.specs.Prelude.{is_some, take, slice_get, ◌||◌, MatchOption}
 use Rattle.line_names.specs.declared.messages.MsgName.{MsgName}
-use Rattle.line_marker.specs.Recording.{Recorded, round_of, messages_by}
+use Rattle.line_marker.specs.Recording.{RecordedRound, round_of, messages_by}
 use Rattle.line_tape.specs.declared.events.Event.{Event}
 use Rattle.line_tape.specs.Rounds.{has_check_of, is_check_of}
 use Rattle.std.proofs.lemmas.Option.{same_Some}
@@ -28,7 +28,7 @@ some_there (x ∷ xs) r zero e at is = (let s : x ≡ e = same_Some x e at in ap
 some_there (x ∷ xs) r (suc i) e at is = ap (λ b. is_check_of r x || b) (some_there xs r i e at is) ∙ or-true (is_check_of r x)
 
 -- a channel is told only of a round that is recorded
-pub told_checked : {X : Type 0} (o : Option X) (f : X → List MsgName) (n floor : ℕ) (tape : List Event) (rounds : List Recorded) (from r : ℕ) → IsRecorded n floor tape rounds → is_some o ≡ true
+pub told_checked : {X : Type 0} (o : Option X) (f : X → List MsgName) (n floor : ℕ) (tape : List Event) (rounds : List RecordedRound) (from r : ℕ) → IsRecorded n floor tape rounds → is_some o ≡ true
     → MatchOption o (messages_by (round_of rounds r) from ≡ None) (λ x. messages_by (round_of rounds r) from ≡ Some (f x)) → has_check_of r tape ≡ true
 told_checked None f n floor tape rounds from r h some told = cc some
 told_checked (Some x) f n floor tape rounds from r h some told = elim (round_of rounds r) as (λ o. round_of rounds r ≡ o → has_check_of r tape ≡ true) [

@@ -1,7 +1,8 @@
 -- What a worker has recorded of rounds, beside its tape.
 use Rattle.std.specs.Prelude.{◌≡◌, ◌≢◌, ℕ, ◌<◌, ◌≤◌, true, false, if◌then◌else◌, nat_lt, IsTrue}
 use Rattle.std.specs.Prelude.{List, MatchOption, length, Some, None, All}
-use Rattle.line_marker.specs.Recording.{Channel, Recorded, channel_at, latest, noted, with_marker}
+use Rattle.line_marker.specs.Recording.{Channel, RecordedRound, channel_at, latest}
+use Rattle.line_marker.specs.Recording.{rounds_with_message, with_marker}
 use Rattle.line_marker.specs.Recording.{with_round, round_of}
 use Rattle.line_tape.specs.declared.events.Event.{Event}
 use Rattle.line_tape.specs.declared.events.Event.TheVariants.{Send, Recv, Check, Mark}
@@ -15,7 +16,7 @@ pub record JournalView : Type 0 where
   pub me : ℕ
   pub floor : ℕ
   pub tape : List Event
-  pub rounds : List Recorded
+  pub rounds : List RecordedRound
   pub room : ℕ
   pub ready : ℕ
 
@@ -25,21 +26,21 @@ channel_of p r tape = record { messages = channel_on p r tape; is_closed = has_m
 
 -- a recorded round of n processes is as the tape has it: its check is there, and on each channel
 -- what came after the check and before that process's marker
-pub record IsRoundOn (n : ℕ) (tape : List Event) (round : Recorded) : Type 0 where
+pub record IsRoundOn (n : ℕ) (tape : List Event) (round : RecordedRound) : Type 0 where
   pub checked : has_check_of round.number tape ≡ true
   pub count : length round.channels ≡ n
   pub channels : (p : ℕ) → channel_at round p ≡ channel_of p round.number tape
 
 -- each recorded round is as the tape has it, and no check of the tape is of a later one
-pub record IsRecorded (n floor : ℕ) (tape : List Event) (rounds : List Recorded) : Type 0 where
+pub record IsRecorded (n floor : ℕ) (tape : List Event) (rounds : List RecordedRound) : Type 0 where
   pub each : All (IsRoundOn n tape) rounds
   pub within : (r : ℕ) → has_check_of r tape ≡ true → r ≤ latest floor rounds
 
 -- what is recorded after an event: a message goes on the channel from its sender, the check of a
 -- new round opens its channels, and a marker closes its own
-abbrev pub rounds_by : ℕ → ℕ → List Recorded → Event → List Recorded
+abbrev pub rounds_by : ℕ → ℕ → List RecordedRound → Event → List RecordedRound
 rounds_by n floor rounds (Send to inc body) = rounds
-rounds_by n floor rounds (Recv message) = noted rounds message
+rounds_by n floor rounds (Recv message) = rounds_with_message rounds message
 rounds_by n floor rounds (Check state None) = rounds
 rounds_by n floor rounds (Check state (Some r)) =
     if nat_lt (latest floor rounds) r then with_round rounds n r else rounds
@@ -55,11 +56,11 @@ MayCome n me tape (Check state (Some r)) = has_check_of r tape ≡ false
 MayCome n me tape (Mark from r) = (from < n) × (from ≢ me) × (has_check_of r tape ≡ true)
 
 -- the marker of the round is in from each of the n processes but `me`
-abbrev pub IsAllIn : ℕ → ℕ → Recorded → Type 0
+abbrev pub IsAllIn : ℕ → ℕ → RecordedRound → Type 0
 IsAllIn n me round = (q : ℕ) → q < n → q ≢ me → IsTrue (channel_at round q).is_closed
 
 -- the last round that it recorded is still open: not every other process's marker is in
-abbrev pub IsOpen : ℕ → ℕ → ℕ → List Recorded → Type 0
+abbrev pub IsOpen : ℕ → ℕ → ℕ → List RecordedRound → Type 0
 IsOpen n me floor rounds = (floor < latest floor rounds)
     × (MatchOption (round_of rounds (latest floor rounds)) ⊥ (IsAllIn n me) → ⊥)
 

@@ -2,7 +2,7 @@
 ghost use Rattle.std.specs.Prelude.{◌≡◌, Some, None};
 ghost use Rattle.line_tape.specs.declared.events.Event.TheVariants.{Check};
 ghost use Rattle.line_tape.specs.Rounds.{has_check_of, is_check_of};
-ghost use Rattle.line_tape.specs.Shown.{shown};
+ghost use Rattle.line_tape.specs.Shown.{event_of_ref};
 
 use line_tape::{Event, EventRef, State, Tape};
 
@@ -25,7 +25,7 @@ pub(crate) fn round_event(state: State, round: u32) -> Event
 
 /// Whether an event is the check of a round.
 fn is_check(event: &EventRef<'_>, r: u32) -> bool
-    ensures { result ≡ is_check_of r (shown event.now) }
+    ensures { result ≡ is_check_of r (event_of_ref event.now) }
 {
     match event {
         EventRef::Send { .. } => false,

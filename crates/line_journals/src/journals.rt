@@ -1,7 +1,7 @@
 //! A tape, and what its process has recorded of rounds beside it.
 ghost use Rattle.std.specs.Prelude.{◌≡◌, ◌≢◌, ◌<◌, ◌≤◌, ◌+◌, ◌↔◌, ◌++◌, ◌∷◌, [], ℕ, IfOk, IsOk};
 ghost use Rattle.std.specs.Prelude.{OnOk, OnErr, IsTrue, Some, None, true, false, length};
-ghost use Rattle.line_marker.specs.Recording.{latest, noted, with_marker, with_round};
+ghost use Rattle.line_marker.specs.Recording.{latest, rounds_with_message, with_marker, with_round};
 ghost use Rattle.line_tape.specs.declared.events.Event.TheVariants.{Send, Recv, Check, Mark};
 ghost use Rattle.line_tape.specs.History.{IsTape};
 ghost use Rattle.line_tape.specs.Event.{sends};
@@ -198,7 +198,8 @@ impl Journal {
         requires process { message.from < self.old.n }
         requires other { message.from ≢ self.old.me }
         ensures tape { OnOk result (self.new.tape ≡ self.old.tape ++ Recv message ∷ []) }
-        ensures rounds { OnOk result (self.new.rounds ≡ noted self.old.rounds message) }
+        ensures rounds { OnOk result
+            (self.new.rounds ≡ rounds_with_message self.old.rounds message) }
         ensures err { OnErr result ((self.new.tape ≡ self.old.tape)
             × (self.new.rounds ≡ self.old.rounds)) }
         ensures same { IsSameJournal self.old self.new }

@@ -7,8 +7,8 @@ use Rattle.std.proofs.lemmas.Bool.{cases_eq}
 use Rattle.line_names.specs.declared.messages.MsgName.{MsgName}
 use Rattle.line_marker.specs.declared.spans.Span.{Span}
 use Rattle.line_marker.specs.declared.spans.Span.TheVariants.{Open, Closed}
-use Rattle.line_marker.specs.Recording.{Recorded, Channel, open_channel, channel_at, with_channel, noted, heard}
-use Rattle.line_marker.specs.Spans.{RoundView, recorded_of, channel_of, closed, is_over, AllWithin, AreOver, ArePassed}
+use Rattle.line_marker.specs.Recording.{RecordedRound, Channel, open_channel, channel_at, with_channel, rounds_with_message, with_message}
+use Rattle.line_marker.specs.Spans.{RoundView, recorded_of, channel_in_span, closed_span, is_over, AllWithin, AreOver, ArePassed}
 use Rattle.line_marker.proofs.SpanLemmas.{channels_of-at}
 use Rattle.line_marker.proofs.KeptLemmas.{is_over-closed}
 
@@ -22,27 +22,27 @@ pub ArePassed-push : (passed : List ℕ) (n : ℕ) (rounds : List RoundView) (ne
 ArePassed-push passed n rounds new h = record { count = h.count; each = λ p below. AreOver-push p (get_or passed p 0) rounds new (h.each p below) }
 
 -- one channel is closed, and the others stay
-over-closed : (end : ℕ) (span : Span) → is_over (closed end span) ≡ true
+over-closed : (end : ℕ) (span : Span) → is_over (closed_span end span) ≡ true
 over-closed end (Open start) = refl
 over-closed end (Closed start before) = refl
 
-over-set : (spans : List Span) (q p end : ℕ) (span : Span) → is_over (get_or spans p (Open 0)) ≡ true → is_over (get_or (set spans q (closed end span)) p (Open 0)) ≡ true
+over-set : (spans : List Span) (q p end : ℕ) (span : Span) → is_over (get_or spans p (Open 0)) ≡ true → is_over (get_or (set spans q (closed_span end span)) p (Open 0)) ≡ true
 over-set [] q p end span h = h
 over-set (x ∷ spans) zero zero end span h = over-closed end span
 over-set (x ∷ spans) zero (suc p) end span h = h
 over-set (x ∷ spans) (suc q) zero end span h = h
 over-set (x ∷ spans) (suc q) (suc p) end span h = over-set spans q p end span h
 
-pub AreOver-set : (p k : ℕ) (rounds : List RoundView) (i q end : ℕ) (old new : RoundView) (span : Span) → AreOver p k rounds → old ≡ get_or rounds i old → new.spans ≡ set old.spans q (closed end span)
+pub AreOver-set : (p k : ℕ) (rounds : List RoundView) (i q end : ℕ) (old new : RoundView) (span : Span) → AreOver p k rounds → old ≡ get_or rounds i old → new.spans ≡ set old.spans q (closed_span end span)
     → AreOver p k (set rounds i new)
 AreOver-set p zero rounds i q end old new span h at written = tt
 AreOver-set p (suc k) [] i q end old new span h at written = absurd h
 AreOver-set p (suc k) (round ∷ rounds) zero q end old new span h at written =
-    (ap (λ (ss : List Span). is_over (get_or ss p (Open 0))) (written ∙ ap (λ (r : RoundView). set r.spans q (closed end span)) at) ∙ over-set round.spans q p end span h.0, h.1)
+    (ap (λ (ss : List Span). is_over (get_or ss p (Open 0))) (written ∙ ap (λ (r : RoundView). set r.spans q (closed_span end span)) at) ∙ over-set round.spans q p end span h.0, h.1)
 AreOver-set p (suc k) (round ∷ rounds) (suc i) q end old new span h at written = (h.0, AreOver-set p k rounds i q end old new span h.1 at written)
 
 -- a channel is closed in a round, and more is known of that channel
-pub ArePassed-close : (passed : List ℕ) (n : ℕ) (rounds : List RoundView) (i q end k : ℕ) (old new : RoundView) (span : Span) → ArePassed passed n rounds → old ≡ get_or rounds i old → new.spans ≡ set old.spans q (closed end span)
+pub ArePassed-close : (passed : List ℕ) (n : ℕ) (rounds : List RoundView) (i q end k : ℕ) (old new : RoundView) (span : Span) → ArePassed passed n rounds → old ≡ get_or rounds i old → new.spans ≡ set old.spans q (closed_span end span)
     → AreOver q k (set rounds i new) → ArePassed (set passed q k) n (set rounds i new)
 ArePassed-close passed n rounds i q end k old new span h at written over = record {
   count = length-set passed q k ∙ h.count;
@@ -62,16 +62,16 @@ AreOver-more p (suc k) (round ∷ rounds) d h below is = (h.0, AreOver-more p k 
 
 -- where it is closed in all, a message changes nothing
 pub noted-over : (logs : List (List MsgName)) (rounds : List RoundView) (message : MsgName) → AllWithin logs rounds → message.from < length logs → AreOver message.from (length rounds) rounds
-    → noted (map (recorded_of logs) rounds) message ≡ map (recorded_of logs) rounds
+    → rounds_with_message (map (recorded_of logs) rounds) message ≡ map (recorded_of logs) rounds
 noted-over logs [] message h below over = refl
 noted-over logs (round ∷ rounds) message h below over =
     let p : ℕ = message.from in
-    let r : Recorded = recorded_of logs round in
+    let r : RecordedRound = recorded_of logs round in
     let ch : Channel = channel_at r p in
-    let found : ch ≡ channel_of (get_or logs p []) (get_or round.spans p (Open 0)) = channels_of-at logs round.spans p (Open 0) open_channel h.0 below in
+    let found : ch ≡ channel_in_span (get_or logs p []) (get_or round.spans p (Open 0)) = channels_of-at logs round.spans p (Open 0) open_channel h.0 below in
     let shut : ch.is_closed ≡ true = ap (λ (c : Channel). c.is_closed) found ∙ is_over-closed (get_or logs p []) (get_or round.spans p (Open 0)) ∙ over.0 in
     let more : Channel = record ch { messages = ch.messages ++ message ∷ [] } in
-    let same : heard ch message ≡ ch = ap (λ (b : Bool). if b then ch else more) shut in
-    let stays : with_channel r p (heard ch message) ≡ r =
-    ap (λ (c : Channel). with_channel r p c) same ∙ ap (λ (cs : List Channel). let s : Recorded = record { number = round.number; channels = cs } in s) (set-get_or r.channels p open_channel) in
-    ap (λ (s : Recorded). s ∷ noted (map (recorded_of logs) rounds) message) stays ∙ ap (λ (rs : List Recorded). r ∷ rs) (noted-over logs rounds message h.1 below over.1)
+    let same : with_message ch message ≡ ch = ap (λ (b : Bool). if b then ch else more) shut in
+    let stays : with_channel r p (with_message ch message) ≡ r =
+    ap (λ (c : Channel). with_channel r p c) same ∙ ap (λ (cs : List Channel). let s : RecordedRound = record { number = round.number; channels = cs } in s) (set-get_or r.channels p open_channel) in
+    ap (λ (s : RecordedRound). s ∷ rounds_with_message (map (recorded_of logs) rounds) message) stays ∙ ap (λ (rs : List RecordedRound). r ∷ rs) (noted-over logs rounds message h.1 below over.1)

@@ -3,25 +3,25 @@ use Rattle.std.proofs.Common.{◌≡◌, ◌≢◌, ℕ, zero, suc, ◌+◌, ◌
 use Rattle.std.specs.Prelude.{if◌then◌else◌}
 use Rattle.std.proofs.lemmas.Bool.{eq-eqb, ne_eqb, cases_eq, cases_lt}
 use Rattle.line_names.specs.declared.messages.MsgName.{MsgName}
-use Rattle.line_marker.specs.Recording.{Recorded, Channel, channel_at, with_channel, round_of, latest, with_marker, noted, heard}
-use Rattle.line_marker.specs.Spans.{RoundView, recorded_of, AllWithin, AreKept, IsAscending}
+use Rattle.line_marker.specs.Recording.{RecordedRound, Channel, channel_at, with_channel, round_of, latest, with_marker, rounds_with_message, with_message}
+use Rattle.line_marker.specs.Spans.{RoundView, recorded_of, AllWithin, AreRoundsKept, IsAscending}
 use Rattle.line_marker.proofs.SpanLemmas.{channels_of-push, AreWithin-push}
 
 -- a message comes
 pub rounds-push : (logs : List (List MsgName)) (rounds : List RoundView) (message : MsgName) → AllWithin logs rounds → message.from < length logs
-    → map (recorded_of (set logs message.from (get_or logs message.from [] ++ message ∷ []))) rounds ≡ noted (map (recorded_of logs) rounds) message
+    → map (recorded_of (set logs message.from (get_or logs message.from [] ++ message ∷ []))) rounds ≡ rounds_with_message (map (recorded_of logs) rounds) message
 rounds-push logs [] message h below = refl
 rounds-push logs (round ∷ rounds) message h below =
-    ap (λ (cs : List Channel). let r : Recorded = record { number = round.number; channels = cs } in r ∷ map (recorded_of (set logs message.from (get_or logs message.from [] ++ message ∷ []))) rounds) (channels_of-push logs round.spans message.from message h.0 below)
-    ∙ ap (λ (rs : List Recorded). with_channel (recorded_of logs round) message.from (heard (channel_at (recorded_of logs round) message.from) message) ∷ rs) (rounds-push logs rounds message h.1 below)
+    ap (λ (cs : List Channel). let r : RecordedRound = record { number = round.number; channels = cs } in r ∷ map (recorded_of (set logs message.from (get_or logs message.from [] ++ message ∷ []))) rounds) (channels_of-push logs round.spans message.from message h.0 below)
+    ∙ ap (λ (rs : List RecordedRound). with_channel (recorded_of logs round) message.from (with_message (channel_at (recorded_of logs round) message.from) message) ∷ rs) (rounds-push logs rounds message h.1 below)
 
 within-push : (logs : List (List MsgName)) (rounds : List RoundView) (p : ℕ) (message : MsgName) → AllWithin logs rounds
     → AllWithin (set logs p (get_or logs p [] ++ message ∷ [])) rounds
 within-push logs [] p message h = tt
 within-push logs (round ∷ rounds) p message h = (AreWithin-push logs round.spans p message h.0, within-push logs rounds p message h.1)
 
-pub AreKept-push : (logs : List (List MsgName)) (floor : ℕ) (rounds : List RoundView) (p : ℕ) (message : MsgName) → AreKept logs floor rounds
-    → AreKept (set logs p (get_or logs p [] ++ message ∷ [])) floor rounds
+pub AreKept-push : (logs : List (List MsgName)) (floor : ℕ) (rounds : List RoundView) (p : ℕ) (message : MsgName) → AreRoundsKept logs floor rounds
+    → AreRoundsKept (set logs p (get_or logs p [] ++ message ∷ [])) floor rounds
 AreKept-push logs floor rounds p message h = record { ascending = h.ascending; within = within-push logs rounds p message h.within }
 
 -- the last number, or the bound below all
@@ -64,13 +64,13 @@ last_number-at b (round ∷ next ∷ rounds) zero d h = absurd (omega arith)
 last_number-at b (round ∷ next ∷ rounds) (suc i) d h = last_number-at round.number (next ∷ rounds) i d (omega arith)
 
 -- a round is found where it stands
-pub round_of-here : (rounds : List Recorded) (round : Recorded) (number : ℕ) → round.number ≡ number → round_of (round ∷ rounds) number ≡ Some round
+pub round_of-here : (rounds : List RecordedRound) (round : RecordedRound) (number : ℕ) → round.number ≡ number → round_of (round ∷ rounds) number ≡ Some round
 round_of-here rounds round number h = ap (λ (b : Bool). if b then Some round else round_of rounds number) (eq-eqb round.number number h)
 
-pub round_of-next : (rounds : List Recorded) (round : Recorded) (number : ℕ) → (round.number ≡ number → ⊥) → round_of (round ∷ rounds) number ≡ round_of rounds number
+pub round_of-next : (rounds : List RecordedRound) (round : RecordedRound) (number : ℕ) → (round.number ≡ number → ⊥) → round_of (round ∷ rounds) number ≡ round_of rounds number
 round_of-next rounds round number h = ap (λ (b : Bool). if b then Some round else round_of rounds number) (ne_eqb round.number number h)
 
-pub round_of-at : (b : ℕ) (logs : List (List MsgName)) (rounds : List RoundView) (i number : ℕ) (d : RoundView) (e : Recorded) → IsAscending b rounds → i < length rounds → (get_or rounds i d).number ≡ number
+pub round_of-at : (b : ℕ) (logs : List (List MsgName)) (rounds : List RoundView) (i number : ℕ) (d : RoundView) (e : RecordedRound) → IsAscending b rounds → i < length rounds → (get_or rounds i d).number ≡ number
     → round_of (map (recorded_of logs) rounds) number ≡ Some (get_or (map (recorded_of logs) rounds) i e)
 round_of-at b logs [] i number d e up h at = absurd (omega arith)
 round_of-at b logs (round ∷ rounds) zero number d e up h at = round_of-here (map (recorded_of logs) rounds) (recorded_of logs round) number at
@@ -85,10 +85,10 @@ round_of-none logs (round ∷ rounds) number each =
     round_of-next (map (recorded_of logs) rounds) (recorded_of logs round) number (each 0 round (omega arith)) ∙ round_of-none logs rounds number (λ k d h. each (suc k) d (omega arith))
 
 -- the round that is found has the number
-pub round_of-number : (rounds : List Recorded) (number : ℕ) (round : Recorded) → round_of rounds number ≡ Some round → round.number ≡ number
+pub round_of-number : (rounds : List RecordedRound) (number : ℕ) (round : RecordedRound) → round_of rounds number ≡ Some round → round.number ≡ number
 round_of-number [] number round e = cc
 round_of-number (x ∷ rounds) number round e = elim (cases_eq x.number number) [
-  | inl same ↦ let here : Some x ≡ Some round = sym (round_of-here rounds x number same) ∙ e in let one : x ≡ round = cc in ap (λ (r : Recorded). r.number) (sym one) ∙ same
+  | inl same ↦ let here : Some x ≡ Some round = sym (round_of-here rounds x number same) ∙ e in let one : x ≡ round = cc in ap (λ (r : RecordedRound). r.number) (sym one) ∙ same
   | inr other ↦ round_of-number rounds number round (sym (round_of-next rounds x number other) ∙ e)
 ]
 
@@ -98,9 +98,9 @@ with_marker-beyond : (b : ℕ) (logs : List (List MsgName)) (rounds : List Round
 with_marker-beyond b logs [] p number le up = refl
 with_marker-beyond b logs (round ∷ rounds) p number le up =
     let other : eqb round.number number ≡ false = ne_eqb round.number number (λ same. omega (arith, up.0)) in
-    let r : Recorded = recorded_of logs round in
+    let r : RecordedRound = recorded_of logs round in
     ap (λ (t : Bool). (if t then with_channel r p (record (channel_at r p) { is_closed = true }) else r) ∷ with_marker (map (recorded_of logs) rounds) p number) other
-    ∙ ap (λ (rs : List Recorded). r ∷ rs) (with_marker-beyond round.number logs rounds p number (omega (arith, up.0)) up.1)
+    ∙ ap (λ (rs : List RecordedRound). r ∷ rs) (with_marker-beyond round.number logs rounds p number (omega (arith, up.0)) up.1)
 
 pub with_marker-at : (b : ℕ) (logs : List (List MsgName)) (rounds : List RoundView) (i p number : ℕ) (d : RoundView) → IsAscending b rounds → i < length rounds → (get_or rounds i d).number ≡ number
     → set (map (recorded_of logs) rounds) i (with_channel (recorded_of logs (get_or rounds i d)) p (record (channel_at (recorded_of logs (get_or rounds i d)) p) { is_closed = true }))
@@ -108,16 +108,16 @@ pub with_marker-at : (b : ℕ) (logs : List (List MsgName)) (rounds : List Round
 with_marker-at b logs [] i p number d up h at = absurd (omega arith)
 with_marker-at b logs (round ∷ rounds) zero p number d up h at =
     let same : eqb round.number number ≡ true = eq-eqb round.number number at in
-    let r : Recorded = recorded_of logs round in
-    let s : Recorded = with_channel r p (record (channel_at r p) { is_closed = true }) in
-    ap (λ (rs : List Recorded). s ∷ rs) (sym (with_marker-beyond round.number logs rounds p number (omega arith) up.1))
+    let r : RecordedRound = recorded_of logs round in
+    let s : RecordedRound = with_channel r p (record (channel_at r p) { is_closed = true }) in
+    ap (λ (rs : List RecordedRound). s ∷ rs) (sym (with_marker-beyond round.number logs rounds p number (omega arith) up.1))
     ∙ ap (λ (t : Bool). (if t then s else r) ∷ with_marker (map (recorded_of logs) rounds) p number) (sym same)
 with_marker-at b logs (round ∷ rounds) (suc i) p number d up h at =
     let above : round.number < (get_or rounds i d).number = IsAscending-above round.number rounds i d up.1 (omega arith) in
     let other : eqb round.number number ≡ false = ne_eqb round.number number (λ same. omega arith) in
-    let r : Recorded = recorded_of logs round in
-    let s : Recorded = with_channel r p (record (channel_at r p) { is_closed = true }) in
-    ap (λ (rs : List Recorded). r ∷ rs) (with_marker-at round.number logs rounds i p number d up.1 (omega arith) at)
+    let r : RecordedRound = recorded_of logs round in
+    let s : RecordedRound = with_channel r p (record (channel_at r p) { is_closed = true }) in
+    ap (λ (rs : List RecordedRound). r ∷ rs) (with_marker-at round.number logs rounds i p number d up.1 (omega arith) at)
     ∙ ap (λ (t : Bool). (if t then s else r) ∷ with_marker (map (recorded_of logs) rounds) p number) (sym other)
 
 -- the rounds looked at from the newest on, of which none has the number

@@ -13,7 +13,7 @@ pub record Channel : Type 0 where
   pub is_closed : Bool
 
 -- a recorded round: its number, and the channel from each process
-pub record Recorded : Type 0 where
+pub record RecordedRound : Type 0 where
   pub number : ℕ
   pub channels : List Channel
 
@@ -23,7 +23,7 @@ pub record MarkerView : Type 0 where
   pub n : ℕ
   pub me : ℕ
   pub floor : ℕ
-  pub rounds : List Recorded
+  pub rounds : List RecordedRound
   pub room : ℕ
   pub round_room : ℕ
 
@@ -32,31 +32,31 @@ abbrev pub open_channel : Channel
 open_channel = record { messages = []; is_closed = false }
 
 -- the channel from process p
-abbrev pub channel_at : Recorded → ℕ → Channel
+abbrev pub channel_at : RecordedRound → ℕ → Channel
 channel_at round p = slice_index_or round.channels p open_channel
 
 -- the round with another channel from process p
-abbrev pub with_channel : Recorded → ℕ → Channel → Recorded
+abbrev pub with_channel : RecordedRound → ℕ → Channel → RecordedRound
 with_channel round p channel = record round { channels = slice_set round.channels p channel }
 
 -- the recorded round of this number
-abbrev pub round_of : List Recorded → ℕ → Option Recorded
+abbrev pub round_of : List RecordedRound → ℕ → Option RecordedRound
 round_of [] number = None
 round_of (round ∷ rounds) number =
     if round.number == number then Some round else round_of rounds number
 
 -- the greatest of the floor and the recorded rounds
-abbrev pub latest : ℕ → List Recorded → ℕ
+abbrev pub latest : ℕ → List RecordedRound → ℕ
 latest floor [] = floor
 latest floor (round ∷ rounds) = max round.number (latest floor rounds)
 
 -- one round more is recorded: the channels from n processes are open and empty
-abbrev pub with_round : List Recorded → ℕ → ℕ → List Recorded
+abbrev pub with_round : List RecordedRound → ℕ → ℕ → List RecordedRound
 with_round rounds n number =
     rounds ++ record { number = number; channels = replicate n open_channel } ∷ []
 
 -- the marker of a round has come from process p: its channel is closed in that round
-abbrev pub with_marker : List Recorded → ℕ → ℕ → List Recorded
+abbrev pub with_marker : List RecordedRound → ℕ → ℕ → List RecordedRound
 with_marker rounds p number =
     map
     (λ round. if round.number == number
@@ -65,22 +65,23 @@ with_marker rounds p number =
     rounds
 
 -- a message more on a channel; a closed channel stays as it is
-abbrev pub heard : Channel → MsgName → Channel
-heard channel message =
+abbrev pub with_message : Channel → MsgName → Channel
+with_message channel message =
     if channel.is_closed
     then channel
     else record channel { messages = channel.messages ++ message ∷ [] }
 
 -- a message has come: each recorded round has it on the channel from its sender, where that is not
 -- closed
-abbrev pub noted : List Recorded → MsgName → List Recorded
-noted rounds message =
-    map (λ round. with_channel round message.from (heard (channel_at round message.from) message))
+abbrev pub rounds_with_message : List RecordedRound → MsgName → List RecordedRound
+rounds_with_message rounds message =
+    map (λ round. with_channel round message.from
+    (with_message (channel_at round message.from) message))
     rounds
 
 -- what the marker of a round does: it closes a channel of a recorded round, has a new round
 -- recorded, or comes of an old round
-abbrev pub effect_by : Option Recorded → Bool → Effect
+abbrev pub effect_by : Option RecordedRound → Bool → Effect
 effect_by (Some round) is_new = Closed
 effect_by None true = Forced
 effect_by None false = Ignored
@@ -92,19 +93,19 @@ effect_of marker number =
 
 -- the rounds recorded after a marker from a process had this effect; where it had the round
 -- recorded, the channel from that process is empty and closed
-abbrev pub rounds_after : Effect → MarkerView → ℕ → ℕ → List Recorded
+abbrev pub rounds_after : Effect → MarkerView → ℕ → ℕ → List RecordedRound
 rounds_after Closed marker from number = with_marker marker.rounds from number
 rounds_after Forced marker from number =
     with_marker (with_round marker.rounds marker.n number) from number
 rounds_after Ignored marker from number = marker.rounds
 
 -- the marker of a recorded round has come from process p before
-abbrev pub IsRepeated : List Recorded → ℕ → ℕ → Type 0
+abbrev pub IsRepeated : List RecordedRound → ℕ → ℕ → Type 0
 IsRepeated rounds p number =
     MatchOption (round_of rounds number) ⊥ (λ round. IsTrue (channel_at round p).is_closed)
 
 -- the messages noted from process p in a recorded round
-abbrev pub messages_by : Option Recorded → ℕ → Option (List MsgName)
+abbrev pub messages_by : Option RecordedRound → ℕ → Option (List MsgName)
 messages_by (Some round) p = Some (channel_at round p).messages
 messages_by None p = None
 

@@ -5,10 +5,10 @@ use Rattle.std.specs.Prelude.{◌∷◌, length, map, take, drop, slice_index_or
 use Rattle.line_names.specs.declared.messages.MsgName.{MsgName}
 use Rattle.line_marker.specs.declared.spans.Span.{Span}
 use Rattle.line_marker.specs.declared.spans.Span.TheVariants.{Open, Closed}
-use Rattle.line_marker.specs.Recording.{Channel, Recorded}
+use Rattle.line_marker.specs.Recording.{Channel, RecordedRound}
 
 -- the messages kept from one process, and how many further ones take no memory
-pub record LogView : Type 0 where
+pub record SenderLogView : Type 0 where
   pub names : List MsgName
   pub room : ℕ
 
@@ -18,22 +18,22 @@ pub record RoundView : Type 0 where
   pub spans : List Span
 
 -- the messages kept from each process
-abbrev pub names_of : List LogView → List (List MsgName)
+abbrev pub names_of : List SenderLogView → List (List MsgName)
 names_of logs = map (λ log. log.names) logs
 
 -- how many further messages, whoever sends them, take no memory
-abbrev pub room_of : List LogView → ℕ
-room_of [] = 1
-room_of (log ∷ logs) = min log.room (room_of logs)
+abbrev pub least_room : List SenderLogView → ℕ
+least_room [] = 1
+least_room (log ∷ logs) = min log.room (least_room logs)
 
 -- a channel that begins where its sender's messages end
-abbrev pub opened : List MsgName → Span
-opened names = Open (length names)
+abbrev pub open_span : List MsgName → Span
+open_span names = Open (length names)
 
 -- a channel that is closed where this many messages stand; where it was closed before, as it was
-abbrev pub closed : ℕ → Span → Span
-closed end (Open start) = Closed start end
-closed end (Closed start before) = Closed start before
+abbrev pub closed_span : ℕ → Span → Span
+closed_span end (Open start) = Closed start end
+closed_span end (Closed start before) = Closed start before
 
 -- its marker has come
 abbrev pub is_over : Span → Bool
@@ -41,20 +41,22 @@ is_over (Open start) = false
 is_over (Closed start end) = true
 
 -- the channel that stands there
-abbrev pub channel_of : List MsgName → Span → Channel
-channel_of names (Open start) = record { messages = drop start names; is_closed = false }
-channel_of names (Closed start end) =
+abbrev pub channel_in_span : List MsgName → Span → Channel
+channel_in_span names (Open start) = record { messages = drop start names; is_closed = false }
+channel_in_span names (Closed start end) =
     record { messages = take (end - start) (drop start names); is_closed = true }
 
 -- the channels that stand there, one from each process
-abbrev pub channels_of : List (List MsgName) → List Span → List Channel
-channels_of [] spans = []
-channels_of (names ∷ rest) [] = []
-channels_of (names ∷ rest) (span ∷ spans) = channel_of names span ∷ channels_of rest spans
+abbrev pub channels_in_spans : List (List MsgName) → List Span → List Channel
+channels_in_spans [] spans = []
+channels_in_spans (names ∷ rest) [] = []
+channels_in_spans (names ∷ rest) (span ∷ spans) =
+    channel_in_span names span ∷ channels_in_spans rest spans
 
 -- a round as it is recorded, with the channels that stand there
-abbrev pub recorded_of : List (List MsgName) → RoundView → Recorded
-recorded_of names round = record { number = round.number; channels = channels_of names round.spans }
+abbrev pub recorded_of : List (List MsgName) → RoundView → RecordedRound
+recorded_of names round =
+    record { number = round.number; channels = channels_in_spans names round.spans }
 
 -- a channel lies within its sender's messages
 abbrev pub IsWithin : List MsgName → Span → Type 0
@@ -80,7 +82,7 @@ AllWithin names (round ∷ rounds) = AreWithin names round.spans × AllWithin na
 
 -- what holds of the rounds that are kept: their numbers ascend, above the floor, and their channels
 -- lie within the messages
-pub record AreKept (names : List (List MsgName)) (floor : ℕ)
+pub record AreRoundsKept (names : List (List MsgName)) (floor : ℕ)
     (rounds : List RoundView) : Type 0 where
   pub ascending : IsAscending floor rounds
   pub within : AllWithin names rounds

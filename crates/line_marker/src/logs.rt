@@ -2,7 +2,7 @@
 ghost use Rattle.std.specs.Prelude.{◌≡◌, ◌<◌, ◌≤◌, ◌++◌, [], ◌∷◌, length, map, replicate};
 ghost use Rattle.std.specs.Prelude.{slice_index_or, slice_set, vec_len, vec_capacity, IfOk, OnOk};
 ghost use Rattle.std.specs.Prelude.{OnErr, IsOk};
-ghost use Rattle.line_marker.specs.Spans.{names_of, room_of, opened};
+ghost use Rattle.line_marker.specs.Spans.{names_of, least_room, open_span};
 
 use crate::spans::Span;
 use line_names::{MsgName, ProcId};
@@ -11,15 +11,15 @@ use std::marker::Model;
 
 /// The messages noted from one process, in the order in which they came.
 #[derive(Drop)]
-struct Log {
+struct SenderLog {
     names: Vec<MsgName>,
 }
 
-impl Model for Log {
+impl Model for SenderLog {
     ghost use Rattle.std.specs.Prelude.{◌-◌, vec_len, vec_capacity};
-    ghost use Rattle.line_marker.specs.Spans.{LogView};
+    ghost use Rattle.line_marker.specs.Spans.{SenderLogView};
 
-    ghost Value = { LogView };
+    ghost Value = { SenderLogView };
 
     ghost view = { λ l. record {
       names = l.names.items;
@@ -30,14 +30,14 @@ impl Model for Log {
 /// The messages noted from each process.
 #[derive(Drop)]
 pub struct Logs {
-    logs: Vec<Log>,
+    logs: Vec<SenderLog>,
 }
 
 impl Model for Logs {
     ghost use Rattle.std.specs.Prelude.{List};
-    ghost use Rattle.line_marker.specs.Spans.{LogView};
+    ghost use Rattle.line_marker.specs.Spans.{SenderLogView};
 
-    ghost Value = { List LogView };
+    ghost Value = { List SenderLogView };
 
     ghost view = { λ l. l.logs.items };
 }
@@ -49,7 +49,7 @@ impl Logs {
     {
         let mut logs = Vec::with_capacity(alloc, n as usize)?;
         for _p in 0..n {
-            logs.push(Log {
+            logs.push(SenderLog {
                 names: Vec::new(alloc),
             })?;
         }
@@ -79,7 +79,7 @@ impl Logs {
             ≡ slice_set (names_of self.old) message.from
             (slice_index_or (names_of self.old) message.from [] ++ message ∷ [])) }
         ensures err { OnErr result (names_of self.new ≡ names_of self.old) }
-        ensures room { 0 < room_of self.old → IsOk result }
+        ensures room { 0 < least_room self.old → IsOk result }
     {
         let log = &mut self.logs[message.from.get() as usize];
         log.names.push(message)?;
@@ -89,9 +89,9 @@ impl Logs {
     /// Makes room for a message more of each process.
     pub fn reserve(&mut self) -> Result<(), AllocError>
         ensures same { names_of self.new ≡ names_of self.old }
-        ensures ok { OnOk result (0 < room_of self.new) }
-        ensures succeeds { 0 < room_of self.old → IsOk result }
-        ensures room { room_of self.old ≤ room_of self.new }
+        ensures ok { OnOk result (0 < least_room self.new) }
+        ensures succeeds { 0 < least_room self.old → IsOk result }
+        ensures room { least_room self.old ≤ least_room self.new }
     {
         for i in 0..self.logs.len() {
             let log = &mut self.logs[i];
@@ -104,7 +104,7 @@ impl Logs {
     pub fn open(&self, spans: &mut Vec<Span>)
         requires empty { spans.old.items ≡ [] }
         requires room { length self.now ≤ vec_capacity spans.old }
-        ensures { spans.new.items ≡ map opened (names_of self.now) }
+        ensures { spans.new.items ≡ map open_span (names_of self.now) }
     {
         for log in &self.logs {
             let start = log.names.len();

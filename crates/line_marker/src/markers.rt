@@ -2,15 +2,16 @@
 ghost use Rattle.std.specs.Prelude.{◌≡◌, ◌≢◌, ℕ, ◌<◌, ◌≤◌, ◌↔◌, [], length, map, slice_index_or};
 ghost use Rattle.std.specs.Prelude.{Some, None, MatchOption, IfOk, OnOk, OnErr, IsErrOf, IsOk};
 ghost use Rattle.std.specs.Prelude.{IsTrue, false};
-ghost use Rattle.line_marker.specs.Recording.{channel_at, effect_of, latest, messages_by, noted};
+ghost use Rattle.line_marker.specs.Recording.{channel_at, effect_of, latest, messages_by};
+ghost use Rattle.line_marker.specs.Recording.{rounds_with_message};
 ghost use Rattle.line_marker.specs.Recording.{round_of, rounds_after, with_marker, with_round};
-ghost use Rattle.line_marker.specs.Recording.{IsOver, IsRepeated, IsSameProcess, Recorded};
+ghost use Rattle.line_marker.specs.Recording.{IsOver, IsRepeated, IsSameProcess, RecordedRound};
 ghost use Rattle.line_marker.specs.Spans.{is_over, AreOver, RoundView};
 ghost use Rattle.line_marker.specs.declared.spans.Span.{Span};
 
 use crate::errors::{BeginError, MarkerError};
 use crate::logs::Logs;
-use crate::spans::{Round, Span};
+use crate::spans::{RoundSpans, Span};
 use line_names::{MsgName, ProcId};
 use std::alloc::{AllocError, Global};
 use std::marker::Model;
@@ -42,7 +43,7 @@ pub struct Marker {
     me: ProcId,
     floor: u32,
     logs: Logs,
-    rounds: Vec<Round>,
+    rounds: Vec<RoundSpans>,
     /// For each process, in how many rounds from the first on its channel is closed.
     passed: Vec<usize>,
     /// Empty: room for the channels of the next round.
@@ -52,7 +53,8 @@ pub struct Marker {
 impl Model for Marker {
     ghost use Rattle.std.specs.Prelude.{◌≡◌, ◌+◌, ◌-◌, [], length, map, min, vec_len, vec_capacity};
     ghost use Rattle.line_marker.specs.Recording.{MarkerView};
-    ghost use Rattle.line_marker.specs.Spans.{names_of, room_of, recorded_of, AreKept, ArePassed};
+    ghost use Rattle.line_marker.specs.Spans.{names_of, least_room, recorded_of, AreRoundsKept};
+    ghost use Rattle.line_marker.specs.Spans.{ArePassed};
 
     ghost Value = { MarkerView };
 
@@ -61,13 +63,14 @@ impl Model for Marker {
       me = m.me;
       floor = m.floor;
       rounds = map (recorded_of (names_of m.logs)) m.rounds.items;
-      room = min (room_of m.logs)
+      room = min (least_room m.logs)
           (min (vec_capacity m.rounds - vec_len m.rounds) (vec_capacity m.row + 1 - length m.logs));
       round_room =
           min (vec_capacity m.rounds - vec_len m.rounds) (vec_capacity m.row + 1 - length m.logs);
     } };
 
-    ghost invariant = { λ m. (m.row.items ≡ []) × AreKept (names_of m.logs) m.floor m.rounds.items
+    ghost invariant = { λ m. (m.row.items ≡ [])
+        × AreRoundsKept (names_of m.logs) m.floor m.rounds.items
         × ArePassed m.passed.items (length m.logs) m.rounds.items };
 }
 
@@ -88,7 +91,7 @@ fn are_closed(spans: &[Span], me: ProcId) -> bool
 
 /// In how many rounds from the first on the channel from a process is closed, where it is in the
 /// first `known`. It looks at each further one.
-fn further(rounds: &[Round], p: usize, known: usize) -> usize
+fn further(rounds: &[RoundSpans], p: usize, known: usize) -> usize
     requires over { AreOver p known rounds.now }
     requires spans { (i : ℕ) (d : RoundView) → i < length rounds.now
         → p < length (slice_index_or rounds.now i d).spans }
@@ -151,7 +154,7 @@ impl Marker {
     fn place(&self, round: u32) -> Option<usize>
         ensures { MatchOption result (round_of self.now.rounds round ≡ None)
             (λ i. (i < length self.now.rounds)
-            × ((d : Recorded)
+            × ((d : RecordedRound)
             → round_of self.now.rounds round ≡ Some (slice_index_or self.now.rounds i d))) }
     {
         let mut i = self.rounds.len();
@@ -172,7 +175,7 @@ impl Marker {
     fn has_marker(&self, i: usize, from: ProcId) -> bool
         requires round { i < length self.now.rounds }
         requires process { from < self.now.n }
-        ensures { (d : Recorded)
+        ensures { (d : RecordedRound)
             → result ≡ (channel_at (slice_index_or self.now.rounds i d) from).is_closed }
     {
         let round = &self.rounds[i];
@@ -184,7 +187,7 @@ impl Marker {
         requires round { i < length self.old.rounds }
         requires process { from < self.old.n }
         ensures rounds { (number : ℕ)
-            → ((d : Recorded) → (slice_index_or self.old.rounds i d).number ≡ number)
+            → ((d : RecordedRound) → (slice_index_or self.old.rounds i d).number ≡ number)
             → self.new.rounds ≡ with_marker self.old.rounds from number }
         ensures same { IsSameProcess self.old self.new }
     {
@@ -213,7 +216,7 @@ impl Marker {
         self.rounds.reserve(1)?;
         self.logs.open(&mut self.row);
         let spans = mem::replace(&mut self.row, Vec::new(self.alloc));
-        let recorded = Round {
+        let recorded = RoundSpans {
             number: round,
             spans,
         };
@@ -286,7 +289,7 @@ impl Marker {
         requires { from < self.old.n }
         ensures first { IsTrue result
             ↔ MatchOption (round_of self.old.rounds round) ⊥
-            (λ (recorded : Recorded). (channel_at recorded from).is_closed ≡ false) }
+            (λ (recorded : RecordedRound). (channel_at recorded from).is_closed ≡ false) }
         ensures closed { IsTrue result → self.new.rounds ≡ with_marker self.old.rounds from round }
         ensures unchanged { result ≡ false → self.new.rounds ≡ self.old.rounds }
         ensures same { IsSameProcess self.old self.new }
@@ -311,7 +314,7 @@ impl Marker {
     pub fn note(&mut self, message: MsgName) -> Result<(), AllocError>
         requires process { message.from < self.old.n }
         requires other { message.from ≢ self.old.me }
-        ensures ok { OnOk result (self.new.rounds ≡ noted self.old.rounds message) }
+        ensures ok { OnOk result (self.new.rounds ≡ rounds_with_message self.old.rounds message) }
         ensures err { OnErr result (self.new.rounds ≡ self.old.rounds) }
         ensures same { IsSameProcess self.old self.new }
         ensures room { 0 < self.old.room → IsOk result }

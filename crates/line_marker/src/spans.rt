@@ -1,6 +1,6 @@
 //! Where the channels of a round begin and end.
 ghost use Rattle.std.specs.Prelude.{◌≡◌};
-ghost use Rattle.line_marker.specs.Spans.{closed, channel_of, is_over, IsWithin};
+ghost use Rattle.line_marker.specs.Spans.{closed_span, channel_in_span, is_over, IsWithin};
 
 use line_names::MsgName;
 use std::marker::Model;
@@ -18,7 +18,7 @@ pub enum Span {
 impl Span {
     /// The channel closed by its marker, which came after so many messages.
     pub fn closed(self, end: usize) -> Span
-        ensures { result ≡ closed end self }
+        ensures { result ≡ closed_span end self }
     {
         match self {
             Span::Open { start } => Span::Closed { start, end },
@@ -39,7 +39,7 @@ impl Span {
     /// The messages on it, of all that are kept from its sender.
     pub fn messages(self, names: &[MsgName]) -> &[MsgName]
         requires { IsWithin names.now self }
-        ensures { result.now ≡ (channel_of names.now self).messages }
+        ensures { result.now ≡ (channel_in_span names.now self).messages }
     {
         match self {
             Span::Open { start } => &names[start..],
@@ -50,12 +50,12 @@ impl Span {
 
 /// A recorded round, with its channel from each process.
 #[derive(Drop)]
-pub struct Round {
+pub struct RoundSpans {
     pub number: u32,
     pub spans: Vec<Span>,
 }
 
-impl Model for Round {
+impl Model for RoundSpans {
     ghost use Rattle.line_marker.specs.Spans.{RoundView};
 
     ghost Value = { RoundView };

@@ -14,7 +14,7 @@ use Rattle.line_tape.specs.History.{Process}
 use Rattle.line_tape.specs.Transit.{addressee, goes_between}
 use Rattle.line_turns.specs.Tables.{between}
 use Rattle.line_moves.specs.Worlds.{AreQueues, IsItemOf}
-use Rattle.line_moves.specs.Rooms.{count_between, items_of, no_queue, queue_at, queue_to, AreCounted, AreEmpty, AreUncounted, HaveRoom, IsCounted, QueueView}
+use Rattle.line_moves.specs.Rooms.{count_between, items_held, no_queue, queue_at, queue_to, AreCountedOnQueues, AreEmpty, AreUncounted, HaveRoom, IsCounted, QueueView}
 
 -- two places, or one
 pub pair_cases : (p q a b : ℕ) → ((p ≡ a) × (q ≡ b)) ⊎ ((p ≡ a) × (q ≡ b) → ⊥)
@@ -52,16 +52,16 @@ module _ (rows : List (List QueueView)) (p : ℕ) (old row : List QueueView) (wi
   ]
 
 -- what the queues of a row hold
-items-to : (row : List QueueView) (q : ℕ) → get_or (items_of row) q [] ≡ (queue_to row q).held
+items-to : (row : List QueueView) (q : ℕ) → get_or (items_held row) q [] ≡ (queue_to row q).held
 items-to row q = get_or-map (λ (queue : QueueView). queue.held) row q no_queue
 
-column-length : (rows : List (List QueueView)) (p : ℕ) → length (get_or (map items_of rows) p []) ≡ length (get_or rows p [])
-column-length rows p = ap (λ (xs : List (List Item)). length xs) (get_or-map items_of rows p []) ∙ length-map (get_or rows p []) (λ (queue : QueueView). queue.held)
+column-length : (rows : List (List QueueView)) (p : ℕ) → length (get_or (map items_held rows) p []) ≡ length (get_or rows p [])
+column-length rows p = ap (λ (xs : List (List Item)). length xs) (get_or-map items_held rows p []) ∙ length-map (get_or rows p []) (λ (queue : QueueView). queue.held)
 
 -- a row of queues has one to each process
-pub row-length : (history : List Process) (rows : List (List QueueView)) → AreQueues history (map items_of rows) → (p : ℕ) → p < length history → (row : List QueueView) → row ≡ get_or rows p row → length row ≡ length history
+pub row-length : (history : List Process) (rows : List (List QueueView)) → AreQueues history (map items_held rows) → (p : ℕ) → p < length history → (row : List QueueView) → row ≡ get_or rows p row → length row ≡ length history
 row-length history rows are p within row at =
-    ap (λ (xs : List QueueView). length xs) (at ∙ get_or_default rows p row [] (omega (arith, within, are.shape.rows, length-map rows items_of)))
+    ap (λ (xs : List QueueView). length xs) (at ∙ get_or_default rows p row [] (omega (arith, within, are.shape.rows, length-map rows items_held)))
     ∙ sym (column-length rows p)
     ∙ are.shape.columns p within
 
@@ -108,7 +108,7 @@ module _ (history : List Process) (messages : List MsgName) where
   count-first i p q = omega (arith, length-filter_both (goes_between history p q) (λ m. not (goes_between history p q m)) (λ m. refl) (take i messages), length-take i messages)
 
   -- there is room for what was counted
-  pub HaveRoom-start : (rows new : List (List QueueView)) → AreCounted history messages (length messages) rows → ((p q : ℕ) → (queue_at rows p q).room ≤ (queue_at new p q).room) → HaveRoom history messages 0 new
+  pub HaveRoom-start : (rows new : List (List QueueView)) → AreCountedOnQueues history messages (length messages) rows → ((p q : ℕ) → (queue_at rows p q).room ≤ (queue_at new p q).room) → HaveRoom history messages 0 new
   HaveRoom-start rows new are more p q =
       let all : count_between history messages (length messages) p q ≡ length (filter (goes_between history p q) messages) =
       ap (λ (ms : List MsgName). length (filter (goes_between history p q) ms)) (take_all (length messages) messages (omega arith)) in
@@ -117,7 +117,7 @@ module _ (history : List Process) (messages : List MsgName) where
   pub AreUncounted-start : (rows : List (List QueueView)) → AreUncounted history messages 0 rows
   AreUncounted-start rows p q j m below is goes = absurd (omega (arith, below))
 
-  pub AreCounted-start : (rows : List (List QueueView)) → AreUncounted history messages (length messages) rows → AreCounted history messages 0 rows
+  pub AreCounted-start : (rows : List (List QueueView)) → AreUncounted history messages (length messages) rows → AreCountedOnQueues history messages 0 rows
   AreCounted-start rows none = record {
     counted = λ p q j m within is goes. none p q j m within is goes;
     room = λ p q. omega arith;
@@ -146,7 +146,7 @@ module _ (history : List Process) (messages : List MsgName) where
         | inr other ↦ before p q j m (omega (arith, below, other)) at goes
       ]
 
-      pub AreCounted-none : AreCounted history messages i rows → AreCounted history messages (i + 1) rows
+      pub AreCounted-none : AreCountedOnQueues history messages i rows → AreCountedOnQueues history messages (i + 1) rows
       AreCounted-none before = record {
         counted = λ p q j m below at goes. before.counted p q j m below at goes ∙ sym (not_there p q (goes_nowhere history message none p q));
         room = λ p q. omega (arith, before.room p q, not_there p q (goes_nowhere history message none p q));
@@ -184,11 +184,11 @@ module _ (history : List Process) (messages : List MsgName) where
       ]
 
       -- what was counted on its queue before
-      pub counted-before : AreCounted history messages i rows → (queue_to old to).counted ≡ count_between history messages i message.from to
+      pub counted-before : AreCountedOnQueues history messages i rows → (queue_to old to).counted ≡ count_between history messages i message.from to
       counted-before before = ap (λ (v : QueueView). v.counted) (row-read rows message.from old row row_within at_row to) ∙ before.counted message.from to i message within is (goes_there history message to named)
 
       -- it is counted there
-      pub AreCounted-more : IsCounted to old row → AreCounted history messages i rows → AreCounted history messages (i + 1) new
+      pub AreCounted-more : IsCounted to old row → AreCountedOnQueues history messages i rows → AreCountedOnQueues history messages (i + 1) new
       AreCounted-more one before = record {
         counted = λ p q j m below at goes. elim (pair_cases p q message.from to) [
           | inl e ↦
@@ -299,16 +299,16 @@ AreRowsCleared-more p old rows is within before new at none count more =
 
 -- past the last of them
 module _ (p : ℕ) (old rows : List (List QueueView)) (is : AreRowsCleared p old rows) (past : length rows ≤ p) where
-  pub none-between : (a q : ℕ) → between (map items_of rows) a q ≡ []
-  none-between a q = ap (λ (row : List (List Item)). get_or row q []) (get_or-map items_of rows a []) ∙ elim (cases_lt a (length rows)) [
+  pub none-between : (a q : ℕ) → between (map items_held rows) a q ≡ []
+  none-between a q = ap (λ (row : List (List Item)). get_or row q []) (get_or-map items_held rows a []) ∙ elim (cases_lt a (length rows)) [
     | inl within ↦ is.empty a (omega (arith, within, past)) q
-    | inr out ↦ ap (λ (row : List QueueView). get_or (items_of row) q []) (get_or_past rows a [] out)
+    | inr out ↦ ap (λ (row : List QueueView). get_or (items_held row) q []) (get_or_past rows a [] out)
   ]
 
-  pub AreQueues-cleared : (history : List Process) → AreQueues history (map items_of old) → AreQueues history (map items_of rows)
+  pub AreQueues-cleared : (history : List Process) → AreQueues history (map items_held old) → AreQueues history (map items_held rows)
   AreQueues-cleared history are = record {
     shape = record {
-      rows = length-map rows items_of ∙ is.count ∙ sym (length-map old items_of) ∙ are.shape.rows;
+      rows = length-map rows items_held ∙ is.count ∙ sym (length-map old items_held) ∙ are.shape.rows;
       columns = λ a within. column-length rows a ∙ is.columns a ∙ sym (column-length old a) ∙ are.shape.columns a within;
     };
     messages = λ a q. subst (λ (xs : List Item). All (IsItemOf a) xs) (sym (none-between a q)) (All-nil (IsItemOf a));

@@ -12,7 +12,7 @@ use Rattle.line_names.specs.Lines.{choice_at}
 use Rattle.line_tape.specs.Front.{HasChoice}
 use Rattle.line_tape.specs.History.{Process, tape_at, incarnation_at}
 use Rattle.line_tape.specs.Line.{IsLine}
-use Rattle.line_tape.specs.Restart.{restarted, restarted_incarnation}
+use Rattle.line_tape.specs.Restart.{restarted_history, restarted_incarnation}
 use Rattle.line_tape.specs.Survival.{survives, IsLatest}
 use Rattle.line_tape.specs.Views.{MarksView}
 use Rattle.line_tape.proofs.ChoiceLemmas.{survives_within}
@@ -56,7 +56,7 @@ map-range_later {X} f a (suc n) =
 
 -- the incarnations after a restart, process by process
 pub incarnations-restarted : (history : List Process) (line : List Choice) → length line ≡ length history
-    → map (λ (process : Process). process.incarnation) (restarted history line) ≡ map (λ p. restarted_incarnation (choice_at line p) (incarnation_at history p)) (range_with_len 0 (length history))
+    → map (λ (process : Process). process.incarnation) (restarted_history history line) ≡ map (λ p. restarted_incarnation (choice_at line p) (incarnation_at history p)) (range_with_len 0 (length history))
 incarnations-restarted [] line e = refl
 incarnations-restarted (process ∷ rest) [] e = absurd (omega arith)
 incarnations-restarted (process ∷ rest) (choice ∷ line) e =

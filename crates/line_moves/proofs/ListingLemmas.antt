@@ -9,7 +9,7 @@ use Rattle.line_names.specs.Lines.{choice_at}
 use Rattle.line_tape.specs.Restart.{is_kept}
 use Rattle.line_tape.proofs.CompletionLemmas.{all_range}
 use Rattle.line_tape.proofs.RoundLines.{in_range}
-use Rattle.line_moves.specs.Listed.{Listed, check_in, stays}
+use Rattle.line_moves.specs.Listed.{ListedRound, check_in, stays}
 use Rattle.line_moves.specs.Listings.{IsBelow, Climb}
 
 -- an earlier check stays where a later one does
@@ -18,14 +18,14 @@ is_kept-below (AtCheck k) a b low t = le-leb a k (omega (arith, low, leb-true b 
 is_kept-below Now a b low t = refl
 
 -- a round stays where one above it does
-pub stays-below : (line : List Choice) (a b : Listed) → IsBelow a b → stays line b ≡ true → stays line a ≡ true
+pub stays-below : (line : List Choice) (a b : ListedRound) → IsBelow a b → stays line b ≡ true → stays line a ≡ true
 stays-below line a b below t =
     all_range (λ (p : ℕ). is_kept (choice_at line p) (check_in a p)) 0 (length line)
     (λ v low high. is_kept-below (choice_at line v) (check_in a v) (check_in b v) (below v) (in_range (λ (p : ℕ). is_kept (choice_at line p) (check_in b p)) 0 (length line) v t low high))
 
 -- what passes a test is the front, where that passes and what comes after it fails
-pub filter-front : (test : Listed → Bool) (xs : List Listed) (k : ℕ) → ((i : ℕ) (d : Listed) → i < k → i < length xs → test (get_or xs i d) ≡ true)
-    → ((i : ℕ) (d : Listed) → k ≤ i → i < length xs → test (get_or xs i d) ≡ false) → filter test xs ≡ take k xs
+pub filter-front : (test : ListedRound → Bool) (xs : List ListedRound) (k : ℕ) → ((i : ℕ) (d : ListedRound) → i < k → i < length xs → test (get_or xs i d) ≡ true)
+    → ((i : ℕ) (d : ListedRound) → k ≤ i → i < length xs → test (get_or xs i d) ≡ false) → filter test xs ≡ take k xs
 filter-front test [] zero low high = refl
 filter-front test [] (suc k) low high = refl
 filter-front test (x ∷ xs) zero low high =
@@ -35,12 +35,12 @@ filter-front test (x ∷ xs) zero low high =
 filter-front test (x ∷ xs) (suc k) low high =
     let passes : test x ≡ true = low 0 x (omega arith) (omega arith) in
     ap (λ (b : Bool). cond b (x ∷ filter test xs) (filter test xs)) passes
-    ∙ ap (λ (ys : List Listed). x ∷ ys) (filter-front test xs k (λ i d l h. low (suc i) d (omega (arith, l)) (omega (arith, h))) (λ i d l h. high (suc i) d (omega (arith, l)) (omega (arith, h))))
+    ∙ ap (λ (ys : List ListedRound). x ∷ ys) (filter-front test xs k (λ i d l h. low (suc i) d (omega (arith, l)) (omega (arith, h))) (λ i d l h. high (suc i) d (omega (arith, l)) (omega (arith, h))))
 
 -- where checks climb, the rounds up to one that stays are those that stay, if no later one does
-pub staying-are : (line : List Choice) (rounds : List Listed) (end : ℕ) → Climb rounds → end ≤ length rounds
-    → ((d : Listed) → 0 < end → stays line (get_or rounds (end - 1) d) ≡ true)
-    → ((i : ℕ) (d : Listed) → end ≤ i → i < length rounds → stays line (get_or rounds i d) ≡ false) → filter (stays line) rounds ≡ take end rounds
+pub staying-are : (line : List Choice) (rounds : List ListedRound) (end : ℕ) → Climb rounds → end ≤ length rounds
+    → ((d : ListedRound) → 0 < end → stays line (get_or rounds (end - 1) d) ≡ true)
+    → ((i : ℕ) (d : ListedRound) → end ≤ i → i < length rounds → stays line (get_or rounds i d) ≡ false) → filter (stays line) rounds ≡ take end rounds
 staying-are line rounds end climb within last cut =
     filter-front (stays line) rounds end
     (λ i d l h. elim (cases_lt i (end - 1)) [
@@ -51,25 +51,25 @@ staying-are line rounds end climb within last cut =
     cut
 
 -- the rounds of a front climb
-pub Climb-take : (rounds : List Listed) (end : ℕ) → end ≤ length rounds → Climb rounds → Climb (take end rounds)
+pub Climb-take : (rounds : List ListedRound) (end : ℕ) → end ≤ length rounds → Climb rounds → Climb (take end rounds)
 Climb-take rounds end within climb = λ i j d lt j_within.
     let size : length (take end rounds) ≡ end = length-take-le end rounds within in
     let j_end : j < end = omega (arith, j_within, size) in
     let i_end : i < end = omega (arith, lt, j_end) in
-    subst (λ (a : Listed). IsBelow a (get_or (take end rounds) j d)) (sym (get_or-take end rounds i d i_end))
-    (subst (λ (b : Listed). IsBelow (get_or rounds i d) b) (sym (get_or-take end rounds j d j_end)) (climb i j d lt (omega (arith, j_end, within))))
+    subst (λ (a : ListedRound). IsBelow a (get_or (take end rounds) j d)) (sym (get_or-take end rounds i d i_end))
+    (subst (λ (b : ListedRound). IsBelow (get_or rounds i d) b) (sym (get_or-take end rounds j d j_end)) (climb i j d lt (omega (arith, j_end, within))))
 
 -- rounds climb on by one above the last
-pub Climb-push : (rounds : List Listed) (last round : Listed) → 0 < length rounds → last ≡ get_or rounds (length rounds - 1) last → Climb rounds → IsBelow last round → Climb (rounds ++ round ∷ [])
+pub Climb-push : (rounds : List ListedRound) (last round : ListedRound) → 0 < length rounds → last ≡ get_or rounds (length rounds - 1) last → Climb rounds → IsBelow last round → Climb (rounds ++ round ∷ [])
 Climb-push rounds last round some is climb below =
     all_pairs_push IsBelow rounds round climb
     (λ k d within. elim (cases_lt k (length rounds - 1)) [
       | inl low ↦ λ (p : ℕ).
           let more : check_in (get_or rounds k last) p ≤ check_in (get_or rounds (length rounds - 1) last) p = climb k (length rounds - 1) last low (omega (arith, some)) p in
-          let here : check_in (get_or rounds k d) p ≡ check_in (get_or rounds k last) p = ap (λ (a : Listed). check_in a p) (get_or_default rounds k d last within) in
-          omega (arith, more, here, below p, ap (λ (a : Listed). check_in a p) is)
+          let here : check_in (get_or rounds k d) p ≡ check_in (get_or rounds k last) p = ap (λ (a : ListedRound). check_in a p) (get_or_default rounds k d last within) in
+          omega (arith, more, here, below p, ap (λ (a : ListedRound). check_in a p) is)
       | inr past ↦ let same : k ≡ length rounds - 1 = omega (arith, within, past) in
           λ (p : ℕ).
-          let here : check_in (get_or rounds k d) p ≡ check_in last p = ap (λ (a : Listed). check_in a p) (get_or_default rounds k d last within ∙ ap (λ (j : ℕ). get_or rounds j last) same ∙ sym is) in
+          let here : check_in (get_or rounds k d) p ≡ check_in last p = ap (λ (a : ListedRound). check_in a p) (get_or_default rounds k d last within ∙ ap (λ (j : ℕ). get_or rounds j last) same ∙ sym is) in
           omega (arith, here, below p)
     ])

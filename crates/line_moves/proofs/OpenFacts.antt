@@ -4,7 +4,7 @@ use Rattle.std.proofs.Common.{◌≡◌, ◌≢◌, ℕ, zero, suc, ◌<◌, ◌
 use Rattle.std.proofs.lemmas.List.{length_push, get_or_append_left, get_or_default, get_or-set_same, get_or-set_other}
 use Rattle.std.specs.Prelude.{◌==◌, ◌↔◌, IsTrue, Result, Ok, Err, OnOk, OnErr}
 use Rattle.std.specs.List.{range_with_len}
-use Rattle.line_marker.specs.Recording.{Channel, MarkerView, Recorded, messages_by, IsOver, with_marker, with_round, noted, IsRepeated}
+use Rattle.line_marker.specs.Recording.{Channel, MarkerView, RecordedRound, messages_by, IsOver, with_marker, with_round, rounds_with_message, IsRepeated}
 use Rattle.line_names.specs.declared.messages.MsgName.{MsgName}
 use Rattle.line_tape.specs.declared.events.Event.{Event}
 use Rattle.line_tape.specs.declared.events.Event.TheVariants.{Recv, Check, Mark}
@@ -15,7 +15,7 @@ use Rattle.line_moves.proofs.FateLemmas.{same_test}
 use Rattle.line_tape.proofs.RoundLines.{closed_has_check, completed_checked}
 use Rattle.line_tape.proofs.NextLemmas.{tape_same, tape_other}
 use Rattle.line_moves.specs.declared.modes.Mode.TheVariants.{Fifo}
-use Rattle.line_moves.specs.Listed.{Listed, channel, channel_table, listed}
+use Rattle.line_moves.specs.Listed.{ListedRound, channel, channel_table, listed_round}
 use Rattle.line_turns.specs.Turning.{TurningView, IsTurning}
 use Rattle.line_turns.proofs.TurningLemmas.{IsTurning-checked, IsTurning-kept}
 use Rattle.line_moves.specs.Openings.{OpenView, kept_channel, recorded_channel, recorded_table, marker_at, no_marker, AreMarkers, IsFresh, IsMarkerOf, IsRecording, IsRoundOrNone}
@@ -115,7 +115,7 @@ module _ (history : List Process) (p : ℕ) (turning : TurningView) (markers : L
 
   -- a message has come
   pub IsRecording-noted : (message : MsgName) (j : ℕ) (marker : MarkerView) → message.from < length history → message.from ≢ p → j ≡ p → marker.floor ≡ (marker_at markers p).floor
-      → marker.rounds ≡ noted (marker_at markers p).rounds message → IsRecording (with_event history p (Recv message)) (record { number = r; checks = turning.checks; markers = set markers j marker })
+      → marker.rounds ≡ rounds_with_message (marker_at markers p).rounds message → IsRecording (with_event history p (Recv message)) (record { number = r; checks = turning.checks; markers = set markers j marker })
   IsRecording-noted message j marker from_within apart j_is floor rounds =
       set_other (Recv message) refl j j_is marker (IsMarkerOf-noted (length history) p r (tape_at history p) (marker_at markers p) before message from_within apart marker floor rounds)
 
@@ -125,7 +125,7 @@ module _ (history : List Process) (p : ℕ) (turning : TurningView) (markers : L
   IsRecording-same j marker j_is floor rounds =
       set_marker history refl (λ q other. refl) turning refl is.turning j j_is marker (record {
         floor_is = omega (arith, floor, before.floor_is);
-        recorded = subst (λ (rs : List Recorded). IsRoundOrNone (length history) p r (tape_at history p) (has_check_of r (tape_at history p)) rs) (sym rounds) before.recorded;
+        recorded = subst (λ (rs : List RecordedRound). IsRoundOrNone (length history) p r (tape_at history p) (has_check_of r (tape_at history p)) rs) (sym rounds) before.recorded;
       })
 
 -- the markers of the first k of n processes, with nothing recorded
@@ -172,14 +172,14 @@ recorded_is history round is p q p_within q_within apart begun =
     let n : ℕ = length history in
     let r : ℕ = round.number in
     let one = recorded_round n q r (tape_at history q) (marker_at round.markers q) (is.markers q q_within) begun in
-    ap (λ (o : Option Recorded). unwrap_or (messages_by o p) []) (recorded_there n q r (tape_at history q) (marker_at round.markers q).rounds one)
+    ap (λ (o : Option RecordedRound). unwrap_or (messages_by o p) []) (recorded_there n q r (tape_at history q) (marker_at round.markers q).rounds one)
     ∙ ap (λ (c : Channel). c.messages) (one.channels p p_within apart)
 
 -- the round that is completed, as it is listed: with what was recorded, or with as much as has the same channels
 pub completed_is : (history : List Process) (turning : TurningView) (markers kept : List MarkerView) → AreMarkers (length turning.checks) markers
     → IsRecording history (record { number = turning.number; checks = turning.checks; markers = markers }) → is_completed_fifo history turning.number ≡ true
     → ((p q : ℕ) → p < length history → q < length history → kept_channel kept turning.number p q ≡ recorded_channel markers turning.number p q)
-    → (let round : Listed = record { number = turning.number; checks = turning.checks; channels = recorded_table (length turning.checks) kept turning.number } in round) ≡ listed Fifo history turning.number
+    → (let round : ListedRound = record { number = turning.number; checks = turning.checks; channels = recorded_table (length turning.checks) kept turning.number } in round) ≡ listed_round Fifo history turning.number
 completed_is history turning markers kept are is completed same_channels =
     let n : ℕ = length history in
     let r : ℕ = turning.number in
@@ -193,8 +193,8 @@ completed_is history turning markers kept are is completed same_channels =
       | inl same ↦ ap (λ b. cond b [] (kept_channel kept r p q)) (eq-eqb p q same) ∙ sym (ap (λ b. cond b [] (channel_fifo history r p q)) (eq-eqb p q same))
       | inr apart ↦ ap (λ (ms : List MsgName). cond (p == q) [] ms) (same_channels p q (omega (arith, p_high)) (omega (arith, q_high)) ∙ recorded_is history round is p q (omega (arith, p_high)) (omega (arith, q_high)) apart (has q (omega (arith, q_high))))
     ])) in
-    ap (λ (v : List (List (List MsgName))). let l : Listed = record { number = r; checks = turning.checks; channels = v } in l) channels_are
-    ∙ ap (λ (v : List ℕ). let l : Listed = record { number = r; checks = v; channels = channel_table n (channel Fifo history r) } in l) indices_are
+    ap (λ (v : List (List (List MsgName))). let l : ListedRound = record { number = r; checks = turning.checks; channels = v } in l) channels_are
+    ∙ ap (λ (v : List ℕ). let l : ListedRound = record { number = r; checks = v; channels = channel_table n (channel Fifo history r) } in l) indices_are
 
 -- the channels of a process are closed just where its tape is
 pub closed_is : (history : List Process) (turning : TurningView) (markers : List MarkerView) → AreMarkers (length turning.checks) markers

@@ -29,13 +29,13 @@ use Rattle.line_turns.specs.Tables.{between}
 use Rattle.line_turns.proofs.TableLemmas.{between-of}
 use Rattle.line_moves.specs.declared.modes.Mode.{Mode}
 use Rattle.line_moves.specs.declared.modes.Mode.TheVariants.{Fifo, Unordered}
-use Rattle.line_moves.specs.Listed.{Listed, channel, channel_in, channel_table, check_in, is_begun, is_completed, listed, stays, IsSnapshotOf, newly_listed}
+use Rattle.line_moves.specs.Listed.{ListedRound, channel, channel_in, channel_table, check_in, is_begun, is_completed, listed_round, stays, IsSnapshotOf, newly_listed}
 use Rattle.line_names.specs.declared.choices.Choice.{Choice}
 use Rattle.line_names.specs.declared.choices.Choice.TheVariants.{Check as AtCheck, Now}
 use Rattle.line_names.specs.Lines.{choice_at}
-use Rattle.line_tape.specs.Restart.{is_kept, restarted}
+use Rattle.line_tape.specs.Restart.{is_kept, restarted_history}
 use Rattle.line_turns.specs.Turning.{TurningView}
-use Rattle.line_moves.specs.Openings.{OpenView, left_open, marker_at, first_unlisted, newly_closed, open_number, opened_turning, turning_of, IsLast, IsMarkerOf, IsOpening, IsRecorded, IsRecording, IsRunning}
+use Rattle.line_moves.specs.Openings.{OpenView, left_open, marker_at, first_unlisted, newly_closed, open_number, opened_turning, turning_of, IsLastBegun, IsMarkerOf, IsOnlyOpen, IsRecordingIn, IsRecording, IsRunning}
 use Rattle.line_moves.specs.Worlds.{AreNumbered, AreRounds}
 use Rattle.line_turns.proofs.TurningLemmas.{IsTurning-kept}
 use Rattle.line_moves.proofs.LinkLemmas.{length-with_event}
@@ -109,25 +109,25 @@ module _ (history : List Process) (at : ℕ) (e : Event) (within : at < length h
   all_kept mode other old p r has = completed_stays mode r (old p r (sym (has_back p r (other r)) ∙ has))
 
   -- nothing but completed rounds on the tapes
-  pub IsOpening-none : (mode : Mode) → ((r : ℕ) → is_check_of r e ≡ false) → IsOpening mode history None → IsOpening mode (with_event history at e) None
+  pub IsOpening-none : (mode : Mode) → ((r : ℕ) → is_check_of r e ≡ false) → IsOnlyOpen mode history None → IsOnlyOpen mode (with_event history at e) None
   IsOpening-none mode other old = all_kept mode other old
 
   module _ (other : (r : ℕ) → is_check_of r e ≡ false) where
     -- the round that is open, by an event that is no check of a round
-    pub IsRunning-kept : (mode : Mode) (round new : OpenView) → new.number ≡ round.number → IsRunning mode history round → IsRecorded mode (with_event history at e) new → IsRunning mode (with_event history at e) new
+    pub IsRunning-kept : (mode : Mode) (round new : OpenView) → new.number ≡ round.number → IsRunning mode history round → IsRecordingIn mode (with_event history at e) new → IsRunning mode (with_event history at e) new
     IsRunning-kept mode round new number is recording = record {
       others = λ p r has apart. others_kept mode round.number (λ s _. other s) is.others p r has (λ same. apart (same ∙ sym number));
       recording = recording;
     }
 
     -- an event that neither is a check of a round nor a marker nor a message
-    pub IsOpening-kept : (mode : Mode) (running : Option OpenView) → ((r p : ℕ) → names_from p (names_received (e ∷ [])) ≡ []) → ((r p : ℕ) → is_mark_of p r e ≡ false) → IsOpening mode history running → IsOpening mode (with_event history at e) running
+    pub IsOpening-kept : (mode : Mode) (running : Option OpenView) → ((r p : ℕ) → names_from p (names_received (e ∷ [])) ≡ []) → ((r p : ℕ) → is_mark_of p r e ≡ false) → IsOnlyOpen mode history running → IsOnlyOpen mode (with_event history at e) running
     IsOpening-kept mode None adds unmarked old = all_kept mode other old
     IsOpening-kept Fifo (Some round) adds unmarked old = IsRunning-kept Fifo round round refl old (IsRecording-kept adds round (other round.number) (unmarked round.number) old.recording)
     IsOpening-kept Unordered (Some round) adds unmarked old = IsRunning-kept Unordered round round refl old (IsTurning-kept history at e (turning_of round) within (other round.number) old.recording)
 
     -- where links keep no order
-    pub IsOpening-unordered : (running : Option OpenView) → IsOpening Unordered history running → IsOpening Unordered (with_event history at e) running
+    pub IsOpening-unordered : (running : Option OpenView) → IsOnlyOpen Unordered history running → IsOnlyOpen Unordered (with_event history at e) running
     IsOpening-unordered None old = all_kept Unordered other old
     IsOpening-unordered (Some round) old = IsRunning-kept Unordered round round refl old (IsTurning-kept history at e (turning_of round) within (other round.number) old.recording)
 
@@ -152,7 +152,7 @@ module _ (history : List Process) (at : ℕ) (e : Event) (within : at < length h
       completed_same Fifo r = completed_idle history at e r within (other r) (unmarked r)
       completed_same Unordered r = checked_idle history at e r within (other r)
 
-      IsLast-kept : (mode : Mode) (last : ℕ) (running new : Option OpenView) → open_number new ≡ open_number running → IsLast mode history last running → IsLast mode (with_event history at e) last new
+      IsLast-kept : (mode : Mode) (last : ℕ) (running new : Option OpenView) → open_number new ≡ open_number running → IsLastBegun mode history last running → IsLastBegun mode (with_event history at e) last new
       IsLast-kept mode last running None number is = tt
       IsLast-kept mode last None (Some round) number is = absurd (cc)
       IsLast-kept mode last (Some old) (Some round) number is =
@@ -160,7 +160,7 @@ module _ (history : List Process) (at : ℕ) (e : Event) (within : at < length h
           record { number_is = same ∙ is.number_is; begun = begun_kept last ∙ is.begun; unfinished = completed_same mode last ∙ is.unfinished }
 
       -- what a world keeps true of its rounds
-      pub AreRounds-kept : (mode : Mode) (last : ℕ) (running new : Option OpenView) (rounds : List Listed) → open_number new ≡ open_number running → IsOpening mode (with_event history at e) new
+      pub AreRounds-kept : (mode : Mode) (last : ℕ) (running new : Option OpenView) (rounds : List ListedRound) → open_number new ≡ open_number running → IsOnlyOpen mode (with_event history at e) new
           → AreRounds mode history last running rounds → AreRounds mode (with_event history at e) last new rounds
       AreRounds-kept mode last running new rounds number opening are = record {
         numbers = numbers_kept last are.numbers;
@@ -173,10 +173,10 @@ module _ (history : List Process) (at : ℕ) (e : Event) (within : at < length h
       -- no round is completed
       pub none_listed : (mode : Mode) (last : ℕ) → newly_listed mode history (with_event history at e) last ≡ []
       none_listed mode last =
-          let new : List Listed = listed mode (with_event history at e) last ∷ [] in
+          let new : List ListedRound = listed_round mode (with_event history at e) last ∷ [] in
           ap (λ b. cond (b && not (is_completed mode history last)) new []) (completed_same mode last) ∙ never (is_completed mode history last) new
         where
-          never : (b : Bool) (xs : List Listed) → cond (b && not b) xs [] ≡ []
+          never : (b : Bool) (xs : List ListedRound) → cond (b && not b) xs [] ≡ []
           never true xs = refl
           never false xs = refl
 
@@ -186,11 +186,11 @@ table_cell n channels p q p_within q_within apart =
     between-of n (λ a b. cond (a == b) [] (channels a b)) p q p_within q_within ∙ ap (λ b. cond b [] (channels p q)) (ne_eqb p q apart)
 
 -- the channels that are listed
-pub listed_channel : (mode : Mode) (history : List Process) (r p q : ℕ) → p < length history → q < length history → p ≢ q → channel_in (listed mode history r) p q ≡ channel mode history r p q
+pub listed_channel : (mode : Mode) (history : List Process) (r p q : ℕ) → p < length history → q < length history → p ≢ q → channel_in (listed_round mode history r) p q ≡ channel mode history r p q
 listed_channel mode history r p q p_within q_within apart = table_cell (length history) (channel mode history r) p q p_within q_within apart
 
 -- a completed round of markers is a snapshot as it is listed
-pub listed_snapshot : (history : List Process) (r : ℕ) → IsFitFifo history → is_completed Fifo history r ≡ true → IsSnapshotOf history (listed Fifo history r)
+pub listed_snapshot : (history : List Process) (r : ℕ) → IsFitFifo history → is_completed Fifo history r ≡ true → IsSnapshotOf history (listed_round Fifo history r)
 listed_snapshot history r fit completed =
     let is = marker_snapshot history r fit completed in
     record {
@@ -200,7 +200,7 @@ listed_snapshot history r fit completed =
     }
 
 -- and a completed round of colours
-pub counted_snapshot : (history : List Process) (r : ℕ) → IsFitUnordered history → AreColoured history → is_completed Unordered history r ≡ true → IsSnapshotOf history (listed Unordered history r)
+pub counted_snapshot : (history : List Process) (r : ℕ) → IsFitUnordered history → AreColoured history → is_completed Unordered history r ≡ true → IsSnapshotOf history (listed_round Unordered history r)
 counted_snapshot history r fit coloured completed =
     let is = colour_snapshot history r fit coloured completed in
     record {
@@ -210,29 +210,29 @@ counted_snapshot history r fit coloured completed =
     }
 
 -- the numbers of listed rounds lie below a greater one too
-pub AreNumbered-weaker : (first next : ℕ) (rounds : List Listed) → first ≤ next → AreNumbered first rounds → AreNumbered next rounds
+pub AreNumbered-weaker : (first next : ℕ) (rounds : List ListedRound) → first ≤ next → AreNumbered first rounds → AreNumbered next rounds
 AreNumbered-weaker first next rounds most is = record {
-  earlier = All-weaker (λ (round : Listed). round.number < first) (λ (round : Listed). round.number < next) (λ round less. omega (arith, less, most)) rounds is.earlier;
+  earlier = All-weaker (λ (round : ListedRound). round.number < first) (λ (round : ListedRound). round.number < next) (λ round less. omega (arith, less, most)) rounds is.earlier;
   ascending = is.ascending;
 }
 
 -- one more round is listed, of a number that they lie below
-pub AreNumbered-push : (first : ℕ) (rounds : List Listed) (round : Listed) → round.number ≡ first → AreNumbered first rounds → AreNumbered (suc first) (rounds ++ round ∷ [])
+pub AreNumbered-push : (first : ℕ) (rounds : List ListedRound) (round : ListedRound) → round.number ≡ first → AreNumbered first rounds → AreNumbered (suc first) (rounds ++ round ∷ [])
 AreNumbered-push first rounds round number is =
-    let below : Listed → Type 0 = λ r. r.number < suc first in
+    let below : ListedRound → Type 0 = λ r. r.number < suc first in
     record {
       earlier = All-append below rounds (round ∷ []) (AreNumbered-weaker first (suc first) rounds (omega arith) is).earlier (All-cons below round [] (omega (arith, number)) (All-nil below));
-      ascending = all_pairs_push (λ (a b : Listed). a.number < b.number) rounds round is.ascending (λ k d within. let less = is.earlier k d within in omega (arith, less, number));
+      ascending = all_pairs_push (λ (a b : ListedRound). a.number < b.number) rounds round is.ascending (λ k d within. let less = is.earlier k d within in omega (arith, less, number));
     }
 
-AreNumbered-none : (first : ℕ) (rounds : List Listed) → AreNumbered first rounds → AreNumbered first (rounds ++ [])
+AreNumbered-none : (first : ℕ) (rounds : List ListedRound) → AreNumbered first rounds → AreNumbered first (rounds ++ [])
 AreNumbered-none first rounds is = subst (AreNumbered first) (sym (append-nil rounds)) is
 
 -- and some of them leave the list
-pub AreNumbered-filter : (first : ℕ) (test : Listed → Bool) (rounds : List Listed) → AreNumbered first rounds → AreNumbered first (filter test rounds)
+pub AreNumbered-filter : (first : ℕ) (test : ListedRound → Bool) (rounds : List ListedRound) → AreNumbered first rounds → AreNumbered first (filter test rounds)
 AreNumbered-filter first test rounds is = record {
-  earlier = All-filter test (λ (round : Listed). round.number < first) rounds is.earlier;
-  ascending = AllPairs-filter (λ (a b : Listed). a.number < b.number) test rounds is.ascending;
+  earlier = All-filter test (λ (round : ListedRound). round.number < first) rounds is.earlier;
+  ascending = AllPairs-filter (λ (a b : ListedRound). a.number < b.number) test rounds is.ascending;
 }
 
 -- they lie below the next number in any case
@@ -241,9 +241,9 @@ first_most None last = omega arith
 first_most (Some round) last = omega arith
 
 -- the rounds once a step of the open round is settled, where a completed one is a snapshot as it is listed
-module _ (mode : Mode) (history : List Process) (holds : (r : ℕ) → is_completed mode history r ≡ true → IsSnapshotOf history (listed mode history r)) (last : ℕ) (rounds : List Listed) (numbers : (p r : ℕ) → has_check_of r (tape_at history p) ≡ true → r ≤ last)
+module _ (mode : Mode) (history : List Process) (holds : (r : ℕ) → is_completed mode history r ≡ true → IsSnapshotOf history (listed_round mode history r)) (last : ℕ) (rounds : List ListedRound) (numbers : (p r : ℕ) → has_check_of r (tape_at history p) ≡ true → r ≤ last)
     (snapshots : All (IsSnapshotOf history) rounds) where
-  pub AreRounds-settled : (running : Option OpenView) → AreNumbered (first_unlisted running last) rounds → IsOpening mode history running → ((round : OpenView) → running ≡ Some round → (round.number ≡ last) × (is_begun history last ≡ true))
+  pub AreRounds-settled : (running : Option OpenView) → AreNumbered (first_unlisted running last) rounds → IsOnlyOpen mode history running → ((round : OpenView) → running ≡ Some round → (round.number ≡ last) × (is_begun history last ≡ true))
       → AreRounds mode history last (left_open mode history running) (rounds ++ newly_closed mode history running)
   AreRounds-settled None numbered opening begun = record {
     numbers = numbers;
@@ -253,7 +253,7 @@ module _ (mode : Mode) (history : List Process) (holds : (r : ℕ) → is_comple
     numbered = AreNumbered-none (suc last) rounds numbered;
   }
   AreRounds-settled (Some round) numbered opening begun = elim (is_completed mode history round.number) as (λ b. is_completed mode history round.number ≡ b
-      → AreRounds mode history last (cond b None (Some round)) (rounds ++ cond b (listed mode history round.number ∷ []) [])) [
+      → AreRounds mode history last (cond b None (Some round)) (rounds ++ cond b (listed_round mode history round.number ∷ []) [])) [
         | true ↦ λ completed. record {
           numbers = numbers;
           opening = λ p r has. elim (cases_eq r round.number) [
@@ -261,9 +261,9 @@ module _ (mode : Mode) (history : List Process) (holds : (r : ℕ) → is_comple
             | inr apart ↦ opening.others p r has apart
           ];
           unfinished = tt;
-          snapshots = All-append (IsSnapshotOf history) rounds (listed mode history round.number ∷ []) snapshots
-              (All-cons (IsSnapshotOf history) (listed mode history round.number) [] (holds round.number completed) (All-nil (IsSnapshotOf history)));
-          numbered = AreNumbered-push last rounds (listed mode history round.number) (begun round refl).0 numbered;
+          snapshots = All-append (IsSnapshotOf history) rounds (listed_round mode history round.number ∷ []) snapshots
+              (All-cons (IsSnapshotOf history) (listed_round mode history round.number) [] (holds round.number completed) (All-nil (IsSnapshotOf history)));
+          numbered = AreNumbered-push last rounds (listed_round mode history round.number) (begun round refl).0 numbered;
         }
         | false ↦ λ unfinished. record {
           numbers = numbers;
@@ -281,9 +281,9 @@ module _ (mode : Mode) (history : List Process) (holds : (r : ℕ) → is_comple
 -- what is listed then is what the change completed
 pub newly_is : (mode : Mode) (old new : List Process) (last : ℕ) (round : OpenView) → round.number ≡ last → is_completed mode old last ≡ false → newly_closed mode new (Some round) ≡ newly_listed mode old new last
 newly_is mode old new last round number unfinished =
-    ap (λ (v : ℕ). cond (is_completed mode new v) (listed mode new v ∷ []) []) number
-    ∙ ap (λ b. cond b (listed mode new last ∷ []) []) (sym (and-true (is_completed mode new last)))
-    ∙ ap (λ b. cond (is_completed mode new last && not b) (listed mode new last ∷ []) []) (sym unfinished)
+    ap (λ (v : ℕ). cond (is_completed mode new v) (listed_round mode new v ∷ []) []) number
+    ∙ ap (λ b. cond b (listed_round mode new last ∷ []) []) (sym (and-true (is_completed mode new last)))
+    ∙ ap (λ b. cond (is_completed mode new last && not b) (listed_round mode new last ∷ []) []) (sym unfinished)
   where
     and-true : (b : Bool) → (b && true) ≡ b
     and-true true = refl
@@ -291,8 +291,8 @@ newly_is mode old new last round number unfinished =
 
 -- nothing is listed where the round was completed before
 pub newly_none : (mode : Mode) (old new : List Process) (last : ℕ) → (is_completed mode new last ≡ true → is_completed mode old last ≡ true) → newly_listed mode old new last ≡ []
-newly_none mode old new last back = elim (is_completed mode new last) as (λ b. is_completed mode new last ≡ b → cond (b && not (is_completed mode old last)) (listed mode new last ∷ []) [] ≡ []) [
-  | true ↦ λ completed. ap (λ b. cond (not b) (listed mode new last ∷ []) []) (back completed)
+newly_none mode old new last back = elim (is_completed mode new last) as (λ b. is_completed mode new last ≡ b → cond (b && not (is_completed mode old last)) (listed_round mode new last ∷ []) [] ≡ []) [
+  | true ↦ λ completed. ap (λ b. cond (not b) (listed_round mode new last ∷ []) []) (back completed)
   | false ↦ λ never. refl
 ] refl
 
@@ -311,13 +311,13 @@ forced_number history round from to r opening sent none within = elim (cases_eq 
   | inr apart ↦ absurd (both_ways (has_check_of r (tape_at history to)) none (checked_has history r to (completed_checked history r (opening.others from r sent apart)) within))
 ]
 
-pub forced_open : (history : List Process) (from to r : ℕ) → IsOpening Fifo history None → has_check_of r (tape_at history from) ≡ true → has_check_of r (tape_at history to) ≡ false → to < length history → ⊥
+pub forced_open : (history : List Process) (from to r : ℕ) → IsOnlyOpen Fifo history None → has_check_of r (tape_at history from) ≡ true → has_check_of r (tape_at history to) ≡ false → to < length history → ⊥
 forced_open history from to r opening sent none within = both_ways (has_check_of r (tape_at history to)) none (checked_has history r to (completed_checked history r (opening from r sent)) within)
 
 -- the open round, once a process has taken its check of it
 pub IsRunning-begun : (mode : Mode) (history : List Process) (at : ℕ) (state : List ℕ) (new : OpenView) → at < length history
     → ((p r : ℕ) → has_check_of r (tape_at history p) ≡ true → r ≢ new.number → is_completed mode history r ≡ true)
-    → IsRecorded mode (with_event history at (Check state (Some new.number))) new → IsRunning mode (with_event history at (Check state (Some new.number))) new
+    → IsRecordingIn mode (with_event history at (Check state (Some new.number))) new → IsRunning mode (with_event history at (Check state (Some new.number))) new
 IsRunning-begun mode history at state new within old recording = record {
   others = λ p r has apart. others_kept history at (Check state (Some new.number)) within mode new.number (λ s other. ne_eqb new.number s (λ same. other (sym same))) old p r has apart;
   recording = recording;
@@ -326,7 +326,7 @@ IsRunning-begun mode history at state new within old recording = record {
 -- and the mark of the marker that had it do so
 pub IsRunning-forced : (mode : Mode) (history : List Process) (at from number : ℕ) (state : List ℕ) (new : OpenView) → at < length history → new.number ≡ number
     → ((p r : ℕ) → has_check_of r (tape_at history p) ≡ true → r ≢ number → is_completed mode history r ≡ true)
-    → IsRecorded mode (with_event (with_event history at (Check state (Some number))) at (Mark from number)) new
+    → IsRecordingIn mode (with_event (with_event history at (Check state (Some number))) at (Mark from number)) new
     → IsRunning mode (with_event (with_event history at (Check state (Some number))) at (Mark from number)) new
 IsRunning-forced mode history at from number state new within is old recording =
     let one : List Process = with_event history at (Check state (Some number)) in
@@ -346,7 +346,7 @@ any_found history r a (suc n) t = elim (or_cases (has_check_of r (tape_at histor
 ]
 
 -- where no round is kept as open, none is
-pub closed_none : (mode : Mode) (history : List Process) (last : ℕ) → IsOpening mode history None → (is_begun history last && not (is_completed mode history last)) ≡ false
+pub closed_none : (mode : Mode) (history : List Process) (last : ℕ) → IsOnlyOpen mode history None → (is_begun history last && not (is_completed mode history last)) ≡ false
 closed_none mode history last opening = elim (is_begun history last) as (λ b. is_begun history last ≡ b → (b && not (is_completed mode history last)) ≡ false) [
   | true ↦ λ begun. let found = any_found history last 0 (length history) begun in ap not (opening found.0 last found.1)
   | false ↦ λ never. refl
@@ -367,14 +367,14 @@ forced_none history to r forced = elim (has_check_of r (tape_at history to)) as 
 ] forced
 
 -- what is kept of the open round, where the tapes stay as they are
-pub IsRunning-renewed : (mode : Mode) (history : List Process) (round new : OpenView) → new.number ≡ round.number → IsRunning mode history round → IsRecorded mode history new → IsRunning mode history new
+pub IsRunning-renewed : (mode : Mode) (history : List Process) (round new : OpenView) → new.number ≡ round.number → IsRunning mode history round → IsRecordingIn mode history new → IsRunning mode history new
 IsRunning-renewed mode history round new number is recording = record {
   others = λ p r has apart. is.others p r has (λ same. apart (same ∙ sym number));
   recording = recording;
 }
 
 -- the rounds, where the tapes stay as they are
-pub AreRounds-renewed : (mode : Mode) (history : List Process) (last : ℕ) (running new : Option OpenView) (rounds : List Listed) → open_number new ≡ open_number running → IsOpening mode history new
+pub AreRounds-renewed : (mode : Mode) (history : List Process) (last : ℕ) (running new : Option OpenView) (rounds : List ListedRound) → open_number new ≡ open_number running → IsOnlyOpen mode history new
     → AreRounds mode history last running rounds → AreRounds mode history last new rounds
 AreRounds-renewed mode history last running new rounds number opening are = record {
   numbers = are.numbers;
@@ -384,21 +384,21 @@ AreRounds-renewed mode history last running new rounds number opening are = reco
   numbered = subst (λ (v : ℕ). AreNumbered v rounds) (first_same running new last number) are.numbered;
 }
   where
-    renewed : (old round : Option OpenView) → open_number round ≡ open_number old → IsLast mode history last old → IsLast mode history last round
+    renewed : (old round : Option OpenView) → open_number round ≡ open_number old → IsLastBegun mode history last old → IsLastBegun mode history last round
     renewed old None e is = tt
     renewed None (Some round) e is = absurd (cc)
     renewed (Some old) (Some round) e is = let same : round.number ≡ old.number = cc in record { number_is = same ∙ is.number_is; begun = is.begun; unfinished = is.unfinished }
 
 -- a snapshot stays one where a restart cuts none of its checks
-pub snapshots_restarted : (history : List Process) (line : List Choice) (rounds : List Listed) → length line ≡ length history
-    → All (IsSnapshotOf history) rounds → All (IsSnapshotOf (restarted history line)) (filter (stays line) rounds)
+pub snapshots_restarted : (history : List Process) (line : List Choice) (rounds : List ListedRound) → length line ≡ length history
+    → All (IsSnapshotOf history) rounds → All (IsSnapshotOf (restarted_history history line)) (filter (stays line) rounds)
 snapshots_restarted history line rounds size snapshots = λ k d within. kept (get_or (filter (stays line) rounds) k d) (All-filter (stays line) (IsSnapshotOf history) rounds snapshots k d within) (filter_passes (stays line) rounds k d within)
   where
     first_kept : (choice : Choice) → is_kept choice 0 ≡ true
     first_kept (AtCheck c) = le-leb 0 c (omega arith)
     first_kept Now = refl
 
-    kept : (round : Listed) → IsSnapshotOf history round → stays line round ≡ true → IsSnapshotOf (restarted history line) round
+    kept : (round : ListedRound) → IsSnapshotOf history round → stays line round ≡ true → IsSnapshotOf (restarted_history history line) round
     kept round is all =
         let many : length round.checks ≡ length line = sym (length-map round.checks (λ c. AtCheck c)) ∙ is.line.length_is ∙ sym size in
         snapshot_restarted history line round.checks (channel_in round) size (λ p. elim (cases_lt p (length line)) [
@@ -407,11 +407,11 @@ snapshots_restarted history line rounds size snapshots = λ k d within. kept (ge
         ]) is
 
 -- after a restart no round is open, and the listed ones stay whose checks are all kept
-pub AreRounds-restarted : (mode : Mode) (history : List Process) (line : List Choice) (last : ℕ) (running : Option OpenView) (rounds : List Listed) → length line ≡ length history
-    → AreRounds mode history last running rounds → AreRounds mode (restarted history line) last None (filter (stays line) rounds)
+pub AreRounds-restarted : (mode : Mode) (history : List Process) (line : List Choice) (last : ℕ) (running : Option OpenView) (rounds : List ListedRound) → length line ≡ length history
+    → AreRounds mode history last running rounds → AreRounds mode (restarted_history history line) last None (filter (stays line) rounds)
 AreRounds-restarted mode history line last running rounds size are = record {
-  numbers = λ p r has. absurd (both_ways (has_check_of r (tape_at (restarted history line) p)) (no_check_restarted history line r p size) has);
-  opening = λ p r has. absurd (both_ways (has_check_of r (tape_at (restarted history line) p)) (no_check_restarted history line r p size) has);
+  numbers = λ p r has. absurd (both_ways (has_check_of r (tape_at (restarted_history history line) p)) (no_check_restarted history line r p size) has);
+  opening = λ p r has. absurd (both_ways (has_check_of r (tape_at (restarted_history history line) p)) (no_check_restarted history line r p size) has);
   unfinished = tt;
   numbered = AreNumbered-filter (suc last) (stays line) rounds (AreNumbered-weaker (first_unlisted running last) (suc last) rounds (first_most running last) are.numbered);
   snapshots = snapshots_restarted history line rounds size are.snapshots;
@@ -429,14 +429,14 @@ begun_still history at e r within begun =
     begun_by (with_event history at e) r found.0 (omega (arith, found.2, length-with_event history at e)) (has_still history at e within found.0 r found.1)
 
 -- where no round is open, each one on a tape is completed
-pub closed_others : (mode : Mode) (history : List Process) (last : ℕ) (running : Option OpenView) → IsOpening mode history running → IsLast mode history last running → (is_begun history last && not (is_completed mode history last)) ≡ false
+pub closed_others : (mode : Mode) (history : List Process) (last : ℕ) (running : Option OpenView) → IsOnlyOpen mode history running → IsLastBegun mode history last running → (is_begun history last && not (is_completed mode history last)) ≡ false
     → (p r : ℕ) → has_check_of r (tape_at history p) ≡ true → is_completed mode history r ≡ true
 closed_others mode history last None opening is closed = opening
 closed_others mode history last (Some round) opening is closed =
     absurd (both_ways (is_begun history last && not (is_completed mode history last)) closed (ap (λ b. b && not (is_completed mode history last)) is.begun ∙ ap (λ b. true && not b) is.unfinished))
 
 -- the round that is kept as open, by its number
-pub still_last : (mode : Mode) (history : List Process) (last : ℕ) (running : Option OpenView) → IsLast mode history last running → (number : ℕ) → Some number ≡ open_number running
+pub still_last : (mode : Mode) (history : List Process) (last : ℕ) (running : Option OpenView) → IsLastBegun mode history last running → (number : ℕ) → Some number ≡ open_number running
     → (number ≡ last) × (is_begun history last ≡ true) × (is_completed mode history last ≡ false)
 still_last mode history last None is number e = absurd (cc)
 still_last mode history last (Some old) is number e = let same : number ≡ old.number = cc in (same ∙ is.number_is, is.begun, is.unfinished)
@@ -446,7 +446,7 @@ none_left None e = refl
 none_left (Some old) e = absurd (cc)
 
 -- one is kept as open just where the last round begun is open
-pub open_told : (mode : Mode) (history : List Process) (last : ℕ) (running : Option OpenView) → IsOpening mode history running → IsLast mode history last running
+pub open_told : (mode : Mode) (history : List Process) (last : ℕ) (running : Option OpenView) → IsOnlyOpen mode history running → IsLastBegun mode history last running
     → is_some running ≡ (is_begun history last && not (is_completed mode history last))
 open_told mode history last None opening is = sym (closed_none mode history last opening)
 open_told mode history last (Some round) opening is = sym (ap (λ b. b && not (is_completed mode history last)) is.begun ∙ ap (λ b. true && not b) is.unfinished)

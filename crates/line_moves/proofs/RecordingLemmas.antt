@@ -5,13 +5,13 @@ use Rattle.std.specs.Cmp.Derive.{both_true}
 use Rattle.std.proofs.lemmas.Bool.{cases_eq, eq-eqb, ne_eqb, lt-ltb, and_left}
 use Rattle.std.proofs.lemmas.List.{append-nil, length-set, length-replicate, get_or-set_same, get_or-set_other, get_or-replicate}
 use Rattle.line_names.specs.declared.messages.MsgName.{MsgName}
-use Rattle.line_marker.specs.Recording.{Channel, MarkerView, Recorded, open_channel, channel_at, with_channel, with_marker, with_round, heard, noted, round_of, latest, effect_by, effect_of, rounds_after, IsOver, IsRepeated}
+use Rattle.line_marker.specs.Recording.{Channel, MarkerView, RecordedRound, open_channel, channel_at, with_channel, with_marker, with_round, with_message, rounds_with_message, round_of, latest, effect_by, effect_of, rounds_after, IsOver, IsRepeated}
 use Rattle.line_tape.specs.declared.events.Event.{Event}
 use Rattle.line_tape.specs.declared.events.Event.TheVariants.{Recv, Check, Mark}
 use Rattle.line_tape.specs.Rounds.{has_check_of, has_mark_of, channel_on, is_check_of, is_mark_of, names_from}
 use Rattle.line_tape.specs.Transit.{names_received}
 use Rattle.line_tape.proofs.GrowthLemmas.{channel_opened, channel_push, has_check_push, has_mark_push}
-use Rattle.line_moves.specs.Openings.{channel_of, IsRound, IsRoundOrNone, IsMarkerOf}
+use Rattle.line_moves.specs.Openings.{channel_on_tape, IsRecordedRound, IsRoundOrNone, IsMarkerOf}
 
 pub or-false : (b : Bool) → (b || false) ≡ b
 or-false true = refl
@@ -31,20 +31,20 @@ channel_is a b c d e f = ap (λ (v : List MsgName). let x : Channel = record { m
 
 module _ (n q r : ℕ) (tape : List Event) (marker : MarkerView) where
   -- what is recorded once the tape has its check of the round, and before
-  pub recorded_round : IsMarkerOf n q r tape marker → has_check_of r tape ≡ true → IsRound n q r tape marker.rounds
+  pub recorded_round : IsMarkerOf n q r tape marker → has_check_of r tape ≡ true → IsRecordedRound n q r tape marker.rounds
   recorded_round is begun = subst (λ b. IsRoundOrNone n q r tape b marker.rounds) begun is.recorded
 
   pub recorded_none : IsMarkerOf n q r tape marker → has_check_of r tape ≡ false → marker.rounds ≡ []
   recorded_none is none = subst (λ b. IsRoundOrNone n q r tape b marker.rounds) none is.recorded
 
-  pub marker_round : marker.floor < r → has_check_of r tape ≡ true → IsRound n q r tape marker.rounds → IsMarkerOf n q r tape marker
+  pub marker_round : marker.floor < r → has_check_of r tape ≡ true → IsRecordedRound n q r tape marker.rounds → IsMarkerOf n q r tape marker
   marker_round floor begun is = record { floor_is = floor; recorded = subst (λ b. IsRoundOrNone n q r tape b marker.rounds) (sym begun) is }
 
   pub marker_none : marker.floor < r → has_check_of r tape ≡ false → marker.rounds ≡ [] → IsMarkerOf n q r tape marker
   marker_none floor none is = record { floor_is = floor; recorded = subst (λ b. IsRoundOrNone n q r tape b marker.rounds) (sym none) is }
 
 -- a channel to which an event adds nothing
-channel-kept : (p r : ℕ) (tape : List Event) (e : Event) → has_check_of r tape ≡ true → is_mark_of p r e ≡ false → names_from p (names_received (e ∷ [])) ≡ [] → channel_of p r (tape ++ e ∷ []) ≡ channel_of p r tape
+channel-kept : (p r : ℕ) (tape : List Event) (e : Event) → has_check_of r tape ≡ true → is_mark_of p r e ≡ false → names_from p (names_received (e ∷ [])) ≡ [] → channel_on_tape p r (tape ++ e ∷ []) ≡ channel_on_tape p r tape
 channel-kept p r tape e begun no_mark none =
     channel_is (channel_on p r (tape ++ e ∷ [])) (channel_on p r tape) (has_mark_of p r (tape ++ e ∷ [])) (has_mark_of p r tape)
     (channel_push tape e p r begun
@@ -82,10 +82,10 @@ module _ (n q r : ℕ) (tape : List Event) (marker : MarkerView) (is : IsMarkerO
   IsMarkerOf-begun state new none floor rounds =
       let e : Event = Check state (Some r) in
       let this : is_check_of r e ≡ true = eq-eqb r r refl in
-      let one : Recorded = record { number = r; channels = replicate n open_channel } in
+      let one : RecordedRound = record { number = r; channels = replicate n open_channel } in
       marker_round n q r (tape ++ e ∷ []) new (omega (arith, floor, is.floor_is)) (has_check_push tape e r ∙ ap (λ b. has_check_of r tape || b) this ∙ or-true (has_check_of r tape)) (record {
         round = one;
-        alone = rounds ∙ ap (λ (rs : List Recorded). with_round rs n r) (recorded_none n q r tape marker is none);
+        alone = rounds ∙ ap (λ (rs : List RecordedRound). with_round rs n r) (recorded_none n q r tape marker is none);
         number_is = refl;
         count = length-replicate n open_channel;
         channels = λ p within apart.
@@ -94,29 +94,29 @@ module _ (n q r : ℕ) (tape : List Event) (marker : MarkerView) (is : IsMarkerO
       })
 
   module _ (begun : has_check_of r tape ≡ true) where
-    one_round : IsRound n q r tape marker.rounds
+    one_round : IsRecordedRound n q r tape marker.rounds
     one_round = recorded_round n q r tape marker is begun
 
     -- another channel from one process
-    IsRound-written : (from : ℕ) (e : Event) (new : Channel) → from < n → from ≢ q → is_check_of r e ≡ false → new ≡ channel_of from r (tape ++ e ∷ [])
-        → ((p : ℕ) → p ≢ from → channel_of p r (tape ++ e ∷ []) ≡ channel_of p r tape) → IsRound n q r (tape ++ e ∷ []) (with_channel one_round.round from new ∷ [])
+    IsRound-written : (from : ℕ) (e : Event) (new : Channel) → from < n → from ≢ q → is_check_of r e ≡ false → new ≡ channel_on_tape from r (tape ++ e ∷ [])
+        → ((p : ℕ) → p ≢ from → channel_on_tape p r (tape ++ e ∷ []) ≡ channel_on_tape p r tape) → IsRecordedRound n q r (tape ++ e ∷ []) (with_channel one_round.round from new ∷ [])
     IsRound-written from e new within apart other here there = record {
       round = with_channel one_round.round from new;
       alone = refl;
       number_is = one_round.number_is;
       count = length-set one_round.round.channels from new ∙ one_round.count;
       channels = λ p p_within p_apart. elim (cases_eq p from) [
-        | inl same ↦ subst (λ (v : ℕ). channel_at (with_channel one_round.round from new) v ≡ channel_of v r (tape ++ e ∷ [])) (sym same)
+        | inl same ↦ subst (λ (v : ℕ). channel_at (with_channel one_round.round from new) v ≡ channel_on_tape v r (tape ++ e ∷ [])) (sym same)
             (get_or-set_same one_round.round.channels from new open_channel (omega (arith, within, one_round.count)) ∙ here)
         | inr different ↦ get_or-set_other one_round.round.channels from p new open_channel different ∙ one_round.channels p p_within p_apart ∙ sym (there p different)
       ];
     }
 
     module _ (from : ℕ) (within : from < n) (apart : from ≢ q) where
-      mark_elsewhere : (p : ℕ) → p ≢ from → channel_of p r (tape ++ Mark from r ∷ []) ≡ channel_of p r tape
+      mark_elsewhere : (p : ℕ) → p ≢ from → channel_on_tape p r (tape ++ Mark from r ∷ []) ≡ channel_on_tape p r tape
       mark_elsewhere p other = channel-kept p r tape (Mark from r) begun (and_left (from == p) (r == r) (ne_eqb from p (λ e. other (sym e)))) refl
 
-      mark_here : channel_of from r (tape ++ Mark from r ∷ []) ≡ record (channel_of from r tape) { is_closed = true }
+      mark_here : channel_on_tape from r (tape ++ Mark from r ∷ []) ≡ record (channel_on_tape from r tape) { is_closed = true }
       mark_here =
           let e : Event = Mark from r in
           channel_is (channel_on from r (tape ++ e ∷ [])) (channel_on from r tape) (has_mark_of from r (tape ++ e ∷ [])) true
@@ -128,23 +128,23 @@ module _ (n q r : ℕ) (tape : List Event) (marker : MarkerView) (is : IsMarkerO
       -- the marker from a process
       pub IsMarkerOf-marked : (new : MarkerView) → new.floor ≡ marker.floor → new.rounds ≡ with_marker marker.rounds from r → IsMarkerOf n q r (tape ++ Mark from r ∷ []) new
       IsMarkerOf-marked new floor rounds =
-          let round : Recorded = one_round.round in
+          let round : RecordedRound = one_round.round in
           let closed : Channel = record (channel_at round from) { is_closed = true } in
           let written : with_marker marker.rounds from r ≡ with_channel round from closed ∷ [] =
-          ap (λ (rs : List Recorded). with_marker rs from r) one_round.alone
+          ap (λ (rs : List RecordedRound). with_marker rs from r) one_round.alone
           ∙ ap (λ b. cond b (with_channel round from closed) round ∷ []) (eq-eqb round.number r one_round.number_is) in
           marker_round n q r (tape ++ Mark from r ∷ []) new (omega (arith, floor, is.floor_is)) (still_checked r tape (Mark from r) begun)
-          (subst (IsRound n q r (tape ++ Mark from r ∷ [])) (sym (rounds ∙ written))
+          (subst (IsRecordedRound n q r (tape ++ Mark from r ∷ [])) (sym (rounds ∙ written))
           (IsRound-written from (Mark from r) closed within apart refl (ap (λ (c : Channel). let x : Channel = record c { is_closed = true } in x) (one_round.channels from within apart) ∙ sym mark_here) mark_elsewhere))
 
       -- a marker that has come before
       pub IsMarkerOf-repeated : (new : MarkerView) → new.floor ≡ marker.floor → new.rounds ≡ marker.rounds → IsRepeated marker.rounds from r → IsMarkerOf n q r (tape ++ Mark from r ∷ []) new
       IsMarkerOf-repeated new floor rounds repeated =
-          let round : Recorded = one_round.round in
-          let none : Option Recorded = None in
-          let found : round_of marker.rounds r ≡ Some round = ap (λ (rs : List Recorded). round_of rs r) one_round.alone ∙ ap (λ b. cond b (Some round) none) (eq-eqb round.number r one_round.number_is) in
-          let closed : (channel_at round from).is_closed ≡ true = subst (λ (o : Option Recorded). MatchOption o ⊥ (λ v. IsTrue (channel_at v from).is_closed)) found repeated in
-          let here : channel_at round from ≡ channel_of from r (tape ++ Mark from r ∷ []) =
+          let round : RecordedRound = one_round.round in
+          let none : Option RecordedRound = None in
+          let found : round_of marker.rounds r ≡ Some round = ap (λ (rs : List RecordedRound). round_of rs r) one_round.alone ∙ ap (λ b. cond b (Some round) none) (eq-eqb round.number r one_round.number_is) in
+          let closed : (channel_at round from).is_closed ≡ true = subst (λ (o : Option RecordedRound). MatchOption o ⊥ (λ v. IsTrue (channel_at v from).is_closed)) found repeated in
+          let here : channel_at round from ≡ channel_on_tape from r (tape ++ Mark from r ∷ []) =
           channel_is (channel_at round from).messages (channel_at round from).messages (channel_at round from).is_closed true refl closed
           ∙ ap (λ (c : Channel). let x : Channel = record c { is_closed = true } in x) (one_round.channels from within apart) ∙ sym mark_here in
           marker_round n q r (tape ++ Mark from r ∷ []) new (omega (arith, floor, is.floor_is)) (still_checked r tape (Mark from r) begun) (record {
@@ -153,36 +153,36 @@ module _ (n q r : ℕ) (tape : List Event) (marker : MarkerView) (is : IsMarkerO
             number_is = one_round.number_is;
             count = one_round.count;
             channels = λ p p_within p_apart. elim (cases_eq p from) [
-              | inl same ↦ subst (λ (v : ℕ). channel_at round v ≡ channel_of v r (tape ++ Mark from r ∷ [])) (sym same) here
+              | inl same ↦ subst (λ (v : ℕ). channel_at round v ≡ channel_on_tape v r (tape ++ Mark from r ∷ [])) (sym same) here
               | inr different ↦ one_round.channels p p_within p_apart ∙ sym (mark_elsewhere p different)
             ];
           })
 
   -- a message
   module _ (message : MsgName) (within : message.from < n) (apart : message.from ≢ q) where
-    pub IsMarkerOf-noted : (new : MarkerView) → new.floor ≡ marker.floor → new.rounds ≡ noted marker.rounds message → IsMarkerOf n q r (tape ++ Recv message ∷ []) new
+    pub IsMarkerOf-noted : (new : MarkerView) → new.floor ≡ marker.floor → new.rounds ≡ rounds_with_message marker.rounds message → IsMarkerOf n q r (tape ++ Recv message ∷ []) new
     IsMarkerOf-noted new floor rounds = elim (has_check_of r tape) as (λ b. has_check_of r tape ≡ b → IsMarkerOf n q r (tape ++ Recv message ∷ []) new) [
       | true ↦ λ begun.
           let e : Event = Recv message in
           let from : ℕ = message.from in
           let round = one_round begun in
-          let one : Recorded = round.round in
-          let written : noted marker.rounds message ≡ with_channel one from (heard (channel_at one from) message) ∷ [] = ap (λ (rs : List Recorded). noted rs message) round.alone in
+          let one : RecordedRound = round.round in
+          let written : rounds_with_message marker.rounds message ≡ with_channel one from (with_message (channel_at one from) message) ∷ [] = ap (λ (rs : List RecordedRound). rounds_with_message rs message) round.alone in
           marker_round n q r (tape ++ e ∷ []) new (omega (arith, floor, is.floor_is)) (still_checked r tape e begun)
-          (subst (IsRound n q r (tape ++ e ∷ [])) (sym (rounds ∙ written))
-          (IsRound-written begun from e (heard (channel_at one from) message) within apart refl
-          (ap (λ (c : Channel). heard c message) (round.channels from within apart) ∙ sym (heard_here begun))
+          (subst (IsRecordedRound n q r (tape ++ e ∷ [])) (sym (rounds ∙ written))
+          (IsRound-written begun from e (with_message (channel_at one from) message) within apart refl
+          (ap (λ (c : Channel). with_message c message) (round.channels from within apart) ∙ sym (heard_here begun))
           (λ p other. channel-kept p r tape e begun refl (ap (λ b. cond b (message ∷ []) []) (ne_eqb from p (λ s. other (sym s)))))))
       | false ↦ λ none. marker_none n q r (tape ++ Recv message ∷ []) new (omega (arith, floor, is.floor_is)) (same_checked r tape (Recv message) refl ∙ none)
-          (rounds ∙ ap (λ (rs : List Recorded). noted rs message) (recorded_none n q r tape marker is none))
+          (rounds ∙ ap (λ (rs : List RecordedRound). rounds_with_message rs message) (recorded_none n q r tape marker is none))
     ] refl
       where
         heard_by : (names : List MsgName) (b : Bool)
-            → (let x : Channel = record { messages = names ++ cond b [] (message ∷ []); is_closed = b } in x) ≡ heard (record { messages = names; is_closed = b }) message
+            → (let x : Channel = record { messages = names ++ cond b [] (message ∷ []); is_closed = b } in x) ≡ with_message (record { messages = names; is_closed = b }) message
         heard_by names true = channel_is (names ++ []) names true true (append-nil names) refl
         heard_by names false = refl
 
-        heard_here : has_check_of r tape ≡ true → channel_of message.from r (tape ++ Recv message ∷ []) ≡ heard (channel_of message.from r tape) message
+        heard_here : has_check_of r tape ≡ true → channel_on_tape message.from r (tape ++ Recv message ∷ []) ≡ with_message (channel_on_tape message.from r tape) message
         heard_here begun =
             let e : Event = Recv message in
             let from : ℕ = message.from in
@@ -196,22 +196,22 @@ module _ (n q r : ℕ) (tape : List Event) (marker : MarkerView) (is : IsMarkerO
 pub forced_rounds : (marker : MarkerView) (from r : ℕ) → marker.rounds ≡ [] → marker.floor < r
     → rounds_after (effect_of marker r) marker from r ≡ with_marker (with_round marker.rounds marker.n r) from r
 forced_rounds marker from r none floor =
-    let nothing : round_of marker.rounds r ≡ None = ap (λ (rs : List Recorded). round_of rs r) none in
-    let new : nat_lt (latest marker.floor marker.rounds) r ≡ true = ap (λ (rs : List Recorded). nat_lt (latest marker.floor rs) r) none ∙ lt-ltb marker.floor r floor in
-    ap (λ (o : Option Recorded). rounds_after (effect_by o (nat_lt (latest marker.floor marker.rounds) r)) marker from r) nothing
+    let nothing : round_of marker.rounds r ≡ None = ap (λ (rs : List RecordedRound). round_of rs r) none in
+    let new : nat_lt (latest marker.floor marker.rounds) r ≡ true = ap (λ (rs : List RecordedRound). nat_lt (latest marker.floor rs) r) none ∙ lt-ltb marker.floor r floor in
+    ap (λ (o : Option RecordedRound). rounds_after (effect_by o (nat_lt (latest marker.floor marker.rounds) r)) marker from r) nothing
     ∙ ap (λ b. rounds_after (effect_by None b) marker from r) new
 
 -- the round that is recorded
-pub recorded_there : (n q r : ℕ) (tape : List Event) (rounds : List Recorded) (is : IsRound n q r tape rounds) → round_of rounds r ≡ Some is.round
+pub recorded_there : (n q r : ℕ) (tape : List Event) (rounds : List RecordedRound) (is : IsRecordedRound n q r tape rounds) → round_of rounds r ≡ Some is.round
 recorded_there n q r tape rounds is =
-    let none : Option Recorded = None in
-    ap (λ (rs : List Recorded). round_of rs r) is.alone ∙ ap (λ b. cond b (Some is.round) none) (eq-eqb is.round.number r is.number_is)
+    let none : Option RecordedRound = None in
+    ap (λ (rs : List RecordedRound). round_of rs r) is.alone ∙ ap (λ b. cond b (Some is.round) none) (eq-eqb is.round.number r is.number_is)
 
 -- and where the round is recorded
-pub heard_rounds : (n q r : ℕ) (tape : List Event) (marker : MarkerView) (from : ℕ) → IsRound n q r tape marker.rounds → rounds_after (effect_of marker r) marker from r ≡ with_marker marker.rounds from r
+pub heard_rounds : (n q r : ℕ) (tape : List Event) (marker : MarkerView) (from : ℕ) → IsRecordedRound n q r tape marker.rounds → rounds_after (effect_of marker r) marker from r ≡ with_marker marker.rounds from r
 heard_rounds n q r tape marker from is =
     let found = recorded_there n q r tape marker.rounds is in
-    ap (λ (o : Option Recorded). rounds_after (effect_by o (nat_lt (latest marker.floor marker.rounds) r)) marker from r) found
+    ap (λ (o : Option RecordedRound). rounds_after (effect_by o (nat_lt (latest marker.floor marker.rounds) r)) marker from r) found
 
 -- the channels of a process are closed just where its tape has the markers
 pub over_closed : (n q r : ℕ) (tape : List Event) (marker : MarkerView) → marker.n ≡ n → marker.me ≡ q → IsMarkerOf n q r tape marker → IsOver marker r
@@ -220,9 +220,9 @@ over_closed n q r tape marker n_is me_is is over = elim (has_check_of r tape) as
   | true ↦ λ begun.
       let round = recorded_round n q r tape marker is begun in
       let found = recorded_there n q r tape marker.rounds round in
-      let closed = subst (λ (o : Option Recorded). MatchOption o ⊥ (λ v. (p : ℕ) → p < marker.n → p ≢ marker.me → IsTrue (channel_at v p).is_closed)) found over in
+      let closed = subst (λ (o : Option RecordedRound). MatchOption o ⊥ (λ v. (p : ℕ) → p < marker.n → p ≢ marker.me → IsTrue (channel_at v p).is_closed)) found over in
       (refl, λ p within apart. sym (ap (λ (c : Channel). c.is_closed) (round.channels p within apart)) ∙ closed p (omega (arith, within, n_is)) (λ same. apart (same ∙ me_is)))
-  | false ↦ λ none. absurd (subst (λ (rs : List Recorded). MatchOption (round_of rs r) ⊥ (λ v. (p : ℕ) → p < marker.n → p ≢ marker.me → IsTrue (channel_at v p).is_closed)) (recorded_none n q r tape marker is none) over)
+  | false ↦ λ none. absurd (subst (λ (rs : List RecordedRound). MatchOption (round_of rs r) ⊥ (λ v. (p : ℕ) → p < marker.n → p ≢ marker.me → IsTrue (channel_at v p).is_closed)) (recorded_none n q r tape marker is none) over)
 ] refl
 
 pub closed_over : (n q r : ℕ) (tape : List Event) (marker : MarkerView) → marker.n ≡ n → marker.me ≡ q → IsMarkerOf n q r tape marker → has_check_of r tape ≡ true
@@ -230,6 +230,6 @@ pub closed_over : (n q r : ℕ) (tape : List Event) (marker : MarkerView) → ma
 closed_over n q r tape marker n_is me_is is begun marks =
     let round = recorded_round n q r tape marker is begun in
     let found = recorded_there n q r tape marker.rounds round in
-    subst (λ (o : Option Recorded). MatchOption o ⊥ (λ v. (p : ℕ) → p < marker.n → p ≢ marker.me → IsTrue (channel_at v p).is_closed)) (sym found)
+    subst (λ (o : Option RecordedRound). MatchOption o ⊥ (λ v. (p : ℕ) → p < marker.n → p ≢ marker.me → IsTrue (channel_at v p).is_closed)) (sym found)
     (λ p within apart. let here : p < n = omega (arith, within, n_is) in let other : p ≢ q = λ same. apart (same ∙ sym me_is) in
     ap (λ (c : Channel). c.is_closed) (round.channels p here other) ∙ marks p here other)

@@ -7,14 +7,14 @@ use Rattle.std.proofs.lemmas.List.{append-nil, get_or-map, get_or-set_same, get_
 use Rattle.std.proofs.lemmas.List.FromFn.{fill_by_all}
 use Rattle.line_tape.specs.declared.items.Item.{Item}
 use Rattle.line_moves.specs.Queues.{with_on_others}
-use Rattle.line_moves.specs.Rooms.{no_queue, items_of, AreEmpty, QueueView}
+use Rattle.line_moves.specs.Rooms.{no_queue, items_held, AreEmpty, QueueView}
 
 -- what is seen of a list once one element changes
 pub map-changed : {X Y : Type 0} (f : X → Y) (xs : List X) (i : ℕ) (d : Y) (old new : X) (g : Y → Y) → i < length xs → old ≡ get_or xs i old → f new ≡ g (f old) → map f (set xs i new) ≡ set (map f xs) i (g (get_or (map f xs) i d))
 map-changed f xs i d old new g within at is = map-set f xs i new ∙ ap (λ y. set (map f xs) i y) (is ∙ ap g (ap f at ∙ sym (get_or-map f xs i old d within)))
 
 -- what one queue holds is read among what all hold
-items-at : (row : List QueueView) (q : ℕ) (d : QueueView) → q < length row → get_or (items_of row) q [] ≡ (get_or row q d).held
+items-at : (row : List QueueView) (q : ℕ) (d : QueueView) → q < length row → get_or (items_held row) q [] ≡ (get_or row q d).held
 items-at row q d within = get_or-map (λ (queue : QueueView). queue.held) row q d [] within
 
 -- the queues that have room, one more at a time
@@ -28,7 +28,7 @@ rooms-more row i new within here each k d below = elim (cases_eq k i) [
 -- the first q queues, but that to p, have an item more; those from there on are as before, with room
 pub record AreSent (p : ℕ) (item : Item) (q : ℕ) (old row : List QueueView) : Type 0 where
   pub count : length row ≡ length old
-  pub sent : (k : ℕ) (d : QueueView) → k < q → k < length old → (get_or row k d).held ≡ get_or (items_of old) k [] ++ (if p == k then [] else item ∷ [])
+  pub sent : (k : ℕ) (d : QueueView) → k < q → k < length old → (get_or row k d).held ≡ get_or (items_held old) k [] ++ (if p == k then [] else item ∷ [])
   pub later : (k : ℕ) (d : QueueView) → q ≤ k → get_or row k d ≡ get_or old k d
   pub room : (k : ℕ) (d : QueueView) → q ≤ k → k < length old → 0 < (get_or row k d).room
 
@@ -43,8 +43,8 @@ module _ (p : ℕ) (item : Item) (q : ℕ) (old row : List QueueView) (is : AreS
     sent = λ k d below k_within. elim (cases_eq k q) [
       | inl here ↦ ap (λ (v : QueueView). v.held) (is.later k d (omega (arith, here)))
           ∙ sym (items-at old k d k_within)
-          ∙ sym (append-nil (get_or (items_of old) k []))
-          ∙ ap (λ b. get_or (items_of old) k [] ++ cond b [] (item ∷ [])) (sym (eq-eqb p k (sym (here ∙ same))))
+          ∙ sym (append-nil (get_or (items_held old) k []))
+          ∙ ap (λ b. get_or (items_held old) k [] ++ cond b [] (item ∷ [])) (sym (eq-eqb p k (sym (here ∙ same))))
       | inr other ↦ is.sent k d (omega (arith, below, other)) k_within
     ];
     later = λ k d low. is.later k d (omega (arith, low));
@@ -60,8 +60,8 @@ module _ (p : ℕ) (item : Item) (q : ℕ) (old row : List QueueView) (is : AreS
           ∙ more
           ∙ ap (λ (xs : List Item). xs ++ item ∷ []) (ap (λ (v : QueueView). v.held) (at ∙ is.later q before (omega arith))
           ∙ sym (items-at old q before (omega (arith, within, is.count)))
-          ∙ ap (λ (j : ℕ). get_or (items_of old) j []) (sym here))
-          ∙ ap (λ b. get_or (items_of old) k [] ++ cond b [] (item ∷ [])) (sym (ne_eqb p k (λ e. apart (sym (e ∙ here)))))
+          ∙ ap (λ (j : ℕ). get_or (items_held old) j []) (sym here))
+          ∙ ap (λ b. get_or (items_held old) k [] ++ cond b [] (item ∷ [])) (sym (ne_eqb p k (λ e. apart (sym (e ∙ here)))))
       | inr other ↦ ap (λ (v : QueueView). v.held) (get_or-set_other row q k new d other) ∙ is.sent k d (omega (arith, below, other)) k_within
     ];
     later = λ k d low. get_or-set_other row q k new d (λ e. absurd (omega (arith, low, e))) ∙ is.later k d (omega (arith, low));
@@ -69,11 +69,11 @@ module _ (p : ℕ) (item : Item) (q : ℕ) (old row : List QueueView) (is : AreS
   }
 
 -- past the last queue
-pub AreSent-end : (p : ℕ) (item : Item) (q : ℕ) (old row : List QueueView) → AreSent p item q old row → length row ≤ q → items_of row ≡ with_on_others (items_of old) p item
+pub AreSent-end : (p : ℕ) (item : Item) (q : ℕ) (old row : List QueueView) → AreSent p item q old row → length row ≤ q → items_held row ≡ with_on_others (items_held old) p item
 AreSent-end p item q old row is past =
     let held : QueueView → List Item = λ queue. queue.held in
     let none : QueueView = no_queue in
-    fill_by_all (λ k. get_or (items_of old) k [] ++ (if p == k then [] else item ∷ [])) (items_of row) (length (items_of old)) [] (length-map row held ∙ is.count ∙ sym (length-map old held))
+    fill_by_all (λ k. get_or (items_held old) k [] ++ (if p == k then [] else item ∷ [])) (items_held row) (length (items_held old)) [] (length-map row held ∙ is.count ∙ sym (length-map old held))
     (λ k within. let below : k < length old = omega (arith, within, length-map old held) in items-at row k none (omega (arith, below, is.count)) ∙ is.sent k none (omega (arith, below, is.count, past)) below)
 
 -- what holds anyway holds of an error
@@ -82,16 +82,16 @@ on_err (Ok x) p = tt
 on_err (Err e) p = p
 
 -- nothing is on new queues
-pub AreEmpty-new : (row : List QueueView) (n : ℕ) → items_of row ≡ replicate n [] → AreEmpty row
+pub AreEmpty-new : (row : List QueueView) (n : ℕ) → items_held row ≡ replicate n [] → AreEmpty row
 AreEmpty-new row n is q = ap (λ (xs : List (List Item)). get_or xs q []) is ∙ elim (cases_lt q n) [
   | inl within ↦ get_or-replicate n q [] [] within
   | inr past ↦ get_or_past (replicate n []) q [] (omega (arith, past, length-replicate n (let none : List Item = [] in none)))
 ]
 
 -- nor is anything once the first item of one is taken off
-pub AreEmpty-off : (row new : List QueueView) (k : ℕ) → items_of new ≡ set (items_of row) k (drop 1 (get_or (items_of row) k [])) → AreEmpty row → AreEmpty new
+pub AreEmpty-off : (row new : List QueueView) (k : ℕ) → items_held new ≡ set (items_held row) k (drop 1 (get_or (items_held row) k [])) → AreEmpty row → AreEmpty new
 AreEmpty-off row new k is empty q =
-    let items : List (List Item) = items_of row in
+    let items : List (List Item) = items_held row in
     ap (λ (xs : List (List Item)). get_or xs q []) (is
     ∙ ap (λ (xs : List Item). set items k (drop 1 xs)) (empty k)
     ∙ ap (λ (xs : List Item). set items k xs) (sym (empty k))

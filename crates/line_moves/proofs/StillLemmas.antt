@@ -14,7 +14,7 @@ use Rattle.line_tape.specs.Event.{checks}
 use Rattle.line_tape.specs.Front.{front}
 use Rattle.line_tape.specs.History.{Process, tape_at}
 use Rattle.line_tape.specs.Line.{events_before}
-use Rattle.line_tape.specs.Transit.{Letter, in_transit_between, is_open, letters, names_received, open_letters}
+use Rattle.line_tape.specs.Transit.{Letter, in_transit_between, is_open_letter, letters, names_received, open_letters}
 use Rattle.line_tape.proofs.LineLemmas.{tape_at-past, front-empty}
 use Rattle.line_tape.proofs.RowLemmas.{checks_le}
 
@@ -79,10 +79,10 @@ module _ (history : List Process) (a b : List Choice) (still : (q : ℕ) → q <
 
   pub still_transit : (p q : ℕ) → in_transit_between history a p q ≡ in_transit_between history b p q
   still_transit p q =
-      let opened : (letter : Letter) → is_open history a letter ≡ is_open history b letter =
+      let opened : (letter : Letter) → is_open_letter history a letter ≡ is_open_letter history b letter =
       λ letter. ap (λ (ms : List MsgName). not (list_any (is_name letter.message) ms)) (still_at letter.to).received in
       let same : open_letters history a p ≡ open_letters history b p =
-      ap (filter (is_open history a)) ((still_at p).sent p) ∙ filter_agree (is_open history a) (is_open history b) opened (letters p 0 (events_before history b p)) in
+      ap (filter (is_open_letter history a)) ((still_at p).sent p) ∙ filter_agree (is_open_letter history a) (is_open_letter history b) opened (letters p 0 (events_before history b p)) in
       ap (λ (ls : List Letter). map (λ (letter : Letter). letter.message) (filter (λ (letter : Letter). letter.to == q) ls)) same
 
 -- and so it does where it is the same tape, with the same choices

@@ -6,7 +6,7 @@ use Rattle.std.proofs.lemmas.Bool.{cases_eq}
 use Rattle.std.proofs.lemmas.List.{length-set, get_or_default, get_or-set_same, get_or-set_other}
 use Rattle.std.proofs.lemmas.List.Sums.{sum_by-cons, sum_by-set}
 use Rattle.line_names.specs.declared.messages.MsgName.{MsgName}
-use Rattle.line_marker.specs.Recording.{Channel, MarkerView, Recorded, open_channel, channel_at, with_channel, heard, noted, round_of, IsSameProcess}
+use Rattle.line_marker.specs.Recording.{Channel, MarkerView, RecordedRound, open_channel, channel_at, with_channel, with_message, rounds_with_message, round_of, IsSameProcess}
 use Rattle.line_tape.specs.declared.events.Event.{Event}
 use Rattle.line_tape.specs.History.{Process, tape_at}
 use Rattle.line_tape.specs.Rounds.{is_completed_fifo}
@@ -25,7 +25,7 @@ weight channel = unit channel.is_closed
 abbrev closed_count : List Channel → ℕ
 closed_count channels = count_by (λ (channel : Channel). channel.is_closed) channels
 
-abbrev count_in : ℕ → List Recorded → ℕ
+abbrev count_in : ℕ → List RecordedRound → ℕ
 count_in r rounds = closed_count (channels_in (round_of rounds r))
 
 -- another channel from one process
@@ -35,18 +35,18 @@ count_set (first ∷ rest) zero channel most = omega (arith, most, sum_by-cons w
 count_set (first ∷ rest) (suc p) channel most = omega (arith, count_set rest p channel most, sum_by-cons weight first (set rest p channel), sum_by-cons weight first rest)
 
 -- a message closes none
-weight_heard : (channel : Channel) (message : MsgName) → weight (heard channel message) ≤ weight channel
+weight_heard : (channel : Channel) (message : MsgName) → weight (with_message channel message) ≤ weight channel
 weight_heard channel message = elim channel.is_closed as (λ b. weight (cond b channel (record channel { messages = channel.messages ++ message ∷ [] })) ≤ weight channel) [
   | true ↦ omega arith
   | false ↦ omega arith
 ]
 
-count_noted : (r : ℕ) (message : MsgName) (rounds : List Recorded) → count_in r (noted rounds message) ≤ count_in r rounds
+count_noted : (r : ℕ) (message : MsgName) (rounds : List RecordedRound) → count_in r (rounds_with_message rounds message) ≤ count_in r rounds
 count_noted r message [] = omega arith
 count_noted r message (round ∷ rounds) =
-    let new : Recorded = with_channel round message.from (heard (channel_at round message.from) message) in
-    elim (round.number == r) as (λ b. closed_count (channels_in (cond b (Some new) (round_of (noted rounds message) r))) ≤ closed_count (channels_in (cond b (Some round) (round_of rounds r)))) [
-      | true ↦ count_set round.channels message.from (heard (channel_at round message.from) message) (weight_heard (channel_at round message.from) message)
+    let new : RecordedRound = with_channel round message.from (with_message (channel_at round message.from) message) in
+    elim (round.number == r) as (λ b. closed_count (channels_in (cond b (Some new) (round_of (rounds_with_message rounds message) r))) ≤ closed_count (channels_in (cond b (Some round) (round_of rounds r)))) [
+      | true ↦ count_set round.channels message.from (with_message (channel_at round message.from) message) (weight_heard (channel_at round message.from) message)
       | false ↦ count_noted r message rounds
     ]
 
@@ -79,7 +79,7 @@ module _ (n : ℕ) (markers : List MarkerView) (are : AreMarkers n markers) (p :
     pub AreToCome-same : new.rounds ≡ old.rounds → AreToCome to_come n r (set markers p new)
     AreToCome-same same = AreToCome-set (omega (arith, ap (count_in r) same))
 
-    pub AreToCome-noted : (message : MsgName) → new.rounds ≡ noted old.rounds message → AreToCome to_come n r (set markers p new)
+    pub AreToCome-noted : (message : MsgName) → new.rounds ≡ rounds_with_message old.rounds message → AreToCome to_come n r (set markers p new)
     AreToCome-noted message is = AreToCome-set (omega (arith, ap (count_in r) is, count_noted r message old.rounds))
 
 -- a sum of terms that are 0
@@ -131,7 +131,7 @@ module _ (history : List Process) (turning : TurningView) (markers : List Marker
       let found : round_of (marker_at markers q).rounds r ≡ Some round.round = recorded_there (length history) q r tape (marker_at markers q).rounds round in
       omega (
         arith,
-        ap (λ (o : Option Recorded). closed_count (channels_in o)) found,
+        ap (λ (o : Option RecordedRound). closed_count (channels_in o)) found,
         round.count,
         count_others round.round.channels q (λ p p_within apart.
             let here : p < length history = omega (arith, p_within, round.count) in

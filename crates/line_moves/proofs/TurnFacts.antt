@@ -23,7 +23,7 @@ use Rattle.line_turns.specs.Channels.{channels_at}
 use Rattle.line_turns.specs.Tables.{between, IsTable}
 use Rattle.line_turns.specs.Turning.{TurningView, IsLastLine, IsTurning}
 use Rattle.line_moves.specs.declared.modes.Mode.TheVariants.{Unordered}
-use Rattle.line_moves.specs.Listed.{Listed, channel, channel_table, is_begun, is_completed, listed}
+use Rattle.line_moves.specs.Listed.{ListedRound, channel, channel_table, is_begun, is_completed, listed_round}
 use Rattle.line_moves.specs.Openings.{opened_by, opened_turning, AreInTransit, IsOpenTurning}
 use Rattle.line_moves.specs.Worlds.{AreRounds}
 use Rattle.line_moves.proofs.FateLemmas.{same_test}
@@ -32,7 +32,7 @@ use Rattle.line_moves.proofs.OpenFacts.{map_cells}
 use Rattle.line_moves.proofs.OpeningLemmas.{is_checked_now, open_told, table_cell}
 
 -- the last round begun is the one that is kept as open, where one has to be
-pub open_is : (history : List Process) (last : ℕ) (turning : Option TurningView) (rounds : List Listed) → AreRounds Unordered history last (opened_turning turning) rounds
+pub open_is : (history : List Process) (last : ℕ) (turning : Option TurningView) (rounds : List ListedRound) → AreRounds Unordered history last (opened_turning turning) rounds
     → (AreRounds Unordered history last None rounds → ⊥) → IsOpenTurning history last turning
 open_is history last None rounds are some = absurd (some are)
 open_is history last (Some round) rounds are some = record { round = round; is = refl; number_is = are.unfinished.number_is; follows = are.opening.recording }
@@ -47,7 +47,7 @@ open_round history r turning round is kept =
     (subst (λ (t : TurningView). t.number ≡ r) same kept.number_is, subst (IsTurning history) same kept.follows)
 
 -- what may be turned to
-module _ (history : List Process) (last : ℕ) (turning : TurningView) (rounds : List Listed) (are : AreRounds Unordered history last (Some (opened_by turning)) rounds) where
+module _ (history : List Process) (last : ℕ) (turning : TurningView) (rounds : List ListedRound) (are : AreRounds Unordered history last (Some (opened_by turning)) rounds) where
   pub may_turn_some : (p : ℕ) (b : Bool) → b ≡ has_check_of turning.number (tape_at history p)
       → not b ≡ ((is_begun history last && not (is_completed Unordered history last)) && not (has_check_of last (tape_at history p)))
   may_turn_some p b e =
@@ -55,7 +55,7 @@ module _ (history : List Process) (last : ℕ) (turning : TurningView) (rounds :
       ap not (e ∙ ap (λ (r : ℕ). has_check_of r (tape_at history p)) are.unfinished.number_is)
       ∙ ap (λ v. v && not (has_check_of last (tape_at history p))) open_now
 
-pub may_turn_none : (history : List Process) (last : ℕ) (rounds : List Listed) (are : AreRounds Unordered history last None rounds) → (p : ℕ)
+pub may_turn_none : (history : List Process) (last : ℕ) (rounds : List ListedRound) (are : AreRounds Unordered history last None rounds) → (p : ℕ)
     → false ≡ ((is_begun history last && not (is_completed Unordered history last)) && not (has_check_of last (tape_at history p)))
 may_turn_none history last rounds are p = ap (λ v. v && not (has_check_of last (tape_at history p))) (open_told Unordered history last None are.opening are.unfinished)
 
@@ -112,7 +112,7 @@ kept_found history indices table shape snapshot =
 -- the round of colours that is completed, as it is listed
 pub counted_is : (history : List Process) (turning : TurningView) → IsTurning history turning → is_completed_unordered history turning.number ≡ true → (indices : List ℕ) (table : List (List (List MsgName))) (number : ℕ)
     → indices ≡ turning.checks → number ≡ turning.number → AreInTransit history (round_line history turning.number) table
-    → (let round : Listed = record { number = number; checks = indices; channels = channel_table (length indices) (between table) } in round) ≡ listed Unordered history turning.number
+    → (let round : ListedRound = record { number = number; checks = indices; channels = channel_table (length indices) (between table) } in round) ≡ listed_round Unordered history turning.number
 counted_is history turning is completed indices table number indices_are number_is table_is =
     let n : ℕ = length history in
     let r : ℕ = turning.number in
@@ -127,6 +127,6 @@ counted_is history turning is completed indices table number indices_are number_
       | inl same ↦ ap (λ b. cond b [] (f p q)) (eq-eqb p q same) ∙ sym (ap (λ b. cond b [] (g p q)) (eq-eqb p q same))
       | inr apart ↦ ap (λ (ms : List MsgName). cond (p == q) [] ms) (table_is.each p q (omega (arith, p_high)) (omega (arith, q_high)) apart)
     ])) in
-    ap (λ (v : ℕ). let l : Listed = record { number = v; checks = indices; channels = channel_table (length indices) (between table) } in l) number_is
-    ∙ ap (λ (v : List ℕ). let l : Listed = record { number = r; checks = v; channels = channel_table (length indices) (between table) } in l) checks_are
-    ∙ ap (λ (v : List (List (List MsgName))). let l : Listed = record { number = r; checks = checks_of history r; channels = v } in l) same_channels
+    ap (λ (v : ℕ). let l : ListedRound = record { number = v; checks = indices; channels = channel_table (length indices) (between table) } in l) number_is
+    ∙ ap (λ (v : List ℕ). let l : ListedRound = record { number = r; checks = v; channels = channel_table (length indices) (between table) } in l) checks_are
+    ∙ ap (λ (v : List (List (List MsgName))). let l : ListedRound = record { number = r; checks = checks_of history r; channels = v } in l) same_channels

@@ -15,10 +15,10 @@ use Rattle.line_tape.specs.declared.events.Event.TheVariants.{Send, Recv, Check,
 use Rattle.line_tape.specs.declared.items.Item.{Item}
 use Rattle.line_tape.specs.declared.items.Item.TheVariants.{Message, Marker}
 use Rattle.line_tape.specs.Event.{incarnations_sent, Holds}
-use Rattle.line_tape.specs.Fit.{link, received, IsFitFifo, IsNextUnordered}
+use Rattle.line_tape.specs.Fit.{link, received_from, IsFitFifo, IsNextUnordered}
 use Rattle.line_tape.specs.History.{Process, tape_at, incarnation_at, with_event}
 use Rattle.line_tape.specs.Line.{IsConsistent}
-use Rattle.line_tape.specs.Restart.{restarted}
+use Rattle.line_tape.specs.Restart.{restarted_history}
 use Rattle.line_tape.specs.Rounds.{has_check_of}
 use Rattle.line_tape.proofs.CompletionLemmas.{marker_checked}
 use Rattle.line_tape.proofs.NextLemmas.{tape_same}
@@ -93,7 +93,7 @@ first-held : (history : List Process) → IsFitFifo history → (p q : ℕ) (mes
 first-held history fit p q message rest first =
     let tape : List Event = tape_at history p in
     let here : In message (messages (link history p q)) = subst (λ (xs : List Item). In message (messages xs)) (sym first) (inl refl) in
-    let put = subst (In message) (sym (messages_sent history fit p q)) (In-append_right message (messages (received history q p)) (messages (link history p q)) here) in
+    let put = subst (In message) (sym (messages_sent history fit p q)) (In-append_right message (messages (received_from history q p)) (messages (link history p q)) here) in
     (sent_is p q 0 tape (incarnations_sent tape) (addressees tape) [] [] message (sym (append-nil (incarnations_sent tape))) (sym (append-nil (addressees tape))) put).0
 
 -- the queues stay as a tape grows
@@ -350,7 +350,7 @@ module _ (history : List Process) (queues new : List (List (List Item))) (line :
   -- after a restart at a consistent line
   pub IsWorld-restart : (mode : Mode) → IsWorld mode history queues
       → ((p q : ℕ) → p < length history → q < length history → between new p q ≡ between (copies_in mode queues) p q ++ map (λ m. Message m) (in_transit_between history line p q))
-      → IsWorld mode (restarted history line) new
+      → IsWorld mode (restarted_history history line) new
   IsWorld-restart mode world put = record {
     queued = record {
       shape = subst (λ (n : ℕ). IsTable n new) (sym (length_restarted history line length_is)) queued.shape;
@@ -377,7 +377,7 @@ module _ (history : List Process) (queues new : List (List (List Item))) (line :
 
       linked : (m : Mode) → IsLinked m history queues
           → ((p q : ℕ) → p < length history → q < length history → between new p q ≡ between (copies_in m queues) p q ++ map (λ m. Message m) (in_transit_between history line p q))
-          → IsLinked m (restarted history line) new
+          → IsLinked m (restarted_history history line) new
       linked Fifo is put = record {
         fit = restart_fit history line is.fit consistent length_is;
         links = λ p q p_within q_within apart.

@@ -19,7 +19,7 @@ use Rattle.line_moves.specs.declared.modes.Mode.TheVariants.{Fifo, Unordered}
 
 -- a round, with its check of each process and its channel from each process to each; the channel
 -- from a process to itself is empty
-pub record Listed : Type 0 where
+pub record ListedRound : Type 0 where
   pub number : ℕ
   pub checks : List ℕ
   pub channels : List (List (List MsgName))
@@ -40,8 +40,8 @@ abbrev pub channel_table : ℕ → (ℕ → ℕ → List MsgName) → List (List
 channel_table n channels = table_of n (λ p q. if p == q then [] else channels p q)
 
 -- round r with its checks and its channels
-abbrev pub listed : Mode → List Process → ℕ → Listed
-listed mode history r = record {
+abbrev pub listed_round : Mode → List Process → ℕ → ListedRound
+listed_round mode history r = record {
   number = r;
   checks = checks_of history r;
   channels = channel_table (length history) (channel mode history r);
@@ -49,27 +49,27 @@ listed mode history r = record {
 
 -- the last round begun, if a change of the history completes it: no other can be, since each
 -- earlier one is completed or given up
-abbrev pub newly_listed : Mode → List Process → List Process → ℕ → List Listed
+abbrev pub newly_listed : Mode → List Process → List Process → ℕ → List ListedRound
 newly_listed mode old new last =
     if is_completed mode new last && not (is_completed mode old last)
-    then listed mode new last ∷ []
+    then listed_round mode new last ∷ []
     else []
 
 -- the check of process p in a listed round
-abbrev pub check_in : Listed → ℕ → ℕ
+abbrev pub check_in : ListedRound → ℕ → ℕ
 check_in round p = slice_index_or round.checks p 0
 
 -- the channel of a listed round from process p to q
-abbrev pub channel_in : Listed → ℕ → ℕ → List MsgName
+abbrev pub channel_in : ListedRound → ℕ → ℕ → List MsgName
 channel_in round p q = between round.channels p q
 
 -- the listed round is a snapshot of the history: its checks make a consistent line, and its
 -- channels are what is in transit there
-abbrev pub IsSnapshotOf : List Process → Listed → Type 0
+abbrev pub IsSnapshotOf : List Process → ListedRound → Type 0
 IsSnapshotOf history round = IsSnapshot history round.checks (channel_in round)
 
 -- a restart at the line cuts no check of the round
-abbrev pub stays : List Choice → Listed → Bool
+abbrev pub stays : List Choice → ListedRound → Bool
 stays line round =
     list_all (λ p. is_kept (choice_at line p) (check_in round p)) (range_with_len 0 (length line))
 
@@ -79,7 +79,7 @@ is_begun history r =
     list_any (λ p. has_check_of r (tape_at history p)) (range_with_len 0 (length history))
 
 -- where the checks of the round all survive, the line is at every process that check or later
-abbrev pub IsReached : List Process → MarksView → List Bool → List Choice → Listed → Type 0
+abbrev pub IsReached : List Process → MarksView → List Bool → List Choice → ListedRound → Type 0
 IsReached history marks failed line round =
     ((p : ℕ) → p < length history
     → IsTrue (survives history marks failed p (AtCheck (check_in round p))))

@@ -4,7 +4,7 @@ use Rattle.std.specs.List.{count_by, sum_by}
 use Rattle.std.specs.Prelude.{◌≡◌, ◌≢◌, ◌==◌, ℕ, suc, ◌<◌, ◌≤◌, ◌+◌, ◌-◌, ◌*◌, Bool, true, false}
 use Rattle.std.specs.Prelude.{if◌then◌else◌, List, [], ◌∷◌, ◌++◌, length, slice_index_or, Option}
 use Rattle.std.specs.Prelude.{Some, None, All}
-use Rattle.line_marker.specs.Recording.{Channel, MarkerView, Recorded, channel_at, messages_by}
+use Rattle.line_marker.specs.Recording.{Channel, MarkerView, RecordedRound, channel_at, messages_by}
 use Rattle.line_marker.specs.Recording.{round_of}
 use Rattle.line_names.specs.declared.choices.Choice.{Choice}
 use Rattle.line_names.specs.declared.messages.MsgName.{MsgName}
@@ -17,7 +17,8 @@ use Rattle.line_turns.specs.Tables.{between, IsTable}
 use Rattle.line_turns.specs.Turning.{TurningView, IsLastLine, IsTurning}
 use Rattle.line_moves.specs.declared.modes.Mode.{Mode}
 use Rattle.line_moves.specs.declared.modes.Mode.TheVariants.{Fifo, Unordered}
-use Rattle.line_moves.specs.Listed.{Listed, channel_table, is_begun, is_completed, listed}
+use Rattle.line_moves.specs.Listed.{ListedRound, channel_table, is_begun, is_completed}
+use Rattle.line_moves.specs.Listed.{listed_round}
 
 -- a round that is open: its number, the check of each process or 0, and what each process has
 -- recorded by markers
@@ -51,7 +52,7 @@ recorded_channel markers r p q =
     unwrap_or (messages_by (round_of (marker_at markers q).rounds r) p) []
 
 -- the channels of a recorded round
-abbrev pub channels_in : Option Recorded → List Channel
+abbrev pub channels_in : Option RecordedRound → List Channel
 channels_in None = []
 channels_in (Some round) = round.channels
 
@@ -80,21 +81,23 @@ abbrev pub recorded_table : ℕ → List MarkerView → ℕ → List (List (List
 recorded_table n markers r = channel_table n (kept_channel markers r)
 
 -- what a tape has of the channel from process p in round r
-abbrev pub channel_of : ℕ → ℕ → List Event → Channel
-channel_of p r tape = record { messages = channel_on p r tape; is_closed = has_mark_of p r tape }
+abbrev pub channel_on_tape : ℕ → ℕ → List Event → Channel
+channel_on_tape p r tape =
+    record { messages = channel_on p r tape; is_closed = has_mark_of p r tape }
 
 -- what process q of n has recorded by its check of round r: its channel from each other process, as
 -- its tape has it
-pub record IsRound (n q r : ℕ) (tape : List Event) (rounds : List Recorded) : Type 0 where
-  pub round : Recorded
+pub record IsRecordedRound (n q r : ℕ) (tape : List Event)
+    (rounds : List RecordedRound) : Type 0 where
+  pub round : RecordedRound
   pub alone : rounds ≡ round ∷ []
   pub number_is : round.number ≡ r
   pub count : length round.channels ≡ n
-  pub channels : (p : ℕ) → p < n → p ≢ q → channel_at round p ≡ channel_of p r tape
+  pub channels : (p : ℕ) → p < n → p ≢ q → channel_at round p ≡ channel_on_tape p r tape
 
 -- it has recorded nothing before its check of the round
-abbrev pub IsRoundOrNone : ℕ → ℕ → ℕ → List Event → Bool → List Recorded → Type 0
-IsRoundOrNone n q r tape true rounds = IsRound n q r tape rounds
+abbrev pub IsRoundOrNone : ℕ → ℕ → ℕ → List Event → Bool → List RecordedRound → Type 0
+IsRoundOrNone n q r tape true rounds = IsRecordedRound n q r tape rounds
 IsRoundOrNone n q r tape false rounds = rounds ≡ []
 
 -- what process q of n has recorded of round r follows its tape; all rounds before are old
@@ -119,21 +122,21 @@ pub record IsRecording (history : List Process) (round : OpenView) : Type 0 wher
 
 -- what is kept of the open round follows the tapes, in each mode: there are markers only on links
 -- in order
-abbrev pub IsRecorded : Mode → List Process → OpenView → Type 0
-IsRecorded Fifo history round = IsRecording history round
-IsRecorded Unordered history round = IsTurning history (turning_of round)
+abbrev pub IsRecordingIn : Mode → List Process → OpenView → Type 0
+IsRecordingIn Fifo history round = IsRecording history round
+IsRecordingIn Unordered history round = IsTurning history (turning_of round)
 
 -- each round on a tape but one is completed, and what is kept of that one follows the tapes
 pub record IsRunning (mode : Mode) (history : List Process) (round : OpenView) : Type 0 where
   pub others : (p r : ℕ) → has_check_of r (tape_at history p) ≡ true → r ≢ round.number
       → is_completed mode history r ≡ true
-  pub recording : IsRecorded mode history round
+  pub recording : IsRecordingIn mode history round
 
 -- each round on a tape is completed, but for the one that is kept as open
-abbrev pub IsOpening : Mode → List Process → Option OpenView → Type 0
-IsOpening mode history None =
+abbrev pub IsOnlyOpen : Mode → List Process → Option OpenView → Type 0
+IsOnlyOpen mode history None =
     (p r : ℕ) → has_check_of r (tape_at history p) ≡ true → is_completed mode history r ≡ true
-IsOpening mode history (Some round) = IsRunning mode history round
+IsOnlyOpen mode history (Some round) = IsRunning mode history round
 
 -- the round is the last one begun, it stands on a tape, and it isn't completed
 pub record IsUnfinished (mode : Mode) (history : List Process) (last : ℕ)
@@ -143,9 +146,9 @@ pub record IsUnfinished (mode : Mode) (history : List Process) (last : ℕ)
   pub unfinished : is_completed mode history last ≡ false
 
 -- the round that is kept as open, if one is, is the last one begun and unfinished
-abbrev pub IsLast : Mode → List Process → ℕ → Option OpenView → Type 0
-IsLast mode history last None = Unit {0}
-IsLast mode history last (Some round) = IsUnfinished mode history last round
+abbrev pub IsLastBegun : Mode → List Process → ℕ → Option OpenView → Type 0
+IsLastBegun mode history last None = Unit {0}
+IsLastBegun mode history last (Some round) = IsUnfinished mode history last round
 
 -- the number of the round that is kept as open
 abbrev pub open_number : Option OpenView → Option ℕ
@@ -158,10 +161,11 @@ first_unlisted None last = suc last
 first_unlisted (Some round) last = last
 
 -- it is listed if it is completed
-abbrev pub newly_closed : Mode → List Process → Option OpenView → List Listed
+abbrev pub newly_closed : Mode → List Process → Option OpenView → List ListedRound
 newly_closed mode history None = []
 newly_closed mode history (Some round) =
-    if is_completed mode history round.number then listed mode history round.number ∷ [] else []
+    if is_completed mode history round.number
+    then listed_round mode history round.number ∷ [] else []
 
 -- and else stays open
 abbrev pub left_open : Mode → List Process → Option OpenView → Option OpenView
@@ -188,8 +192,8 @@ pub record IsOpenTurning (history : List Process) (r : ℕ)
 
 -- round r of colours once a process took its check of it: listed after those before if it is
 -- completed, and else still open
-pub record IsSettled (history : List Process) (r : ℕ) (before : List Listed)
-    (turning : Option TurningView) (rounds : List Listed) : Type 0 where
+pub record IsListedOrOpen (history : List Process) (r : ℕ) (before : List ListedRound)
+    (turning : Option TurningView) (rounds : List ListedRound) : Type 0 where
   pub round : TurningView
   pub number_is : round.number ≡ r
   pub follows : IsTurning history round
@@ -231,7 +235,7 @@ pub record AreCountedAtLast (history : List Process) (turning : TurningView) (p 
 
 -- what was counted for round r of colours: where it is completed what is in transit at its checks,
 -- and else nothing
-abbrev pub IsCounted : List Process → ℕ → Option (List (List (List MsgName))) → Type 0
-IsCounted history r None = is_completed_unordered history r ≡ false
-IsCounted history r (Some table) =
+abbrev pub IsCountedAtRound : List Process → ℕ → Option (List (List (List MsgName))) → Type 0
+IsCountedAtRound history r None = is_completed_unordered history r ≡ false
+IsCountedAtRound history r (Some table) =
     (is_completed_unordered history r ≡ true) × AreInTransit history (round_line history r) table

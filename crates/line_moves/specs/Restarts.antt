@@ -14,14 +14,15 @@ use Rattle.line_moves.specs.declared.modes.Mode.{Mode}
 use Rattle.line_moves.specs.Modes.{copies_in}
 
 -- the bytes stored at a choice: none where the process stands now
-abbrev pub restored : List Event → Choice → Option (List ℕ)
-restored tape (AtCheck c) = Some (stored_state tape c)
-restored tape Now = None
+abbrev pub restored_state : List Event → Choice → Option (List ℕ)
+restored_state tape (AtCheck c) = Some (stored_state tape c)
+restored_state tape Now = None
 
 -- what each process goes on from, on a line
 abbrev pub restored_states : List Process → List Choice → List (Option (List ℕ))
 restored_states history line =
-    map (λ p. restored (tape_at history p) (choice_at line p)) (range_with_len 0 (length history))
+    map (λ p. restored_state (tape_at history p) (choice_at line p))
+    (range_with_len 0 (length history))
 
 -- what the links hold after a restart at a line: each has one more copy of what is in transit on
 -- it; none are kept in `Fifo`

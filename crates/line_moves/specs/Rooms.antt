@@ -19,12 +19,12 @@ room_with None room = room + 1
 room_with (Some first) room = room
 
 -- what each queue holds
-abbrev pub items_of : List QueueView → List (List Item)
-items_of row = map (λ (queue : QueueView). queue.held) row
+abbrev pub items_held : List QueueView → List (List Item)
+items_held row = map (λ (queue : QueueView). queue.held) row
 
 -- nothing is on any of these queues
 abbrev pub AreEmpty : List QueueView → Type 0
-AreEmpty row = (q : ℕ) → slice_index_or (items_of row) q [] ≡ []
+AreEmpty row = (q : ℕ) → slice_index_or (items_held row) q [] ≡ []
 
 -- a queue with nothing on it
 abbrev pub no_queue : QueueView
@@ -56,7 +56,7 @@ AreUncounted history messages i rows =
     → goes_between history p q m ≡ true → (queue_at rows p q).counted ≡ 0
 
 -- of the messages that go to each queue the first i were counted, and it has room for them
-pub record AreCounted (history : List Process) (messages : List MsgName) (i : ℕ)
+pub record AreCountedOnQueues (history : List Process) (messages : List MsgName) (i : ℕ)
     (rows : List (List QueueView)) : Type 0 where
   pub counted : (p q j : ℕ) (m : MsgName) → j < length messages → m ≡ slice_index_or messages j m
       → goes_between history p q m ≡ true

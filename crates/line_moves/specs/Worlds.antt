@@ -10,11 +10,11 @@ use Rattle.line_tape.specs.Copies.{IsUnordered}
 use Rattle.line_tape.specs.Fit.{link, IsFitFifo}
 use Rattle.line_tape.specs.History.{Process, tape_at}
 use Rattle.line_tape.specs.Rounds.{has_check_of}
-use Rattle.line_turns.specs.Kept.{Turned, AreTurned}
+use Rattle.line_turns.specs.Kept.{ProcessTurns, AreTurned}
 use Rattle.line_moves.specs.declared.modes.Mode.{Mode}
 use Rattle.line_moves.specs.declared.modes.Mode.TheVariants.{Fifo, Unordered}
-use Rattle.line_moves.specs.Listed.{Listed, IsSnapshotOf}
-use Rattle.line_moves.specs.Openings.{OpenView, first_unlisted, IsOpening, IsLast}
+use Rattle.line_moves.specs.Listed.{ListedRound, IsSnapshotOf}
+use Rattle.line_moves.specs.Openings.{OpenView, first_unlisted, IsOnlyOpen, IsLastBegun}
 use Rattle.line_turns.specs.Tables.{between, IsTable}
 
 -- the item is a message of process p, or a marker
@@ -69,23 +69,23 @@ pub record IsWorld (mode : Mode) (history : List Process)
   pub only : HoldMessages mode queues
 
 -- listed rounds stand in the order of their numbers, which are all below one
-pub record AreNumbered (first : ℕ) (rounds : List Listed) : Type 0 where
-  pub earlier : All (λ (round : Listed). round.number < first) rounds
-  pub ascending : AllPairs (λ (a b : Listed). a.number < b.number) rounds
+pub record AreNumbered (first : ℕ) (rounds : List ListedRound) : Type 0 where
+  pub earlier : All (λ (round : ListedRound). round.number < first) rounds
+  pub ascending : AllPairs (λ (a b : ListedRound). a.number < b.number) rounds
 
 -- what a world keeps true of its rounds: none on a tape is later than the last one begun; each on a
 -- tape is completed but the one that is kept as open, which is that last one, and what is kept of
 -- it follows the tapes; and the listed ones are snapshots, by number
 pub record AreRounds (mode : Mode) (history : List Process) (last : ℕ)
-    (open_round : Option OpenView) (rounds : List Listed) : Type 0 where
+    (open_round : Option OpenView) (rounds : List ListedRound) : Type 0 where
   pub numbers : (p r : ℕ) → has_check_of r (tape_at history p) ≡ true → r ≤ last
-  pub opening : IsOpening mode history open_round
-  pub unfinished : IsLast mode history last open_round
+  pub opening : IsOnlyOpen mode history open_round
+  pub unfinished : IsLastBegun mode history last open_round
   pub snapshots : All (IsSnapshotOf history) rounds
   pub numbered : AreNumbered (first_unlisted open_round last) rounds
 
 -- what is kept of colours follows the tapes, and no process received a message of a greater colour
 -- than its own
-pub record IsPainted (history : List Process) (colours : List Turned) : Type 0 where
+pub record IsPainted (history : List Process) (colours : List ProcessTurns) : Type 0 where
   pub turned : AreTurned history colours
   pub coloured : AreColoured history

@@ -12,7 +12,8 @@ ghost use Rattle.line_tape.specs.Rounds.{check_line, has_check_of};
 ghost use Rattle.line_tape.specs.Transit.{in_transit_between, letters, names_received};
 ghost use Rattle.line_turns.specs.Turning.{IsTurning};
 ghost use Rattle.line_moves.specs.Listed.{IsSnapshotOf};
-ghost use Rattle.line_moves.specs.Openings.{AreCountedAtLast, AreFoundAt, AreInTransit, IsCounted};
+ghost use Rattle.line_moves.specs.Openings.{AreCountedAtLast, AreFoundAt, AreInTransit};
+ghost use Rattle.line_moves.specs.Openings.{IsCountedAtRound};
 
 use crate::rounds::Round;
 use line_catalogue::Catalogue;
@@ -168,7 +169,7 @@ pub fn count_channels(
     requires first { has_check_of turning.now.number (tape_at catalogue.old.processes at) ≡ false }
     requires turning { IsTurning catalogue.old.processes turning.now }
     requires rounds { All (IsSnapshotOf catalogue.old.processes) rounds.now }
-    ensures channels { IfOk result (λ channels. (state : List ℕ) → IsCounted
+    ensures channels { IfOk result (λ channels. (state : List ℕ) → IsCountedAtRound
         (with_event catalogue.old.processes at (Check state (Some turning.now.number)))
         turning.now.number channels) }
     ensures processes { catalogue.new.processes ≡ catalogue.old.processes }

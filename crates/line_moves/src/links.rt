@@ -4,7 +4,7 @@ ghost use Rattle.std.specs.Prelude.{replicate, drop, slice_index_or, slice_set, 
 ghost use Rattle.std.specs.Prelude.{OnOk, OnErr};
 ghost use Rattle.line_moves.specs.Queues.{with_on_each, with_on_others};
 ghost use Rattle.line_turns.specs.Tables.{between, with_list};
-ghost use Rattle.line_moves.specs.Rooms.{queue_to, items_of, AreEmpty, IsCounted, QueueView};
+ghost use Rattle.line_moves.specs.Rooms.{queue_to, items_held, AreEmpty, IsCounted, QueueView};
 
 use crate::link_items::LinkItem;
 use crate::link_queues::Queue;
@@ -15,13 +15,13 @@ use std::marker::Model;
 
 /// The links from one process.
 #[derive(Drop)]
-pub(crate) struct Row {
+pub(crate) struct LinkRow {
     queues: Vec<Queue>,
     /// False only if nothing was put on any of them since all were last emptied.
     used: bool,
 }
 
-impl Model for Row {
+impl Model for LinkRow {
     ghost use Rattle.std.specs.Prelude.{◌≡◌, false, List};
     ghost use Rattle.line_moves.specs.Rooms.{AreEmpty, QueueView};
 
@@ -32,16 +32,16 @@ impl Model for Row {
     ghost invariant = { λ r. r.used ≡ false → AreEmpty r.queues.items };
 }
 
-impl Row {
+impl LinkRow {
     /// The links from a process that has sent nothing yet, to `n` processes.
-    fn new(alloc: Global, n: u32) -> Result<Row, AllocError>
-        ensures { IfOk result (λ row. items_of row ≡ replicate n []) }
+    fn new(alloc: Global, n: u32) -> Result<LinkRow, AllocError>
+        ensures { IfOk result (λ row. items_held row ≡ replicate n []) }
     {
         let mut queues = Vec::with_capacity(alloc, n as usize)?;
         for _q in 0..n {
             queues.push(Queue::new(alloc))?;
         }
-        Ok(Row {
+        Ok(LinkRow {
             queues,
             used: false,
         })
@@ -51,10 +51,10 @@ impl Row {
     fn push(&mut self, to: ProcId, item: LinkItem) -> Result<(), AllocError>
         requires { to < length self.old }
         ensures ok { OnOk result
-            (items_of self.new
-            ≡ slice_set (items_of self.old) to
-            (slice_index_or (items_of self.old) to [] ++ item ∷ [])) }
-        ensures err { OnErr result (items_of self.new ≡ items_of self.old) }
+            (items_held self.new
+            ≡ slice_set (items_held self.old) to
+            (slice_index_or (items_held self.old) to [] ++ item ∷ [])) }
+        ensures err { OnErr result (items_held self.new ≡ items_held self.old) }
     {
         self.used = true;
         let queue = &mut self.queues[to.get() as usize];
@@ -63,7 +63,7 @@ impl Row {
 
     /// Makes room for one more item on each link.
     fn reserve(&mut self) -> Result<(), AllocError>
-        ensures same { items_of self.new ≡ items_of self.old }
+        ensures same { items_held self.new ≡ items_held self.old }
         ensures ok { OnOk result (All (λ (queue : QueueView). 0 < queue.room) self.new) }
     {
         self.used = true;
@@ -77,7 +77,7 @@ impl Row {
     /// Puts an item at the end of each link but the one to the process itself, in room made for it.
     fn push_to_others(&mut self, own: ProcId, item: LinkItem)
         requires { All (λ (queue : QueueView). 0 < queue.room) self.old }
-        ensures { items_of self.new ≡ with_on_others (items_of self.old) own item }
+        ensures { items_held self.new ≡ with_on_others (items_held self.old) own item }
     {
         for q in 0..self.queues.len() {
             if q != own.get() as usize {
@@ -91,8 +91,9 @@ impl Row {
     /// Takes the first item off the link to a process, if it holds one.
     fn drop_first(&mut self, to: ProcId)
         requires { to < length self.old }
-        ensures { items_of self.new
-            ≡ slice_set (items_of self.old) to (drop 1 (slice_index_or (items_of self.old) to [])) }
+        ensures { items_held self.new
+            ≡ slice_set (items_held self.old) to
+            (drop 1 (slice_index_or (items_held self.old) to [])) }
     {
         let queue = &mut self.queues[to.get() as usize];
         queue.drop_first();
@@ -101,7 +102,7 @@ impl Row {
     /// Sets the count of messages for the link to a process to 0.
     pub(crate) fn count_none(&mut self, to: ProcId)
         requires { to < length self.old }
-        ensures same { items_of self.new ≡ items_of self.old }
+        ensures same { items_held self.new ≡ items_held self.old }
         ensures others { (q : ℕ) → q ≢ to → queue_to self.new q ≡ queue_to self.old q }
         ensures none { (queue_to self.new to).counted ≡ 0 }
     {
@@ -115,7 +116,7 @@ impl Row {
     pub(crate) fn count(&mut self, to: ProcId, most: usize) -> Result<(), AllocError>
         requires to { to < length self.old }
         requires fewer { (queue_to self.old to).counted < most }
-        ensures same { items_of self.new ≡ items_of self.old }
+        ensures same { items_held self.new ≡ items_held self.old }
         ensures ok { OnOk result (IsCounted to self.old self.new) }
     {
         self.used = true;
@@ -127,9 +128,9 @@ impl Row {
     pub(crate) fn push_reserved(&mut self, to: ProcId, item: Item)
         requires to { to < length self.old }
         requires room { 0 < (queue_to self.old to).room }
-        ensures items { items_of self.new
-            ≡ slice_set (items_of self.old) to
-            (slice_index_or (items_of self.old) to [] ++ item ∷ []) }
+        ensures items { items_held self.new
+            ≡ slice_set (items_held self.old) to
+            (slice_index_or (items_held self.old) to [] ++ item ∷ []) }
         ensures others { (q : ℕ) → q ≢ to → queue_to self.new q ≡ queue_to self.old q }
         ensures room { (queue_to self.new to).room + 1 ≡ (queue_to self.old to).room }
     {
@@ -157,17 +158,17 @@ impl Row {
 /// The links from each process to each.
 #[derive(Drop)]
 pub struct Links {
-    pub(crate) rows: Vec<Row>,
+    pub(crate) rows: Vec<LinkRow>,
 }
 
 impl Model for Links {
     ghost use Rattle.std.specs.Prelude.{List, map};
     ghost use Rattle.line_tape.specs.declared.items.Item.{Item};
-    ghost use Rattle.line_moves.specs.Rooms.{items_of};
+    ghost use Rattle.line_moves.specs.Rooms.{items_held};
 
     ghost Value = { List (List (List Item)) };
 
-    ghost view = { λ l. map items_of l.rows.items };
+    ghost view = { λ l. map items_held l.rows.items };
 }
 
 impl Links {
@@ -178,7 +179,7 @@ impl Links {
     {
         let mut rows = Vec::with_capacity(alloc, n as usize)?;
         for _p in 0..n {
-            rows.push(Row::new(alloc, n)?)?;
+            rows.push(LinkRow::new(alloc, n)?)?;
         }
         Ok(Links { rows })
     }

@@ -1,7 +1,7 @@
 //! The list of the rounds that are completed.
 ghost use Rattle.std.specs.Prelude.{◌≡◌, ◌<◌, ◌≤◌, ◌-◌, ◌++◌, ◌∷◌, ℕ, [], true, false, filter};
 ghost use Rattle.std.specs.Prelude.{length, slice_index_or, OnOk};
-ghost use Rattle.line_moves.specs.Listed.{Listed, stays};
+ghost use Rattle.line_moves.specs.Listed.{ListedRound, stays};
 ghost use Rattle.line_moves.specs.Listings.{Climb};
 
 use crate::rounds::Round;
@@ -13,9 +13,9 @@ use std::marker::Model;
 /// looks at that one and at those after it.
 fn staying(rounds: &[Round], line: &Line) -> usize
     ensures within { result ≤ length rounds.now }
-    ensures last { (d : Listed) → 0 < result
+    ensures last { (d : ListedRound) → 0 < result
         → stays line.now (slice_index_or rounds.now (result - 1) d) ≡ true }
-    ensures cut { (i : ℕ) (d : Listed) → result ≤ i → i < length rounds.now
+    ensures cut { (i : ℕ) (d : ListedRound) → result ≤ i → i < length rounds.now
         → stays line.now (slice_index_or rounds.now i d) ≡ false }
 {
     let mut end = rounds.len();

@@ -13,10 +13,10 @@ ghost use Rattle.line_tape.specs.Event.{NamesBelow, HasLongState, Holds};
 ghost use Rattle.line_tape.specs.History.{tape_at, incarnation_at, with_event};
 ghost use Rattle.line_tape.specs.Spent.{next_name};
 ghost use Rattle.line_catalogue.specs.Agreement.{AgreesNext};
-ghost use Rattle.line_catalogue.specs.Views.{room_at};
+ghost use Rattle.line_catalogue.specs.Views.{catalogue_room_at};
 ghost use Rattle.line_moves.specs.declared.modes.Mode.TheVariants.{Fifo};
 ghost use Rattle.line_moves.specs.Moves.{next_check};
-ghost use Rattle.line_moves.specs.Openings.{open_number, IsOpening};
+ghost use Rattle.line_moves.specs.Openings.{open_number, IsOnlyOpen};
 ghost use Rattle.line_moves.specs.Queues.{taken_off};
 ghost use Rattle.line_turns.specs.Tables.{between, with_list, IsTable};
 
@@ -34,10 +34,10 @@ pub(crate) fn add_event(catalogue: &mut Catalogue, p: ProcId, event: Event)
     requires short { HasLongState event → ⊥ }
     requires few { length (tape_at catalogue.old.processes p) < MOST_EVENTS }
     requires agrees { AgreesNext catalogue.old.processes p event }
-    requires room { 0 < room_at catalogue.old p }
+    requires room { 0 < catalogue_room_at catalogue.old p }
     ensures processes { catalogue.new.processes ≡ with_event catalogue.old.processes p event }
     ensures marks { catalogue.new.marks ≡ catalogue.old.marks }
-    ensures spent { room_at catalogue.old p ≤ room_at catalogue.new p + 1 }
+    ensures spent { catalogue_room_at catalogue.old p ≤ catalogue_room_at catalogue.new p + 1 }
 {
     catalogue.append(p, event);
 }
@@ -98,11 +98,11 @@ pub fn take_message(
     requires held { Holds (tape_at catalogue.old.processes message.now.from) message.now.inc
         message.now.number }
     requires few { length (tape_at catalogue.old.processes to) < MOST_EVENTS }
-    requires opening { IsOpening Fifo catalogue.old.processes running.old }
+    requires opening { IsOnlyOpen Fifo catalogue.old.processes running.old }
     ensures taken { OnOk result
         (catalogue.new.processes ≡ with_event catalogue.old.processes to (RecvEvent message.now)) }
     ensures off { OnOk result (links.new ≡ taken_off Fifo links.old from to) }
-    ensures opening { IsOpening Fifo catalogue.new.processes running.new }
+    ensures opening { IsOnlyOpen Fifo catalogue.new.processes running.new }
     ensures number { open_number running.new ≡ open_number running.old }
     ensures err { OnErr result (catalogue.new.processes ≡ catalogue.old.processes) }
     ensures marks { catalogue.new.marks ≡ catalogue.old.marks }
@@ -142,7 +142,7 @@ pub fn add_receipt(catalogue: &mut Catalogue, to: ProcId, message: &MsgName)
     requires held { Holds (tape_at catalogue.old.processes message.now.from) message.now.inc
         message.now.number }
     requires few { length (tape_at catalogue.old.processes to) < MOST_EVENTS }
-    requires room { 0 < room_at catalogue.old to }
+    requires room { 0 < catalogue_room_at catalogue.old to }
     ensures taken { catalogue.new.processes
         ≡ with_event catalogue.old.processes to (RecvEvent message.now) }
     ensures marks { catalogue.new.marks ≡ catalogue.old.marks }

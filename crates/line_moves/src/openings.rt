@@ -9,10 +9,11 @@ ghost use Rattle.line_tape.specs.History.{Process, tape_at, with_event};
 ghost use Rattle.line_tape.specs.Rounds.{has_check_of, is_completed_fifo};
 ghost use Rattle.line_turns.specs.Turning.{IsTurning};
 ghost use Rattle.line_moves.specs.declared.modes.Mode.TheVariants.{Fifo, Unordered};
-ghost use Rattle.line_moves.specs.Listed.{listed};
+ghost use Rattle.line_moves.specs.Listed.{listed_round};
 ghost use Rattle.line_moves.specs.Openings.{left_open, marker_at, newly_closed, open_number};
-ghost use Rattle.line_moves.specs.Openings.{opened_by, opened_turning, AreMarkers, IsCounted};
-ghost use Rattle.line_moves.specs.Openings.{IsFresh, IsOpening, IsRecording, OpenView};
+ghost use Rattle.line_moves.specs.Openings.{opened_by, opened_turning, AreMarkers};
+ghost use Rattle.line_moves.specs.Openings.{IsCountedAtRound};
+ghost use Rattle.line_moves.specs.Openings.{IsFresh, IsOnlyOpen, IsRecording, OpenView};
 ghost use Rattle.line_moves.specs.Fates.{is_forced};
 
 use crate::listings::Listing;
@@ -218,7 +219,7 @@ impl OpenRound {
     pub(crate) fn completed(self, alloc: Global, history: &History) -> Round
         requires recording { IsRecording history.now.processes self }
         requires completed { is_completed_fifo history.now.processes self.number ≡ true }
-        ensures { result ≡ listed Fifo history.now.processes self.number }
+        ensures { result ≡ listed_round Fifo history.now.processes self.number }
     {
         Round::of_markers(alloc, self.turning, self.markers, history)
     }
@@ -234,7 +235,7 @@ pub fn is_forced(
 ) -> bool
     requires from { from < length history.now.processes }
     requires to { to < length history.now.processes }
-    requires opening { IsOpening Fifo history.now.processes running.now }
+    requires opening { IsOnlyOpen Fifo history.now.processes running.now }
     requires sent { has_check_of round (tape_at history.now.processes from) ≡ true }
     ensures { result ≡ is_forced history.now.processes to round }
 {
@@ -254,11 +255,12 @@ pub(crate) fn note(
     requires from { message.now.from < length history.now.processes }
     requires to { to < length history.now.processes }
     requires other { message.now.from ≢ to }
-    requires opening { IsOpening Fifo history.now.processes running.old }
+    requires opening { IsOnlyOpen Fifo history.now.processes running.old }
     ensures number { open_number running.new ≡ open_number running.old }
     ensures ok { OnOk result
-        (IsOpening Fifo (with_event history.now.processes to (RecvEvent message.now)) running.new) }
-    ensures err { OnErr result (IsOpening Fifo history.now.processes running.new) }
+        (IsOnlyOpen Fifo
+        (with_event history.now.processes to (RecvEvent message.now)) running.new) }
+    ensures err { OnErr result (IsOnlyOpen Fifo history.now.processes running.new) }
 {
     match running {
         Some(running) => running.note(history, to, message),
@@ -279,9 +281,9 @@ pub(crate) fn hear(
     requires to { to < length history.now.processes }
     requires other { from ≢ to }
     requires begun { has_check_of round (tape_at history.now.processes to) ≡ true }
-    requires opening { IsOpening Fifo history.now.processes running.old }
+    requires opening { IsOnlyOpen Fifo history.now.processes running.old }
     ensures number { open_number running.new ≡ open_number running.old }
-    ensures opening { IsOpening Fifo (with_event history.now.processes to (MarkEvent from round))
+    ensures opening { IsOnlyOpen Fifo (with_event history.now.processes to (MarkEvent from round))
         running.new }
 {
     match running {
@@ -303,7 +305,7 @@ pub fn list_completed(
     history: &History,
     rounds: &mut Listing,
 )
-    requires opening { IsOpening Fifo history.now.processes running.old }
+    requires opening { IsOnlyOpen Fifo history.now.processes running.old }
     requires room { 0 < rounds.old.room }
     ensures listed { rounds.new.items
         ≡ rounds.old.items ++ newly_closed Fifo history.now.processes running.old }
@@ -330,7 +332,7 @@ fn list_round(
 )
     requires completed { MatchOption running.old ⊥ (λ (round : OpenView).
         is_completed_fifo history.now.processes round.number ≡ true) }
-    requires opening { IsOpening Fifo history.now.processes running.old }
+    requires opening { IsOnlyOpen Fifo history.now.processes running.old }
     requires room { 0 < rounds.old.room }
     ensures listed { rounds.new.items
         ≡ rounds.old.items ++ newly_closed Fifo history.now.processes running.old }
@@ -352,7 +354,7 @@ pub(crate) fn still_turning(
     rounds: &mut Listing,
 ) -> Option<Turning>
     requires turning { IsTurning history.now.processes turning }
-    requires channels { IsCounted history.now.processes turning.number channels }
+    requires channels { IsCountedAtRound history.now.processes turning.number channels }
     requires room { 0 < rounds.old.room }
     ensures listed { rounds.new.items
         ≡ rounds.old.items

@@ -5,18 +5,19 @@ ghost use Rattle.line_tape.specs.declared.items.Item.TheVariants.{Message};
 ghost use Rattle.line_tape.specs.History.{Process};
 ghost use Rattle.line_tape.specs.Transit.{goes_between, in_transit, in_transit_between};
 ghost use Rattle.line_turns.specs.Tables.{between};
-ghost use Rattle.line_moves.specs.Rooms.{items_of, queue_at, AreCounted, AreUncounted, HaveRoom};
+ghost use Rattle.line_moves.specs.Rooms.{items_held, queue_at, AreCountedOnQueues, AreUncounted};
+ghost use Rattle.line_moves.specs.Rooms.{HaveRoom};
 ghost use Rattle.line_moves.specs.Worlds.{AreQueues};
 
-use crate::links::{Links, Row};
+use crate::links::{LinkRow, Links};
 use line_names::{Line, MsgName};
 use line_tape::{History, Item};
 use std::alloc::AllocError;
 
 /// Sets the count of messages to 0 on the links that these go to.
-fn count_none(history: &History, messages: &[MsgName], rows: &mut Vec<Row>)
-    requires { AreQueues history.now.processes (map items_of rows.old.items) }
-    ensures same { map items_of rows.new.items ≡ map items_of rows.old.items }
+fn count_none(history: &History, messages: &[MsgName], rows: &mut Vec<LinkRow>)
+    requires { AreQueues history.now.processes (map items_held rows.old.items) }
+    ensures same { map items_held rows.new.items ≡ map items_held rows.old.items }
     ensures none { AreUncounted history.now.processes messages.now (length messages.now)
         rows.new.items }
 {
@@ -33,14 +34,15 @@ fn count_none(history: &History, messages: &[MsgName], rows: &mut Vec<Row>)
 fn count_messages(
     history: &History,
     messages: &[MsgName],
-    rows: &mut Vec<Row>,
+    rows: &mut Vec<LinkRow>,
 ) -> Result<(), AllocError>
-    requires queued { AreQueues history.now.processes (map items_of rows.old.items) }
+    requires queued { AreQueues history.now.processes (map items_held rows.old.items) }
     requires none { AreUncounted history.now.processes messages.now (length messages.now)
         rows.old.items }
-    ensures same { map items_of rows.new.items ≡ map items_of rows.old.items }
+    ensures same { map items_held rows.new.items ≡ map items_held rows.old.items }
     ensures counted { OnOk result
-        (AreCounted history.now.processes messages.now (length messages.now) rows.new.items) }
+        (AreCountedOnQueues history.now.processes messages.now
+        (length messages.now) rows.new.items) }
 {
     let _n = history.n();
     let most = messages.len();
@@ -54,10 +56,10 @@ fn count_messages(
 }
 
 /// Takes all items off each link.
-fn clear_rows(rows: &mut Vec<Row>)
-    ensures empty { (p q : ℕ) → between (map items_of rows.new.items) p q ≡ [] }
-    ensures queued { (history : List Process) → AreQueues history (map items_of rows.old.items)
-        → AreQueues history (map items_of rows.new.items) }
+fn clear_rows(rows: &mut Vec<LinkRow>)
+    ensures empty { (p q : ℕ) → between (map items_held rows.new.items) p q ≡ [] }
+    ensures queued { (history : List Process) → AreQueues history (map items_held rows.old.items)
+        → AreQueues history (map items_held rows.new.items) }
     ensures room { (p q : ℕ)
         → (queue_at rows.old.items p q).room ≤ (queue_at rows.new.items p q).room }
 {
@@ -69,13 +71,13 @@ fn clear_rows(rows: &mut Vec<Row>)
 
 /// Puts each message at the end of the link to the process that its send names, in order, in room
 /// made for it.
-fn put_messages(history: &History, messages: &[MsgName], rows: &mut Vec<Row>)
-    requires queued { AreQueues history.now.processes (map items_of rows.old.items) }
+fn put_messages(history: &History, messages: &[MsgName], rows: &mut Vec<LinkRow>)
+    requires queued { AreQueues history.now.processes (map items_held rows.old.items) }
     requires room { HaveRoom history.now.processes messages.now 0 rows.old.items }
-    ensures queued { AreQueues history.now.processes (map items_of rows.new.items) }
+    ensures queued { AreQueues history.now.processes (map items_held rows.new.items) }
     ensures put { (p q : ℕ) → p < length history.now.processes → q < length history.now.processes
-        → between (map items_of rows.new.items) p q
-        ≡ between (map items_of rows.old.items) p q
+        → between (map items_held rows.new.items) p q
+        ≡ between (map items_held rows.old.items) p q
         ++ map (λ m. Message m) (filter (goes_between history.now.processes p q) messages.now) }
 {
     let _n = history.n();

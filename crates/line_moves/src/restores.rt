@@ -2,10 +2,10 @@
 ghost use Rattle.std.specs.Prelude.{◌≡◌, ◌<◌, length, map, IfOk};
 ghost use Rattle.line_tape.specs.History.{Process, process_at, tape_at, incarnation_at};
 ghost use Rattle.line_tape.specs.Line.{IsLine};
-ghost use Rattle.line_tape.specs.Restart.{restarted, restarted_incarnation, HasFurther};
+ghost use Rattle.line_tape.specs.Restart.{restarted_history, restarted_incarnation, HasFurther};
 ghost use Rattle.line_tape.specs.Restart.{HaveFurther};
 ghost use Rattle.line_names.specs.Lines.{choice_at};
-ghost use Rattle.line_moves.specs.Restarts.{restored, restored_states};
+ghost use Rattle.line_moves.specs.Restarts.{restored_state, restored_states};
 
 use line_names::{Choice, Line, ProcId};
 use line_tape::{History, State};
@@ -21,7 +21,7 @@ fn restored(
     requires process { p < length history.now.processes }
     requires line { IsLine history.now.processes line.now }
     ensures { IfOk result
-        (λ state. state ≡ restored (tape_at history.now.processes p) (choice_at line.now p)) }
+        (λ state. state ≡ restored_state (tape_at history.now.processes p) (choice_at line.now p)) }
 {
     match line.at(p) {
         Choice::Check(check) => {
@@ -77,7 +77,7 @@ pub fn restarted_incarnations(
     requires further { HaveFurther history.now.processes line.now }
     ensures { IfOk result (λ incarnations. incarnations.items
         ≡ map (λ (process : Process). process.incarnation)
-        (restarted history.now.processes line.now)) }
+        (restarted_history history.now.processes line.now)) }
 {
     let n = history.n();
     let mut incarnations = Vec::with_capacity(alloc, n as usize)?;

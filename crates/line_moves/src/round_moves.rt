@@ -7,7 +7,7 @@ ghost use Rattle.line_tape.specs.declared.events.Event.TheVariants.{Check as Che
 ghost use Rattle.line_tape.specs.declared.events.Event.TheVariants.{Mark as MarkEvent};
 ghost use Rattle.line_tape.specs.declared.items.Item.TheVariants.{Marker};
 ghost use Rattle.line_tape.specs.History.{tape_at, with_event};
-ghost use Rattle.line_catalogue.specs.Views.{room_at};
+ghost use Rattle.line_catalogue.specs.Views.{catalogue_room_at};
 ghost use Rattle.line_tape.specs.Colours.{colour};
 ghost use Rattle.line_tape.specs.Rounds.{has_check_of};
 ghost use Rattle.line_turns.specs.Kept.{AreTurned};
@@ -16,8 +16,9 @@ ghost use Rattle.line_moves.specs.declared.modes.Mode.TheVariants.{Fifo};
 ghost use Rattle.line_moves.specs.Fates.{is_forced, marker_events};
 ghost use Rattle.line_moves.specs.Listed.{IsSnapshotOf};
 ghost use Rattle.line_moves.specs.Moves.{with_events, next_check};
-ghost use Rattle.line_moves.specs.Openings.{open_number, IsCounted, IsOpening, IsOpenTurning};
-ghost use Rattle.line_moves.specs.Openings.{IsRecording, IsSettled};
+ghost use Rattle.line_moves.specs.Openings.{open_number, IsCountedAtRound, IsOnlyOpen};
+ghost use Rattle.line_moves.specs.Openings.{IsOpenTurning};
+ghost use Rattle.line_moves.specs.Openings.{IsRecording, IsListedOrOpen};
 ghost use Rattle.line_turns.specs.Tables.{between};
 ghost use Rattle.line_moves.specs.Worlds.{IsWorld};
 
@@ -135,11 +136,11 @@ fn hear_round(
     requires begun { has_check_of round (tape_at catalogue.old.processes to) ≡ true }
     requires marker { slice_get (between links.old from to) 0 ≡ Some (Marker round) }
     requires world { IsWorld Fifo catalogue.old.processes links.old }
-    requires opening { IsOpening Fifo catalogue.old.processes running.old }
+    requires opening { IsOnlyOpen Fifo catalogue.old.processes running.old }
     ensures taken { OnOk result
         (catalogue.new.processes ≡ with_event catalogue.old.processes to (MarkEvent from round)) }
     ensures world { IsWorld Fifo catalogue.new.processes links.new }
-    ensures opening { IsOpening Fifo catalogue.new.processes running.new }
+    ensures opening { IsOnlyOpen Fifo catalogue.new.processes running.new }
     ensures number { open_number running.new ≡ open_number running.old }
     ensures err { OnErr result (catalogue.new.processes ≡ catalogue.old.processes) }
     ensures marks { catalogue.new.marks ≡ catalogue.old.marks }
@@ -178,12 +179,12 @@ pub fn take_marker(
         ≤ MOST_EVENTS }
     requires marker { slice_get (between links.old from to) 0 ≡ Some (Marker round) }
     requires world { IsWorld Fifo catalogue.old.processes links.old }
-    requires opening { IsOpening Fifo catalogue.old.processes running.old }
+    requires opening { IsOnlyOpen Fifo catalogue.old.processes running.old }
     ensures taken { OnOk result (catalogue.new.processes
         ≡ with_events catalogue.old.processes to
         (marker_events (is_forced catalogue.old.processes to round) from state.now round)) }
     ensures world { IsWorld Fifo catalogue.new.processes links.new }
-    ensures opening { IsOpening Fifo catalogue.new.processes running.new }
+    ensures opening { IsOnlyOpen Fifo catalogue.new.processes running.new }
     ensures number { open_number running.new ≡ open_number running.old }
     ensures err { OnErr result (catalogue.new.processes ≡ catalogue.old.processes) }
     ensures marks { catalogue.new.marks ≡ catalogue.old.marks }
@@ -222,7 +223,7 @@ fn take_turn(
     requires rounds { All (IsSnapshotOf catalogue.old.processes) rounds.now }
     ensures check { IfOk result (λ turned. turned.0 ≡ next_check catalogue.old.processes at) }
     ensures channels { IfOk result
-        (λ turned. IsCounted catalogue.new.processes turning.new.number turned.1) }
+        (λ turned. IsCountedAtRound catalogue.new.processes turning.new.number turned.1) }
     ensures checked { OnOk result
         (catalogue.new.processes
         ≡ with_event catalogue.old.processes at
@@ -230,7 +231,7 @@ fn take_turn(
     ensures turned { OnOk result (AreTurned catalogue.new.processes colours.new) }
     ensures turning { OnOk result (IsTurning catalogue.new.processes turning.new) }
     ensures number { turning.new.number ≡ turning.old.number }
-    ensures room { OnOk result (further ≤ room_at catalogue.new at) }
+    ensures room { OnOk result (further ≤ catalogue_room_at catalogue.new at) }
     ensures err { OnErr result (catalogue.new.processes ≡ catalogue.old.processes) }
     ensures marks { catalogue.new.marks ≡ catalogue.old.marks }
     ensures colours { OnErr result (colours.new ≡ colours.old) }
@@ -284,8 +285,9 @@ pub fn turn_round(
         ≡ with_event catalogue.old.processes at (CheckEvent state.now (Some _round))) }
     ensures turned { OnOk result (AreTurned catalogue.new.processes colours.new) }
     ensures settled { OnOk result
-        (IsSettled catalogue.new.processes _round rounds.old.items turning.new rounds.new.items) }
-    ensures room { OnOk result (further ≤ room_at catalogue.new at) }
+        (IsListedOrOpen catalogue.new.processes _round rounds.old.items turning.new
+        rounds.new.items) }
+    ensures room { OnOk result (further ≤ catalogue_room_at catalogue.new at) }
     ensures err { OnErr result (catalogue.new.processes ≡ catalogue.old.processes) }
     ensures marks { catalogue.new.marks ≡ catalogue.old.marks }
     ensures colours { OnErr result (colours.new ≡ colours.old) }

@@ -8,7 +8,7 @@ ghost use Rattle.line_tape.specs.Colours.{is_completed_unordered};
 ghost use Rattle.line_tape.specs.Rounds.{check_line, is_completed_fifo, round_line};
 ghost use Rattle.line_turns.specs.Turning.{IsTurning};
 ghost use Rattle.line_moves.specs.declared.modes.Mode.TheVariants.{Fifo, Unordered};
-ghost use Rattle.line_moves.specs.Listed.{check_in, channel_in, listed, stays, IsSnapshotOf};
+ghost use Rattle.line_moves.specs.Listed.{check_in, channel_in, listed_round, stays, IsSnapshotOf};
 ghost use Rattle.line_moves.specs.Listings.{IsBelow};
 ghost use Rattle.line_marker.specs.Recording.{MarkerView, messages_by, round_of};
 ghost use Rattle.std.specs.Option.{unwrap_or};
@@ -37,10 +37,10 @@ pub struct Round {
 
 impl Model for Round {
     ghost use Rattle.std.specs.Prelude.{length};
-    ghost use Rattle.line_moves.specs.Listed.{Listed};
+    ghost use Rattle.line_moves.specs.Listed.{ListedRound};
     ghost use Rattle.line_moves.specs.Openings.{channels_kept, AreChannels};
 
-    ghost Value = { Listed };
+    ghost Value = { ListedRound };
 
     ghost view = { λ r. record {
       number = r.number;
@@ -96,7 +96,7 @@ impl Round {
         requires recording { IsRecording history.now.processes
             (recording_of turning markers.items) }
         requires completed { is_completed_fifo history.now.processes turning.number ≡ true }
-        ensures { result ≡ listed Fifo history.now.processes turning.number }
+        ensures { result ≡ listed_round Fifo history.now.processes turning.number }
     {
         let n = history.n();
         let number = turning.number();
@@ -120,7 +120,7 @@ impl Round {
         requires completed { is_completed_unordered _history.now.processes turning.number ≡ true }
         requires channels { AreInTransit _history.now.processes
             (round_line _history.now.processes turning.number) channels }
-        ensures { result ≡ listed Unordered _history.now.processes turning.number }
+        ensures { result ≡ listed_round Unordered _history.now.processes turning.number }
     {
         let number = turning.number();
         Round {

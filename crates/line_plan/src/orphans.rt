@@ -2,7 +2,7 @@
 ghost use Rattle.std.specs.Prelude.{◌≡◌, ◌<◌, ◌≤◌, length};
 ghost use Rattle.line_tape.specs.Line.{events_before, IsLine, IsFoundAmong};
 ghost use Rattle.line_vectors.specs.Reach.{sents_of};
-ghost use Rattle.line_catalogue.specs.Agreement.{named};
+ghost use Rattle.line_catalogue.specs.Agreement.{name_of_number};
 ghost use Rattle.line_plan.specs.Search.{AreFirstSent};
 
 use line_catalogue::Catalogue;
@@ -14,7 +14,7 @@ use line_vectors::{LAST_NUMBER, Sent};
 /// present one where it is still to come.
 fn name_of(history: &History, p: ProcId, number: u32) -> MsgName
     requires { p < length history.now.processes }
-    ensures { result ≡ named history.now.processes p number }
+    ensures { result ≡ name_of_number history.now.processes p number }
 {
     match history.tape(p).sent_under(number) {
         Some(inc) => MsgName {

@@ -3,7 +3,7 @@ use Rattle.std.proofs.Common.{add-one, zero, suc, ◌≡◌, ◌∙◌, ◌+◌,
 use Rattle.std.specs.Prelude.{slice_get, option_map}
 use Rattle.std.proofs.lemmas.List.{length-map, length-drop, length-replicate, length_push, get_or-replicate}
 use Rattle.std.proofs.lemmas.Option.{slice_get_within}
-use Rattle.line_marker.specs.Recording.{Recorded}
+use Rattle.line_marker.specs.Recording.{RecordedRound}
 use Rattle.line_tape.specs.declared.events.Event.{Event}
 use Rattle.line_tape.specs.History.{Process, fresh, tape_at}
 use Rattle.line_tape.specs.Rounds.{rounds_checked}
@@ -19,7 +19,7 @@ use Rattle.line_posts.specs.Openings.{ArePlain, IsOpening}
 use Rattle.line_posts.specs.Fleets.{AreReplays}
 use Rattle.line_posts.specs.Parcels.{parcels_of, parcels_sent}
 use Rattle.line_posts.proofs.ReplayLemmas.{drop_none}
-use Rattle.line_tape.specs.Fit.{received}
+use Rattle.line_tape.specs.Fit.{received_from}
 use Rattle.line_tape.specs.Views.{MarksView}
 use Rattle.line_posts.specs.Generations.{IsGeneration}
 use Rattle.line_posts.specs.Openings.{parcels_left, AreOpened}
@@ -54,7 +54,7 @@ journals_more opening floor q journals journals' journal count each e new = (
 )
 
 pub opening_of : (opening : List Process) (q me n : ℕ) (tape : List Event) (kept : List (List Packet)) (outs ins : List (List (End Parcel))) (lines in_lines : List (List (End Event)))
-    (out in_ : List (End Parcel)) (seen : List (List Parcel)) (line : End Event) (floor : ℕ) (rounds : List Recorded)
+    (out in_ : List (End Parcel)) (seen : List (List Parcel)) (line : End Event) (floor : ℕ) (rounds : List RecordedRound)
     → me ≡ q → q < n → n ≡ length opening → tape ≡ tape_at opening me → AreReplays opening me kept → AreLinked n n outs ins → AreLinked n 1 lines in_lines
     → out ≡ row_at outs q → in_ ≡ row_at ins q → line ∷ [] ≡ row_at lines q
     → IsOpening (post_of me opening tape kept out in_ seen line floor rounds)
@@ -96,7 +96,7 @@ made_more opening floor outs ins lines q lo li lo' li' ll ll' posts posts' post 
   lines_left = sym ((next_row lines q line ll' (sym el ∙ h.lines_left)).1) ∙ ap (λ k. drop k lines) (sym (add-one q));
 }
 
-pub made_of : (opening : List Process) (floor : ℕ) (outs ins : List (List (End Parcel))) (lines : List (List (End Event))) (q me : ℕ) (tape : List Event) (kept : List (List Packet)) (out in_ : List (End Parcel)) (seen : List (List Parcel)) (line : End Event) (base : ℕ) (rounds : List Recorded) (post : PostView)
+pub made_of : (opening : List Process) (floor : ℕ) (outs ins : List (List (End Parcel))) (lines : List (List (End Event))) (q me : ℕ) (tape : List Event) (kept : List (List Packet)) (out in_ : List (End Parcel)) (seen : List (List Parcel)) (line : End Event) (base : ℕ) (rounds : List RecordedRound) (post : PostView)
     → post ≡ post_of me opening tape kept out in_ seen line base rounds → me ≡ q → IsOpening (post_of me opening tape kept out in_ seen line base rounds) → base ≡ floor → rounds ≡ [] → out ≡ row_at outs q → in_ ≡ row_at ins q → line ∷ [] ≡ row_at lines q → IsMade opening floor outs ins lines q post
 made_of opening floor outs ins lines q me tape kept out in_ seen line base rounds post e em o ef er eo ei el = rw e (record { number = em; opened = refl; opens = o; begun = (ef, er); outs_are = eo; ins_are = ei; line_is = el })
 
@@ -148,7 +148,7 @@ no_replays_fresh n kept e =
           let row : row_at (replicate n (replicate n [])) q ≡ replicate n [] = get_or-replicate n q (replicate n []) [] below in
           record {
             count = ap length row ∙ (length-replicate n [] ∙ sym l);
-            each = λ p. ap (λ r. parcels_of (row_at r p)) row ∙ (ap parcels_of (none n p) ∙ sym (ap (λ t. drop (length (received (replicate n fresh) q p)) (parcels_sent q 0 t)) (tape_start n p) ∙ drop_none (length (received (replicate n fresh) q p))));
+            each = λ p. ap (λ r. parcels_of (row_at r p)) row ∙ (ap parcels_of (none n p) ∙ sym (ap (λ t. drop (length (received_from (replicate n fresh) q p)) (parcels_sent q 0 t)) (tape_start n p) ∙ drop_none (length (received_from (replicate n fresh) q p))));
           });
     })
   where

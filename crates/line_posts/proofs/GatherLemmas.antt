@@ -7,7 +7,7 @@ use Rattle.std.proofs.lemmas.List.{append_assoc, append-nil, map-append, length-
 use Rattle.std.proofs.lemmas.Option.{slice_get-map, slice_get_past, same_Some, get_or_from_slice_get, slice_get-get_or}
 use Rattle.line_tape.specs.declared.items.Item.{Item}
 use Rattle.line_tape.specs.Event.{incarnations_sent}
-use Rattle.line_tape.specs.Fit.{sent, received, item_received, items_sent, IsPrefix, IsFitFifo, AreDistinct, MarksFollow}
+use Rattle.line_tape.specs.Fit.{sent_between, received_from, item_received, items_sent, IsPrefix, IsFitFifo, AreDistinct, MarksFollow}
 use Rattle.line_tape.specs.History.{Process, fresh, tape_at}
 use Rattle.line_tape.specs.Rounds.{rounds_checked}
 use Rattle.line_tape.proofs.NextLemmas.{prefix_from}
@@ -46,9 +46,9 @@ pair_accounted from to a b same apart rest met =
     let I : List Parcel → List Item = items_of_parcels p in
     let lt : q < length from.opening = (let w = b.within in let e = ap length same in omega (arith, w, e)) in
     ap (λ t. t ++ I rest) (b.receipts_are p)
-    ∙ (append_assoc (sent to.opening p q) (I (items_at to.ins p)) (I rest)
-    ∙ (ap (λ t. sent to.opening p q ++ t) (sym (map-append (item_of p) (items_at to.ins p) rest) ∙ ap I met)
-    ∙ (ap (λ (o : List Process). sent o p q ++ I (items_at from.outs q)) (sym same)
+    ∙ (append_assoc (sent_between to.opening p q) (I (items_at to.ins p)) (I rest)
+    ∙ (ap (λ t. sent_between to.opening p q ++ t) (sym (map-append (item_of p) (items_at to.ins p) rest) ∙ ap I met)
+    ∙ (ap (λ (o : List Process). sent_between o p q ++ I (items_at from.outs q)) (sym same)
     ∙ (ap (λ t. t ++ I (items_at from.outs q)) (sym (parcels_names p q 0 (opening_tape from)))
     ∙ (sym (map-append (item_of p) (parcels_sent q 0 (opening_tape from)) (items_at from.outs q))
     ∙ (ap I (sym (a.sends_are q lt (λ e. apart (sym e)))) ∙ parcels_names p q 0 from.tape))))))
@@ -69,10 +69,10 @@ alone_begins post h =
     let I : List Parcel → List Item = items_of_parcels p in
     let later = post.line.items ++ h.reports.0 in
     let kept = items_of_packets p (row_at post.kept p) in
-    let got : filter_map (item_received p) post.tape ++ kept ≡ sent post.opening p p =
-    h.receipts_are p ∙ (ap (λ t. sent post.opening p p ++ I t) h.alone ∙ append-nil (sent post.opening p p)) in
+    let got : filter_map (item_received p) post.tape ++ kept ≡ sent_between post.opening p p =
+    h.receipts_are p ∙ (ap (λ t. sent_between post.opening p p ++ I t) h.alone ∙ append-nil (sent_between post.opening p p)) in
     let tape_is : post.tape ≡ opening_tape post ++ later = sym h.reports.1 ∙ append_assoc (opening_tape post) post.line.items h.reports.0 in
-    let all : items_sent p p 0 post.tape ≡ sent post.opening p p ++ I (parcels_sent p (0 + k) later) =
+    let all : items_sent p p 0 post.tape ≡ sent_between post.opening p p ++ I (parcels_sent p (0 + k) later) =
     ap (items_sent p p 0) tape_is ∙ (sym (parcels_names p p 0 (opening_tape post ++ later))
     ∙ (ap I (parcels_append p 0 (opening_tape post) later)
     ∙ (map-append (item_of p) (parcels_sent p 0 (opening_tape post)) (parcels_sent p (0 + k) later)
@@ -98,13 +98,13 @@ module _ (posts : List PostView) (all : AreAll posts) (gen : IsGeneration posts)
       let there : P p q = subst (λ y. P p y) nq (subst (λ x. P x to.number) np here) in
       (rest, subst (λ y. M p y) nq (subst (λ x. M x to.number) np e), ap (λ t. (filter_map (item_received p) t ++ items_of_packets p (row_at to.kept p)) ++ items_of_parcels p rest) (own_tape posts q to hq) ∙ (there ∙ ap (items_sent p q 0) (sym (own_tape posts p from hp))))
 
-  ordered : (p q : ℕ) → IsPrefix (received (own_history posts) q p) (sent (own_history posts) p q)
+  ordered : (p q : ℕ) → IsPrefix (received_from (own_history posts) q p) (sent_between (own_history posts) p q)
   ordered p q = elim (cases_lt q (length posts)) [
     | inr past ↦ prefix_of_nil _ _ (ap (filter_map (item_received p)) (own_past posts q past))
     | inl ltq ↦
         let (to, hq) = in_list posts q ltq in
         let (b, nq, lq) = all.each q to hq in
-        let got : received (own_history posts) q p ≡ filter_map (item_received p) to.tape = ap (filter_map (item_received p)) (own_tape posts q to hq) in
+        let got : received_from (own_history posts) q p ≡ filter_map (item_received p) to.tape = ap (filter_map (item_received p)) (own_tape posts q to hq) in
         elim (cases_lt p (length posts)) [
           | inr past ↦
               let c = b.in_count in
@@ -115,13 +115,13 @@ module _ (posts : List PostView) (all : AreAll posts) (gen : IsGeneration posts)
             | inl same ↦
                 let P : ℕ → Type 0 = λ x. (z : List Item) × (items_sent x x 0 to.tape ≡ filter_map (item_received x) to.tape ++ z) in
                 let (z, e) : P q = subst P nq (alone_begins to b) in
-                let Q : ℕ → Type 0 = λ x. IsPrefix (received (own_history posts) q x) (sent (own_history posts) x q) in
-                subst Q (sym same) (prefix_from (received (own_history posts) q q) (sent (own_history posts) q q) z
+                let Q : ℕ → Type 0 = λ x. IsPrefix (received_from (own_history posts) q x) (sent_between (own_history posts) x q) in
+                subst Q (sym same) (prefix_from (received_from (own_history posts) q q) (sent_between (own_history posts) q q) z
                 (ap (items_sent q q 0) (own_tape posts q to hq) ∙ (e ∙ ap (λ t. filter_map (item_received q) t ++ z) (sym (own_tape posts q to hq)))))
             | inr apart ↦
                 let (from, hp) = in_list posts p ltp in
                 let (rest, met_is, e) = accounted p q from to hp hq apart in
-                prefix_from _ _ (items_of_packets p (row_at to.kept p) ++ items_of_parcels p rest) (sym e ∙ append_assoc (received (own_history posts) q p) (items_of_packets p (row_at to.kept p)) (items_of_parcels p rest))
+                prefix_from _ _ (items_of_packets p (row_at to.kept p) ++ items_of_parcels p rest) (sym e ∙ append_assoc (received_from (own_history posts) q p) (items_of_packets p (row_at to.kept p)) (items_of_parcels p rest))
           ]
         ]
   ]

@@ -9,7 +9,7 @@ use Rattle.std.specs.declared.alloc.Global.{Global}
 use Rattle.rtrb.specs.declared.producer.Producer.{Producer}
 use Rattle.line_rings.specs.Ends.{End, items_at, ring_at, row_at, with_item, out_ends, producer_end}
 use Rattle.line_rings.proofs.EndLemmas.{length_item, items_same, items_other}
-use Rattle.line_marker.specs.Recording.{Recorded}
+use Rattle.line_marker.specs.Recording.{RecordedRound}
 use Rattle.line_tape.specs.declared.events.Event.{Event}
 use Rattle.line_tape.specs.declared.events.Event.TheVariants.{Check, Mark}
 use Rattle.line_tape.specs.declared.items.Item.{Item}
@@ -198,17 +198,17 @@ mark_step post from r h lt ne bare checked =
       marks = λ f s e. (let same : r ≡ s = cc e in subst (λ v. Contains (rounds_checked post.tape) v) same (contains_round post.tape r checked));
     }
 
-pub check_keeps : (post : PostView) (state : List ℕ) (r : ℕ) (tape : List Event) (outs : List (End Parcel)) (floor : ℕ) (rounds : List Recorded) → IsPost post → has_check_of r post.tape ≡ false
+pub check_keeps : (post : PostView) (state : List ℕ) (r : ℕ) (tape : List Event) (outs : List (End Parcel)) (floor : ℕ) (rounds : List RecordedRound) → IsPost post → has_check_of r post.tape ≡ false
     → tape ≡ post.tape ++ Check state (Some r) ∷ [] → outs ≡ with_others post.outs post.number (Marker r) → IsPost (record post { tape = tape; outs = outs; floor = floor; rounds = rounds })
 check_keeps post state r tape outs floor rounds h none et eo = rw (et, eo) (post_step post _ _ _ _ floor rounds h (check_step post state r h none))
 
-pub mark_keeps : (post : PostView) (from r : ℕ) (tape : List Event) (ins : List (End Parcel)) (floor : ℕ) (rounds : List Recorded) → IsPost post → from < length post.opening → from ≢ post.number
+pub mark_keeps : (post : PostView) (from r : ℕ) (tape : List Event) (ins : List (End Parcel)) (floor : ℕ) (rounds : List RecordedRound) → IsPost post → from < length post.opening → from ≢ post.number
     → row_at post.kept from ≡ [] → has_check_of r post.tape ≡ true → tape ≡ post.tape ++ Mark from r ∷ [] → ins ≡ with_item post.ins from (Marker r)
     → IsPost (record post { tape = tape; ins = ins; floor = floor; rounds = rounds })
 mark_keeps post from r tape ins floor rounds h lt ne bare checked et ei = rw (et, ei) (post_step post _ _ _ _ floor rounds h (mark_step post from r h lt ne bare checked))
 
 -- the check first, and then the marker that forced it
-pub force_keeps : (post : PostView) (from r : ℕ) (state : List ℕ) (tape : List Event) (outs ins : List (End Parcel)) (floor : ℕ) (rounds : List Recorded) → IsPost post → from < length post.opening → from ≢ post.number
+pub force_keeps : (post : PostView) (from r : ℕ) (state : List ℕ) (tape : List Event) (outs ins : List (End Parcel)) (floor : ℕ) (rounds : List RecordedRound) → IsPost post → from < length post.opening → from ≢ post.number
     → row_at post.kept from ≡ [] → has_check_of r post.tape ≡ false → tape ≡ (post.tape ++ Check state (Some r) ∷ []) ++ Mark from r ∷ []
     → outs ≡ with_others post.outs post.number (Marker r) → ins ≡ with_item post.ins from (Marker r) → IsPost (record post { tape = tape; outs = outs; ins = ins; floor = floor; rounds = rounds })
 force_keeps post from r state tape outs ins floor rounds h lt ne bare none et eo ei =

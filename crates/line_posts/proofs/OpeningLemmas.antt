@@ -5,7 +5,7 @@ use Rattle.std.specs.List.{filter_map}
 use Rattle.std.proofs.lemmas.List.{append-nil}
 use Rattle.std.proofs.lemmas.Option.{slice_get_within}
 use Rattle.line_tape.specs.Event.{NamesBelow, incarnations_sent}
-use Rattle.line_tape.specs.Fit.{item_received, sent, received, link, IsFitFifo, AreDistinct, MarksFollow}
+use Rattle.line_tape.specs.Fit.{item_received, sent_between, received_from, link, IsFitFifo, AreDistinct, MarksFollow}
 use Rattle.line_tape.specs.History.{tape_at}
 use Rattle.line_tape.specs.Rounds.{rounds_checked}
 use Rattle.line_rings.specs.Ends.{row_at}
@@ -32,8 +32,8 @@ drop_map f (suc n) (x ∷ xs) = drop_map f n xs
 -- what a link holds, without the bodies
 pub left_items : (history : List Process) (p q : ℕ) → items_of_parcels p (parcels_left history p q) ≡ link history p q
 left_items history p q =
-    drop_map (item_of p) (length (received history q p)) (parcels_sent q 0 (tape_at history p))
-    ∙ ap (drop (length (received history q p))) (parcels_names p q 0 (tape_at history p))
+    drop_map (item_of p) (length (received_from history q p)) (parcels_sent q 0 (tape_at history p))
+    ∙ ap (drop (length (received_from history q p))) (parcels_names p q 0 (tape_at history p))
 
 -- what is kept are the items of the link
 pub kept_items : (history : List Process) (p q : ℕ) (packets : List Packet) → parcels_of packets ≡ parcels_left history p q → items_of_packets p packets ≡ link history p q
@@ -53,8 +53,8 @@ opens post o fit named =
       sends_are = λ q lt ne. ap (parcels_sent q 0) o.tape ∙ (sym (append-nil (parcels_sent q 0 T)) ∙ ap (λ t. parcels_sent q 0 T ++ t) (sym (o.outs q)));
       receipts_are = λ p.
           ap (λ t. filter_map (item_received p) t ++ items_of_packets p (row_at post.kept p)) o.tape
-          ∙ (ap (λ t. received post.opening post.number p ++ t) (kept_items post.opening p post.number (row_at post.kept p) (o.kept p)) ∙ (fit.order p post.number
-          ∙ (sym (append-nil (sent post.opening p post.number)) ∙ ap (λ t. sent post.opening p post.number ++ items_of_parcels p t) (sym (o.ins p)))));
+          ∙ (ap (λ t. received_from post.opening post.number p ++ t) (kept_items post.opening p post.number (row_at post.kept p) (o.kept p)) ∙ (fit.order p post.number
+          ∙ (sym (append-nil (sent_between post.opening p post.number)) ∙ ap (λ t. sent_between post.opening p post.number ++ items_of_parcels p t) (sym (o.ins p)))));
       replays = λ p. inr (o.ins p);
       alone = o.ins post.number;
       present = λ k inc le held.

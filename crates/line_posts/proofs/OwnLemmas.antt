@@ -9,7 +9,7 @@ use Rattle.line_names.specs.Sets.{is_member}
 use Rattle.line_tape.specs.declared.events.Event.{Event}
 use Rattle.line_tape.specs.Event.{sends, incarnations_sent, incarnation_of, Holds, IsShort, NamesBelow}
 use Rattle.std.specs.List.{filter_map}
-use Rattle.line_tape.specs.Fit.{sent, received, item_received, items_sent}
+use Rattle.line_tape.specs.Fit.{sent_between, received_from, item_received, items_sent}
 use Rattle.line_tape.specs.Fit.{AreDistinct, IsFitFifo, IsPrefix, MarksFollow}
 use Rattle.line_tape.specs.Rounds.{rounds_checked}
 use Rattle.line_tape.specs.History.{Process, fresh, process_at, tape_at, incarnation_at, IsProcess}
@@ -20,7 +20,7 @@ use Rattle.line_posts.specs.Collected.{CollectorView, IsCollector}
 use Rattle.line_posts.specs.Generations.{own_history, own_process, AreInOrder, AreLined}
 use Rattle.line_posts.specs.Gathered.{gathered_tape, AreGathered, ArePrefixes}
 use Rattle.line_posts.specs.Gathered.{HasNoneFailed, HasOwn}
-use Rattle.line_posts.specs.Gathering.{AreFurtherBelow, AreKnown, AreReady, IsOnWay}
+use Rattle.line_posts.specs.Gathering.{AreFurtherBelow, ArePosts, AreReady, IsOnWay}
 use Rattle.line_posts.proofs.GatherLemmas.{own_tape, own_past, in_list, tape_past}
 use Rattle.line_posts.proofs.GatheringLemmas.{process_is}
 
@@ -51,13 +51,13 @@ sends_front xs ys =
 pub record AreBack (v : CollectorView) (posts : List PostView) : Type 0 where
   pub collects : IsCollector v
   pub lined : AreLined v posts
-  pub known : AreKnown posts
+  pub known : ArePosts posts
   pub order : AreInOrder posts
   pub whole : length posts ≡ length v.processes
   pub fit : IsFitFifo (own_history posts)
 
 pub back_of : (v w : CollectorView) (posts : List PostView) → v ≡ w → IsCollector v → AreLined w posts
-    → AreKnown posts → AreInOrder posts → length posts ≡ length v.processes
+    → ArePosts posts → AreInOrder posts → length posts ≡ length v.processes
     → IsFitFifo (own_history posts) → AreBack v posts
 back_of v w posts e collects lined known order whole fit = record {
   collects = collects;
@@ -185,8 +185,8 @@ module _ (v : CollectorView) (posts : List PostView) (back : AreBack v posts) wh
 fit_same : (a b : List Process) → ((p : ℕ) → tape_at a p ≡ tape_at b p) → IsFitFifo b → IsFitFifo a
 fit_same a b e h = record {
   order = λ p q.
-      subst (λ t. IsPrefix (filter_map (item_received p) t) (sent a p q)) (sym (e q))
-      (subst (λ t. IsPrefix (received b q p) (items_sent p q 0 t)) (sym (e p)) (h.order p q));
+      subst (λ t. IsPrefix (filter_map (item_received p) t) (sent_between a p q)) (sym (e q))
+      (subst (λ t. IsPrefix (received_from b q p) (items_sent p q 0 t)) (sym (e p)) (h.order p q));
   rounds = λ p. subst (λ t. AreDistinct (rounds_checked t)) (sym (e p)) (h.rounds p);
   marks = λ p. subst MarksFollow (sym (e p)) (h.marks p);
 }

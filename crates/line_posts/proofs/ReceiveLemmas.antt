@@ -10,7 +10,7 @@ use Rattle.line_rings.proofs.RowLemmas.{row_seen}
 use Rattle.std.specs.List.{filter_map}
 use Rattle.line_rings.specs.Ends.{End, StillKnow, consumer_end, in_ends, items_at, known_at, known_rows, row_at, with_item}
 use Rattle.line_rings.proofs.EndLemmas.{knows_more, length_item, items_same, items_other, prefix_self, still_rows, taken_still}
-use Rattle.line_marker.specs.Recording.{Recorded}
+use Rattle.line_marker.specs.Recording.{RecordedRound}
 use Rattle.line_tape.specs.declared.events.Event.{Event}
 use Rattle.line_tape.specs.declared.events.Event.TheVariants.{Recv}
 use Rattle.line_tape.specs.declared.items.Item.{Item}
@@ -111,11 +111,11 @@ replay_step post from packet rest h lt first =
       marks = λ f r e. cc e;
     }
 
-pub next_keeps : (post : PostView) (from : ℕ) (packet : Packet) (tape : List Event) (ins : List (End Parcel)) (floor : ℕ) (rounds : List Recorded) → IsPost post → from < length post.opening → from ≢ post.number → row_at post.kept from ≡ []
+pub next_keeps : (post : PostView) (from : ℕ) (packet : Packet) (tape : List Event) (ins : List (End Parcel)) (floor : ℕ) (rounds : List RecordedRound) → IsPost post → from < length post.opening → from ≢ post.number → row_at post.kept from ≡ []
     → tape ≡ post.tape ++ Recv (packet_name from packet) ∷ [] → ins ≡ with_item post.ins from (Message packet) → IsPost (record post { tape = tape; ins = ins; floor = floor; rounds = rounds })
 next_keeps post from packet tape ins floor rounds h lt ne bare et ei = rw (et, ei) (post_step post _ _ _ _ floor rounds h (next_step post from packet h lt ne bare))
 
-pub replay_keeps : (post : PostView) (from : ℕ) (packet : Packet) (rest : List Packet) (tape : List Event) (kept : List (List Packet)) (floor : ℕ) (rounds : List Recorded) → IsPost post → from < length post.opening → row_at post.kept from ≡ packet ∷ rest
+pub replay_keeps : (post : PostView) (from : ℕ) (packet : Packet) (rest : List Packet) (tape : List Event) (kept : List (List Packet)) (floor : ℕ) (rounds : List RecordedRound) → IsPost post → from < length post.opening → row_at post.kept from ≡ packet ∷ rest
     → tape ≡ post.tape ++ Recv (packet_name from packet) ∷ [] → kept ≡ without_first post.kept from → IsPost (record post { tape = tape; kept = kept; floor = floor; rounds = rounds })
 replay_keeps post from packet rest tape kept floor rounds h lt first et ek = rw (et, ek) (post_step post _ _ _ _ floor rounds h (replay_step post from packet rest h lt first))
 

@@ -9,7 +9,7 @@ use Rattle.std.proofs.lemmas.Option.{get_or_from_slice_get, slice_get_within}
 use Rattle.line_tape.specs.declared.events.Event.{Event}
 use Rattle.line_tape.specs.declared.events.Event.TheVariants.{Send, Check}
 use Rattle.line_tape.specs.Event.{sends, incarnation_of, incarnations_sent, IsShort}
-use Rattle.line_tape.specs.Fit.{item_received, received}
+use Rattle.line_tape.specs.Fit.{item_received, received_from}
 use Rattle.line_tape.specs.History.{Process, IsTape}
 use Rattle.line_tape.specs.Rounds.{checked_round, rounds_checked}
 use Rattle.line_tape.proofs.LineLemmas.{tape_at-past}
@@ -65,7 +65,7 @@ replays_all history q n kept long h = record {
     | inr past ↦
         let c = h.count in
         ap parcels_of (get_or_past kept p [] (omega (arith, past, c)))
-        ∙ (sym (drop_none (length (received history q p))) ∙ ap (λ t. drop (length (received history q p)) (parcels_sent q 0 t)) (sym (tape_at-past history p (omega (arith, past, long)))))
+        ∙ (sym (drop_none (length (received_from history q p))) ∙ ap (λ t. drop (length (received_from history q p)) (parcels_sent q 0 t)) (sym (tape_at-past history p (omega (arith, past, long)))))
   ];
 }
 

@@ -15,7 +15,7 @@ use Rattle.line_catalogue.specs.declared.refusals.AddError.TheVariants.{OutOfMem
 use Rattle.line_rings.specs.Ends.{End, items_at, ring_at, row_at, with_item, AreFresh}
 use Rattle.line_rings.proofs.EndLemmas.{length_item, items_same, items_other, prefix_behind, prefix_self, prefix_then, ring_item}
 use Rattle.line_tape.specs.Views.{MarksView}
-use Rattle.line_posts.specs.Collected.{collector_of, passed, CollectorView}
+use Rattle.line_posts.specs.Collected.{collector_of, passed_count, CollectorView}
 use Rattle.line_posts.specs.Collected.{HasCollectedMore, HasLeft, HasOnlyLooked, IsCollector, IsNotAdded, ShowsNone}
 use Rattle.line_posts.specs.Extension.{Extends}
 
@@ -53,7 +53,7 @@ pub addable_still : (h h' : List Process) (p : ℕ) (e e' : Event) → h' ≡ h 
 addable_still h h' p e e' eh ee t = rw (eh, ee) t
 
 -- one report more
-length_passed : (lines : List (End Event)) (p : ℕ) (event : Event) → p < length lines → passed (with_item lines p event) ≡ passed lines + 1
+length_passed : (lines : List (End Event)) (p : ℕ) (event : Event) → p < length lines → passed_count (with_item lines p event) ≡ passed_count lines + 1
 length_passed [] p event lt = absurd (omega (arith, lt))
 length_passed (e ∷ es) zero event lt = (let l = length_push e.items event in omega (arith, l))
 length_passed (e ∷ es) (suc p) event lt = (let ih = length_passed es p event (omega (arith, lt)) in omega (arith, ih))
@@ -117,7 +117,7 @@ abbrev pub collected : CollectorView → ℕ → Event → List (List Event) →
 collected c p event seen = record c { processes = with_event c.processes p event; lines = with_item c.lines p event; seen = seen }
 
 pub more_one : (c : CollectorView) (p : ℕ) (event : Event) (seen : List (List Event)) → IsCollector c → p < length c.opening → IsPrefix (row_at c.seen p) (event ∷ row_at seen p)
-    → ((q : ℕ) → (q ≡ p → ⊥) → row_at seen q ≡ row_at c.seen q) → HasCollectedMore c (collected c p event seen) × (passed (with_item c.lines p event) ≡ passed c.lines + 1)
+    → ((q : ℕ) → (q ≡ p → ⊥) → row_at seen q ≡ row_at c.seen q) → HasCollectedMore c (collected c p event seen) × (passed_count (with_item c.lines p event) ≡ passed_count c.lines + 1)
 more_one c p event seen h lt first others =
     let n = h.count in
     let m = h.line_count in
@@ -150,12 +150,12 @@ more_one c p event seen h lt first others =
 
 -- the same, of the view that comes of it
 pub more_is : (now old new : CollectorView) (p : ℕ) (event : Event) → old ≡ now → new ≡ collected old p event new.seen → IsCollector old → p < length old.opening → IsPrefix (row_at old.seen p) (event ∷ row_at new.seen p)
-    → ((q : ℕ) → (q ≡ p → ⊥) → row_at new.seen q ≡ row_at old.seen q) → HasCollectedMore now new × (passed new.lines ≡ passed now.lines + 1)
+    → ((q : ℕ) → (q ≡ p → ⊥) → row_at new.seen q ≡ row_at old.seen q) → HasCollectedMore now new × (passed_count new.lines ≡ passed_count now.lines + 1)
 more_is now old new p event v e h lt first others =
     let both = more_one old p event new.seen h lt first others in
     let more : HasCollectedMore old new = subst (HasCollectedMore old) (sym e) both.0 in
-    let count : passed new.lines ≡ passed old.lines + 1 = ap (λ (t : CollectorView). passed t.lines) e ∙ both.1 in
-    (subst (λ (t : CollectorView). HasCollectedMore t new) v more, subst (λ (t : CollectorView). passed new.lines ≡ passed t.lines + 1) v count)
+    let count : passed_count new.lines ≡ passed_count old.lines + 1 = ap (λ (t : CollectorView). passed_count t.lines) e ∙ both.1 in
+    (subst (λ (t : CollectorView). HasCollectedMore t new) v more, subst (λ (t : CollectorView). passed_count new.lines ≡ passed_count t.lines + 1) v count)
 
 -- the cause of a refusal of the catalogue
 pub not_added : {T : Type 0} (history : List Process) (p : ℕ) (event : Event) (why : AddError) (r : Result T AddError) → r ≡ Err why → p < length history

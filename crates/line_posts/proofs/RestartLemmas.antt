@@ -12,7 +12,7 @@ use Rattle.line_tape.specs.Fit.{IsFitFifo, link}
 use Rattle.line_tape.specs.Front.{front, HasChoice}
 use Rattle.line_tape.specs.History.{Process, incarnation_at, tape_at}
 use Rattle.line_tape.specs.Line.{events_before, IsConsistent, IsLine}
-use Rattle.line_tape.specs.Restart.{restarted, restarted_event, restarted_incarnation, restarted_process}
+use Rattle.line_tape.specs.Restart.{restarted_history, restarted_event, restarted_incarnation, restarted_process}
 use Rattle.line_tape.specs.Rounds.{rounds_checked}
 use Rattle.line_tape.specs.Survival.{is_allowed, survives, IsLatest}
 use Rattle.line_tape.specs.Transit.{in_transit_between}
@@ -55,7 +55,7 @@ front_kept xs lost own Now is has all = ap (λ t. front t Now) (sym (append-nil 
 
 -- the same incarnations and the same fronts
 restarted_same : (gathered own : List Process) (line : List Choice) → length gathered ≡ length own → ((p : ℕ) → incarnation_at gathered p ≡ incarnation_at own p)
-    → ((p : ℕ) → events_before gathered line p ≡ events_before own line p) → restarted gathered line ≡ restarted own line
+    → ((p : ℕ) → events_before gathered line p ≡ events_before own line p) → restarted_history gathered line ≡ restarted_history own line
 restarted_same [] [] line n i h = refl
 restarted_same [] (o ∷ own) line n i h = absurd (omega (arith, n))
 restarted_same (g ∷ gathered) [] line n i h = absurd (omega (arith, n))
@@ -64,7 +64,7 @@ restarted_same (g ∷ gathered) (o ∷ own) (choice ∷ line) n i h =
     let tape = ap (filter_map restarted_event) (h 0) in
     let inc = ap (restarted_incarnation choice) (i 0) in
     let same : restarted_process g choice ≡ restarted_process o choice = rw (tape, inc) refl in
-    ap (λ t. t ∷ restarted gathered line) same
+    ap (λ t. t ∷ restarted_history gathered line) same
     ∙ ap (λ t. restarted_process o choice ∷ t) (restarted_same gathered own line (omega (arith, n)) (λ p. i (suc p)) (λ p. h (suc p)))
 
 module _ (gathered : List Process) (marks : MarksView) (failed : List Bool) (line : List Choice) (has : HasOwn failed gathered) (latest : IsLatest gathered marks failed line) where
@@ -77,7 +77,7 @@ module _ (gathered : List Process) (marks : MarksView) (failed : List Bool) (lin
       front_kept (tape_at gathered p) lost (tape_at has.0 p) choice begins (has_choice gathered marks failed p choice alive)
       (λ e. nothing_lost (tape_at gathered p) lost (has.2.whole p (stays_alive gathered marks failed p choice alive e) ∙ begins))
 
-  same_restart : restarted gathered line ≡ restarted has.0 line
+  same_restart : restarted_history gathered line ≡ restarted_history has.0 line
   same_restart = restarted_same gathered has.0 line has.2.count has.2.incarnations same_front
 
   own_consistent : IsConsistent has.0 line
@@ -87,17 +87,17 @@ module _ (gathered : List Process) (marks : MarksView) (failed : List Bool) (lin
   own_length = latest.recoverable.length_is ∙ has.2.count
 
   -- links can lead in order to the cut tapes
-  pub restart_fits : IsFitFifo (restarted gathered line)
+  pub restart_fits : IsFitFifo (restarted_history gathered line)
   restart_fits = subst IsFitFifo (sym same_restart) (restart_fit has.0 line has.1 own_consistent own_length)
 
   -- they have no check of a round
-  pub restart_plain : ArePlain (restarted gathered line)
+  pub restart_plain : ArePlain (restarted_history gathered line)
   restart_plain p = ap rounds_checked (tape_restarted gathered line p latest.recoverable.length_is) ∙ no_rounds (events_before gathered line p)
 
   -- and their links hold what was in transit at the line
-  pub restart_links : (p q : ℕ) → items_of_parcels p (parcels_left (restarted gathered line) p q) ≡ map (λ m. Message m) (in_transit_between gathered line p q)
+  pub restart_links : (p q : ℕ) → items_of_parcels p (parcels_left (restarted_history gathered line) p q) ≡ map (λ m. Message m) (in_transit_between gathered line p q)
   restart_links p q =
-      left_items (restarted gathered line) p q
+      left_items (restarted_history gathered line) p q
       ∙ (ap (λ h. link h p q) same_restart
       ∙ (restart_link has.0 line has.1 own_consistent own_length p q
       ∙ ap (λ ms. map (λ m. Message m) ms) (transit_same gathered has.0 line (λ k. sym (same_front k)) p q)))

@@ -9,7 +9,7 @@ use Rattle.line_tape.specs.Fit.{IsFitFifo}
 use Rattle.line_tape.specs.Front.{front}
 use Rattle.line_tape.specs.History.{Process, tape_at}
 use Rattle.line_tape.specs.Line.{events_before}
-use Rattle.line_tape.specs.Rounds.{channel_fifo, channel_on, check_line, check_of, checks_of, has_check_of, has_mark_of, is_check_of, is_mark_of, is_completed_fifo, names_from, IsSnapshot}
+use Rattle.line_tape.specs.Rounds.{channel_fifo, channel_on, check_line, check_index, checks_of, has_check_of, has_mark_of, is_check_of, is_mark_of, is_completed_fifo, names_from, IsSnapshot}
 use Rattle.line_tape.specs.Transit.{names_received}
 use Rattle.line_tape.proofs.CompletionLemmas.{check_of_push, closed_parts, closed_from, completed_closed, completed_from}
 use Rattle.line_tape.proofs.GrowthLemmas.{has_check_push, has_mark_push, channel_push}
@@ -27,10 +27,10 @@ checked_more r xs [] h = ap (has_check_of r) (append-nil xs) ∙ h
 checked_more r xs (y ∷ ys) h =
     ap (has_check_of r) (sym (append_assoc xs (y ∷ []) ys)) ∙ checked_more r (xs ++ y ∷ []) ys (has_check_push xs y r ∙ ap (λ b. b || is_check_of r y) h)
 
-check_more : (r : ℕ) (xs ys : List Event) → has_check_of r xs ≡ true → check_of r (xs ++ ys) ≡ check_of r xs
-check_more r xs [] h = ap (check_of r) (append-nil xs)
+check_more : (r : ℕ) (xs ys : List Event) → has_check_of r xs ≡ true → check_index r (xs ++ ys) ≡ check_index r xs
+check_more r xs [] h = ap (check_index r) (append-nil xs)
 check_more r xs (y ∷ ys) h =
-    ap (check_of r) (sym (append_assoc xs (y ∷ []) ys))
+    ap (check_index r) (sym (append_assoc xs (y ∷ []) ys))
     ∙ (check_more r (xs ++ y ∷ []) ys (has_check_push xs y r ∙ ap (λ b. b || is_check_of r y) h) ∙ check_of_push xs y r h)
 
 mark_more : (p r : ℕ) (xs ys : List Event) → has_check_of r xs ≡ true → has_mark_of p r xs ≡ true → (has_mark_of p r (xs ++ ys) ≡ true) × (channel_on p r (xs ++ ys) ≡ channel_on p r xs)
@@ -61,10 +61,10 @@ module _ (gathered own : List Process) (r : ℕ) (fit : IsFitFifo own) (long : l
 
   same_checks : checks_of own r ≡ checks_of gathered r
   same_checks =
-      ap (λ n. map (λ q. check_of r (tape_at own q)) (range_with_len 0 n)) (sym long)
-      ∙ range_same (λ q. check_of r (tape_at own q)) (λ q. check_of r (tape_at gathered q)) 0 (length gathered) (λ q lt.
+      ap (λ n. map (λ q. check_index r (tape_at own q)) (range_with_len 0 n)) (sym long)
+      ∙ range_same (λ q. check_index r (tape_at own q)) (λ q. check_index r (tape_at gathered q)) 0 (length gathered) (λ q lt.
       let (lost, begins) = begins_own q in
-      ap (check_of r) begins ∙ check_more r (tape_at gathered q) lost (parts q (omega (arith, lt))).0)
+      ap (check_index r) begins ∙ check_more r (tape_at gathered q) lost (parts q (omega (arith, lt))).0)
 
   same_fronts : (p : ℕ) → events_before gathered (check_line (checks_of gathered r)) p ≡ events_before own (check_line (checks_of gathered r)) p
   same_fronts p =

@@ -11,7 +11,7 @@ use Rattle.line_names.specs.declared.messages.MsgName.{MsgName}
 use Rattle.line_tape.specs.declared.events.Event.{Event}
 use Rattle.line_tape.specs.declared.events.Event.TheVariants.{Send, Recv, Check, Mark}
 use Rattle.line_tape.specs.Event.{sends, NamesBelow}
-use Rattle.line_tape.specs.Fit.{received}
+use Rattle.line_tape.specs.Fit.{received_from}
 use Rattle.line_tape.specs.History.{Process, fresh, process_at, tape_at, IsHistory, IsProcess}
 use Rattle.line_tape.specs.Transit.{addressee, addressees, goes_between}
 use Rattle.line_tape.proofs.LineLemmas.{tape_at-past}
@@ -122,7 +122,7 @@ last_dropped (suc k) (x ∷ xs) =
 pub left_last : (history : List Process) (p q w : ℕ) (tape : List Event) → tape ≡ tape_at history p → w ≡ length (parcels_left history p q) → take_last w (parcels_sent q 0 tape) ≡ parcels_left history p q
 left_last history p q w tape et ew =
     let all = parcels_sent q 0 (tape_at history p) in
-    ap (λ t. take_last w (parcels_sent q 0 t)) et ∙ (ap (λ n. take_last n all) ew ∙ last_dropped (length (received history q p)) all)
+    ap (λ t. take_last w (parcels_sent q 0 t)) et ∙ (ap (λ n. take_last n all) ew ∙ last_dropped (length (received_from history q p)) all)
 
 -- nothing changes of others
 pub of_none : (n p : ℕ) (packets : List (List (List Packet))) → AreSquare n packets → AreOfSender n p packets packets

@@ -7,12 +7,12 @@ use Rattle.std.specs.Prelude.{slice_get, Contains}
 use Rattle.std.specs.List.{filter_map}
 use Rattle.std.proofs.lemmas.List.{append_assoc, append-nil, map-append}
 use Rattle.std.proofs.lemmas.List.Elements.{All-push, filter_map-append}
-use Rattle.line_marker.specs.Recording.{Recorded}
+use Rattle.line_marker.specs.Recording.{RecordedRound}
 use Rattle.line_tape.specs.declared.events.Event.{Event}
 use Rattle.line_tape.specs.declared.events.Event.TheVariants.{Send, Recv, Check, Mark}
 use Rattle.line_tape.specs.declared.items.Item.{Item}
 use Rattle.line_tape.specs.Event.{sends, incarnations_sent, incarnation_of, Holds, NamesBelow}
-use Rattle.line_tape.specs.Fit.{sent, item_received}
+use Rattle.line_tape.specs.Fit.{sent_between, item_received}
 use Rattle.line_tape.specs.Rounds.{rounds_checked, checked_round, has_check_of}
 use Rattle.line_tape.proofs.NextLemmas.{rounds_push, marks_push, slice_get_push}
 use Rattle.line_rings.specs.Ends.{End, items_at, row_at, with_item}
@@ -39,7 +39,7 @@ pub record IsStep (post : PostView) (event : Event) (kept : List (List Packet)) 
   pub rounds : (r : ℕ) → checked_round event ≡ Some r → has_check_of r post.tape ≡ false
   pub marks : (from r : ℕ) → event ≡ Mark from r → Contains (rounds_checked post.tape) r
 
-abbrev pub stepped : PostView → Event → List (List Packet) → List (End Parcel) → List (End Parcel) → ℕ → List Recorded → PostView
+abbrev pub stepped : PostView → Event → List (List Packet) → List (End Parcel) → List (End Parcel) → ℕ → List RecordedRound → PostView
 stepped post event kept outs ins floor rounds = record post { tape = post.tape ++ event ∷ []; kept = kept; outs = outs; ins = ins; floor = floor; rounds = rounds }
 
 -- the incarnation of a send on the longer tape
@@ -58,7 +58,7 @@ got_more : (r g k k' s x : List Item) (i i' : List Item) → r ++ k ≡ s ++ i �
 got_more r g k k' s x i i' e f h =
     append_assoc r g k' ∙ (ap (λ t. r ++ t) (sym h) ∙ (sym (append_assoc r k x) ∙ (ap (λ t. t ++ x) e ∙ (append_assoc s i x ∙ ap (λ t. s ++ t) (sym f)))))
 
-pub post_step : (post : PostView) (event : Event) (kept : List (List Packet)) (outs ins : List (End Parcel)) (floor : ℕ) (rounds : List Recorded) → IsPost post → IsStep post event kept outs ins → IsPost (stepped post event kept outs ins floor rounds)
+pub post_step : (post : PostView) (event : Event) (kept : List (List Packet)) (outs ins : List (End Parcel)) (floor : ℕ) (rounds : List RecordedRound) → IsPost post → IsStep post event kept outs ins → IsPost (stepped post event kept outs ins floor rounds)
 post_step post event kept outs ins floor rounds h s = record {
   within = h.within;
   out_count = s.out_count ∙ h.out_count;
@@ -75,7 +75,7 @@ post_step post event kept outs ins floor rounds h s = record {
   receipts_are = λ p.
       let (popped, more, same) = s.got p in
       ap (λ t. t ++ items_of_packets p (row_at kept p)) (filter_map-append (item_received p) post.tape (event ∷ []))
-      ∙ got_more (filter_map (item_received p) post.tape) (filter_map (item_received p) (event ∷ [])) (items_of_packets p (row_at post.kept p)) (items_of_packets p (row_at kept p)) (sent post.opening p post.number) (items_of_parcels p popped)
+      ∙ got_more (filter_map (item_received p) post.tape) (filter_map (item_received p) (event ∷ [])) (items_of_packets p (row_at post.kept p)) (items_of_packets p (row_at kept p)) (sent_between post.opening p post.number) (items_of_parcels p popped)
       (items_of_parcels p (items_at post.ins p)) (items_of_parcels p (items_at ins p)) (h.receipts_are p)
       (ap (items_of_parcels p) more ∙ map-append _ (items_at post.ins p) popped) same;
   replays = s.replays;
@@ -116,7 +116,7 @@ send_step post to body h lt ne =
       marks = λ from r e. cc e;
     }
 
-pub send_keeps : (post : PostView) (to : ℕ) (body : List ℕ) (tape : List Event) (outs : List (End Parcel)) (floor : ℕ) (rounds : List Recorded) → IsPost post → to < length post.opening → to ≢ post.number
+pub send_keeps : (post : PostView) (to : ℕ) (body : List ℕ) (tape : List Event) (outs : List (End Parcel)) (floor : ℕ) (rounds : List RecordedRound) → IsPost post → to < length post.opening → to ≢ post.number
     → tape ≡ post.tape ++ Send to (incarnation_of_post post) body ∷ [] → outs ≡ with_item post.outs to (Message (record { inc = incarnation_of_post post; number = sends post.tape; body = body }))
     → IsPost (record post { tape = tape; outs = outs; floor = floor; rounds = rounds })
 send_keeps post to body tape outs floor rounds h lt ne et eo = rw (et, eo) (post_step post _ _ _ _ floor rounds h (send_step post to body h lt ne))
@@ -140,11 +140,11 @@ alone_step post state h = record {
   marks = λ from r e. cc e;
 }
 
-pub alone_keeps : (post : PostView) (state : List ℕ) (tape : List Event) (floor : ℕ) (rounds : List Recorded) → IsPost post → tape ≡ post.tape ++ Check state None ∷ [] → IsPost (record post { tape = tape; floor = floor; rounds = rounds })
+pub alone_keeps : (post : PostView) (state : List ℕ) (tape : List Event) (floor : ℕ) (rounds : List RecordedRound) → IsPost post → tape ≡ post.tape ++ Check state None ∷ [] → IsPost (record post { tape = tape; floor = floor; rounds = rounds })
 alone_keeps post state tape floor rounds h et = rw et (post_step post _ _ _ _ floor rounds h (alone_step post state h))
 
 -- what holds of a worker says nothing of what it has seen, and of what it has recorded
-pub looked_is : (post : PostView) (tape : List Event) (outs ins : List (End Parcel)) (seen : List (List Parcel)) (floor : ℕ) (rounds : List Recorded) → IsPost post → tape ≡ post.tape → outs ≡ post.outs → ins ≡ post.ins
+pub looked_is : (post : PostView) (tape : List Event) (outs ins : List (End Parcel)) (seen : List (List Parcel)) (floor : ℕ) (rounds : List RecordedRound) → IsPost post → tape ≡ post.tape → outs ≡ post.outs → ins ≡ post.ins
     → IsPost (record post { tape = tape; outs = outs; ins = ins; seen = seen; floor = floor; rounds = rounds })
 looked_is post tape outs ins seen floor rounds h et eo ei = rw (et, eo, ei) (record {
   within = h.within;

@@ -68,9 +68,9 @@ HasLeft old p new = (items_at new.lines p ≡ items_at old.lines p)
     × (row_at new.seen p ≡ row_at old.seen p)
 
 -- how many items passed these ends
-abbrev pub passed : List (End Event) → ℕ
-passed [] = 0
-passed (e ∷ es) = length e.items + passed es
+abbrev pub passed_count : List (End Event) → ℕ
+passed_count [] = 0
+passed_count (e ∷ es) = length e.items + passed_count es
 
 -- the collector has taken further reports: of each worker it has so many more events as it popped,
 -- those that it had seen first, on the same lines, and nothing else changed

@@ -18,12 +18,12 @@ abbrev pub HasNoneFailed : List Bool → Type 0
 HasNoneFailed failed = (q : ℕ) → is_member failed q ≡ false
 
 -- what a worker has reported, and its opening tape before it
-abbrev pub reported : PostView → List Event
-reported post = opening_tape post ++ post.line.items
+abbrev pub reported_events : PostView → List Event
+reported_events post = opening_tape post ++ post.line.items
 
 -- what is gathered of a worker: its own tape, and where it failed what it reported
 abbrev pub gathered_tape : Bool → PostView → List Event
-gathered_tape failed post = if failed then reported post else post.tape
+gathered_tape failed post = if failed then reported_events post else post.tape
 
 -- of each worker
 pub record AreGathered (failed : List Bool) (posts : List PostView) (gathered : List Process)

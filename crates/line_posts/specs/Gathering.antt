@@ -15,8 +15,8 @@ use Rattle.line_posts.specs.Gathered.{gathered_tape}
 use Rattle.line_posts.specs.Posts.{PostView, IsPost, opening_tape}
 
 -- what holds of each of them at any time
-abbrev pub AreKnown : List PostView → Type 0
-AreKnown posts = (p : ℕ) (post : PostView) → slice_get posts p ≡ Some post
+abbrev pub ArePosts : List PostView → Type 0
+ArePosts posts = (p : ℕ) (post : PostView) → slice_get posts p ≡ Some post
     → IsPost post × IsTape post.tape
 
 -- and each is in its place

@@ -1,6 +1,6 @@
 -- Workers of one generation, and their collector: each two hold the two ends of one ring each way.
 use Rattle.std.specs.Prelude.{◌≡◌, ◌≢◌, ℕ, List, ◌++◌, map, length, slice_get, Some}
-use Rattle.line_tape.specs.Fit.{sent, received}
+use Rattle.line_tape.specs.Fit.{sent_between, received_from}
 use Rattle.line_tape.specs.History.{Process}
 use Rattle.line_rings.specs.Ends.{items_at, ring_at, row_at}
 use Rattle.line_posts.specs.declared.parcels.Parcel.{Parcel}
@@ -50,8 +50,8 @@ abbrev pub AreAccounted : List PostView → Type 0
 AreAccounted posts = (p q : ℕ) (from to : PostView) → slice_get posts p ≡ Some from
     → slice_get posts q ≡ Some to → p ≢ q
     → (rest : List Parcel) × (items_at to.ins p ++ rest ≡ items_at from.outs q)
-    × ((received (own_history posts) q p ++ items_of_packets p (row_at to.kept p))
-    ++ items_of_parcels p rest ≡ sent (own_history posts) p q)
+    × ((received_from (own_history posts) q p ++ items_of_packets p (row_at to.kept p))
+    ++ items_of_parcels p rest ≡ sent_between (own_history posts) p q)
 
 -- the worker has its number, its opening and its ends of the rings
 pub record IsSamePost (old new : PostView) : Type 0 where

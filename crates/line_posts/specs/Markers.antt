@@ -1,6 +1,6 @@
 -- Rounds at a worker (Chandy and Lamport, ACM TOCS 3(1), 1985): markers go out with its check.
 use Rattle.std.specs.Prelude.{ℕ, zero, suc, List, [], ◌∷◌, ◌++◌, length, map, Some}
-use Rattle.line_marker.specs.Recording.{Recorded}
+use Rattle.line_marker.specs.Recording.{RecordedRound}
 use Rattle.line_tape.specs.declared.events.Event.{Event}
 use Rattle.line_tape.specs.declared.events.Event.TheVariants.{Check, Mark}
 use Rattle.line_rings.specs.Ends.{End, with_item}
@@ -19,7 +19,7 @@ with_others (e ∷ es) zero item = e ∷ map (λ other. and_item other item) es
 with_others (e ∷ es) (suc me) item = and_item e item ∷ with_others es me item
 
 -- what a worker has recorded of rounds after an event
-abbrev pub recorded_by : PostView → Event → List Recorded
+abbrev pub recorded_by : PostView → Event → List RecordedRound
 recorded_by post event = rounds_by (length post.opening) post.floor post.rounds event
 
 -- the worker after its check of a round: the state is on its tape, and the marker on its ring to

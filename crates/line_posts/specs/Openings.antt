@@ -1,7 +1,7 @@
 -- How a generation begins, from any history that links in order can lead to.
 use Rattle.std.specs.Prelude.{◌≡◌, ◌<◌, ℕ, List, [], length, drop, slice_get, Some}
 use Rattle.line_tape.specs.declared.events.Event.{Event}
-use Rattle.line_tape.specs.Fit.{received}
+use Rattle.line_tape.specs.Fit.{received_from}
 use Rattle.line_tape.specs.History.{Process, tape_at}
 use Rattle.line_tape.specs.Rounds.{rounds_checked}
 use Rattle.line_rings.specs.Ends.{AreFresh, End, ring_at, row_at, slots_at, slots_of}
@@ -17,7 +17,7 @@ ArePlain history = (p : ℕ) → rounds_checked (tape_at history p) ≡ []
 -- what the link from process p to q holds, bodies included: what was sent and is not received
 abbrev pub parcels_left : List Process → ℕ → ℕ → List Parcel
 parcels_left history p q =
-    drop (length (received history q p)) (parcels_sent q 0 (tape_at history p))
+    drop (length (received_from history q p)) (parcels_sent q 0 (tape_at history p))
 
 -- its tape is the opening one, nothing has passed its rings and its report line, and it keeps what
 -- the links to it hold

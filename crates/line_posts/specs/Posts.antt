@@ -3,12 +3,12 @@ use Rattle.std.specs.Prelude.{◌≡◌, ◌≢◌, ◌<◌, ◌≤◌, ◌⊎�
 use Rattle.std.specs.Prelude.{None, All}
 use Rattle.std.specs.List.{filter_map}
 use mathlib.Core.List.{IsPrefix}
-use Rattle.line_marker.specs.Recording.{Recorded}
+use Rattle.line_marker.specs.Recording.{RecordedRound}
 use Rattle.line_names.specs.declared.messages.MsgName.{MsgName}
 use Rattle.line_tape.specs.declared.events.Event.{Event}
 use Rattle.line_tape.specs.declared.events.Event.TheVariants.{Send, Check}
 use Rattle.line_tape.specs.Event.{sends, Holds, NamesBelow}
-use Rattle.line_tape.specs.Fit.{sent, item_received, AreDistinct, MarksFollow}
+use Rattle.line_tape.specs.Fit.{sent_between, item_received, AreDistinct, MarksFollow}
 use Rattle.line_tape.specs.History.{Process, tape_at, incarnation_at}
 use Rattle.line_tape.specs.Rounds.{rounds_checked}
 use Rattle.line_rings.specs.Ends.{End, with_item, items_at, row_at}
@@ -31,10 +31,10 @@ pub record PostView : Type 0 where
   pub seen : List (List Parcel)
   pub line : End Event
   pub floor : ℕ
-  pub rounds : List Recorded
+  pub rounds : List RecordedRound
 
 abbrev pub post_of : ℕ → List Process → List Event → List (List Packet) → List (End Parcel)
-    → List (End Parcel) → List (List Parcel) → End Event → ℕ → List Recorded → PostView
+    → List (End Parcel) → List (List Parcel) → End Event → ℕ → List RecordedRound → PostView
 post_of number opening tape kept outs ins seen line floor rounds = record {
   number = number;
   opening = opening;
@@ -72,7 +72,7 @@ pub record IsPost (post : PostView) : Type 0 where
   -- it, and then what it popped; it pops nothing while it keeps a replay of that sender
   pub receipts_are : (p : ℕ)
       → filter_map (item_received p) post.tape ++ items_of_packets p (row_at post.kept p)
-      ≡ sent post.opening p post.number ++ items_of_parcels p (items_at post.ins p)
+      ≡ sent_between post.opening p post.number ++ items_of_parcels p (items_at post.ins p)
   pub replays : (p : ℕ) → (row_at post.kept p ≡ []) ⊎ (items_at post.ins p ≡ [])
   pub alone : items_at post.ins post.number ≡ []
   -- what it sent since the opening has its present incarnation
@@ -82,8 +82,8 @@ pub record IsPost (post : PostView) : Type 0 where
   pub marks : MarksFollow post.tape
 
 -- the name of its next message
-abbrev pub next_name : PostView → MsgName
-next_name post =
+abbrev pub next_message_name : PostView → MsgName
+next_message_name post =
     record { from = post.number; inc = incarnation_of_post post; number = sends post.tape }
 
 -- its next message to another process, with this body

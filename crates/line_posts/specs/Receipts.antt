@@ -53,14 +53,14 @@ HasTaken old name body new = (new ≡ record old {
 }) × (IsReplay old name.from (packet_named name body) new
     ⊎ IsNext old name.from (packet_named name body) new)
 
-abbrev pub IsMessage : Parcel → Type 0
-IsMessage (Message packet) = Unit {0}
-IsMessage (Marker round) = ⊥
+abbrev pub IsMessageParcel : Parcel → Type 0
+IsMessageParcel (Message packet) = Unit {0}
+IsMessageParcel (Marker round) = ⊥
 
 -- the first of them is a message
 abbrev pub BeginsWithMessage : List Parcel → Type 0
 BeginsWithMessage [] = ⊥
-BeginsWithMessage (parcel ∷ rest) = IsMessage parcel
+BeginsWithMessage (parcel ∷ rest) = IsMessageParcel parcel
 
 -- the first of them is the marker of that round
 abbrev pub BeginsWithMarker : ℕ → List Parcel → Type 0

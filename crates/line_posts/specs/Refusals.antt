@@ -57,9 +57,9 @@ ComesNext post shown from next = (rest : List Parcel)
     × (parcels_of (row_at post.kept from) ++ shown ≡ next ∷ rest)
 
 -- how many events it adds: a marker that forces a check adds two
-abbrev pub events_of : PostView → Parcel → ℕ
-events_of post (Message packet) = 1
-events_of post (Marker round) = if has_check_of round post.tape then 1 else 2
+abbrev pub event_count : PostView → Parcel → ℕ
+event_count post (Message packet) = 1
+event_count post (Marker round) = if has_check_of round post.tape then 1 else 2
 
 -- the cause of a refusal, where those before it do not hold and the ring shows these items
 abbrev pub IsNotReceived : PostView → List Parcel → ℕ → List ℕ → ReceiveWhy → Type 0
@@ -71,14 +71,14 @@ IsNotReceived post shown from state NothingThere =
     MayReceive post from state × (row_at post.kept from ≡ []) × (shown ≡ [])
 IsNotReceived post shown from state take_full = MayReceive post from state
     × (next : Parcel) × ComesNext post shown from next
-    × (MOST_EVENTS < length post.tape + events_of post next)
+    × (MOST_EVENTS < length post.tape + event_count post next)
 IsNotReceived post shown from state take_ring = MayReceive post from state
     × (row_at post.kept from ≡ []) × (round : ℕ) × ComesNext post shown from (Marker round)
     × (has_check_of round post.tape ≡ false) × (suc (length post.tape) < MOST_EVENTS)
     × HasFilled post.outs
 IsNotReceived post shown from state take_memory = MayReceive post from state
     × (next : Parcel) × ComesNext post shown from next
-    × (length post.tape + events_of post next ≤ MOST_EVENTS)
+    × (length post.tape + event_count post next ≤ MOST_EVENTS)
 
 -- the last round that the worker recorded is still open
 abbrev pub HasOpenRound : PostView → Type 0

@@ -5,7 +5,7 @@ ghost use Rattle.line_rings.specs.Ends.{ring_at};
 ghost use Rattle.line_posts.specs.Posts.{PostView};
 ghost use Rattle.line_posts.specs.Generations.{own_history, AreAccounted, AreInOrder, AreLinkedTwo};
 ghost use Rattle.line_posts.specs.Generations.{IsGeneration};
-ghost use Rattle.line_posts.specs.Gathering.{AreKnown, AreMet, AreMetTwo};
+ghost use Rattle.line_posts.specs.Gathering.{ArePosts, AreMet, AreMetTwo};
 
 use crate::posts::Post;
 use line_rings::meet;
@@ -79,7 +79,7 @@ fn meet_all(posts: &mut Vec<Post>)
 /// Whether they are one for each process, in order.
 fn are_in_order(posts: &Vec<Post>) -> bool
     ensures order { IsTrue result ↔ AreInOrder posts.now.items }
-    ensures known { IsTrue result → AreKnown posts.now.items }
+    ensures known { IsTrue result → ArePosts posts.now.items }
 {
     for p in 0..posts.len() {
         let post = &posts[p];
@@ -98,7 +98,7 @@ pub(crate) fn account(posts: &mut Vec<Post>) -> bool
     ensures order { IsTrue result ↔ AreInOrder posts.old.items }
     ensures accounted { IsTrue result → AreAccounted posts.old.items }
     ensures fit { IsTrue result → IsFitFifo (own_history posts.old.items) }
-    ensures known { IsTrue result → AreKnown posts.old.items }
+    ensures known { IsTrue result → ArePosts posts.old.items }
 {
     if !are_in_order(posts) {
         return false;

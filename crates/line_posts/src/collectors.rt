@@ -8,7 +8,8 @@ ghost use Rattle.line_tape.specs.Survival.{IsLatest};
 ghost use Rattle.line_tape.specs.Transit.{in_transit};
 ghost use Rattle.line_rings.specs.Ends.{in_ends, items_at, known_rows, AreFresh};
 ghost use Rattle.line_posts.specs.Extension.{Extends};
-ghost use Rattle.line_posts.specs.Collected.{collector_of, passed, HasCollected, HasCollectedMore};
+ghost use Rattle.line_posts.specs.Collected.{collector_of, passed_count, HasCollected};
+ghost use Rattle.line_posts.specs.Collected.{HasCollectedMore};
 ghost use Rattle.line_posts.specs.Collected.{HasLeft, HasOnlyLooked, HaveAllFailed, IsCollector};
 ghost use Rattle.line_posts.specs.Collected.{IsNotTaken, ShowsNone};
 
@@ -126,7 +127,7 @@ impl Collector {
             (HasOnlyLooked self.old self.new × ShowsNone self.new p)) }
         ensures more { HasCollectedMore self.old self.new }
         ensures count { IfOk result (λ did.
-            passed self.new.lines ≡ passed self.old.lines + (if did then 1 else 0)) }
+            passed_count self.new.lines ≡ passed_count self.old.lines + (if did then 1 else 0)) }
         ensures others { (q : ℕ) → q ≢ p → HasLeft self.old q self.new }
         ensures err { OnErr result (HasOnlyLooked self.old self.new) }
         ensures why { IfErr result (λ why. IsNotTaken self.new p why) }
@@ -151,7 +152,8 @@ impl Collector {
         requires { p < length self.old.opening }
         ensures more { HasCollectedMore self.old self.new }
         ensures limit { IfOk result (λ k. k ≤ limit) }
-        ensures count { IfOk result (λ k. passed self.new.lines ≡ passed self.old.lines + k) }
+        ensures count { IfOk result
+            (λ k. passed_count self.new.lines ≡ passed_count self.old.lines + k) }
         ensures others { (q : ℕ) → q ≢ p → HasLeft self.old q self.new }
         ensures none { IfOk result (λ k. k ≡ 0
             → items_at self.new.lines p ≡ items_at self.old.lines p) }
@@ -176,7 +178,8 @@ impl Collector {
     pub fn take(&mut self, limit: u32) -> Result<u32, AddError>
         ensures more { HasCollectedMore self.old self.new }
         ensures limit { IfOk result (λ k. k ≤ limit) }
-        ensures count { IfOk result (λ k. passed self.new.lines ≡ passed self.old.lines + k) }
+        ensures count { IfOk result
+            (λ k. passed_count self.new.lines ≡ passed_count self.old.lines + k) }
 
         // Each process in turn, until its line shows none.
         ensures turns { (p q : ℕ) → p < q

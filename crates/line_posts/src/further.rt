@@ -4,7 +4,7 @@ ghost use Rattle.std.specs.Prelude.{false, length, take, drop};
 ghost use Rattle.std.specs.VecDeque.{deque_items};
 ghost use Rattle.line_tape.specs.declared.events.Event.{Event};
 ghost use Rattle.line_tape.specs.History.{process_at, tape_at, incarnation_at};
-ghost use Rattle.line_catalogue.specs.Views.{room_at};
+ghost use Rattle.line_catalogue.specs.Views.{catalogue_room_at};
 ghost use Rattle.line_rings.specs.Ends.{in_ends, items_at, known_rows, ring_at, row_at, StillKnow};
 ghost use Rattle.line_posts.specs.Posts.{opening_tape};
 ghost use Rattle.line_posts.specs.Gathered.{gathered_tape};
@@ -70,13 +70,15 @@ fn further_of(
     requires ready { IsReady catalogue.old.processes (in_ends lines.old.items) p post.old }
     ensures processes { catalogue.new.processes ≡ catalogue.old.processes }
     ensures marks { catalogue.new.marks ≡ catalogue.old.marks }
-    ensures others { (q : ℕ) → q ≢ p → room_at catalogue.new q ≡ room_at catalogue.old q }
+    ensures others { (q : ℕ) → q ≢ p
+        → catalogue_room_at catalogue.new q ≡ catalogue_room_at catalogue.old q }
     ensures lines { in_ends lines.new.items ≡ in_ends lines.old.items }
     ensures seen { StillKnow (known_rows lines.old.items) lines.new.items }
     ensures post { post.new ≡ post.old }
     ensures events { IfOk result (λ events.
         tape_at catalogue.old.processes p ++ deque_items events ≡ gathered_tape failed post.old) }
-    ensures room { IfOk result (λ events. length (deque_items events) ≤ room_at catalogue.new p) }
+    ensures room { IfOk result
+        (λ events. length (deque_items events) ≤ catalogue_room_at catalogue.new p) }
 {
     let from = catalogue.history().tape(p).len();
     let upto = post.gathered_len(lines, p.get() as usize, failed);

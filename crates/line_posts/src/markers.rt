@@ -42,7 +42,7 @@ pub(crate) fn push_markers(outs: &mut Vec<Producer<Parcel>>, me: usize, round: u
 }
 
 /// Takes the known item that is first, a marker.
-pub(crate) fn take_marker(ins: &mut Vec<Consumer<Parcel>>, p: usize, round: u32)
+pub(crate) fn take_known_marker(ins: &mut Vec<Consumer<Parcel>>, p: usize, round: u32)
     requires within { p < length ins.old.items }
     requires first { BeginsWithMarker round (known_at ins.old.items p) }
     ensures ends { in_ends ins.new.items ≡ with_item (in_ends ins.old.items) p (Marker round) }

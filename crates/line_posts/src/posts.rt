@@ -7,7 +7,8 @@ ghost use Rattle.line_tape.specs.Fit.{IsFitFifo};
 ghost use Rattle.line_tape.specs.History.{IsTape};
 ghost use Rattle.line_rings.specs.Ends.{free_at, out_ends, in_ends, known_rows, producer_end};
 ghost use Rattle.line_journals.specs.Journals.{IsSameJournal};
-ghost use Rattle.line_posts.specs.Posts.{checked_alone, incarnation_of_post, next_name, post_of};
+ghost use Rattle.line_posts.specs.Posts.{checked_alone, incarnation_of_post, next_message_name};
+ghost use Rattle.line_posts.specs.Posts.{post_of};
 ghost use Rattle.line_posts.specs.Posts.{reported_count, sent_by, IsPost};
 ghost use Rattle.line_posts.specs.Posts.{PostView};
 ghost use Rattle.line_posts.specs.Refusals.{IsNotSent, MaySend};
@@ -74,7 +75,7 @@ impl Model for Post {
 }
 
 /// The name of a message.
-pub(crate) fn name_of(from: ProcId, inc: u16, number: u32) -> MsgName
+pub(crate) fn message_name(from: ProcId, inc: u16, number: u32) -> MsgName
     ensures { result ≡ record { from = from; inc = inc; number = number } }
 {
     MsgName { from, inc, number }
@@ -222,7 +223,7 @@ impl Post {
     /// It is one push on the ring to that process, after which the tape has the Send. It costs a
     /// constant, but for a tape that grows.
     pub fn send(&mut self, to: ProcId, body: Body) -> Result<MsgName, SendRefused>
-        ensures ok { IfOk result (λ name. (name ≡ next_name self.old)
+        ensures ok { IfOk result (λ name. (name ≡ next_message_name self.old)
             × (self.new ≡ sent_by self.old to body)) }
         ensures err { IfErr result (λ e. (e.body ≡ body) × (self.new ≡ self.old)) }
         ensures same { IsSamePost self.old self.new }
@@ -239,7 +240,7 @@ impl Post {
         let parcel = message(inc, number, &body);
         push_known(&mut self.outs, to.get() as usize, parcel);
         self.journal.send(to, inc, &body);
-        Ok(name_of(self.me, inc, number))
+        Ok(message_name(self.me, inc, number))
     }
 
     /// Takes a check of no round, and answers its index.

@@ -5,7 +5,7 @@ ghost use Rattle.std.specs.VecDeque.{deque_items};
 ghost use Rattle.line_rings.specs.Ends.{in_ends, known_at, row_at, with_item};
 ghost use Rattle.line_posts.specs.Parcels.{packet_name};
 ghost use Rattle.line_posts.specs.Receipts.{BeginsWithMarker, BeginsWithMessage, HasReceived};
-ghost use Rattle.line_posts.specs.Receipts.{HasOnlySeen, IsMessage, StillSees};
+ghost use Rattle.line_posts.specs.Receipts.{HasOnlySeen, IsMessageParcel, StillSees};
 ghost use Rattle.line_posts.specs.Generations.{IsSamePost};
 ghost use Rattle.line_posts.specs.Refusals.{IsNotReceived, MayReceive};
 ghost use Rattle.line_posts.specs.declared.parcels.Packet.{Packet};
@@ -13,9 +13,9 @@ ghost use Rattle.line_posts.specs.declared.parcels.Parcel.{Parcel};
 ghost use Rattle.line_posts.specs.declared.parcels.Parcel.TheVariants.{Message};
 ghost use Rattle.line_posts.specs.declared.receiving.Received.TheVariants.{Message as TookMessage};
 
-use crate::markers::{push_markers, take_marker};
+use crate::markers::{push_markers, take_known_marker};
 use crate::parcels::{Packet, Parcel};
-use crate::posts::{Post, name_of};
+use crate::posts::{Post, message_name};
 use crate::queues::{first_kept, keeps, take_kept};
 use crate::refusals::ReceiveWhy;
 use line_names::{Body, MsgName, ProcId};
@@ -49,7 +49,7 @@ fn round_first(ins: &Vec<Consumer<Parcel>>, p: usize) -> Option<u32>
 
 /// The packet of a message.
 fn packet_of(parcel: Parcel) -> Packet
-    requires { IsMessage parcel }
+    requires { IsMessageParcel parcel }
     ensures { parcel ≡ Message result }
 {
     match parcel {
@@ -66,7 +66,7 @@ fn name_first(ins: &Vec<Consumer<Parcel>>, p: usize, from: ProcId) -> MsgName
         × (known_at ins.now.items p ≡ Message packet ∷ rest) × (result ≡ packet_name from packet) }
 {
     match front_at(ins, p) {
-        Parcel::Message { packet } => name_of(from, packet.inc, packet.number),
+        Parcel::Message { packet } => message_name(from, packet.inc, packet.number),
         Parcel::Marker { .. } => unreachable!(),
     }
 }
@@ -92,14 +92,14 @@ fn name_kept(kept: &Vec<VecDeque<Packet>>, p: usize, from: ProcId) -> MsgName
         × (result ≡ packet_name from packet) }
 {
     let packet = first_kept(kept, p);
-    name_of(from, packet.inc, packet.number)
+    message_name(from, packet.inc, packet.number)
 }
 
 /// The name and the body of a packet from a process.
 fn opened(from: ProcId, packet: Packet) -> Received
     ensures { result ≡ TookMessage (packet_name from packet) packet.body }
 {
-    let name = name_of(from, packet.inc, packet.number);
+    let name = message_name(from, packet.inc, packet.number);
     Received::Message {
         name,
         body: packet.body,
@@ -167,7 +167,7 @@ impl Post {
             if self.journal.reserve(1).is_err() {
                 return Err(ReceiveWhy::OutOfMemory);
             }
-            take_marker(&mut self.ins, p, round);
+            take_known_marker(&mut self.ins, p, round);
             self.shown = Snapshot::of(&self.ins);
             self.journal.mark(from, round);
             return Ok(Received::Marked {
@@ -185,7 +185,7 @@ impl Post {
             return Err(ReceiveWhy::OutOfMemory);
         }
         push_markers(&mut self.outs, self.me.get() as usize, round);
-        take_marker(&mut self.ins, p, round);
+        take_known_marker(&mut self.ins, p, round);
         self.shown = Snapshot::of(&self.ins);
         self.journal.force(from, state, round);
         Ok(Received::Marked {

@@ -4,9 +4,9 @@ ghost use Rattle.std.specs.Prelude.{IfOk, None, OnOk, length, map, replicate, sl
 ghost use Rattle.std.specs.Prelude.{slice_get, slice_set, IsTrue, Some, false};
 ghost use Rattle.line_names.specs.declared.messages.MsgName.{MsgName};
 ghost use Rattle.line_tape.specs.Event.{sends, IsShort, NamesBelow};
-ghost use Rattle.line_tape.specs.Restart.{restarted};
+ghost use Rattle.line_tape.specs.Restart.{restarted_history};
 ghost use Rattle.line_tape.specs.Rounds.{checked_round, rounds_checked};
-ghost use Rattle.line_tape.specs.Shown.{shown};
+ghost use Rattle.line_tape.specs.Shown.{event_of_ref};
 ghost use Rattle.line_tape.specs.Transit.{in_transit, in_transit_between};
 ghost use Rattle.line_tape.specs.declared.items.Item.TheVariants.{Message};
 ghost use Rattle.line_rings.specs.Ends.{row_at};
@@ -183,12 +183,12 @@ fn note_sent(
     counts: &mut Vec<usize>,
     packets: &mut Vec<Vec<VecDeque<Packet>>>,
 ) -> Result<usize, AllocError>
-    requires short { IsShort (shown event.now) }
-    requires plain { checked_round (shown event.now) ≡ None }
-    requires named { NamesBelow (length counts.old.items) (shown event.now) }
+    requires short { IsShort (event_of_ref event.now) }
+    requires plain { checked_round (event_of_ref event.now) ≡ None }
+    requires named { NamesBelow (length counts.old.items) (event_of_ref event.now) }
     requires from { p < length counts.old.items }
     requires packets { AreSquare (length counts.old.items) (packets_of packets.old.items) }
-    ensures noted { IfOk result (λ taken. IsNoted p number (shown event.now)
+    ensures noted { IfOk result (λ taken. IsNoted p number (event_of_ref event.now)
         counts.old.items counts.new.items (packets_of packets.old.items)
         (packets_of packets.new.items) taken) }
 {
@@ -209,7 +209,7 @@ fn note_sent(
 
 /// How many messages the event sends: one or none.
 fn sent_by(event: &EventRef<'_>) -> u32
-    ensures value { result ≡ sends (shown event.now ∷ []) }
+    ensures value { result ≡ sends (event_of_ref event.now ∷ []) }
     ensures one { result ≤ 1 }
 {
     match event {
@@ -270,13 +270,14 @@ pub(crate) fn all_replays(
     requires transit { plan.now.replays.items ≡ in_transit gathered.now.processes plan.now.line }
     requires count { length plan.now.line ≡ length gathered.now.processes }
     requires journals { (floor : ℕ) × AreJournals
-        (restarted gathered.now.processes plan.now.line) floor journals.now.items }
-    requires plain { ArePlain (restarted gathered.now.processes plan.now.line) }
+        (restarted_history gathered.now.processes plan.now.line) floor journals.now.items }
+    requires plain { ArePlain (restarted_history gathered.now.processes plan.now.line) }
     requires links { (p q : ℕ)
-        → items_of_parcels p (parcels_left (restarted gathered.now.processes plan.now.line) p q)
+        → items_of_parcels p
+        (parcels_left (restarted_history gathered.now.processes plan.now.line) p q)
         ≡ map (λ m. Message m) (in_transit_between gathered.now.processes plan.now.line p q) }
     ensures { IfOk result (λ packets. AreAllReplays
-        (restarted gathered.now.processes plan.now.line) (packets_of packets.items)) }
+        (restarted_history gathered.now.processes plan.now.line) (packets_of packets.items)) }
 {
     let n = gathered.n();
     let mut counts = no_counts(alloc, n)?;

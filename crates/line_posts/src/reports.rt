@@ -5,7 +5,7 @@ ghost use Rattle.std.specs.List.{filter_map};
 ghost use Rattle.std.specs.VecDeque.{deque_items};
 ghost use Rattle.rtrb.specs.Ring.{known_free};
 ghost use Rattle.line_tape.specs.Event.{state_of, IsShort};
-ghost use Rattle.line_tape.specs.Shown.{shown};
+ghost use Rattle.line_tape.specs.Shown.{event_of_ref};
 ghost use Rattle.line_rings.specs.Ends.{producer_end, slots_of};
 ghost use Rattle.line_posts.specs.Posts.{reported_count};
 ghost use Rattle.line_posts.specs.Generations.{IsSamePost};
@@ -47,7 +47,7 @@ fn keep_state(
     states: &mut VecDeque<State>,
 ) -> Result<(), AllocError>
     ensures { OnOk result (deque_items states.new
-        ≡ deque_items states.old ++ filter_map state_of (shown event.now ∷ [])) }
+        ≡ deque_items states.old ++ filter_map state_of (event_of_ref event.now ∷ [])) }
 {
     match event.state() {
         Some(bytes) => {
@@ -76,12 +76,12 @@ fn states_of(alloc: Global, tape: &Tape, from: u32, k: u32) -> Result<VecDeque<S
 
 /// An event in memory of its own, with the first of the states where it is a check.
 fn event_of(event: &EventRef<'_>, states: &mut VecDeque<State>) -> Event
-    requires short { IsShort (shown event.now) }
+    requires short { IsShort (event_of_ref event.now) }
     requires state { (rest : List (List ℕ))
-        × (deque_items states.old ≡ filter_map state_of (shown event.now ∷ []) ++ rest) }
-    ensures value { result ≡ shown event.now }
+        × (deque_items states.old ≡ filter_map state_of (event_of_ref event.now ∷ []) ++ rest) }
+    ensures value { result ≡ event_of_ref event.now }
     ensures rest { deque_items states.old
-        ≡ filter_map state_of (shown event.now ∷ []) ++ deque_items states.new }
+        ≡ filter_map state_of (event_of_ref event.now ∷ []) ++ deque_items states.new }
 {
     match event {
         EventRef::Send { to, inc, body } => Event::Send {

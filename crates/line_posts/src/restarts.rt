@@ -7,7 +7,7 @@ ghost use Rattle.line_names.specs.declared.choices.Choice.TheVariants.{Check as 
 ghost use Rattle.line_tape.specs.Chain.{IsChain};
 ghost use Rattle.line_tape.specs.Fit.{IsFitFifo};
 ghost use Rattle.line_tape.specs.Line.{IsConsistent, IsLine};
-ghost use Rattle.line_tape.specs.Restart.{restarted, restarted_marks, HaveFurther};
+ghost use Rattle.line_tape.specs.Restart.{restarted_history, restarted_marks, HaveFurther};
 ghost use Rattle.line_tape.specs.Rounds.{check_line, checks_of, is_completed_fifo};
 ghost use Rattle.line_tape.specs.Survival.{survives, IsLatest};
 ghost use Rattle.line_tape.specs.Transit.{in_transit, in_transit_between};
@@ -45,7 +45,8 @@ fn go_on(catalogue: &mut Catalogue, line: &Line, left: Option<Vec<MsgName>>)
     requires further { HaveFurther catalogue.old.processes line.now }
     requires left { IfSome left (λ left.
         left.items ≡ in_transit catalogue.old.processes line.now) }
-    ensures processes { catalogue.new.processes ≡ restarted catalogue.old.processes line.now }
+    ensures processes { catalogue.new.processes
+        ≡ restarted_history catalogue.old.processes line.now }
     ensures marks { catalogue.new.marks ≡ restarted_marks catalogue.old.marks line.now }
 {
     match left {
@@ -62,7 +63,8 @@ fn journals_at(
     floor: u32,
 ) -> Result<Vec<Journal>, AllocError>
     requires { IsLine history.now.processes line.now }
-    ensures { IfOk result (λ journals. AreJournals (restarted history.now.processes line.now) floor
+    ensures { IfOk result
+        (λ journals. AreJournals (restarted_history history.now.processes line.now) floor
         journals.items) }
 {
     let n = history.n();
@@ -82,12 +84,13 @@ impl Gathered {
     fn prepare_next(&self, plan: &Plan) -> Result<Prepared, AllocError>
         requires latest { IsLatest self.now.processes self.now.marks self.now.failed plan.now.line }
         requires replays { plan.now.replays.items ≡ in_transit self.now.processes plan.now.line }
-        ensures fit { IsFitFifo (restarted self.now.processes plan.now.line) }
+        ensures fit { IsFitFifo (restarted_history self.now.processes plan.now.line) }
         ensures prepared { IfOk result (λ prepared. IsPrepared
-            (restarted self.now.processes plan.now.line) self.now.floor self.now.capacity
+            (restarted_history self.now.processes plan.now.line) self.now.floor self.now.capacity
             prepared) }
         ensures links { (p q : ℕ)
-            → items_of_parcels p (parcels_left (restarted self.now.processes plan.now.line) p q)
+            → items_of_parcels p
+            (parcels_left (restarted_history self.now.processes plan.now.line) p q)
             ≡ map (λ m. Message m) (in_transit_between self.now.processes plan.now.line p q) }
     {
         let history = self.catalogue.history();
@@ -107,13 +110,15 @@ impl Gathered {
         requires latest { IsLatest self.processes self.marks self.failed line.now }
         requires further { HaveFurther self.processes line.now }
         requires left { IfSome left (λ left. left.items ≡ in_transit self.processes line.now) }
-        requires fit { IsFitFifo (restarted self.processes line.now) }
-        requires prepared { IsPrepared (restarted self.processes line.now) self.floor self.capacity
+        requires fit { IsFitFifo (restarted_history self.processes line.now) }
+        requires prepared { IsPrepared
+            (restarted_history self.processes line.now) self.floor self.capacity
             prepared }
-        ensures collector { result.0 ≡ collector_of (restarted self.processes line.now)
-            (restarted self.processes line.now) (restarted_marks self.marks line.now)
+        ensures collector { result.0 ≡ collector_of (restarted_history self.processes line.now)
+            (restarted_history self.processes line.now) (restarted_marks self.marks line.now)
             result.0.lines result.0.seen self.capacity }
-        ensures posts { AreOpened (restarted self.processes line.now) self.floor self.capacity
+        ensures posts { AreOpened
+            (restarted_history self.processes line.now) self.floor self.capacity
             result.1.items result.0.lines }
     {
         let alloc = self.alloc;
@@ -153,16 +158,17 @@ impl Gathered {
 
         // What goes on from the line.
         ensures collector { IfOk result (λ r. r.0
-            ≡ collector_of (restarted self.processes r.2.line) (restarted self.processes r.2.line)
+            ≡ collector_of (restarted_history self.processes r.2.line)
+            (restarted_history self.processes r.2.line)
             (restarted_marks self.marks r.2.line) r.0.lines r.0.seen self.capacity) }
         ensures posts { IfOk result (λ r.
-            AreOpened (restarted self.processes r.2.line) self.floor self.capacity r.1.items
+            AreOpened (restarted_history self.processes r.2.line) self.floor self.capacity r.1.items
             r.0.lines) }
         ensures links { IfOk result (λ r. (p q : ℕ)
-            → items_of_parcels p (parcels_left (restarted self.processes r.2.line) p q)
+            → items_of_parcels p (parcels_left (restarted_history self.processes r.2.line) p q)
             ≡ map (λ m. Message m) (in_transit_between self.processes r.2.line p q)) }
         ensures generation { IfOk result (λ r. IsGeneration r.1.items × AreLined r.0 r.1.items) }
-        ensures fit { IfOk result (λ r. IsFitFifo (restarted self.processes r.2.line)) }
+        ensures fit { IfOk result (λ r. IsFitFifo (restarted_history self.processes r.2.line)) }
 
         // The refusals.
         ensures further { IfOk result (λ r. HaveFurther self.processes r.2.line) }

@@ -20,49 +20,49 @@ use Rattle.line_claims.specs.Numbers.{none_text}
 use Rattle.line_claims.specs.Records.{choice_text, name_fields, number_text, pass_record}
 
 -- sent,FROM,INC,NUMBER
-abbrev pub sent : MsgName → Record
-sent m = codes "sent" ∷ name_fields m
+abbrev pub sent_record : MsgName → Record
+sent_record m = codes "sent" ∷ name_fields m
 
 -- stale,FROM,INC,NUMBER
-abbrev pub stale : MsgName → Record
-stale m = codes "stale" ∷ name_fields m
+abbrev pub stale_record : MsgName → Record
+stale_record m = codes "stale" ∷ name_fields m
 
 -- repeated,FROM,INC,NUMBER
-abbrev pub repeated : MsgName → Record
-repeated m = codes "repeated" ∷ name_fields m
+abbrev pub repeated_record : MsgName → Record
+repeated_record m = codes "repeated" ∷ name_fields m
 
 -- took,FROM,INC,NUMBER,ROUND: the round of a forced check, where one was taken
-abbrev pub took : MsgName → Option ℕ → Record
-took m forced = codes "took" ∷ name_fields m ++ number_text forced ∷ []
+abbrev pub took_record : MsgName → Option ℕ → Record
+took_record m forced = codes "took" ∷ name_fields m ++ number_text forced ∷ []
 
 -- marked,ROUND,forced or marked,ROUND,closed
-abbrev pub marked : ℕ → Bool → Record
-marked round forced =
+abbrev pub marked_record : ℕ → Bool → Record
+marked_record round forced =
     codes "marked" ∷ decimal round ∷ (if forced then codes "forced" else codes "closed") ∷ []
 
 -- begun,P,C,ROUND
-abbrev pub begun : ℕ → ℕ → ℕ → Record
-begun p check round = codes "begun" ∷ decimal p ∷ decimal check ∷ decimal round ∷ []
+abbrev pub begun_record : ℕ → ℕ → ℕ → Record
+begun_record p check round = codes "begun" ∷ decimal p ∷ decimal check ∷ decimal round ∷ []
 
 -- turned,P,C,ROUND
-abbrev pub turned : ℕ → ℕ → ℕ → Record
-turned p check round = codes "turned" ∷ decimal p ∷ decimal check ∷ decimal round ∷ []
+abbrev pub turned_record : ℕ → ℕ → ℕ → Record
+turned_record p check round = codes "turned" ∷ decimal p ∷ decimal check ∷ decimal round ∷ []
 
 -- checked,P,C
-abbrev pub checked : ℕ → ℕ → Record
-checked p check = codes "checked" ∷ decimal p ∷ decimal check ∷ []
+abbrev pub checked_record : ℕ → ℕ → Record
+checked_record p check = codes "checked" ∷ decimal p ∷ decimal check ∷ []
 
 -- damaged,P,C
-abbrev pub damaged : ℕ → ℕ → Record
-damaged p check = codes "damaged" ∷ decimal p ∷ decimal check ∷ []
+abbrev pub damaged_record : ℕ → ℕ → Record
+damaged_record p check = codes "damaged" ∷ decimal p ∷ decimal check ∷ []
 
 -- barred,P,C
-abbrev pub barred : ℕ → ℕ → Record
-barred p check = codes "barred" ∷ decimal p ∷ decimal check ∷ []
+abbrev pub barred_record : ℕ → ℕ → Record
+barred_record p check = codes "barred" ∷ decimal p ∷ decimal check ∷ []
 
 -- recovered,SWEEPS,ENTRIES,REPLAYS
-abbrev pub recovered : ℕ → ℕ → ℕ → Record
-recovered sweeps entries replays =
+abbrev pub recovered_record : ℕ → ℕ → ℕ → Record
+recovered_record sweeps entries replays =
     codes "recovered" ∷ decimal sweeps ∷ decimal entries ∷ decimal replays ∷ []
 
 -- the state that a process goes on from, where it is a stored one
@@ -71,60 +71,64 @@ state_text None = none_text
 state_text (Some bytes) = hex_text bytes
 
 -- line,P,CHOICE,INC,HEX
-abbrev pub line : ℕ → Choice → ℕ → Option (List ℕ) → Record
-line p choice inc state =
+abbrev pub process_record : ℕ → Choice → ℕ → Option (List ℕ) → Record
+process_record p choice inc state =
     codes "line" ∷ decimal p ∷ choice_text choice ∷ decimal inc ∷ state_text state ∷ []
 
 -- the line record of process p
-abbrev pub line_of : List Choice → List ℕ → List (Option (List ℕ)) → ℕ → Record
-line_of choices incarnations states p =
-    line p (choice_at choices p) (slice_index_or incarnations p 0) (slice_index_or states p None)
+abbrev pub process_of : List Choice → List ℕ → List (Option (List ℕ)) → ℕ → Record
+process_of choices incarnations states p =
+    process_record p (choice_at choices p) (slice_index_or incarnations p 0)
+    (slice_index_or states p None)
 
 -- the line records of the processes in their order
-abbrev pub lines : List Choice → List ℕ → List (Option (List ℕ)) → List Record
-lines choices incarnations states =
-    map (line_of choices incarnations states) (range_with_len 0 (length choices))
+abbrev pub process_records : List Choice → List ℕ → List (Option (List ℕ)) → List Record
+process_records choices incarnations states =
+    map (process_of choices incarnations states) (range_with_len 0 (length choices))
 
 -- the records of a certificate, in its order
-abbrev pub passes : List Passed → List Record
-passes entries = map pass_record entries
+abbrev pub pass_records : List Passed → List Record
+pass_records entries = map pass_record entries
 
 -- replay,FROM,INC,NUMBER
-abbrev pub replay : MsgName → Record
-replay m = codes "replay" ∷ name_fields m
+abbrev pub replay_record : MsgName → Record
+replay_record m = codes "replay" ∷ name_fields m
 
 -- the records of the messages that are replayed, in their order
-abbrev pub replays_of : List MsgName → List Record
-replays_of replays = map replay replays
+abbrev pub replay_records : List MsgName → List Record
+replay_records replays = map replay_record replays
 
 -- the records of a recovery
-abbrev pub recovery : ℕ → List Passed → List MsgName → List Choice → List ℕ → List (Option (List ℕ))
+abbrev pub recovery_records : ℕ → List Passed → List MsgName → List Choice → List ℕ
+    → List (Option (List ℕ))
     → List Record
-recovery sweeps entries replays choices incarnations states =
-    recovered sweeps (length entries) (length replays)
-    ∷ (lines choices incarnations states ++ (passes entries ++ replays_of replays))
+recovery_records sweeps entries replays choices incarnations states =
+    recovered_record sweeps (length entries) (length replays)
+    ∷ (process_records choices incarnations states
+    ++ (pass_records entries ++ replay_records replays))
 
 -- refused,CODE,NAME
-abbrev pub refused : ℕ → Record
-refused code = codes "refused" ∷ decimal code ∷ name_of code ∷ []
+abbrev pub refusal_record : ℕ → Record
+refusal_record code = codes "refused" ∷ decimal code ∷ name_of code ∷ []
 
 -- the records of a reply
 abbrev pub reply_records : Reply → List Record
-reply_records (Sent message) = sent message ∷ []
-reply_records (Took message forced) = took message forced ∷ []
-reply_records (Marked round forced) = marked round forced ∷ []
-reply_records (Stale message) = stale message ∷ []
-reply_records (Repeated message) = repeated message ∷ []
-reply_records (Checked at check) = checked at check ∷ []
-reply_records (Begun at check round) = begun at check round ∷ []
-reply_records (Turned at check round) = turned at check round ∷ []
-reply_records (Damaged at check) = damaged at check ∷ []
-reply_records (Barred at check) = barred at check ∷ []
+reply_records (Sent message) = sent_record message ∷ []
+reply_records (Took message forced) = took_record message forced ∷ []
+reply_records (Marked round forced) = marked_record round forced ∷ []
+reply_records (Stale message) = stale_record message ∷ []
+reply_records (Repeated message) = repeated_record message ∷ []
+reply_records (Checked at check) = checked_record at check ∷ []
+reply_records (Begun at check round) = begun_record at check round ∷ []
+reply_records (Turned at check round) = turned_record at check round ∷ []
+reply_records (Damaged at check) = damaged_record at check ∷ []
+reply_records (Barred at check) = barred_record at check ∷ []
 reply_records (Recovered plan states incarnations) =
-    recovery plan.value.sweeps plan.value.certificate.items plan.value.replays.items plan.value.line
+    recovery_records plan.value.sweeps plan.value.certificate.items plan.value.replays.items
+    plan.value.line
     incarnations.items states.items
 
 -- the records of an answer
 abbrev pub answer_records : Answer → List Record
 answer_records (answers.Done reply) = reply_records reply
-answer_records (answers.Refused error) = refused (refusal_code error) ∷ []
+answer_records (answers.Refused error) = refusal_record (refusal_code error) ∷ []

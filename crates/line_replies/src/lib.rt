@@ -6,4 +6,4 @@ mod replies;
 mod rounds;
 
 pub use replies::{put_refusal, put_reply, write_reply};
-pub use rounds::{put_message, put_round, put_rounds_head};
+pub use rounds::{put_channel_message, put_round, put_rounds_head};

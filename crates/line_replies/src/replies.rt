@@ -22,7 +22,8 @@ fn put_marked<K: Sink>(
     forced: bool,
 ) -> Result<(), DeviceFault>
     ensures { Outputs result (K.taken sink.old) (K.taken sink.new) (K.faults sink.old)
-        (K.faults sink.new) writer.new (writer.old ++ record_text (spec.marked round forced)) }
+        (K.faults sink.new) writer.new
+        (writer.old ++ record_text (spec.marked_record round forced)) }
 {
     if forced {
         put_ending(
@@ -99,7 +100,7 @@ pub fn put_refusal<K: Sink>(
     code: u32,
 ) -> Result<(), DeviceFault>
     ensures { Outputs result (K.taken sink.old) (K.taken sink.new) (K.faults sink.old)
-        (K.faults sink.new) writer.new (writer.old ++ record_text (spec.refused code)) }
+        (K.faults sink.new) writer.new (writer.old ++ record_text (spec.refusal_record code)) }
 {
     let name = name_of(code).as_bytes();
     put_ending(sink, writer, b"refused", &[code as u64], Field::Word(name))

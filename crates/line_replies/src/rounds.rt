@@ -9,7 +9,7 @@ ghost use Rattle.line_names.specs.declared.limits.TheConstants.{MOST_PROCESSES};
 ghost use Rattle.line_replies.specs.Rounds as spec;
 
 use line_devices::{DeviceFault, Sink};
-use line_fields::{Field, RecordWriter, add_field, begin_record, end_record, put_numbers};
+use line_fields::{Field, RecordWriter, add_field, begin_record, close_record, put_numbers};
 use line_names::{MOST_PROCESSES, MsgName, ProcId};
 use line_world::Round;
 
@@ -54,14 +54,14 @@ pub fn put_round<K: Sink>(
     let number = round.number();
     begin_record(sink, writer, b"round", &[number as u64])?;
     add_checks(sink, writer, n, round)?;
-    end_record(sink, writer)
+    close_record(sink, writer)
 }
 
 /// Writes `channel,R,FROM,TO,INC,NUMBER` after what a writer holds: a message that was on a channel
 /// as that round was completed.
 ///
 /// It asks for no memory, and fails only where the sink fails.
-pub fn put_message<K: Sink>(
+pub fn put_channel_message<K: Sink>(
     sink: &mut K,
     writer: &mut RecordWriter,
     round: u32,

@@ -4,17 +4,17 @@ use Rattle.std.specs.Prelude.{slice_get}
 use Rattle.std.proofs.lemmas.Bool.{cases_lt, cases_order}
 use Rattle.std.proofs.lemmas.List.{length_push, get_or_push, get_or_append_left, get_or_past, length-replicate, map-set, length-append}
 use Rattle.std.proofs.lemmas.Option.{slice_get_past}
-use Rattle.line_rings.specs.Ends.{End, row_at, dealt, items_at, AreFresh, AreLinked}
+use Rattle.line_rings.specs.Ends.{End, row_at, rows_with_items, items_at, AreFresh, AreLinked}
 
 -- one more item dealt
 pub dealt_more : {X : Type 0} (rows : List (List X)) (xs : List X) (x : X) → length xs < length rows
-    → dealt rows (xs ++ x ∷ []) ≡ set (dealt rows xs) (length xs) (get_or (dealt rows xs) (length xs) [] ++ x ∷ [])
+    → rows_with_items rows (xs ++ x ∷ []) ≡ set (rows_with_items rows xs) (length xs) (get_or (rows_with_items rows xs) (length xs) [] ++ x ∷ [])
 dealt_more [] [] x lt = absurd (omega (arith, lt))
 dealt_more [] (y ∷ ys) x lt = absurd (omega (arith, lt))
 dealt_more (row ∷ rows) [] x lt = refl
 dealt_more (row ∷ rows) (y ∷ ys) x lt = ap (λ t. (row ++ y ∷ []) ∷ t) (dealt_more rows ys x (omega (arith, lt)))
 
-pub dealt_length : {X : Type 0} (rows : List (List X)) (xs : List X) → length (dealt rows xs) ≡ length rows
+pub dealt_length : {X : Type 0} (rows : List (List X)) (xs : List X) → length (rows_with_items rows xs) ≡ length rows
 dealt_length rows [] = refl
 dealt_length [] (x ∷ xs) = refl
 dealt_length (row ∷ rows) (x ∷ xs) = ap suc (dealt_length rows xs)
@@ -24,7 +24,7 @@ tail_of None = []
 tail_of (Some x) = x ∷ []
 
 -- each row has what was dealt to it
-dealt_row : {X : Type 0} (rows : List (List X)) (xs : List X) (q : ℕ) → length xs ≡ length rows → row_at (dealt rows xs) q ≡ row_at rows q ++ tail_of (slice_get xs q)
+dealt_row : {X : Type 0} (rows : List (List X)) (xs : List X) (q : ℕ) → length xs ≡ length rows → row_at (rows_with_items rows xs) q ≡ row_at rows q ++ tail_of (slice_get xs q)
 unfolding tail_of
 dealt_row [] [] q e = refl
 dealt_row (row ∷ rows) [] q e = absurd (omega (arith, e))
@@ -32,7 +32,7 @@ dealt_row [] (x ∷ xs) q e = absurd (omega (arith, e))
 dealt_row (row ∷ rows) (x ∷ xs) zero e = refl
 dealt_row (row ∷ rows) (x ∷ xs) (suc q) e = dealt_row rows xs q (omega (arith, e))
 
-dealt_count : {X : Type 0} (rows : List (List X)) (xs : List X) (q : ℕ) → length xs ≡ length rows → q < length rows → length (row_at (dealt rows xs) q) ≡ length (row_at rows q) + 1
+dealt_count : {X : Type 0} (rows : List (List X)) (xs : List X) (q : ℕ) → length xs ≡ length rows → q < length rows → length (row_at (rows_with_items rows xs) q) ≡ length (row_at rows q) + 1
 dealt_count [] xs q e lt = absurd (omega (arith, lt))
 dealt_count (row ∷ rows) [] q e lt = absurd (omega (arith, e))
 dealt_count (row ∷ rows) (x ∷ xs) zero e lt = length_push row x
@@ -64,11 +64,11 @@ tail_none (Some x) e = cc e
 -- the rings of one more sender
 linked_more : {X : Type 0} (rows cols : List (List X)) (row : List X) → ((p q : ℕ) → slice_get (row_at rows p) q ≡ slice_get (row_at cols q) p)
     → ((q : ℕ) → q < length cols → length (row_at cols q) ≡ length rows) → length row ≡ length cols
-    → (p q : ℕ) → slice_get (row_at (rows ++ row ∷ []) p) q ≡ slice_get (row_at (dealt cols row) q) p
+    → (p q : ℕ) → slice_get (row_at (rows ++ row ∷ []) p) q ≡ slice_get (row_at (rows_with_items cols row) q) p
 linked_more rows cols row linked full long p q =
     let o = slice_get row q in
-    let dealt_to : row_at (dealt cols row) q ≡ row_at cols q ++ tail_of o = dealt_row cols row q long in
-    let to : slice_get (row_at cols q ++ tail_of o) p ≡ slice_get (row_at (dealt cols row) q) p = ap (λ t. slice_get t p) (sym dealt_to) in
+    let dealt_to : row_at (rows_with_items cols row) q ≡ row_at cols q ++ tail_of o = dealt_row cols row q long in
+    let to : slice_get (row_at cols q ++ tail_of o) p ≡ slice_get (row_at (rows_with_items cols row) q) p = ap (λ t. slice_get t p) (sym dealt_to) in
     elim (cases_lt q (length cols)) [
       | inl within ↦ elim (cases_order p (length rows)) [
         | inl here ↦ ap (λ t. slice_get t q) (get_or_push rows row [] p (sym here)) ∙ (sym (get_at (row_at cols q) o p (full q within ∙ sym here)) ∙ to)
@@ -107,7 +107,7 @@ fresh_push rows row p here all q = elim (cases_order p (length rows)) [
 ]
 
 pub linked_step : {T : Type 0} (m n : ℕ) (outs ins : List (List (End T))) (row : List (End T)) → AreLinked m n outs ins → length row ≡ n → AreFresh row
-    → AreLinked (m + 1) n (outs ++ row ∷ []) (dealt ins row)
+    → AreLinked (m + 1) n (outs ++ row ∷ []) (rows_with_items ins row)
 linked_step m n outs ins row h long fresh = record {
   senders = length_push outs row ∙ ap (λ t. t + 1) h.senders;
   receivers = dealt_length ins row ∙ h.receivers;
@@ -139,13 +139,13 @@ row_seen f (x ∷ xs) (suc i) d lt = row_seen f xs i d (omega (arith, lt))
 
 -- one ring more: its end that pops goes to the column at q
 pub deal_step : {X Y : Type 0} (f : X → List Y) (ins : List X) (rows : List (List Y)) (xs ys : List Y) (q : ℕ) (col new : X) (e : Y)
-    → q < length ins → length rows ≡ length ins → length xs ≡ q → map f ins ≡ dealt rows xs → col ≡ get_or ins q col → f new ≡ f col ++ e ∷ [] → ys ≡ xs ++ e ∷ []
-    → map f (set ins q new) ≡ dealt rows ys
+    → q < length ins → length rows ≡ length ins → length xs ≡ q → map f ins ≡ rows_with_items rows xs → col ≡ get_or ins q col → f new ≡ f col ++ e ∷ [] → ys ≡ xs ++ e ∷ []
+    → map f (set ins q new) ≡ rows_with_items rows ys
 deal_step f ins rows xs ys q col new e lt same at is here put more =
-    let there : row_at (dealt rows xs) q ≡ f col = ap (λ t. row_at t q) (sym is) ∙ (row_seen f ins q col lt ∙ ap f (sym here)) in
-    let D = dealt rows xs in
+    let there : row_at (rows_with_items rows xs) q ≡ f col = ap (λ t. row_at t q) (sym is) ∙ (row_seen f ins q col lt ∙ ap f (sym here)) in
+    let D = rows_with_items rows xs in
     map-set f ins q new ∙ (ap (λ t. set t q (f new)) is ∙ (ap (λ t. set D q t) (put ∙ ap (λ t. t ++ e ∷ []) (sym there))
-    ∙ (ap (λ k. set D k (row_at D k ++ e ∷ [])) (sym at) ∙ (sym (dealt_more rows xs e (omega (arith, lt, same, at))) ∙ ap (λ t. dealt rows t) (sym more)))))
+    ∙ (ap (λ k. set D k (row_at D k ++ e ∷ [])) (sym at) ∙ (sym (dealt_more rows xs e (omega (arith, lt, same, at))) ∙ ap (λ t. rows_with_items rows t) (sym more)))))
 
 pub fresh_more : {T : Type 0} (xs ys : List (End T)) (e : End T) → ys ≡ xs ++ e ∷ [] → e.items ≡ [] → AreFresh xs → AreFresh ys
 fresh_more [] ys e is bare h zero = ap (λ t. items_at t 0) is ∙ bare

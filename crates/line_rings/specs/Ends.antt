@@ -137,10 +137,10 @@ module _ {T : Type 0} where
   AreFresh ends = (q : ℕ) → items_at ends q ≡ []
 
 -- each row with its item after it
-abbrev pub dealt : {X : Type 0} → List (List X) → List X → List (List X)
-dealt rows [] = rows
-dealt [] (x ∷ xs) = []
-dealt (row ∷ rows) (x ∷ xs) = (row ++ x ∷ []) ∷ dealt rows xs
+abbrev pub rows_with_items : {X : Type 0} → List (List X) → List X → List (List X)
+rows_with_items rows [] = rows
+rows_with_items [] (x ∷ xs) = []
+rows_with_items (row ∷ rows) (x ∷ xs) = (row ++ x ∷ []) ∷ rows_with_items rows xs
 
 -- the row at p, empty where there is none
 abbrev pub row_at : {X : Type 0} → List (List X) → ℕ → List X

@@ -1,6 +1,7 @@
 //! A ring from each sender to each receiver.
 ghost use Rattle.std.specs.Prelude.{◌≡◌, [], All, IfOk, length, replicate};
-ghost use Rattle.line_rings.specs.Ends.{out_ends, out_rows, in_rows, dealt, AreFresh, AreLinked};
+ghost use Rattle.line_rings.specs.Ends.{out_ends, out_rows, in_rows, rows_with_items, AreFresh};
+ghost use Rattle.line_rings.specs.Ends.{AreLinked};
 ghost use Rattle.line_rings.specs.Ends.{HasAllFree, HaveAllFree, HaveSlots};
 
 use rtrb::{Consumer, Producer, RingBuffer};
@@ -22,7 +23,7 @@ fn row<T: Drop>(
     ins: &mut Vec<Vec<Consumer<T>>>,
 ) -> Result<Vec<Producer<T>>, AllocError>
     ensures dealt { IfOk result (λ outs.
-        in_rows ins.new.items ≡ dealt (in_rows ins.old.items) (out_ends outs.items)) }
+        in_rows ins.new.items ≡ rows_with_items (in_rows ins.old.items) (out_ends outs.items)) }
     ensures count { IfOk result (λ outs. length outs.items ≡ length ins.old.items) }
     ensures fresh { IfOk result (λ outs. AreFresh (out_ends outs.items)) }
     ensures free { IfOk result (λ outs. All (HasAllFree capacity) outs.items) }

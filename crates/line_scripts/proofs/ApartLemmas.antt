@@ -4,8 +4,8 @@ use Rattle.std.specs.Prelude.{filter, map, nat_le}
 use Rattle.std.proofs.lemmas.Bool.{cases_Bool}
 use Rattle.std.proofs.lemmas.List.{append-nil, map-append}
 use Rattle.std.proofs.lemmas.List.Elements.{filter-append}
-use Rattle.line_fields.specs.Bytes.{begins_with_feed, is_allowed, is_input_text}
-use Rattle.line_fields.specs.Records.{Record, cut, is_line, parts, records_of_lines, records_of_text, without}
+use Rattle.line_fields.specs.Bytes.{begins_with_feed, is_input_byte, is_input_text}
+use Rattle.line_fields.specs.Records.{Record, cut, has_byte, parts, records_of_lines, records_of_text, without}
 use Rattle.line_fields.proofs.TextLemmas.{empty_is_input, records_of_nothing}
 use Rattle.line_scripts.specs.Pieces.{EndsLine}
 
@@ -49,7 +49,7 @@ parts_both (c ∷ xs) ys = elim (cases_Bool (c == 10)) [
 ]
 
 lines_both : (xs ys : List (List ℕ)) → records_of_lines (xs ++ ys) ≡ records_of_lines xs ++ records_of_lines ys
-lines_both xs ys = ap (map (parts 44)) (filter-append is_line xs ys) ∙ map-append (parts 44) (filter is_line xs) (filter is_line ys)
+lines_both xs ys = ap (map (parts 44)) (filter-append has_byte xs ys) ∙ map-append (parts 44) (filter has_byte xs) (filter has_byte ys)
 
 behind_feed : (xs rest : List ℕ) → records_of_text (xs ++ 10 ∷ rest) ≡ records_of_lines (parts 10 (without 13 xs)) ++ records_of_text rest
 behind_feed xs rest =
@@ -82,11 +82,11 @@ begins_same : (xs rest : List ℕ) → begins_with_feed ((xs ++ 10 ∷ []) ++ re
 begins_same [] rest = refl
 begins_same (c ∷ xs) rest = refl
 
-allowed_same : (c : ℕ) (xs rest : List ℕ) → is_allowed c ((xs ++ 10 ∷ []) ++ rest) ≡ is_allowed c (xs ++ 10 ∷ [])
+allowed_same : (c : ℕ) (xs rest : List ℕ) → is_input_byte c ((xs ++ 10 ∷ []) ++ rest) ≡ is_input_byte c (xs ++ 10 ∷ [])
 allowed_same c xs rest =
     ap (λ (b : Bool). (nat_le 32 c && nat_le c 126 && not (c == 34)) || (c == 10) || ((c == 13) && b)) (begins_same xs rest)
 
-input_cons : (c : ℕ) (xs : List ℕ) → is_input_text (c ∷ xs) ≡ (is_allowed c xs && is_input_text xs)
+input_cons : (c : ℕ) (xs : List ℕ) → is_input_text (c ∷ xs) ≡ (is_input_byte c xs && is_input_text xs)
 unfolding is_input_text
 input_cons c xs = refl
 
@@ -100,8 +100,8 @@ input_both (c ∷ xs) rest =
     let all : Bool = is_input_text (xs ++ 10 ∷ []) in
     input_cons c ((xs ++ 10 ∷ []) ++ rest)
     ∙ ap (λ (b : Bool). b && is_input_text ((xs ++ 10 ∷ []) ++ rest)) (allowed_same c xs rest)
-    ∙ ap (λ (b : Bool). is_allowed c (xs ++ 10 ∷ []) && b) (input_both xs rest)
-    ∙ and_assoc (is_allowed c (xs ++ 10 ∷ [])) all (is_input_text rest)
+    ∙ ap (λ (b : Bool). is_input_byte c (xs ++ 10 ∷ []) && b) (input_both xs rest)
+    ∙ and_assoc (is_input_byte c (xs ++ 10 ∷ [])) all (is_input_text rest)
     ∙ sym (ap (λ (b : Bool). b && is_input_text rest) (input_cons c (xs ++ 10 ∷ [])))
 
 pub input_apart : (front rest : List ℕ) → EndsLine front → is_input_text (front ++ rest) ≡ (is_input_text front && is_input_text rest)

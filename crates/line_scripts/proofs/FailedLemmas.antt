@@ -12,7 +12,7 @@ use Rattle.line_fields.specs.Records.{Record}
 use Rattle.line_claims.specs.Entries.{failed_of}
 use Rattle.line_claims.specs.Numbers.{numbers, plain}
 use Rattle.line_scripts.specs.declared.commands.Command.{Command}
-use Rattle.line_scripts.specs.Scripts.{below, refused, with_failed}
+use Rattle.line_scripts.specs.Scripts.{below, refused_command, with_failed}
 
 -- a field is no number, and nothing else is wrong with it
 abbrev OnlyBadNumber : {A : Type 0} → Result A Fault → Type 0
@@ -44,7 +44,7 @@ abbrev command_of_set : (List Bool → Command) → ℕ → Result (List ℕ) Fa
 command_of_set command n read = read >>= λ failed. Ok (below n failed (command (fold with_member nobody failed)))
 
 abbrev below_if : Bool → (List Bool → Command) → List ℕ → Command
-below_if test command failed = if test then command (fold with_member nobody failed) else refused faults.NoSuchProcess
+below_if test command failed = if test then command (fold with_member nobody failed) else refused_command faults.NoSuchProcess
 
 found_if : (test : Bool) (failed : List ℕ) (command : List Bool → Command) (set : List Bool) → (want test faults.NoSuchProcess >>= λ there. Ok (fold with_member nobody failed)) ≡ Ok set
     → below_if test command failed ≡ command set
@@ -54,7 +54,7 @@ found_if true failed command set h =
 found_if false failed command set h = cc h
 
 refused_if : (test : Bool) (failed : List ℕ) (command : List Bool → Command) (fault : Fault) → (want test faults.NoSuchProcess >>= λ there. Ok (fold with_member nobody failed)) ≡ Err fault
-    → (fault ≡ faults.NoSuchProcess) × (below_if test command failed ≡ refused faults.NoSuchProcess)
+    → (fault ≡ faults.NoSuchProcess) × (below_if test command failed ≡ refused_command faults.NoSuchProcess)
 refused_if true failed command fault h = cc h
 refused_if false failed command fault h = (cc h, refl)
 
@@ -70,7 +70,7 @@ abbrev is_of_process : Fault → Bool
 is_of_process fault = code_of fault == code_of faults.NoSuchProcess
 
 set_refused : (command : List Bool → Command) (n : ℕ) (read : Result (List ℕ) Fault) (fault : Fault) → OnlyBadNumber read → is_of_process fault ≡ true → set_of n read ≡ Err fault
-    → command_of_set command n read ≡ Ok (refused faults.NoSuchProcess)
+    → command_of_set command n read ≡ Ok (refused_command faults.NoSuchProcess)
 set_refused command n (Ok failed) fault only one h = ap command_read (refused_if (list_all (λ p. nat_lt p n) failed) failed command fault h).1
 set_refused command n (Err fault') fault only one h =
     let same : fault' ≡ fault = cc h in
@@ -80,7 +80,7 @@ set_refused command n (Err fault') fault only one h =
 set_not_read : (command : List Bool → Command) (n : ℕ) (read : Result (List ℕ) Fault) (fault : Fault) → is_of_process fault ≡ false → set_of n read ≡ Err fault
     → command_of_set command n read ≡ Err fault
 set_not_read command n (Ok failed) fault other h =
-    let one : true ≡ false = ap is_of_process (sym (refused_if (list_all (λ p. nat_lt p n) failed) failed (λ set. refused fault) fault h).0) ∙ other in
+    let one : true ≡ false = ap is_of_process (sym (refused_if (list_all (λ p. nat_lt p n) failed) failed (λ set. refused_command fault) fault h).0) ∙ other in
     cc one
 set_not_read command n (Err fault') fault other h = cc h
 
@@ -88,7 +88,7 @@ pub failed_found : (command : List Bool → Command) (n : ℕ) (r : Record) (set
 unfolding failed_of with_failed
 failed_found command n r set h = set_found command n (numbers (drop 1 r)) set h
 
-pub failed_refused : (command : List Bool → Command) (n : ℕ) (r : Record) (fault : Fault) → is_of_process fault ≡ true → failed_of n r ≡ Err fault → with_failed command n r ≡ Ok (refused faults.NoSuchProcess)
+pub failed_refused : (command : List Bool → Command) (n : ℕ) (r : Record) (fault : Fault) → is_of_process fault ≡ true → failed_of n r ≡ Err fault → with_failed command n r ≡ Ok (refused_command faults.NoSuchProcess)
 unfolding failed_of with_failed
 failed_refused command n r fault one h = set_refused command n (numbers (drop 1 r)) fault (numbers_fault (drop 1 r)) one h
 

@@ -15,11 +15,11 @@ use Rattle.line_world.specs.declared.steps.Step.TheVariants.{Begin, Check, Damag
 use Rattle.line_claims.specs.declared.faults.TextFault.{TextFault}
 use Rattle.line_claims.specs.declared.versions.TheConstants.{LAST_VERSION}
 use Rattle.line_claims.specs.Numbers.{numbers, plain}
-use Rattle.line_claims.specs.Reads.{numbered}
+use Rattle.line_claims.specs.Reads.{at_record}
 use Rattle.line_claims.specs.Versions.{most_in}
 use Rattle.line_scripts.specs.declared.commands.Command.{Command}
 use Rattle.line_scripts.specs.declared.commands.Command.TheVariants.{Bundle, Do, History, Rounds}
-use Rattle.line_scripts.specs.Pieces.{begun_of, begun_on, with_front}
+use Rattle.line_scripts.specs.Pieces.{begun_of, begun_on, with_commands}
 use Rattle.line_scripts.specs.Reads.{IsOfScript}
 use Rattle.line_scripts.specs.Scripts.{Script, command_of, commands_from, deliver_of, mode_named, pick, script_of, send_of, with_check, with_failed, with_state, world_of}
 
@@ -170,7 +170,7 @@ world_low r =
 abbrev OnlyOfScript : {A : Type 0} → Result A TextFault → Type 0
 OnlyOfScript read = IfErr read IsOfScript
 
-numbered_faults : {A : Type 0} (i : ℕ) (read : Result A Fault) → OnlyLow read → OnlyOfScript (numbered i read)
+numbered_faults : {A : Type 0} (i : ℕ) (read : Result A Fault) → OnlyLow read → OnlyOfScript (at_record i read)
 numbered_faults i (Ok x) h = tt
 numbered_faults i (Err fault) h = h
 
@@ -182,14 +182,14 @@ commands_faults : (n : ℕ) (i : ℕ) (rows : List Record) → OnlyOfScript (com
 unfolding commands_from
 commands_faults n i [] = tt
 commands_faults n i (r ∷ rest) =
-    both_faults (numbered i (command_of n r)) _ (numbered_faults i (command_of n r) (command_low n r))
+    both_faults (at_record i (command_of n r)) _ (numbered_faults i (command_of n r) (command_low n r))
     (λ command. both_faults (commands_from n (i + 1) rest) _ (commands_faults n (i + 1) rest) (λ others. tt))
 
 rows_faults : (rows : List Record) → OnlyOfScript (script_of rows)
 unfolding script_of
 rows_faults [] = (omega arith, omega arith)
 rows_faults (first ∷ rest) =
-    both_faults (numbered 1 (world_of first)) _ (numbered_faults 1 (world_of first) (world_low first))
+    both_faults (at_record 1 (world_of first)) _ (numbered_faults 1 (world_of first) (world_low first))
     (λ world. both_faults (commands_from world.0 2 rest) _ (commands_faults world.0 2 rest) (λ commands. tt))
 
 -- of the records behind those that were read
@@ -198,13 +198,13 @@ unfolding begun_of
 begun_faults [] = tt
 begun_faults (first ∷ rest) = both_faults (script_of (first ∷ rest)) _ (rows_faults (first ∷ rest)) (λ script. tt)
 
-front_faults : (front : List Command) (read : Result (List Command) TextFault) → OnlyOfScript read → OnlyOfScript (with_front front read)
+front_faults : (front : List Command) (read : Result (List Command) TextFault) → OnlyOfScript read → OnlyOfScript (with_commands front read)
 front_faults front read h = both_faults read _ h (λ others. tt)
 
 on_faults : (script : Option Script) (records : List Record) → OnlyOfScript (begun_on script records)
 on_faults None records = begun_faults records
 on_faults (Some script) records =
-    both_faults (with_front script.commands (commands_from script.n (length script.commands + 2) records)) _
+    both_faults (with_commands script.commands (commands_from script.n (length script.commands + 2) records)) _
     (front_faults script.commands (commands_from script.n (length script.commands + 2) records) (commands_faults script.n (length script.commands + 2) records))
     (λ commands. tt)
 

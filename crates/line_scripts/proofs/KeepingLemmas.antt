@@ -4,10 +4,10 @@ use Rattle.std.proofs.lemmas.List.{take-append-drop, take-append-le, drop-append
 use Rattle.std.proofs.Math.Seq.{take-length, drop-length}
 use Rattle.line_scripts.specs.declared.commands.Command.{Command}
 use Rattle.line_scripts.specs.declared.keeping.Kept.{Kept}
-use Rattle.line_scripts.specs.Keeping.{ArePacked, IsShort, behind, long_of, unpacked, with_bytes}
+use Rattle.line_scripts.specs.Keeping.{ArePacked, HasShortMessage, behind, long_of, commands_of_kept, with_bytes}
 
 -- one more behind the others
-pub packed_more : (ks : List Kept) (bytes : List ℕ) (k : Kept) (own : List ℕ) → long_of k ≡ length own → IsShort k → ArePacked ks bytes → ArePacked (ks ++ k ∷ []) (bytes ++ own)
+pub packed_more : (ks : List Kept) (bytes : List ℕ) (k : Kept) (own : List ℕ) → long_of k ≡ length own → HasShortMessage k → ArePacked ks bytes → ArePacked (ks ++ k ∷ []) (bytes ++ own)
 packed_more [] bytes k own is short none =
     subst (λ (bs : List ℕ). ArePacked (k ∷ []) (bs ++ own)) (sym none)
     (short, omega (arith, is), ap (λ (n : ℕ). drop n own) is ∙ drop-length own)
@@ -17,15 +17,15 @@ packed_more (first ∷ ks) bytes k own is short (fits, within, others) = (
   subst (λ (bs : List ℕ). ArePacked (ks ++ k ∷ []) bs) (sym (drop-append-le (long_of first) bytes own within)) (packed_more ks (drop (long_of first) bytes) k own is short others),
 )
 
-pub unpacked_more : (ks : List Kept) (bytes : List ℕ) (k : Kept) (own : List ℕ) → long_of k ≡ length own → ArePacked ks bytes → unpacked (ks ++ k ∷ []) (bytes ++ own) ≡ unpacked ks bytes ++ with_bytes k own ∷ []
+pub unpacked_more : (ks : List Kept) (bytes : List ℕ) (k : Kept) (own : List ℕ) → long_of k ≡ length own → ArePacked ks bytes → commands_of_kept (ks ++ k ∷ []) (bytes ++ own) ≡ commands_of_kept ks bytes ++ with_bytes k own ∷ []
 unpacked_more [] bytes k own is none =
-    subst (λ (bs : List ℕ). unpacked (k ∷ []) (bs ++ own) ≡ with_bytes k own ∷ []) (sym none)
+    subst (λ (bs : List ℕ). commands_of_kept (k ∷ []) (bs ++ own) ≡ with_bytes k own ∷ []) (sym none)
     (ap (λ (n : ℕ). with_bytes k (take n own) ∷ []) is ∙ ap (λ (bs : List ℕ). with_bytes k bs ∷ []) (take-length own))
 unpacked_more (first ∷ ks) bytes k own is (fits, within, others) =
     let front : take (long_of first) (bytes ++ own) ≡ take (long_of first) bytes = take-append-le (long_of first) bytes own within in
     let rest : drop (long_of first) (bytes ++ own) ≡ drop (long_of first) bytes ++ own = drop-append-le (long_of first) bytes own within in
-    ap (λ (bs : List ℕ). with_bytes first bs ∷ unpacked (ks ++ k ∷ []) (drop (long_of first) (bytes ++ own))) front
-    ∙ ap (λ (bs : List ℕ). with_bytes first (take (long_of first) bytes) ∷ unpacked (ks ++ k ∷ []) bs) rest
+    ap (λ (bs : List ℕ). with_bytes first bs ∷ commands_of_kept (ks ++ k ∷ []) (drop (long_of first) (bytes ++ own))) front
+    ∙ ap (λ (bs : List ℕ). with_bytes first (take (long_of first) bytes) ∷ commands_of_kept (ks ++ k ∷ []) bs) rest
     ∙ ap (λ (cs : List Command). with_bytes first (take (long_of first) bytes) ∷ cs) (unpacked_more ks (drop (long_of first) bytes) k own is others)
 
 -- a list that keeps what it had has that and what is behind it
@@ -33,16 +33,16 @@ pub with_behind : (old new : List ℕ) → take (length old) new ≡ old → new
 with_behind old new kept = sym (take-append-drop (length old) new) ∙ ap (λ (front : List ℕ). front ++ behind old new) kept
 
 -- one more, whose bytes were put behind the others
-pub packed_behind : (ks later : List Kept) (old new : List ℕ) (k : Kept) → later ≡ ks ++ k ∷ [] → long_of k ≡ length (behind old new) → take (length old) new ≡ old → IsShort k → ArePacked ks old → ArePacked later new
+pub packed_behind : (ks later : List Kept) (old new : List ℕ) (k : Kept) → later ≡ ks ++ k ∷ [] → long_of k ≡ length (behind old new) → take (length old) new ≡ old → HasShortMessage k → ArePacked ks old → ArePacked later new
 packed_behind ks later old new k more is kept short packed =
     rw more
     (subst (λ (bs : List ℕ). ArePacked (ks ++ k ∷ []) bs) (sym (with_behind old new kept)) (packed_more ks old k (behind old new) is short packed))
 
 pub unpacked_behind : (ks later : List Kept) (old new : List ℕ) (k : Kept) → later ≡ ks ++ k ∷ [] → long_of k ≡ length (behind old new) → take (length old) new ≡ old → ArePacked ks old
-    → unpacked later new ≡ unpacked ks old ++ with_bytes k (behind old new) ∷ []
+    → commands_of_kept later new ≡ commands_of_kept ks old ++ with_bytes k (behind old new) ∷ []
 unpacked_behind ks later old new k more is kept packed =
     rw more
-    (subst (λ (bs : List ℕ). unpacked (ks ++ k ∷ []) bs ≡ unpacked ks old ++ with_bytes k (behind old new) ∷ []) (sym (with_behind old new kept))
+    (subst (λ (bs : List ℕ). commands_of_kept (ks ++ k ∷ []) bs ≡ commands_of_kept ks old ++ with_bytes k (behind old new) ∷ []) (sym (with_behind old new kept))
     (unpacked_more ks old k (behind old new) is packed))
 
 -- a list with one command more is one longer
@@ -55,20 +55,20 @@ first_left ks gone k within is = drop_more ks gone k within ∙ ap (λ (x : Kept
 
 -- the commands that are left, by the first of them
 pub first_unpacked : (ks : List Kept) (bytes : List ℕ) (gone at : ℕ) (k : Kept) → gone < length ks → k ≡ get_or ks gone k
-    → unpacked (drop gone ks) (drop at bytes) ≡ with_bytes k (take (long_of k) (drop at bytes)) ∷ unpacked (drop (gone + 1) ks) (drop (at + long_of k) bytes)
+    → commands_of_kept (drop gone ks) (drop at bytes) ≡ with_bytes k (take (long_of k) (drop at bytes)) ∷ commands_of_kept (drop (gone + 1) ks) (drop (at + long_of k) bytes)
 first_unpacked ks bytes gone at k within is =
-    ap (λ (xs : List Kept). unpacked xs (drop at bytes)) (first_left ks gone k within is)
-    ∙ ap (λ (bs : List ℕ). with_bytes k (take (long_of k) (drop at bytes)) ∷ unpacked (drop (gone + 1) ks) bs) (drop-drop (long_of k) at bytes)
+    ap (λ (xs : List Kept). commands_of_kept xs (drop at bytes)) (first_left ks gone k within is)
+    ∙ ap (λ (bs : List ℕ). with_bytes k (take (long_of k) (drop at bytes)) ∷ commands_of_kept (drop (gone + 1) ks) bs) (drop-drop (long_of k) at bytes)
 
 -- and all of them stay packed without it
 pub first_packed : (ks : List Kept) (bytes : List ℕ) (gone at : ℕ) (k : Kept) → gone < length ks → k ≡ get_or ks gone k → ArePacked (drop gone ks) (drop at bytes)
-    → IsShort k × (long_of k ≤ length (drop at bytes)) × ArePacked (drop (gone + 1) ks) (drop (at + long_of k) bytes)
+    → HasShortMessage k × (long_of k ≤ length (drop at bytes)) × ArePacked (drop (gone + 1) ks) (drop (at + long_of k) bytes)
 first_packed ks bytes gone at k within is packed =
     let all : ArePacked (k ∷ drop (gone + 1) ks) (drop at bytes) = subst (λ (xs : List Kept). ArePacked xs (drop at bytes)) (first_left ks gone k within is) packed in
     let rest : drop (long_of k) (drop at bytes) ≡ drop (at + long_of k) bytes = drop-drop (long_of k) at bytes in
     (all.0, all.1, subst (λ (bs : List ℕ). ArePacked (drop (gone + 1) ks) bs) rest all.2)
 
 -- there are as many commands as are kept
-pub length-unpacked : (ks : List Kept) (bytes : List ℕ) → length (unpacked ks bytes) ≡ length ks
+pub length-unpacked : (ks : List Kept) (bytes : List ℕ) → length (commands_of_kept ks bytes) ≡ length ks
 length-unpacked [] bytes = refl
 length-unpacked (k ∷ ks) bytes = let others = length-unpacked ks (drop (long_of k) bytes) in omega (arith, others)

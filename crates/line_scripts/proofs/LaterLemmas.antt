@@ -11,7 +11,7 @@ use Rattle.line_moves.specs.declared.modes.Mode.{Mode}
 use Rattle.line_claims.specs.declared.faults.TextFault.{TextFault}
 use Rattle.line_claims.specs.declared.versions.TheConstants.{LAST_VERSION, MOST_IN_FIRST_VERSION}
 use Rattle.line_claims.specs.Numbers.{plain}
-use Rattle.line_claims.specs.Reads.{fault_at}
+use Rattle.line_claims.specs.Reads.{fault_of_record}
 use Rattle.line_claims.specs.Texts.{records_in}
 use Rattle.line_claims.specs.Versions.{most_in}
 use Rattle.line_claims.proofs.SpellLemmas.{plain_again}
@@ -75,7 +75,7 @@ same_world one two others is_one is_two good =
 
 -- the fault of the number of processes
 abbrev bad_count : TextFault
-bad_count = fault_at 1 faults.BadCount
+bad_count = fault_of_record 1 faults.BadCount
 
 refused_world : (r : Record) (rest : List Record) → world_of r ≡ Err faults.BadCount → script_of (r ∷ rest) ≡ Err bad_count
 unfolding script_of
@@ -132,7 +132,7 @@ second_records text = refl
 
 -- a script of records that are read, or of none
 abbrev script_if : Bool → List Record → Result Script TextFault
-script_if plain records = (if plain then Ok records else Err (fault_at 0 faults.BadRecord)) >>= script_of
+script_if plain records = (if plain then Ok records else Err (fault_of_record 0 faults.BadRecord)) >>= script_of
 
 same_if : (plain : Bool) (others : Record) (rest : List Record) → script_if plain (begun (codes "1") others ∷ rest) ≢ Err bad_count
     → script_if plain (begun (codes "2") others ∷ rest) ≡ script_if plain (begun (codes "1") others ∷ rest)

@@ -11,56 +11,56 @@ use Rattle.line_moves.specs.declared.modes.Mode.{Mode}
 use Rattle.line_claims.specs.declared.faults.TextFault.{TextFault}
 use Rattle.line_claims.specs.declared.faults.TextError.{TextError}
 use Rattle.line_claims.specs.declared.faults.TextError.TheVariants as errors
-use Rattle.line_claims.specs.Reads.{FailsText, Reads, Yields, fault_at, numbered}
+use Rattle.line_claims.specs.Reads.{FailsText, Reads, Yields, fault_of_record, at_record}
 use Rattle.line_claims.specs.Texts.{records_in}
 use Rattle.line_scripts.specs.declared.commands.Command.{Command}
-use Rattle.line_scripts.specs.Pieces.{EndsLine, at_end, begun_in, begun_of, begun_on, found, script_or_none, script_with, with_front}
+use Rattle.line_scripts.specs.Pieces.{EndsLine, at_end, begun_in, begun_of, begun_on, found, script_or_none, script_with, with_commands}
 use Rattle.line_scripts.specs.declared.scripts.KeptScript as kept
-use Rattle.line_scripts.specs.Reads.{seen_kept}
+use Rattle.line_scripts.specs.Reads.{kept_script_view}
 use Rattle.line_scripts.specs.Scripts.{Script, command_of, commands_from, script_of, script_of_text, world_of}
 use Rattle.line_scripts.proofs.ApartLemmas.{input_apart, records_apart}
 
 -- ---- the commands of records, and of those behind them
 
-read_alone : (read : Result (List Command) TextFault) → read ≡ with_front [] read
+read_alone : (read : Result (List Command) TextFault) → read ≡ with_commands [] read
 read_alone (Ok commands) = refl
 read_alone (Err fault) = refl
 
 -- one more command in front
-with_more : (c : Command) (front : List Command) (read : Result (List Command) TextFault) → (with_front front read >>= λ others. Ok (c ∷ others)) ≡ with_front (c ∷ front) read
+with_more : (c : Command) (front : List Command) (read : Result (List Command) TextFault) → (with_commands front read >>= λ others. Ok (c ∷ others)) ≡ with_commands (c ∷ front) read
 with_more c front (Ok others) = refl
 with_more c front (Err fault) = refl
 
 step_both : (first : Result Command TextFault) (some : Result (List Command) TextFault) (next later : List Command → Result (List Command) TextFault)
     → ((c : Command) (cs : List Command) → next cs ≡ later (c ∷ cs))
-    → (first >>= λ c. ((some >>= λ cs. with_front cs (next cs)) >>= λ others. Ok (c ∷ others)))
-    ≡ ((first >>= λ c. (some >>= λ others. Ok (c ∷ others))) >>= λ cs. with_front cs (later cs))
+    → (first >>= λ c. ((some >>= λ cs. with_commands cs (next cs)) >>= λ others. Ok (c ∷ others)))
+    ≡ ((first >>= λ c. (some >>= λ others. Ok (c ∷ others))) >>= λ cs. with_commands cs (later cs))
 step_both (Err fault) some next later same = refl
 step_both (Ok c) (Err fault) next later same = refl
-step_both (Ok c) (Ok cs) next later same = with_more c cs (next cs) ∙ ap (with_front (c ∷ cs)) (same c cs)
+step_both (Ok c) (Ok cs) next later same = with_more c cs (next cs) ∙ ap (with_commands (c ∷ cs)) (same c cs)
 
-commands_none : (n i : ℕ) (rest : List Record) → commands_from n i ([] ++ rest) ≡ (commands_from n i [] >>= λ cs. with_front cs (commands_from n (length cs + i) rest))
+commands_none : (n i : ℕ) (rest : List Record) → commands_from n i ([] ++ rest) ≡ (commands_from n i [] >>= λ cs. with_commands cs (commands_from n (length cs + i) rest))
 unfolding commands_from
 commands_none n i rest =
     let same : i ≡ length {A = Command} [] + i = omega arith in
-    read_alone (commands_from n i rest) ∙ ap (λ (j : ℕ). with_front [] (commands_from n j rest)) same
+    read_alone (commands_from n i rest) ∙ ap (λ (j : ℕ). with_commands [] (commands_from n j rest)) same
 
-commands_one : (n i : ℕ) (r : Record) (rest : List Record) → commands_from n i (r ∷ rest) ≡ (numbered i (command_of n r) >>= λ c. (commands_from n (i + 1) rest >>= λ others. Ok (c ∷ others)))
+commands_one : (n i : ℕ) (r : Record) (rest : List Record) → commands_from n i (r ∷ rest) ≡ (at_record i (command_of n r) >>= λ c. (commands_from n (i + 1) rest >>= λ others. Ok (c ∷ others)))
 unfolding commands_from
 commands_one n i r rest = refl
 
 longer_by_one : (c : Command) (cs : List Command) (i : ℕ) → length cs + (i + 1) ≡ length (c ∷ cs) + i
 longer_by_one c cs i = omega arith
 
-pub commands_both : (n i : ℕ) (records rest : List Record) → commands_from n i (records ++ rest) ≡ (commands_from n i records >>= λ cs. with_front cs (commands_from n (length cs + i) rest))
+pub commands_both : (n i : ℕ) (records rest : List Record) → commands_from n i (records ++ rest) ≡ (commands_from n i records >>= λ cs. with_commands cs (commands_from n (length cs + i) rest))
 commands_both n i [] rest = commands_none n i rest
 commands_both n i (r ∷ records) rest =
     commands_one n i r (records ++ rest)
-    ∙ ap (λ (read : Result (List Command) TextFault). numbered i (command_of n r) >>= λ c. (read >>= λ others. Ok (c ∷ others))) (commands_both n (i + 1) records rest)
-    ∙ step_both (numbered i (command_of n r)) (commands_from n (i + 1) records)
+    ∙ ap (λ (read : Result (List Command) TextFault). at_record i (command_of n r) >>= λ c. (read >>= λ others. Ok (c ∷ others))) (commands_both n (i + 1) records rest)
+    ∙ step_both (at_record i (command_of n r)) (commands_from n (i + 1) records)
     (λ cs. commands_from n (length cs + (i + 1)) rest) (λ cs. commands_from n (length cs + i) rest)
     (λ c cs. ap (λ (j : ℕ). commands_from n j rest) (longer_by_one c cs i))
-    ∙ sym (ap (λ (read : Result (List Command) TextFault). read >>= λ cs. with_front cs (commands_from n (length cs + i) rest)) (commands_one n i r records))
+    ∙ sym (ap (λ (read : Result (List Command) TextFault). read >>= λ cs. with_commands cs (commands_from n (length cs + i) rest)) (commands_one n i r records))
 
 -- ---- the script of records, and of those behind them
 
@@ -73,9 +73,9 @@ made_at_once world (Ok commands) = refl
 made_at_once world (Err fault) = refl
 
 made_both : (world : ℕ × Mode) (some : Result (List Command) TextFault) (rest : List Record)
-    → made world (some >>= λ cs. with_front cs (commands_from world.0 (length cs + 2) rest)) ≡ (made world some >>= λ script. begun_on script rest)
+    → made world (some >>= λ cs. with_commands cs (commands_from world.0 (length cs + 2) rest)) ≡ (made world some >>= λ script. begun_on script rest)
 made_both world (Err fault) rest = refl
-made_both world (Ok cs) rest = made_at_once world (with_front cs (commands_from world.0 (length cs + 2) rest))
+made_both world (Ok cs) rest = made_at_once world (with_commands cs (commands_from world.0 (length cs + 2) rest))
 
 -- a script by its first record
 abbrev from_world : Result (ℕ × Mode) TextFault → List Record → Result (Option Script) TextFault
@@ -85,7 +85,7 @@ from_both : (world : Result (ℕ × Mode) TextFault) (records rest : List Record
 from_both (Err fault) records rest = refl
 from_both (Ok w) records rest = ap (made w) (commands_both w.0 2 records rest) ∙ made_both w (commands_from w.0 2 records) rest
 
-pub begun_first : (first : Record) (rest : List Record) → begun_of (first ∷ rest) ≡ from_world (numbered 1 (world_of first)) rest
+pub begun_first : (first : Record) (rest : List Record) → begun_of (first ∷ rest) ≡ from_world (at_record 1 (world_of first)) rest
 unfolding begun_of script_of
 begun_first first rest = refl
 
@@ -96,14 +96,14 @@ begun_none rest = refl
 begun_both : (records rest : List Record) → begun_of (records ++ rest) ≡ (begun_of records >>= λ script. begun_on script rest)
 begun_both [] rest = begun_none rest
 begun_both (first ∷ records) rest =
-    begun_first first (records ++ rest) ∙ from_both (numbered 1 (world_of first)) records rest
+    begun_first first (records ++ rest) ∙ from_both (at_record 1 (world_of first)) records rest
     ∙ sym (ap (λ (begun : Result (Option Script) TextFault). begun >>= λ script. begun_on script rest) (begun_first first records))
 
 -- ---- the script of a text, and of a piece behind it
 
 -- a byte that no text has
 abbrev pub bad_byte : TextFault
-bad_byte = fault_at 0 faults.BadRecord
+bad_byte = fault_of_record 0 faults.BadRecord
 
 if_plain : (text : List ℕ) → is_input_text text ≡ true → begun_in text ≡ begun_of (records_of_text text)
 unfolding begun_in
@@ -208,30 +208,30 @@ yields_script (Err (errors.Fault f)) world new read h = ap (λ (r : Result (List
 pub none_begun : (records : List Record) → records ≡ [] → begun_of records ≡ Ok None
 none_begun records none = ap begun_of none ∙ begun_of_none
 
-pub not_begun : (records : List Record) (first : Record) (rest : List Record) (e : TextError) → records ≡ first ∷ rest → FailsText e (numbered 1 (world_of first)) → FailsText e (begun_of records)
+pub not_begun : (records : List Record) (first : Record) (rest : List Record) (e : TextError) → records ≡ first ∷ rest → FailsText e (at_record 1 (world_of first)) → FailsText e (begun_of records)
 not_begun records first rest errors.OutOfMemory is h = tt
 not_begun records first rest (errors.Fault f) is h =
     ap begun_of is ∙ begun_first first rest ∙ ap (λ (world : Result (ℕ × Mode) TextFault). from_world world rest) h
 
-pub begun_with : (records : List Record) (first : Record) (rest : List Record) (world : ℕ × Mode) (front : List Command) → records ≡ first ∷ rest → numbered 1 (world_of first) ≡ Ok world → front ≡ []
-    → begun_of records ≡ (with_front front (commands_from world.0 (length front + 2) rest) >>= λ commands. Ok (Some (script_with world commands)))
+pub begun_with : (records : List Record) (first : Record) (rest : List Record) (world : ℕ × Mode) (front : List Command) → records ≡ first ∷ rest → at_record 1 (world_of first) ≡ Ok world → front ≡ []
+    → begun_of records ≡ (with_commands front (commands_from world.0 (length front + 2) rest) >>= λ commands. Ok (Some (script_with world commands)))
 begun_with records first rest world front is h none =
     let two : 2 ≡ length {A = Command} [] + 2 = omega arith in
     ap begun_of is ∙ begun_first first rest ∙ ap (λ (w : Result (ℕ × Mode) TextFault). from_world w rest) h ∙ made_at_once world (commands_from world.0 2 rest)
     ∙ ap (λ (read : Result (List Command) TextFault). read >>= λ commands. Ok (Some (script_with world commands))) (read_alone (commands_from world.0 2 rest))
-    ∙ ap (λ (i : ℕ). with_front [] (commands_from world.0 i rest) >>= λ commands. Ok (Some (script_with world commands))) two
-    ∙ ap (λ (cs : List Command). with_front cs (commands_from world.0 (length cs + 2) rest) >>= λ commands. Ok (Some (script_with world commands))) (sym none)
+    ∙ ap (λ (i : ℕ). with_commands [] (commands_from world.0 i rest) >>= λ commands. Ok (Some (script_with world commands))) two
+    ∙ ap (λ (cs : List Command). with_commands cs (commands_from world.0 (length cs + 2) rest) >>= λ commands. Ok (Some (script_with world commands))) (sym none)
 
 pub begun_yields : (result : Result (Unit {0}) TextError) (records : List Record) (first : Record) (rest : List Record) (world : ℕ × Mode) (front new : List Command) → records ≡ first ∷ rest
-    → numbered 1 (world_of first) ≡ Ok world → front ≡ [] → Yields (λ _. new) result (with_front front (commands_from world.0 (length front + 2) rest))
+    → at_record 1 (world_of first) ≡ Ok world → front ≡ [] → Yields (λ _. new) result (with_commands front (commands_from world.0 (length front + 2) rest))
     → Yields (λ _. Some (script_with world new)) result (begun_of records)
 begun_yields result records first rest world front new is h none read =
     subst (λ (begun : Result (Option Script) TextFault). Yields (λ _. Some (script_with world new)) result begun) (sym (begun_with records first rest world front is h none))
-    (yields_script result world new (with_front front (commands_from world.0 (length front + 2) rest)) read)
+    (yields_script result world new (with_commands front (commands_from world.0 (length front + 2) rest)) read)
 
 -- ---- a whole text
 
-pub reads_whole : (result : Result kept.KeptScript TextFault) (begun : Result (Option Script) TextFault) (text : List ℕ) → begun ≡ begun_in text → IfOk result (λ script. at_end begun ≡ Ok (seen_kept script))
-    → IfErr result (λ fault. at_end begun ≡ Err fault) → Reads seen_kept result (script_of_text text)
+pub reads_whole : (result : Result kept.KeptScript TextFault) (begun : Result (Option Script) TextFault) (text : List ℕ) → begun ≡ begun_in text → IfOk result (λ script. at_end begun ≡ Ok (kept_script_view script))
+    → IfErr result (λ fault. at_end begun ≡ Err fault) → Reads kept_script_view result (script_of_text text)
 reads_whole (Ok script) begun text is ok err = sym (ended_text text) ∙ ap at_end (sym is) ∙ ok
 reads_whole (Err fault) begun text is ok err = inr (sym (ended_text text) ∙ ap at_end (sym is) ∙ err)

@@ -10,11 +10,11 @@ use Rattle.line_scripts.specs.declared.commands.Command.TheVariants.{Bundle, Do,
 use Rattle.line_scripts.specs.declared.commands.Command.TheVariants.{Rounds}
 use Rattle.line_scripts.specs.declared.keeping.Kept.{Kept}
 use Rattle.line_scripts.specs.declared.keeping.Kept.TheVariants as kepts
-use Rattle.line_scripts.specs.Scripts.{refused}
+use Rattle.line_scripts.specs.Scripts.{refused_command}
 
 -- the command of what a record says of processes, if there are such
 abbrev pub of_found : {A : Type 0} → (A → Command) → Option A → Command
-of_found command None = refused faults.NoSuchProcess
+of_found command None = refused_command faults.NoSuchProcess
 of_found command (Some found) = command found
 
 -- the command that a kept one and its bytes make
@@ -45,22 +45,22 @@ long_of (kepts.Refused code long) = long
 long_of other = 0
 
 -- a message that it carries has no more bytes than a body may have
-abbrev pub IsShort : Kept → Type 0
-IsShort (kepts.Send from to long) = long ≤ MOST_BODY
-IsShort other = Unit {0}
+abbrev pub HasShortMessage : Kept → Type 0
+HasShortMessage (kepts.Send from to long) = long ≤ MOST_BODY
+HasShortMessage other = Unit {0}
 
 -- what a list has after what it had
 abbrev pub behind : List ℕ → List ℕ → List ℕ
 behind old new = drop (length old) new
 
 -- the commands that these and all their bytes make
-abbrev pub unpacked : List Kept → List ℕ → List Command
-unpacked [] bytes = []
-unpacked (k ∷ others) bytes =
-    with_bytes k (take (long_of k) bytes) ∷ unpacked others (drop (long_of k) bytes)
+abbrev pub commands_of_kept : List Kept → List ℕ → List Command
+commands_of_kept [] bytes = []
+commands_of_kept (k ∷ others) bytes =
+    with_bytes k (take (long_of k) bytes) ∷ commands_of_kept others (drop (long_of k) bytes)
 
 -- the bytes of each stand after those of the ones before it, and there are no others
 abbrev pub ArePacked : List Kept → List ℕ → Type 0
 ArePacked [] bytes = bytes ≡ []
 ArePacked (k ∷ others) bytes =
-    IsShort k × (long_of k ≤ length bytes) × ArePacked others (drop (long_of k) bytes)
+    HasShortMessage k × (long_of k ≤ length bytes) × ArePacked others (drop (long_of k) bytes)

@@ -4,15 +4,15 @@ use Rattle.line_scripts.specs.declared.names.Name.{Name}
 use Rattle.line_scripts.specs.declared.names.Name.TheVariants as names
 
 -- the text of a name
-abbrev pub text_of : Name → List ℕ
-text_of names.Send = codes "send"
-text_of names.Deliver = codes "deliver"
-text_of names.Check = codes "check"
-text_of names.Begin = codes "begin"
-text_of names.Turn = codes "turn"
-text_of names.Damage = codes "damage"
-text_of names.Bar = codes "bar"
-text_of names.Recover = codes "recover"
-text_of names.Rounds = codes "rounds"
-text_of names.History = codes "history"
-text_of names.Bundle = codes "bundle"
+abbrev pub name_text : Name → List ℕ
+name_text names.Send = codes "send"
+name_text names.Deliver = codes "deliver"
+name_text names.Check = codes "check"
+name_text names.Begin = codes "begin"
+name_text names.Turn = codes "turn"
+name_text names.Damage = codes "damage"
+name_text names.Bar = codes "bar"
+name_text names.Recover = codes "recover"
+name_text names.Rounds = codes "rounds"
+name_text names.History = codes "history"
+name_text names.Bundle = codes "bundle"

@@ -7,11 +7,11 @@ use Rattle.line_fields.specs.Fields.{◌>>=◌}
 use Rattle.line_fields.specs.Records.{Record}
 use Rattle.line_moves.specs.declared.modes.Mode.{Mode}
 use Rattle.line_claims.specs.declared.faults.TextFault.{TextFault}
-use Rattle.line_claims.specs.Reads.{fault_at}
+use Rattle.line_claims.specs.Reads.{fault_of_record}
 use Rattle.line_claims.specs.Texts.{records_in}
 use Rattle.line_scripts.specs.declared.commands.Command.{Command}
 use Rattle.line_scripts.specs.declared.keeping.Kept.{Kept}
-use Rattle.line_scripts.specs.Keeping.{ArePacked, unpacked}
+use Rattle.line_scripts.specs.Keeping.{ArePacked, commands_of_kept}
 use Rattle.line_scripts.specs.Scripts.{Script, commands_from, script_of}
 
 -- a text is empty, or ends with a line feed
@@ -29,7 +29,7 @@ begun_in text = records_in text >>= begun_of
 
 -- a script that was begun, or the fault that there is none
 abbrev pub script_or_none : Option Script → Result Script TextFault
-script_or_none None = Err (fault_at 1 faults.NoWorld)
+script_or_none None = Err (fault_of_record 1 faults.NoWorld)
 script_or_none (Some script) = Ok script
 
 -- the script that a text spells where it ends here
@@ -37,9 +37,9 @@ abbrev pub at_end : Result (Option Script) TextFault → Result Script TextFault
 at_end begun = begun >>= script_or_none
 
 -- commands, and after them those that are read next
-abbrev pub with_front : List Command → Result (List Command) TextFault
+abbrev pub with_commands : List Command → Result (List Command) TextFault
     → Result (List Command) TextFault
-with_front front read = read >>= λ others. Ok (front ++ others)
+with_commands front read = read >>= λ others. Ok (front ++ others)
 
 -- a script of a first record and commands
 abbrev pub script_with : ℕ × Mode → List Command → Script
@@ -49,14 +49,14 @@ script_with world commands = record { n = world.0; mode = world.1; commands = co
 abbrev pub begun_on : Option Script → List Record → Result (Option Script) TextFault
 begun_on None records = begun_of records
 begun_on (Some script) records =
-    with_front script.commands
+    with_commands script.commands
     (commands_from script.n (length script.commands + 2) records)
     >>= λ commands. Ok (Some (script_with (script.n, script.mode) commands))
 
 -- the script that a first record and commands that are kept make
 abbrev pub script_kept : Option (ℕ × Mode) → List Kept → List ℕ → Option Script
 script_kept None kept bytes = None
-script_kept (Some world) kept bytes = Some (script_with world (unpacked kept bytes))
+script_kept (Some world) kept bytes = Some (script_with world (commands_of_kept kept bytes))
 
 -- what was found so far: a fault, or else the script that was begun
 abbrev pub found : Option TextFault → Option Script → Result (Option Script) TextFault

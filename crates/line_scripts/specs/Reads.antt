@@ -6,12 +6,12 @@ use Rattle.line_scripts.specs.declared.scripts.Script as made
 use Rattle.line_scripts.specs.Scripts.{Script}
 
 -- a script with its commands as a list
-abbrev pub seen : made.Script → Script
-seen script = record { n = script.n; mode = script.mode; commands = script.commands.items }
+abbrev pub script_view : made.Script → Script
+script_view script = record { n = script.n; mode = script.mode; commands = script.commands.items }
 
 -- the same of a script in little memory
-abbrev pub seen_kept : kept.KeptScript → Script
-seen_kept script = record { n = script.n; mode = script.mode; commands = script.commands }
+abbrev pub kept_script_view : kept.KeptScript → Script
+kept_script_view script = record { n = script.n; mode = script.mode; commands = script.commands }
 
 -- the fault is one that scripts have, by its number
 abbrev pub IsOfScript : TextFault → Type 0

@@ -22,7 +22,7 @@ use Rattle.line_scripts.specs.declared.commands.Command.TheVariants.{Rounds}
 use Rattle.line_claims.specs.declared.faults.TextFault.{TextFault}
 use Rattle.line_claims.specs.declared.versions.TheConstants.{LAST_VERSION}
 use Rattle.line_claims.specs.Numbers.{numbers, plain}
-use Rattle.line_claims.specs.Reads.{fault_at, numbered}
+use Rattle.line_claims.specs.Reads.{fault_of_record, at_record}
 use Rattle.line_claims.specs.Texts.{records_in}
 use Rattle.line_claims.specs.Versions.{most_in}
 
@@ -50,18 +50,18 @@ world_of r = do
   Ok (n, mode)
 
 -- a command that is refused, before any step
-abbrev pub refused : Fault → Command
-refused fault = Refused (code_of fault)
+abbrev pub refused_command : Fault → Command
+refused_command fault = Refused (code_of fault)
 
 -- a command whose processes are all below n, else one that is refused
 abbrev pub below : ℕ → List ℕ → Command → Command
 below n processes command =
-    if list_all (λ p. nat_lt p n) processes then command else refused faults.NoSuchProcess
+    if list_all (λ p. nat_lt p n) processes then command else refused_command faults.NoSuchProcess
 
 -- a command whose body isn't too long, else one that is refused
 abbrev pub with_body : List ℕ → Command → Command
 with_body body command =
-    if nat_le (length body) MOST_BODY then command else refused faults.BodyTooLong
+    if nat_le (length body) MOST_BODY then command else refused_command faults.BodyTooLong
 
 -- send,FROM,TO,HEX
 unfoldable pub send_of : ℕ → Record → Result Command Fault
@@ -109,7 +109,7 @@ command_of n r =
 unfoldable pub commands_from : ℕ → ℕ → List Record → Result (List Command) TextFault
 commands_from n i [] = Ok []
 commands_from n i (r ∷ rest) = do
-  command ← numbered i (command_of n r)
+  command ← at_record i (command_of n r)
   others ← commands_from n (i + 1) rest
   Ok (command ∷ others)
 
@@ -121,9 +121,9 @@ pub record Script : Type 0 where
 
 -- the script that records spell
 unfoldable pub script_of : List Record → Result Script TextFault
-script_of [] = Err (fault_at 1 faults.NoWorld)
+script_of [] = Err (fault_of_record 1 faults.NoWorld)
 script_of (first ∷ rest) = do
-  world ← numbered 1 (world_of first)
+  world ← at_record 1 (world_of first)
   commands ← commands_from world.0 2 rest
   Ok (record { n = world.0; mode = world.1; commands = commands })
 

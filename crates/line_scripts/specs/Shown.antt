@@ -7,17 +7,17 @@ use Rattle.line_scripts.specs.declared.commands.CommandRef.{CommandRef}
 use Rattle.line_scripts.specs.declared.commands.CommandRef.TheVariants as lent
 
 -- the command that is asked for so, its message, state or set lent
-abbrev pub shown : CommandRef → Command
-shown (lent.Do step) = Do (steps.shown step)
-shown lent.Rounds = Rounds
-shown lent.History = History
-shown (lent.Bundle failed) = Bundle failed.now
-shown (lent.Refused code) = Refused code
+abbrev pub command_of_ref : CommandRef → Command
+command_of_ref (lent.Do step) = Do (steps.step_of_ref step)
+command_of_ref lent.Rounds = Rounds
+command_of_ref lent.History = History
+command_of_ref (lent.Bundle failed) = Bundle failed.now
+command_of_ref (lent.Refused code) = Refused code
 
 -- the bytes lent as the body of a message are no more than a body has
-abbrev pub HasShortBody : CommandRef → Type 0
-HasShortBody (lent.Do step) = steps.HasShortBody step
-HasShortBody lent.Rounds = Unit {0}
-HasShortBody lent.History = Unit {0}
-HasShortBody (lent.Bundle failed) = Unit {0}
-HasShortBody (lent.Refused code) = Unit {0}
+abbrev pub HasShortBodyInStep : CommandRef → Type 0
+HasShortBodyInStep (lent.Do step) = steps.HasShortBody step
+HasShortBodyInStep lent.Rounds = Unit {0}
+HasShortBodyInStep lent.History = Unit {0}
+HasShortBodyInStep (lent.Bundle failed) = Unit {0}
+HasShortBodyInStep (lent.Refused code) = Unit {0}

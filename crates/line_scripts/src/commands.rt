@@ -6,11 +6,12 @@ ghost use Rattle.line_fields.specs.declared.faults.Fault.TheVariants as faults;
 ghost use Rattle.line_fields.specs.Faults.{code_of};
 ghost use Rattle.line_fields.specs.Fields.{Gives, hex};
 ghost use Rattle.line_world.specs.declared.steps.Step.{Step};
-ghost use Rattle.line_scripts.specs.Keeping.{IsShort, behind, long_of, of_found, with_bytes};
+ghost use Rattle.line_scripts.specs.Keeping.{HasShortMessage, behind, long_of, of_found};
+ghost use Rattle.line_scripts.specs.Keeping.{with_bytes};
 ghost use Rattle.line_scripts.specs.Scripts as spec;
 
 use crate::keeping::{Kept, delivery, in_byte};
-use crate::names::{Name, name_of};
+use crate::names::{Name, name_in};
 use line_claims::{LAST_VERSION, failed_of, most_in, plain, want};
 use line_fields::{Fault, ReadError, Row, hex_behind, number};
 use line_names::{MOST_BODY, ProcId, ProcSet};
@@ -128,7 +129,7 @@ fn send_of(n: u32, row: &Row, bytes: &mut Vec<u8>) -> Result<Kept, ReadError>
         (spec.send_of n row.now) }
     ensures long { IfOk result
         (λ kept. long_of kept ≡ length (behind bytes.old.items bytes.new.items)) }
-    ensures short { IfOk result IsShort }
+    ensures short { IfOk result HasShortMessage }
     ensures kept { take (length bytes.old.items) bytes.new.items ≡ bytes.old.items }
 {
     want(row.len() == 4, Fault::BadRecord)?;
@@ -158,7 +159,7 @@ fn deliver_of(alloc: Global, n: u32, row: &Row, bytes: &mut Vec<u8>) -> Result<K
         (spec.deliver_of n row.now) }
     ensures long { IfOk result
         (λ kept. long_of kept ≡ length (behind bytes.old.items bytes.new.items)) }
-    ensures short { IfOk result IsShort }
+    ensures short { IfOk result HasShortMessage }
     ensures kept { take (length bytes.old.items) bytes.new.items ≡ bytes.old.items }
 {
     want(row.len() == 5, Fault::BadRecord)?;
@@ -253,11 +254,11 @@ pub(crate) fn command_of(
         (spec.command_of n row.now) }
     ensures long { IfOk result
         (λ kept. long_of kept ≡ length (behind bytes.old.items bytes.new.items)) }
-    ensures short { IfOk result IsShort }
+    ensures short { IfOk result HasShortMessage }
     ensures kept { take (length bytes.old.items) bytes.new.items ≡ bytes.old.items }
 {
     let start = bytes.len();
-    let Some(name) = name_of(row.field(0)) else {
+    let Some(name) = name_in(row.field(0)) else {
         return Err(ReadError::Fault(Fault::BadRecord));
     };
     match name {

@@ -2,9 +2,10 @@
 
 ghost use Rattle.std.specs.Prelude.{◌≡◌, ◌≤◌, ◌∷◌, ◌++◌, [], ℕ, List, drop, length, IfNone};
 ghost use Rattle.std.specs.Prelude.{IfOk, IfSome, OnOk};
-ghost use Rattle.line_scripts.specs.Keeping.{ArePacked, IsShort, unpacked, with_bytes};
+ghost use Rattle.line_scripts.specs.Keeping.{ArePacked, HasShortMessage, commands_of_kept};
+ghost use Rattle.line_scripts.specs.Keeping.{with_bytes};
 ghost use Rattle.line_scripts.specs.Keeping as spec;
-ghost use Rattle.line_scripts.specs.Shown.{HasShortBody, shown};
+ghost use Rattle.line_scripts.specs.Shown.{HasShortBodyInStep, command_of_ref};
 ghost use Rattle.line_world.specs.declared.steps.Step.{Step};
 
 use crate::commands::{Command, CommandRef};
@@ -104,7 +105,7 @@ pub(crate) fn delivery(
     ensures value { (bytes : List ℕ) → IfOk result
         (λ kept. with_bytes kept bytes ≡ Command.Do (Step.Deliver from to pick bytes)) }
     ensures long { IfOk result (λ kept. spec.long_of kept ≡ long) }
-    ensures short { IfOk result IsShort }
+    ensures short { IfOk result HasShortMessage }
 {
     let from = in_byte(from);
     let to = in_byte(to);
@@ -155,9 +156,9 @@ pub(crate) fn long_of(kept: &Kept) -> usize
 #[inline(always)]
 pub(crate) fn lent<'a>(kept: &'a Kept, own: &'a [u8]) -> CommandRef<'a>
     requires long { spec.long_of kept.now ≡ length own.now }
-    requires short { IsShort kept.now }
-    ensures value { shown result ≡ with_bytes kept.now own.now }
-    ensures short { HasShortBody result }
+    requires short { HasShortMessage kept.now }
+    ensures value { command_of_ref result ≡ with_bytes kept.now own.now }
+    ensures short { HasShortBodyInStep result }
 {
     match kept {
         Kept::Send { from, to, .. } => CommandRef::Do(StepRef::Send {
@@ -227,9 +228,9 @@ impl Model for Commands {
 
     ghost Value = { List Command };
 
-    ghost use Rattle.line_scripts.specs.Keeping.{ArePacked, unpacked};
+    ghost use Rattle.line_scripts.specs.Keeping.{ArePacked, commands_of_kept};
 
-    ghost view = { λ c. unpacked (drop c.gone c.kept.items) (drop c.at c.bytes.items) };
+    ghost view = { λ c. commands_of_kept (drop c.gone c.kept.items) (drop c.at c.bytes.items) };
 
     ghost invariant = { λ c. (c.gone ≤ length c.kept.items) × (c.at ≤ length c.bytes.items)
         × ArePacked (drop c.gone c.kept.items) (drop c.at c.bytes.items) };
@@ -275,7 +276,7 @@ impl Commands {
     /// Those that were kept, in their order.
     pub(crate) fn of(kept: Vec<Kept>, bytes: Vec<u8>) -> Commands
         requires { ArePacked kept.items bytes.items }
-        ensures { result ≡ unpacked kept.items bytes.items }
+        ensures { result ≡ commands_of_kept kept.items bytes.items }
     {
         Commands {
             kept,
@@ -287,8 +288,9 @@ impl Commands {
 
     /// The first one, its message, state or set lent, if there is one.
     pub fn first(&self) -> Option<CommandRef<'_>>
-        ensures some { IfSome result (λ command. self.now ≡ shown command ∷ drop 1 self.now) }
-        ensures short { IfSome result HasShortBody }
+        ensures some { IfSome result
+            (λ command. self.now ≡ command_of_ref command ∷ drop 1 self.now) }
+        ensures short { IfSome result HasShortBodyInStep }
         ensures none { IfNone result (self.now ≡ []) }
     {
         let first = self.kept.get(self.gone)?;

@@ -5,7 +5,7 @@ ghost use Rattle.line_fields.specs.declared.faults.Fault.TheVariants.{BadCount};
 ghost use Rattle.line_fields.specs.Records.{Record};
 ghost use Rattle.line_fields.specs.Texts.{records_text};
 ghost use Rattle.line_claims.specs.declared.versions.TheConstants.{MOST_IN_FIRST_VERSION};
-ghost use Rattle.line_claims.specs.Reads.{fault_at};
+ghost use Rattle.line_claims.specs.Reads.{fault_of_record};
 ghost use Rattle.line_scripts.specs.Ranges.{IsScriptInRange};
 ghost use Rattle.line_scripts.specs.Records.{DifferInVersion, script_records, world_record};
 ghost use Rattle.line_scripts.specs.Scripts.{Script, script_of, script_of_text};
@@ -28,9 +28,9 @@ pub fn version_2_reads_scripts_of_version_1()
     ensures records { (n : ℕ) (mode : List ℕ) (rest : List Record) → n ≤ MOST_IN_FIRST_VERSION
         → script_of (world_record 1 n mode ∷ rest) ≡ script_of (world_record 2 n mode ∷ rest) }
     ensures texts { (text : List ℕ)
-        → script_of_text (codes "world,1," ++ text) ≢ Err (fault_at 1 BadCount)
+        → script_of_text (codes "world,1," ++ text) ≢ Err (fault_of_record 1 BadCount)
         → script_of_text (codes "world,2," ++ text) ≡ script_of_text (codes "world,1," ++ text) }
     ensures spelled { (text later : List ℕ) → DifferInVersion text later
-        → script_of_text text ≢ Err (fault_at 1 BadCount)
+        → script_of_text text ≢ Err (fault_of_record 1 BadCount)
         → script_of_text later ≡ script_of_text text }
 {}

@@ -2,7 +2,7 @@
 
 ghost use Rattle.std.specs.Prelude.{◌≡◌, ◌≢◌, IfNone, IfSome};
 ghost use Rattle.line_scripts.specs.declared.names.Name.{Name};
-ghost use Rattle.line_scripts.specs.Names.{text_of};
+ghost use Rattle.line_scripts.specs.Names.{name_text};
 
 /// The name of a command.
 #[derive(Clone, Copy)]
@@ -23,9 +23,9 @@ pub(crate) enum Name {
 /// The name that a field spells, if it spells one. It is put into its caller, where each name then
 /// leads to its command at once.
 #[inline(always)]
-pub(crate) fn name_of(field: &[u8]) -> Option<Name>
-    ensures found { IfSome result (λ name. field.now ≡ text_of name) }
-    ensures none { IfNone result ((name : Name) → field.now ≢ text_of name) }
+pub(crate) fn name_in(field: &[u8]) -> Option<Name>
+    ensures found { IfSome result (λ name. field.now ≡ name_text name) }
+    ensures none { IfNone result ((name : Name) → field.now ≢ name_text name) }
 {
     match field {
         b"send" => Some(Name::Send),

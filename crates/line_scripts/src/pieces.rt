@@ -7,10 +7,11 @@ ghost use Rattle.line_fields.specs.Bytes.{is_input_text};
 ghost use Rattle.line_fields.specs.Records.{records_of_text};
 ghost use Rattle.line_claims.specs.Reads as reads;
 ghost use Rattle.line_claims.specs.Reads.{Yields};
-ghost use Rattle.line_scripts.specs.Keeping.{ArePacked, IsShort, behind, long_of, unpacked};
+ghost use Rattle.line_scripts.specs.Keeping.{ArePacked, HasShortMessage, behind, long_of};
+ghost use Rattle.line_scripts.specs.Keeping.{commands_of_kept};
 ghost use Rattle.line_scripts.specs.Keeping.{with_bytes};
 ghost use Rattle.line_scripts.specs.Pieces as spec;
-ghost use Rattle.line_scripts.specs.Reads.{IsOfScript, seen_kept};
+ghost use Rattle.line_scripts.specs.Reads.{IsOfScript, kept_script_view};
 ghost use Rattle.line_scripts.specs.Scripts.{command_of, commands_from, world_of};
 
 use crate::commands::{command_of, world_of};
@@ -24,7 +25,7 @@ use std::marker::Model;
 
 // The number of processes and how links deliver, as the first record says.
 fn world_at(row: &Row) -> Result<(u32, Mode), TextError>
-    ensures exact { Yields (λ world. world) result (reads.numbered 1 (world_of row.now)) }
+    ensures exact { Yields (λ world. world) result (reads.at_record 1 (world_of row.now)) }
     ensures within { IfOk result (λ world. (1 ≤ world.0) × (world.0 ≤ MOST_PROCESSES)) }
 {
     match world_of(row) {
@@ -44,10 +45,10 @@ fn command_at(
 ) -> Result<Kept, TextError>
     requires { n ≤ MOST_PROCESSES }
     ensures exact { Yields (λ kept. with_bytes kept (behind bytes.old.items bytes.new.items)) result
-        (reads.numbered record_number (command_of n row.now)) }
+        (reads.at_record record_number (command_of n row.now)) }
     ensures long { IfOk result
         (λ kept. long_of kept ≡ length (behind bytes.old.items bytes.new.items)) }
-    ensures short { IfOk result IsShort }
+    ensures short { IfOk result HasShortMessage }
     ensures kept { take (length bytes.old.items) bytes.new.items ≡ bytes.old.items }
 {
     match command_of(alloc, n, row, bytes) {
@@ -68,9 +69,10 @@ fn keep_all(
 ) -> Result<(), TextError>
     requires few { n ≤ MOST_PROCESSES }
     requires packed { ArePacked kept.old.items bytes.old.items }
-    ensures exact { Yields (λ _. unpacked kept.new.items bytes.new.items) result
-        (spec.with_front (unpacked kept.old.items bytes.old.items)
-        (commands_from n (length (unpacked kept.old.items bytes.old.items) + 2) records.old)) }
+    ensures exact { Yields (λ _. commands_of_kept kept.new.items bytes.new.items) result
+        (spec.with_commands (commands_of_kept kept.old.items bytes.old.items)
+        (commands_from n
+        (length (commands_of_kept kept.old.items bytes.old.items) + 2) records.old)) }
     ensures packed { OnOk result (ArePacked kept.new.items bytes.new.items) }
 {
     'records: loop {
@@ -239,7 +241,7 @@ impl ScriptReader {
 
     /// The script that all pieces spell, or its first fault. It takes no memory.
     pub fn into_script(self) -> Result<KeptScript, TextFault>
-        ensures ok { IfOk result (λ script. spec.at_end self ≡ Ok (seen_kept script)) }
+        ensures ok { IfOk result (λ script. spec.at_end self ≡ Ok (kept_script_view script)) }
         ensures err { IfErr result (λ fault. spec.at_end self ≡ Err fault) }
         ensures codes { IfErr result IsOfScript }
         ensures within { IfOk result (λ script. (1 ≤ script.n) × (script.n ≤ MOST_PROCESSES)) }

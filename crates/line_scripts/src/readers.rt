@@ -4,7 +4,7 @@ ghost use Rattle.std.specs.Prelude.{◌≡◌, ◌≤◌};
 ghost use Rattle.line_fields.specs.Fields.{Gives};
 ghost use Rattle.line_names.specs.declared.limits.TheConstants.{MOST_PROCESSES};
 ghost use Rattle.line_scripts.specs.Scripts.{command_of};
-ghost use Rattle.line_scripts.specs.Shown.{HasShortBody, shown};
+ghost use Rattle.line_scripts.specs.Shown.{HasShortBodyInStep, command_of_ref};
 
 use crate::commands::{Command, CommandRef, command_of};
 use crate::keeping::{Kept, lent, long_of};
@@ -30,11 +30,11 @@ impl Model for CommandReader {
 
     ghost Value = { Command };
 
-    ghost use Rattle.line_scripts.specs.Keeping.{IsShort, long_of, with_bytes};
+    ghost use Rattle.line_scripts.specs.Keeping.{HasShortMessage, long_of, with_bytes};
 
     ghost view = { λ s. with_bytes s.kept (take (long_of s.kept) s.bytes.items) };
 
-    ghost invariant = { λ s. (long_of s.kept ≤ length s.bytes.items) × IsShort s.kept };
+    ghost invariant = { λ s. (long_of s.kept ≤ length s.bytes.items) × HasShortMessage s.kept };
 }
 
 impl CommandReader {
@@ -66,8 +66,8 @@ impl CommandReader {
 
     /// The command that was read last, its message, state or set lent.
     pub fn command(&self) -> CommandRef<'_>
-        ensures value { shown result ≡ self.now }
-        ensures short { HasShortBody result }
+        ensures value { command_of_ref result ≡ self.now }
+        ensures short { HasShortBodyInStep result }
     {
         lent(&self.kept, &self.bytes[..long_of(&self.kept)])
     }

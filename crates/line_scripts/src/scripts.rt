@@ -4,8 +4,8 @@ ghost use Rattle.std.specs.Prelude.{◌≡◌, ◌+◌, ◌^◌, ◌≤◌, ◌<
 ghost use Rattle.line_names.specs.declared.limits.TheConstants.{MOST_BODY, MOST_PROCESSES};
 ghost use Rattle.line_scripts.specs.Scripts as spec;
 ghost use Rattle.line_claims.specs.Reads.{Reads, no_memory};
-ghost use Rattle.line_scripts.specs.Reads.{IsOfScript, seen, seen_kept};
-ghost use Rattle.line_scripts.specs.Shown.{HasShortBody, shown};
+ghost use Rattle.line_scripts.specs.Reads.{IsOfScript, script_view, kept_script_view};
+ghost use Rattle.line_scripts.specs.Shown.{HasShortBodyInStep, command_of_ref};
 ghost use Rattle.line_world.specs.Shown as steps;
 
 use crate::commands::{Command, CommandRef};
@@ -44,7 +44,7 @@ pub struct KeptScript {
 /// The script that a text spells, in little memory: 16 bytes for a command, beside those of
 /// its message or state. What it refuses, and how, is as of `read_script`.
 pub fn keep_script(alloc: Global, text: &[u8]) -> Result<KeptScript, TextFault>
-    ensures exact { Reads seen_kept result (spec.script_of_text text.now) }
+    ensures exact { Reads kept_script_view result (spec.script_of_text text.now) }
     ensures codes { IfErr result (λ fault. (fault ≡ no_memory) ⊎ IsOfScript fault) }
     ensures within { IfOk result (λ script. (1 ≤ script.n) × (script.n ≤ MOST_PROCESSES)) }
     ensures few { IfOk result (λ script. length script.commands + 2 < 2 ^ 64) }
@@ -78,7 +78,7 @@ fn own_state(alloc: Global, bytes: &[u8]) -> Result<State, AllocError>
 // The step that is lent, with its own message, state or set.
 fn own_step(alloc: Global, step: &StepRef<'_>) -> Result<Step, AllocError>
     requires { steps.HasShortBody step.now }
-    ensures { IfOk result (λ own. own ≡ steps.shown step.now) }
+    ensures { IfOk result (λ own. own ≡ steps.step_of_ref step.now) }
 {
     match step {
         StepRef::Send { from, to, body } => Ok(Step::Send {
@@ -123,8 +123,8 @@ fn own_step(alloc: Global, step: &StepRef<'_>) -> Result<Step, AllocError>
 
 // The command that is lent, with its own message, state or set.
 fn own_command(alloc: Global, command: &CommandRef<'_>) -> Result<Command, AllocError>
-    requires { HasShortBody command.now }
-    ensures { IfOk result (λ own. own ≡ shown command.now) }
+    requires { HasShortBodyInStep command.now }
+    ensures { IfOk result (λ own. own ≡ command_of_ref command.now) }
 {
     match command {
         CommandRef::Do(step) => Ok(Command::Do(own_step(alloc, step)?)),
@@ -156,7 +156,7 @@ fn all_of(alloc: Global, mut commands: Commands) -> Result<Vec<Command>, AllocEr
 /// and comes before all else; the first record of a text without records is missing. Out of memory,
 /// at any time, is the fault 0 of record 0. It takes time and memory in proportion to the text.
 pub fn read_script(alloc: Global, text: &[u8]) -> Result<Script, TextFault>
-    ensures exact { Reads seen result (spec.script_of_text text.now) }
+    ensures exact { Reads script_view result (spec.script_of_text text.now) }
     ensures codes { IfErr result (λ fault. (fault ≡ no_memory) ⊎ IsOfScript fault) }
     ensures within { IfOk result (λ script. (1 ≤ script.n) × (script.n ≤ MOST_PROCESSES)) }
     ensures few { IfOk result (λ script. length script.commands.items + 2 < 2 ^ 64) }

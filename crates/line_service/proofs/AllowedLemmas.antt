@@ -3,7 +3,7 @@ use Rattle.std.proofs.Common.{◌≡◌, ℕ, zero, suc, ◌+◌, ◌&&◌, ◌|
 use Rattle.std.proofs.lemmas.Bool.{cases_Bool, eqb-true, false_from_ne_true, false≢true}
 use Rattle.std.proofs.lemmas.List.{append-nil, drop_all, drop_more, take-append-drop}
 use Rattle.std.specs.Prelude.{◌==◌, not}
-use Rattle.line_fields.specs.Bytes.{begins_with_feed, is_allowed, is_input_text, is_line_byte, is_line_text}
+use Rattle.line_fields.specs.Bytes.{begins_with_feed, is_input_byte, is_input_text, is_line_byte, is_line_text}
 use Rattle.line_fields.specs.Records.{without}
 use Rattle.line_service.specs.Lines.{Kept, Pending, ended_record, has_no_feed, last_record, record_of}
 use Rattle.line_service.proofs.LineLemmas.{both_true, no_feed_of, no_feed_parts}
@@ -14,7 +14,7 @@ allowed_if true feed return begun none other = refl
 allowed_if false feed true begun none other = rw (none, other) refl
 allowed_if false feed false begun none other = rw none refl
 
-allowed_here : (byte : ℕ) (rest : List ℕ) → (byte == 10) ≡ false → begins_with_feed rest ≡ false → is_allowed byte rest ≡ is_line_byte byte
+allowed_here : (byte : ℕ) (rest : List ℕ) → (byte == 10) ≡ false → begins_with_feed rest ≡ false → is_input_byte byte rest ≡ is_line_byte byte
 allowed_here byte rest none other = allowed_if (is_line_byte byte) (byte == 10) (byte == 13) (begins_with_feed rest) none other
 
 -- such bytes begin with no line feed
@@ -30,7 +30,7 @@ input_nil : is_input_text [] ≡ true
 unfolding is_input_text
 input_nil = refl
 
-pub input_cons : (byte : ℕ) (rest : List ℕ) → is_input_text (byte ∷ rest) ≡ (is_allowed byte rest && is_input_text rest)
+pub input_cons : (byte : ℕ) (rest : List ℕ) → is_input_text (byte ∷ rest) ≡ (is_input_byte byte rest && is_input_text rest)
 unfolding is_input_text
 input_cons byte rest = refl
 
@@ -75,7 +75,7 @@ allowed_end true feed return none other = refl
 allowed_end false feed return none other = rw (none, other) refl
 
 -- a line before a line feed, where it has no carriage return there
-allowed_last_byte : (byte : ℕ) → (byte == 10) ≡ false → (byte == 13) ≡ false → is_allowed byte (10 ∷ []) ≡ is_line_byte byte
+allowed_last_byte : (byte : ℕ) → (byte == 10) ≡ false → (byte == 13) ≡ false → is_input_byte byte (10 ∷ []) ≡ is_line_byte byte
 allowed_last_byte byte none other = allowed_end (is_line_byte byte) (byte == 10) (byte == 13) none other
 
 is_otherwise : (byte : ℕ) → not (byte == 13) ≡ true → (byte == 13) ≡ false

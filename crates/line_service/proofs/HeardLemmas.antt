@@ -15,28 +15,28 @@ use Rattle.line_fields.specs.Records.{Record, parts}
 use Rattle.line_service.specs.declared.outcomes.Outcome.{Outcome}
 use Rattle.line_service.specs.declared.outcomes.Outcome.TheVariants as outcomes
 use Rattle.line_service.specs.Lines.{record_of}
-use Rattle.line_service.specs.Services.{Answer, Faulted, Hears, HearsAll, answer_text, answers_text, outcome_of, worse, worst}
-use Rattle.line_service.specs.Progress.{Answers, PutsAll, Spot}
+use Rattle.line_service.specs.Services.{ServiceAnswer, Faulted, Hears, HearsAll, answer_text, answers_text, outcome_of, worse, worst}
+use Rattle.line_service.specs.Progress.{AnswersRecords, PutsAll, Spot}
 use Rattle.line_service.specs.Turns.{PutsAnswersFront}
 use Rattle.line_world.specs.Machine.{Machine}
 
 -- ---- answers, one after the other
 
-pub HearsAll-both : (old mid new : Option Machine) (records more : List (Result Record Fault)) (answers others : List Answer) → HearsAll old records answers mid → HearsAll mid more others new
+pub HearsAll-both : (old mid new : Option Machine) (records more : List (Result Record Fault)) (answers others : List ServiceAnswer) → HearsAll old records answers mid → HearsAll mid more others new
     → HearsAll old (records ++ more) (answers ++ others) new
 HearsAll-both old mid new [] more [] others h k = subst (λ (m : Option Machine). HearsAll m more others new) h k
 HearsAll-both old mid new [] more (one ∷ answers) others h k = absurd h
 HearsAll-both old mid new (r ∷ records) more [] others h k = absurd h
 HearsAll-both old mid new (r ∷ records) more (one ∷ answers) others (next, is, h) k = (next, is, HearsAll-both next mid new records more answers others h k)
 
-pub answers_text-append : (answers others : List Answer) → answers_text (answers ++ others) ≡ answers_text answers ++ answers_text others
+pub answers_text-append : (answers others : List ServiceAnswer) → answers_text (answers ++ others) ≡ answers_text answers ++ answers_text others
 answers_text-append answers others = flat_map-append answer_text answers others
 
-pub answers_text_one : (one : Answer) → answers_text (one ∷ []) ≡ answer_text one
+pub answers_text_one : (one : ServiceAnswer) → answers_text (one ∷ []) ≡ answer_text one
 answers_text_one one = append-nil (answer_text one)
 
-pub worst-append : (outcome : Outcome) (answers others : List Answer) → worst outcome (answers ++ others) ≡ worst (worst outcome answers) others
-worst-append outcome answers others = fold-append (λ (so_far : Outcome) (answer : Answer). worse so_far (outcome_of answer)) outcome answers others
+pub worst-append : (outcome : Outcome) (answers others : List ServiceAnswer) → worst outcome (answers ++ others) ≡ worst (worst outcome answers) others
+worst-append outcome answers others = fold-append (λ (so_far : Outcome) (answer : ServiceAnswer). worse so_far (outcome_of answer)) outcome answers others
 
 -- a fault is the worst
 pub worse_faulted : (outcome : Outcome) → worse outcome outcomes.Faulted ≡ outcomes.Faulted
@@ -47,14 +47,14 @@ worse_faulted outcomes.Faulted = refl
 -- ---- the text of what was held and of answers, which was put but for its end
 
 -- text behind what was held
-abbrev behind_held : List ℕ → List Answer → List ℕ
+abbrev behind_held : List ℕ → List ServiceAnswer → List ℕ
 behind_held held answers = held ++ answers_text answers
 
-behind_both : (held : List ℕ) (answers others : List Answer) → behind_held held answers ++ answers_text others ≡ behind_held held (answers ++ others)
+behind_both : (held : List ℕ) (answers others : List ServiceAnswer) → behind_held held answers ++ answers_text others ≡ behind_held held (answers ++ others)
 behind_both held answers others =
     append_assoc held (answers_text answers) (answers_text others) ∙ ap (λ (t : List ℕ). held ++ t) (sym (answers_text-append answers others))
 
-pub none_answered : (old : Spot) (taken : Option (List ℕ)) → Answers old [] old taken taken
+pub none_answered : (old : Spot) (taken : Option (List ℕ)) → AnswersRecords old [] old taken taken
 none_answered old taken = record {
   answers = [];
   heard = refl;
@@ -62,8 +62,8 @@ none_answered old taken = record {
   put = subst (λ (t : List ℕ). PutsButEnd taken taken old.writer t) (sym (append-nil old.writer)) (holds_all taken old.writer);
 }
 
-pub answers_both : (old mid new : Spot) (records more : List (Result Record Fault)) (taken between now : Option (List ℕ)) → Answers old records mid taken between → Answers mid more new between now
-    → Answers old (records ++ more) new taken now
+pub answers_both : (old mid new : Spot) (records more : List (Result Record Fault)) (taken between now : Option (List ℕ)) → AnswersRecords old records mid taken between → AnswersRecords mid more new between now
+    → AnswersRecords old (records ++ more) new taken now
 answers_both old mid new records more taken between now h k = record {
   answers = h.answers ++ k.answers;
   heard = HearsAll-both old.world mid.world new.world records more h.answers k.answers h.heard k.heard;
@@ -90,7 +90,7 @@ front_first old held records more taken now h =
     record { done = front.0; answers = h.answers; machine = h.machine; heard = subst (λ (rs : List (Result Record Fault)). HearsAll old rs h.answers h.machine) (sym front.1) h.heard; put = h.put }
 
 -- some records were answered, and of the answers to the first of more a front was put
-pub front_after : (old mid : Option Machine) (held kept : List ℕ) (records more : List (Result Record Fault)) (answers : List Answer) (taken between now : Option (List ℕ)) → HearsAll old records answers mid
+pub front_after : (old mid : Option Machine) (held kept : List ℕ) (records more : List (Result Record Fault)) (answers : List ServiceAnswer) (taken between now : Option (List ℕ)) → HearsAll old records answers mid
     → PutsButEnd taken between kept (held ++ answers_text answers) → PutsAnswersFront mid kept more between now → PutsAnswersFront old held (records ++ more) taken now
 front_after old mid held kept records more answers taken between now heard put k = record {
   done = length records + k.done;
@@ -105,12 +105,12 @@ front_after old mid held kept records more answers taken between now heard put k
       (holds_more taken between kept (behind_held held answers) (answers_text k.answers) put) k.put);
 }
 
-pub front_behind : (old mid : Spot) (records more : List (Result Record Fault)) (taken between now : Option (List ℕ)) → Answers old records mid taken between → PutsAnswersFront mid.world mid.writer more between now
+pub front_behind : (old mid : Spot) (records more : List (Result Record Fault)) (taken between now : Option (List ℕ)) → AnswersRecords old records mid taken between → PutsAnswersFront mid.world mid.writer more between now
     → PutsAnswersFront old.world old.writer (records ++ more) taken now
 front_behind old mid records more taken between now h k = front_after old.world mid.world old.writer mid.writer records more h.answers taken between now h.heard h.put k
 
 -- what was held was put, or a front of it, where nothing was held before
-pub all_put : (old mid new : Spot) (records : List (Result Record Fault)) (taken between now : Option (List ℕ)) → Answers old records mid taken between → old.writer ≡ [] → Puts between now mid.writer
+pub all_put : (old mid new : Spot) (records : List (Result Record Fault)) (taken between now : Option (List ℕ)) → AnswersRecords old records mid taken between → old.writer ≡ [] → Puts between now mid.writer
     → new.world ≡ mid.world → new.outcome ≡ mid.outcome → PutsAll old records new taken now
 all_put old mid new records taken between now h none put world outcome =
     let text : answers_text h.answers ≡ h.put.front ++ mid.writer = ap (λ (t : List ℕ). t ++ answers_text h.answers) (sym none) ∙ h.put.parts in
@@ -121,7 +121,7 @@ all_put old mid new records taken between now h none put world outcome =
       put = subst (λ (t : List ℕ). Puts taken now t) (sym text) (puts_both taken between now h.put.front mid.writer h.put.put put);
     }
 
-pub front_put : (old mid : Spot) (records : List (Result Record Fault)) (taken between now : Option (List ℕ)) → Answers old records mid taken between → old.writer ≡ [] → PutsFront between now mid.writer → PutsAnswersFront old.world [] records taken now
+pub front_put : (old mid : Spot) (records : List (Result Record Fault)) (taken between now : Option (List ℕ)) → AnswersRecords old records mid taken between → old.writer ≡ [] → PutsFront between now mid.writer → PutsAnswersFront old.world [] records taken now
 front_put old mid records taken between now h none put = record {
   done = length records;
   answers = h.answers;
@@ -136,8 +136,8 @@ none_held old held records taken now none h = subst (λ (t : List ℕ). PutsAnsw
 -- ---- one record
 
 -- one answer, of which this text was put but for its end
-pub one_answered : (old new : Spot) (one : Result Record Fault) (answer : Answer) (taken now : Option (List ℕ)) → Hears old.world one answer new.world → new.outcome ≡ worse old.outcome (outcome_of answer)
-    → PutsButEnd taken now new.writer (old.writer ++ answer_text answer) → Answers old (one ∷ []) new taken now
+pub one_answered : (old new : Spot) (one : Result Record Fault) (answer : ServiceAnswer) (taken now : Option (List ℕ)) → Hears old.world one answer new.world → new.outcome ≡ worse old.outcome (outcome_of answer)
+    → PutsButEnd taken now new.writer (old.writer ++ answer_text answer) → AnswersRecords old (one ∷ []) new taken now
 one_answered old new one answer taken now heard outcome put = record {
   answers = answer ∷ [];
   heard = (new.world, heard, refl);
@@ -145,7 +145,7 @@ one_answered old new one answer taken now heard outcome put = record {
   put = subst (λ (t : List ℕ). PutsButEnd taken now new.writer (old.writer ++ t)) (sym (answers_text_one answer)) put;
 }
 
-pub one_front : (old new : Option Machine) (held : List ℕ) (one : Result Record Fault) (answer : Answer) (taken now : Option (List ℕ)) → Hears old one answer new → PutsFront taken now (held ++ answer_text answer)
+pub one_front : (old new : Option Machine) (held : List ℕ) (one : Result Record Fault) (answer : ServiceAnswer) (taken now : Option (List ℕ)) → Hears old one answer new → PutsFront taken now (held ++ answer_text answer)
     → PutsAnswersFront old held (one ∷ []) taken now
 one_front old new held one answer taken now heard put = record {
   done = 1;

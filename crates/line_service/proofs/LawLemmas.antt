@@ -3,9 +3,9 @@ use Rattle.std.proofs.Common.{◌≡◌, ◌≢◌, ℕ, ◌+◌, Bool, true, fa
 use Rattle.std.specs.Prelude.{Option, None, Some, Result, Ok, Err, map, if◌then◌else◌}
 use Rattle.std.specs.List.{flat_map}
 use Rattle.std.proofs.lemmas.List.{length-replicate}
-use Rattle.line_answers.specs.Answers.{Told, Tells, TellsAll, is_refused, told_records}
+use Rattle.line_answers.specs.Answers.{CommandAnswer, Tells, TellsAll, is_refused, command_answer_records}
 use Rattle.line_claims.specs.declared.faults.TextFault.{TextFault}
-use Rattle.line_claims.specs.Reads.{numbered}
+use Rattle.line_claims.specs.Reads.{at_record}
 use Rattle.line_fields.specs.declared.faults.Fault.{Fault}
 use Rattle.line_fields.specs.declared.faults.ReadError.{ReadError}
 use Rattle.line_fields.specs.Bytes.{is_input_text}
@@ -18,7 +18,7 @@ use Rattle.line_service.specs.declared.outcomes.Outcome.{Outcome}
 use Rattle.line_service.specs.declared.outcomes.Outcome.TheVariants as outcomes
 use Rattle.line_service.specs.Lines.{Pending, pending_after}
 use Rattle.line_service.specs.Pieces.{IsRunOf, ServesBoth}
-use Rattle.line_service.specs.Services.{Answer, Began, Faulted, Replied, Hears, HearsAll, Serves, Standing, answer_records, outcome_of, records_in, records_of, worse, worst}
+use Rattle.line_service.specs.Services.{ServiceAnswer, Began, Faulted, Replied, Hears, HearsAll, Serves, Standing, service_answer_records, outcome_of, records_ending_in, records_of, worse, worst}
 use Rattle.line_service.proofs.HeardLemmas.{HearsAll-both, worse_faulted, worst-append}
 use Rattle.line_service.proofs.LengthLemmas.{length_told}
 use Rattle.line_service.proofs.LineLemmas.{pending_both, records_both}
@@ -27,24 +27,24 @@ use Rattle.line_world.specs.Machine.{Machine, start}
 -- ---- pieces
 
 -- the answers to some records and to more: those to the first, and the machine between
-record IsParted (old : Option Machine) (records more : List (Result Record Fault)) (answers : List Answer) (new : Option Machine) : Type 0 where
-  first : List Answer
-  rest : List Answer
+record IsParted (old : Option Machine) (records more : List (Result Record Fault)) (answers : List ServiceAnswer) (new : Option Machine) : Type 0 where
+  first : List ServiceAnswer
+  rest : List ServiceAnswer
   all : answers ≡ first ++ rest
   mid : Option Machine
   before : HearsAll old records first mid
   after : HearsAll mid more rest new
 
-parted : (old : Option Machine) (records more : List (Result Record Fault)) (answers : List Answer) (new : Option Machine) → HearsAll old (records ++ more) answers new → IsParted old records more answers new
+parted : (old : Option Machine) (records more : List (Result Record Fault)) (answers : List ServiceAnswer) (new : Option Machine) → HearsAll old (records ++ more) answers new → IsParted old records more answers new
 parted old [] more answers new h = record { first = []; rest = answers; all = refl; mid = old; before = refl; after = h }
 parted old (r ∷ records) more [] new h = absurd h
 parted old (r ∷ records) more (one ∷ answers) new (next, is, h) =
     let k = parted next records more answers new h in
-    record { first = one ∷ k.first; rest = k.rest; all = ap (λ (rest : List Answer). one ∷ rest) k.all; mid = k.mid; before = (next, is, k.before); after = k.after }
+    record { first = one ∷ k.first; rest = k.rest; all = ap (λ (rest : List ServiceAnswer). one ∷ rest) k.all; mid = k.mid; before = (next, is, k.before); after = k.after }
 
-pub in_pieces : (old new : Standing) (bytes more : List ℕ) (answers : List Answer) → Serves old (bytes ++ more) answers new → ServesBoth old bytes more answers new
+pub in_pieces : (old new : Standing) (bytes more : List ℕ) (answers : List ServiceAnswer) → Serves old (bytes ++ more) answers new → ServesBoth old bytes more answers new
 in_pieces old new bytes more answers h =
-    let k = parted old.machine (records_in old.pending bytes) (records_in (pending_after old.pending bytes) more) answers new.machine
+    let k = parted old.machine (records_ending_in old.pending bytes) (records_ending_in (pending_after old.pending bytes) more) answers new.machine
     (subst (λ (rs : List (Result Record Fault)). HearsAll old.machine rs answers new.machine) (records_both old.pending bytes more) h.heard) in
     record {
       first = k.first;
@@ -55,23 +55,23 @@ in_pieces old new bytes more answers h =
       after = record {
         heard = k.after;
         pending = h.pending ∙ pending_both old.pending bytes more;
-        outcome = h.outcome ∙ ap (λ (these : List Answer). worst old.outcome these) k.all ∙ worst-append old.outcome k.first k.rest;
+        outcome = h.outcome ∙ ap (λ (these : List ServiceAnswer). worst old.outcome these) k.all ∙ worst-append old.outcome k.first k.rest;
       };
     }
 
-pub of_pieces : (old new : Standing) (bytes more : List ℕ) (answers : List Answer) → ServesBoth old bytes more answers new → Serves old (bytes ++ more) answers new
+pub of_pieces : (old new : Standing) (bytes more : List ℕ) (answers : List ServiceAnswer) → ServesBoth old bytes more answers new → Serves old (bytes ++ more) answers new
 of_pieces old new bytes more answers h =
-    let after : HearsAll h.mid.machine (records_in (pending_after old.pending bytes) more) h.rest new.machine =
-    subst (λ (p : Pending). HearsAll h.mid.machine (records_in p more) h.rest new.machine) h.before.pending h.after.heard in
+    let after : HearsAll h.mid.machine (records_ending_in (pending_after old.pending bytes) more) h.rest new.machine =
+    subst (λ (p : Pending). HearsAll h.mid.machine (records_ending_in p more) h.rest new.machine) h.before.pending h.after.heard in
     record {
       heard =
           subst (λ (rs : List (Result Record Fault)). HearsAll old.machine rs answers new.machine) (sym (records_both old.pending bytes more))
-          (subst (λ (these : List Answer). HearsAll old.machine (records_in old.pending bytes ++ records_in (pending_after old.pending bytes) more) these new.machine) (sym h.all)
-          (HearsAll-both old.machine h.mid.machine new.machine (records_in old.pending bytes) (records_in (pending_after old.pending bytes) more) h.first h.rest h.before.heard after));
+          (subst (λ (these : List ServiceAnswer). HearsAll old.machine (records_ending_in old.pending bytes ++ records_ending_in (pending_after old.pending bytes) more) these new.machine) (sym h.all)
+          (HearsAll-both old.machine h.mid.machine new.machine (records_ending_in old.pending bytes) (records_ending_in (pending_after old.pending bytes) more) h.first h.rest h.before.heard after));
       pending = h.after.pending ∙ ap (λ (p : Pending). pending_after p more) h.before.pending ∙ sym (pending_both old.pending bytes more);
       outcome =
           h.after.outcome ∙ ap (λ (o : Outcome). worst o h.rest) h.before.outcome ∙ sym (worst-append old.outcome h.first h.rest)
-          ∙ ap (λ (these : List Answer). worst old.outcome these) (sym h.all);
+          ∙ ap (λ (these : List ServiceAnswer). worst old.outcome these) (sym h.all);
     }
 
 -- ---- faults
@@ -82,12 +82,12 @@ same_behind_fault (Some machine) new one error h = h.1
 
 -- ---- outcomes
 
-stays_faulted : (answers : List Answer) → worst outcomes.Faulted answers ≡ outcomes.Faulted
+stays_faulted : (answers : List ServiceAnswer) → worst outcomes.Faulted answers ≡ outcomes.Faulted
 stays_faulted [] = refl
 stays_faulted (one ∷ answers) = stays_faulted answers
 
 -- behind a fault the outcome is the worst
-faulted_first : (outcome : Outcome) (error : ReadError) (answers : List Answer) → worst outcome (Faulted error ∷ answers) ≡ outcomes.Faulted
+faulted_first : (outcome : Outcome) (error : ReadError) (answers : List ServiceAnswer) → worst outcome (Faulted error ∷ answers) ≡ outcomes.Faulted
 faulted_first outcome error answers = ap (λ (o : Outcome). worst o answers) (worse_faulted outcome) ∙ stays_faulted answers
 
 -- no fault so far, and none of what commands are told
@@ -102,20 +102,20 @@ worse_both outcomes.Refused outcomes.Refused a b = a
 worse_both outcomes.Refused outcomes.Faulted a b = b
 worse_both outcomes.Faulted other a b = absurd (a refl)
 
-told_never_faulted : (outcome : Outcome) (told : List Told) → outcome ≢ outcomes.Faulted → worst outcome (map Replied told) ≢ outcomes.Faulted
+told_never_faulted : (outcome : Outcome) (told : List CommandAnswer) → outcome ≢ outcomes.Faulted → worst outcome (map Replied told) ≢ outcomes.Faulted
 told_never_faulted outcome [] good = good
 told_never_faulted outcome (one ∷ told) good = told_never_faulted (worse outcome (outcome_of (Replied one))) told (worse_both outcome (outcome_of (Replied one)) good (told_outcome (is_refused one)))
 
 -- ---- texts
 
-pub texts_alike : (told : List Told) → flat_map answer_records (map Replied told) ≡ flat_map told_records told
+pub texts_alike : (told : List CommandAnswer) → flat_map service_answer_records (map Replied told) ≡ flat_map command_answer_records told
 texts_alike [] = refl
-texts_alike (one ∷ told) = ap (λ (rs : List Record). told_records one ++ rs) (texts_alike told)
+texts_alike (one ∷ told) = ap (λ (rs : List Record). command_answer_records one ++ rs) (texts_alike told)
 
 -- ---- the commands of a script
 
 -- records that spell commands, and what these are told
-numbered_ok : {A : Type 0} (i : ℕ) (read : Result A Fault) (x : A) → numbered i read ≡ Ok x → read ≡ Ok x
+numbered_ok : {A : Type 0} (i : ℕ) (read : Result A Fault) (x : A) → at_record i read ≡ Ok x → read ≡ Ok x
 numbered_ok i (Ok y) x h = cc
 numbered_ok i (Err fault) x h = cc
 
@@ -128,7 +128,7 @@ record IsSpelt (n i : ℕ) (first : Record) (rest : List Record) (commands : Lis
   rest_are : commands_from n (i + 1) rest ≡ Ok others
 
 spelt_in : (n i : ℕ) (first : Record) (rest : List Record) (commands : List Command) (one : Result Command Fault) (more : Result (List Command) TextFault) → command_of n first ≡ one → commands_from n (i + 1) rest ≡ more
-    → (numbered i one >>= λ command. more >>= λ others. Ok (command ∷ others)) ≡ Ok commands → IsSpelt n i first rest commands
+    → (at_record i one >>= λ command. more >>= λ others. Ok (command ∷ others)) ≡ Ok commands → IsSpelt n i first rest commands
 spelt_in n i first rest commands (Ok command) (Ok others) is are h = record { command = command; others = others; all = cc; spelt = is; rest_are = are }
 spelt_in n i first rest commands (Ok command) (Err fault) is are h = absurd cc
 spelt_in n i first rest commands (Err fault) more is are h = absurd cc
@@ -149,11 +149,11 @@ command_at : (machine : Machine) (n : ℕ) (r : Record) (command : Command) → 
 command_at machine n r command is h = subst (λ (m : ℕ). command_of m r ≡ Ok command) is h
 
 -- what commands are told is heard
-told_none : (old new : Machine) (told : List Told) → TellsAll old [] told new → HearsAll (Some old) [] (map Replied told) (Some new)
+told_none : (old new : Machine) (told : List CommandAnswer) → TellsAll old [] told new → HearsAll (Some old) [] (map Replied told) (Some new)
 told_none old new [] run = ap Some run
 told_none old new (one ∷ told) run = absurd run
 
-told_heard : (n i : ℕ) (records : List Record) (commands : List Command) (old new : Machine) (told : List Told) → n ≡ length old.history → commands_from n i records ≡ Ok commands → TellsAll old commands told new
+told_heard : (n i : ℕ) (records : List Record) (commands : List Command) (old new : Machine) (told : List CommandAnswer) → n ≡ length old.history → commands_from n i records ≡ Ok commands → TellsAll old commands told new
     → HearsAll (Some old) (heard_records records) (map Replied told) (Some new)
 told_heard n i [] commands old new told is spelt run = told_none old new told (subst (λ (cs : List Command). TellsAll old cs told new) (none_spelt n i commands spelt) run)
 told_heard n i (r ∷ records) commands old new [] is spelt run =
@@ -169,15 +169,15 @@ told_heard n i (r ∷ records) commands old new (one ∷ told) is spelt run =
     )
 
 -- commands are told these, which are the answers
-record IsTold (old : Machine) (commands : List Command) (answers : List Answer) (new : Option Machine) : Type 0 where
-  told : List Told
+record IsTold (old : Machine) (commands : List Command) (answers : List ServiceAnswer) (new : Option Machine) : Type 0 where
+  told : List CommandAnswer
   end : Machine
   answers_are : answers ≡ map Replied told
   new_is : new ≡ Some end
   run : TellsAll old commands told end
 
 -- what is heard without a fault is what commands are told
-heard_told : (n i : ℕ) (records : List Record) (commands : List Command) (old : Machine) (new : Option Machine) (answers : List Answer) (outcome : Outcome) → n ≡ length old.history
+heard_told : (n i : ℕ) (records : List Record) (commands : List Command) (old : Machine) (new : Option Machine) (answers : List ServiceAnswer) (outcome : Outcome) → n ≡ length old.history
     → commands_from n i records ≡ Ok commands → HearsAll (Some old) (heard_records records) answers new → worst outcome answers ≢ outcomes.Faulted → IsTold old commands answers new
 heard_told n i [] commands old new [] outcome is spelt heard good =
     record { told = []; end = old; answers_are = refl; new_is = heard; run = subst (λ (cs : List Command). TellsAll old cs [] old) (sym (none_spelt n i commands spelt)) refl }
@@ -194,7 +194,7 @@ heard_told n i (r ∷ records) commands old new (Replied one ∷ answers) outcom
     record {
       told = one ∷ k.told;
       end = k.end;
-      answers_are = ap (λ (these : List Answer). Replied one ∷ these) k.answers_are;
+      answers_are = ap (λ (these : List ServiceAnswer). Replied one ∷ these) k.answers_are;
       new_is = k.new_is;
       run = subst (λ (cs : List Command). TellsAll old cs (one ∷ k.told) k.end) (sym first.all) (later, told, k.run);
     }
@@ -222,7 +222,7 @@ script_rest n mode commands_of (Ok commands) script is h =
 script_rest n mode commands_of (Err fault) script is h = absurd cc
 
 script_made : (world : Result (ℕ × Mode) Fault) (commands_of : ℕ → Result (List Command) TextFault) (script : Script)
-    → (numbered 1 world >>= λ w. commands_of w.0 >>= λ commands. Ok (record { n = w.0; mode = w.1; commands = commands })) ≡ Ok script → (world ≡ Ok (script.n, script.mode)) × (commands_of script.n ≡ Ok script.commands)
+    → (at_record 1 world >>= λ w. commands_of w.0 >>= λ commands. Ok (record { n = w.0; mode = w.1; commands = commands })) ≡ Ok script → (world ≡ Ok (script.n, script.mode)) × (commands_of script.n ≡ Ok script.commands)
 script_made (Ok w) commands_of script h = script_rest w.0 w.1 commands_of (commands_of w.0) script refl h
 script_made (Err fault) commands_of script h = absurd cc
 
@@ -248,7 +248,7 @@ start_long : (n : ℕ) (mode : Mode) → n ≡ length (start n mode).history
 start_long n mode = sym (length-replicate n _)
 
 -- its records are answered as it is run
-pub served_as_run : (text : List ℕ) (script : Script) (answers : List Answer) (new : Option Machine) → script_of_text text ≡ Ok script → records_of text ≡ heard_records (records_of_text text)
+pub served_as_run : (text : List ℕ) (script : Script) (answers : List ServiceAnswer) (new : Option Machine) → script_of_text text ≡ Ok script → records_of text ≡ heard_records (records_of_text text)
     → IsRunOf script answers new → HearsAll None (records_of text) answers new
 served_as_run text script answers new spelt heard h =
     let parts = (spelt_script text script spelt).1 in
@@ -258,16 +258,16 @@ served_as_run text script answers new spelt heard h =
       ((script.n, script.mode), parts.began, refl),
       told_heard script.n 2 parts.rest script.commands first h.end h.told (start_long script.n script.mode) parts.commands_are h.run,
     ) in
-    let P : List (Result Record Fault) → List Answer → Option Machine → Type 0 = λ rs these m. HearsAll None rs these m in
+    let P : List (Result Record Fault) → List ServiceAnswer → Option Machine → Type 0 = λ rs these m. HearsAll None rs these m in
     subst (λ (m : Option Machine). P (records_of text) answers m) (sym h.new_is)
-    (subst (λ (these : List Answer). P (records_of text) these (Some h.end)) (sym h.answers_are)
+    (subst (λ (these : List ServiceAnswer). P (records_of text) these (Some h.end)) (sym h.answers_are)
     (subst (λ (rs : List (Result Record Fault)). P rs (Began ∷ map Replied h.told) (Some h.end)) (sym (heard ∙ ap heard_records parts.records_are)) run))
 
-pub good_as_run : (script : Script) (answers : List Answer) (new : Option Machine) → IsRunOf script answers new → worst outcomes.Done answers ≢ outcomes.Faulted
+pub good_as_run : (script : Script) (answers : List ServiceAnswer) (new : Option Machine) → IsRunOf script answers new → worst outcomes.Done answers ≢ outcomes.Faulted
 good_as_run script answers new h bad =
-    told_never_faulted outcomes.Done h.told (λ e. cc) (ap (λ (these : List Answer). worst outcomes.Done these) (sym h.answers_are) ∙ bad)
+    told_never_faulted outcomes.Done h.told (λ e. cc) (ap (λ (these : List ServiceAnswer). worst outcomes.Done these) (sym h.answers_are) ∙ bad)
 
-began_first : (script : Script) (first : Record) (rest : List Record) (answers : List Answer) (new : Option Machine) → world_of first ≡ Ok (script.n, script.mode) → commands_from script.n 2 rest ≡ Ok script.commands
+began_first : (script : Script) (first : Record) (rest : List Record) (answers : List ServiceAnswer) (new : Option Machine) → world_of first ≡ Ok (script.n, script.mode) → commands_from script.n 2 rest ≡ Ok script.commands
     → HearsAll None (heard_records (first ∷ rest)) answers new → worst outcomes.Done answers ≢ outcomes.Faulted → IsRunOf script answers new
 began_first script first rest [] new began commands heard good = absurd heard
 began_first script first rest (Faulted error ∷ answers) new began commands heard good = absurd (good (faulted_first outcomes.Done error answers))
@@ -277,9 +277,9 @@ began_first script first rest (Began ∷ answers) new began commands (mid, (worl
     let there : mid ≡ Some (start script.n script.mode) = mid_is ∙ ap (λ (w : ℕ × Mode). Some (start w.0 w.1)) same in
     let k = heard_told script.n 2 rest script.commands (start script.n script.mode) new answers outcomes.Done (start_long script.n script.mode) commands
     (subst (λ (m : Option Machine). HearsAll m (heard_records rest) answers new) there heard) good in
-    record { told = k.told; end = k.end; run = k.run; answers_are = ap (λ (these : List Answer). Began ∷ these) k.answers_are; new_is = k.new_is }
+    record { told = k.told; end = k.end; run = k.run; answers_are = ap (λ (these : List ServiceAnswer). Began ∷ these) k.answers_are; new_is = k.new_is }
 
-pub run_as_served : (text : List ℕ) (script : Script) (answers : List Answer) (new : Option Machine) → script_of_text text ≡ Ok script → records_of text ≡ heard_records (records_of_text text)
+pub run_as_served : (text : List ℕ) (script : Script) (answers : List ServiceAnswer) (new : Option Machine) → script_of_text text ≡ Ok script → records_of text ≡ heard_records (records_of_text text)
     → HearsAll None (records_of text) answers new → worst outcomes.Done answers ≢ outcomes.Faulted → IsRunOf script answers new
 run_as_served text script answers new spelt heard served good =
     let parts = (spelt_script text script spelt).1 in

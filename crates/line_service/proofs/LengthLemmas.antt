@@ -2,7 +2,7 @@
 use Rattle.std.proofs.Common.{◌≡◌, ℕ, ◌+◌, List, [], ◌∷◌, length, refl, ap, ◌∙◌}
 use Rattle.std.specs.Prelude.{Bool, None, Some}
 use Rattle.std.proofs.Math.ListN.{length-set}
-use Rattle.line_answers.specs.Answers.{Told, Answered, Refused, Listing, Shown, Claimed, Tells}
+use Rattle.line_answers.specs.Answers.{CommandAnswer, Answered, Refused, Listing, Shown, Claimed, Tells}
 use Rattle.line_moves.specs.Fates.{events_taken}
 use Rattle.line_moves.specs.Moves.{with_events}
 use Rattle.line_scripts.specs.declared.commands.Command.{Command}
@@ -48,7 +48,7 @@ length_taken : (old : Machine) (step : Step) (answer : Answer) (new : Machine) �
 length_taken old step (answers.Done reply) new h = length_done old step reply new h.1
 length_taken old step (answers.Refused error) new h = same_length new old h.1
 
-pub length_told : (old : Machine) (command : Command) (told : Told) (new : Machine) → Tells old command told new → length new.history ≡ length old.history
+pub length_told : (old : Machine) (command : Command) (told : CommandAnswer) (new : Machine) → Tells old command told new → length new.history ≡ length old.history
 length_told old (commands.Do step) (Answered answer) new h = length_taken old step answer new h
 length_told old (commands.Refused code) (Refused shown) new h = same_length new old h.1
 length_told old commands.Rounds (Listing n rounds) new h = same_length new old h.2

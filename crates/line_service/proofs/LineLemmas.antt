@@ -8,7 +8,7 @@ use Rattle.std.proofs.lemmas.List.{append-nil, drop_more, take-append-drop, take
 use Rattle.line_fields.specs.declared.faults.Fault.TheVariants.{BadRecord}
 use Rattle.line_service.specs.declared.limits.TheConstants.{MOST_LINE}
 use Rattle.line_service.specs.Lines.{Pending, Kept, Dropped, IsFirstFeed, ended_record, has_no_feed, lines_in, longer, pending_after}
-use Rattle.line_service.specs.Services.{records_in}
+use Rattle.line_service.specs.Services.{records_ending_in}
 
 -- ---- tests
 
@@ -139,25 +139,25 @@ pending_both pending (byte ∷ rest) more =
       | false ↦ pending_both (longer pending (byte ∷ [])) rest more
     ])
 
-pub records_both : (pending : Pending) (bytes more : List ℕ) → records_in pending (bytes ++ more) ≡ records_in pending bytes ++ records_in (pending_after pending bytes) more
+pub records_both : (pending : Pending) (bytes more : List ℕ) → records_ending_in pending (bytes ++ more) ≡ records_ending_in pending bytes ++ records_ending_in (pending_after pending bytes) more
 records_both pending bytes more = ap (flat_map ended_record) (lines_both pending bytes more) ∙ flat_map-append ended_record (lines_in pending bytes) (lines_in (pending_after pending bytes) more)
 
 -- ---- where a line ends
 
-pub records_nil : (pending : Pending) → records_in pending [] ≡ []
+pub records_nil : (pending : Pending) → records_ending_in pending [] ≡ []
 records_nil pending = ap (flat_map ended_record) (lines_nil pending)
 
-pub no_records : (pending : Pending) (bytes : List ℕ) → has_no_feed bytes ≡ true → records_in pending bytes ≡ []
+pub no_records : (pending : Pending) (bytes : List ℕ) → has_no_feed bytes ≡ true → records_ending_in pending bytes ≡ []
 no_records pending bytes none = ap (flat_map ended_record) (no_lines pending bytes none)
 
-records_feed : (pending : Pending) (more : List ℕ) → records_in pending (10 ∷ more) ≡ ended_record pending ++ records_in (Kept []) more
+records_feed : (pending : Pending) (more : List ℕ) → records_ending_in pending (10 ∷ more) ≡ ended_record pending ++ records_ending_in (Kept []) more
 records_feed pending more = ap (flat_map ended_record) (lines_feed pending more)
 
 -- the record of the line that ends there comes before the others
 pub first_record : (pending : Pending) (bytes more : List ℕ) → has_no_feed bytes ≡ true
-    → records_in pending (bytes ++ 10 ∷ more) ≡ ended_record (pending_after pending bytes) ++ records_in (Kept []) more
+    → records_ending_in pending (bytes ++ 10 ∷ more) ≡ ended_record (pending_after pending bytes) ++ records_ending_in (Kept []) more
 first_record pending bytes more none =
-    records_both pending bytes (10 ∷ more) ∙ ap (λ (rs : List _). rs ++ records_in (pending_after pending bytes) (10 ∷ more)) (no_records pending bytes none)
+    records_both pending bytes (10 ∷ more) ∙ ap (λ (rs : List _). rs ++ records_ending_in (pending_after pending bytes) (10 ∷ more)) (no_records pending bytes none)
     ∙ records_feed (pending_after pending bytes) more
 
 pub pending_behind : (pending : Pending) (bytes more : List ℕ) → pending_after pending (bytes ++ 10 ∷ more) ≡ pending_after (Kept []) more

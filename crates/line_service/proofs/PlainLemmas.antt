@@ -5,7 +5,7 @@ use Rattle.std.proofs.lemmas.Bool.{cases_lt, eqb-true, false_from_ne_true, false
 use Rattle.std.proofs.lemmas.List.{append-nil, drop_more, get_or-drop, length-drop, length-take-le, take-append-drop, take_all, take_more}
 use Rattle.line_fields.specs.declared.faults.Fault.{Fault}
 use Rattle.line_fields.specs.declared.faults.Fault.TheVariants.{BadRecord}
-use Rattle.line_fields.specs.Bytes.{begins_with_feed, is_allowed, is_input_text}
+use Rattle.line_fields.specs.Bytes.{begins_with_feed, is_input_byte, is_input_text}
 use Rattle.line_fields.specs.Records.{Record, parts, without}
 use Rattle.line_fields.specs.Rows.{IsLineEnd, has_no_end, is_end}
 use Rattle.line_service.specs.declared.limits.TheConstants.{MOST_LINE}
@@ -60,9 +60,9 @@ split_at : (text : List ℕ) (at byte : ℕ) → at < length text → get_or tex
 split_at text at byte within is =
     sym (take-append-drop at text) ∙ ap (λ (r : List ℕ). take at text ++ r) (drop_more text at 0 within ∙ ap (λ (x : ℕ). x ∷ drop (at + 1) text) is)
 
-allowed_in : (front : List ℕ) (byte : ℕ) (rest : List ℕ) → is_input_text (front ++ byte ∷ rest) ≡ true → is_allowed byte rest ≡ true
-allowed_in [] byte rest h = (both_true (is_allowed byte rest) (is_input_text rest) (sym (input_cons byte rest) ∙ h)).0
-allowed_in (x ∷ front) byte rest h = allowed_in front byte rest (both_true (is_allowed x (front ++ byte ∷ rest)) (is_input_text (front ++ byte ∷ rest)) (sym (input_cons x (front ++ byte ∷ rest)) ∙ h)).1
+allowed_in : (front : List ℕ) (byte : ℕ) (rest : List ℕ) → is_input_text (front ++ byte ∷ rest) ≡ true → is_input_byte byte rest ≡ true
+allowed_in [] byte rest h = (both_true (is_input_byte byte rest) (is_input_text rest) (sym (input_cons byte rest) ∙ h)).0
+allowed_in (x ∷ front) byte rest h = allowed_in front byte rest (both_true (is_input_byte x (front ++ byte ∷ rest)) (is_input_text (front ++ byte ∷ rest)) (sym (input_cons x (front ++ byte ∷ rest)) ∙ h)).1
 
 feed_first : (rest : List ℕ) → begins_with_feed rest ≡ true → (0 < length rest) × (get_or rest 0 0 ≡ 10)
 feed_first [] h = absurd (false≢true h)

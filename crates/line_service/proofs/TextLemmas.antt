@@ -5,12 +5,12 @@ use Rattle.std.specs.List.{AllByRecursion, flat_map}
 use Rattle.std.proofs.lemmas.Bool.{cases_Bool, eqb-true}
 use Rattle.std.proofs.lemmas.List.{append-nil}
 use Rattle.line_fields.specs.declared.faults.Fault.{Fault}
-use Rattle.line_fields.specs.Bytes.{begins_with_feed, is_allowed, is_input_text}
+use Rattle.line_fields.specs.Bytes.{begins_with_feed, is_input_byte, is_input_text}
 use Rattle.line_fields.specs.Records.{Record, cut, records_of_lines, records_of_text, without}
 use Rattle.line_service.specs.declared.limits.TheConstants.{MOST_LINE}
 use Rattle.line_service.specs.Lines.{Pending, Kept, ended_record, last_record, longer, pending_after, record_of}
 use Rattle.line_service.specs.Pieces.{HasShortLines}
-use Rattle.line_service.specs.Services.{records_in, records_of}
+use Rattle.line_service.specs.Services.{records_ending_in, records_of}
 use Rattle.line_service.proofs.AllowedLemmas.{feed_alone, input_cons}
 use Rattle.line_service.proofs.LineLemmas.{both_true, lines_feed, lines_nil, no_end_if, no_lines_if, pending_feed, pending_nil}
 
@@ -21,11 +21,11 @@ same_begin [] rest = refl
 same_begin (byte ∷ bytes) rest = refl
 
 pub input_front : (bytes rest : List ℕ) → is_input_text (bytes ++ 10 ∷ rest) ≡ true → (is_input_text (bytes ++ 10 ∷ []) ≡ true) × (is_input_text rest ≡ true)
-input_front [] rest h = (feed_alone, (both_true (is_allowed 10 rest) (is_input_text rest) (sym (input_cons 10 rest) ∙ h)).1)
+input_front [] rest h = (feed_alone, (both_true (is_input_byte 10 rest) (is_input_text rest) (sym (input_cons 10 rest) ∙ h)).1)
 input_front (byte ∷ bytes) rest h =
-    let both = both_true (is_allowed byte (bytes ++ 10 ∷ rest)) (is_input_text (bytes ++ 10 ∷ rest)) (sym (input_cons byte (bytes ++ 10 ∷ rest)) ∙ h) in
+    let both = both_true (is_input_byte byte (bytes ++ 10 ∷ rest)) (is_input_text (bytes ++ 10 ∷ rest)) (sym (input_cons byte (bytes ++ 10 ∷ rest)) ∙ h) in
     let others = input_front bytes rest both.1 in
-    let here : is_allowed byte (bytes ++ 10 ∷ []) ≡ true = rw (same_begin bytes rest) at both.0 in
+    let here : is_input_byte byte (bytes ++ 10 ∷ []) ≡ true = rw (same_begin bytes rest) at both.0 in
     (input_cons byte (bytes ++ 10 ∷ []) ∙ rw (here, others.0) refl, others.1)
 
 -- ---- the lines of a text without carriage returns
@@ -93,7 +93,7 @@ line_alone (byte ∷ rest) = refl
 
 -- what is heard behind the bytes of a line
 abbrev heard_from : List ℕ → List ℕ → List (Result Record Fault)
-heard_from own text = records_in (Kept own) text ++ last_record (pending_after (Kept own) text)
+heard_from own text = records_ending_in (Kept own) text ++ last_record (pending_after (Kept own) text)
 
 -- the lines that these bytes of a line and a text behind them make
 abbrev lines_from : List ℕ → List ℕ → List (List ℕ)
@@ -116,8 +116,8 @@ heard_feed own rest allowed others =
     let line : ended_record (Kept own) ≡ record_of true (without 13 own) = ap (λ (b : Bool). record_of b (without 13 own)) allowed in
     let lines : lines_from own (10 ∷ rest) ≡ own ∷ lines_from [] rest = ap (λ (c : List ℕ × List (List ℕ)). (own ++ c.0) ∷ c.1) (cut_feed rest) ∙ ap (λ (l : List ℕ). l ∷ ((cut 10 rest).0 ∷ (cut 10 rest).1)) (append-nil own) in
     ap (λ (ls : List Pending). flat_map ended_record ls ++ last_record (pending_after (Kept own) (10 ∷ rest))) (lines_feed (Kept own) rest)
-    ∙ ap (λ (p : Pending). (ended_record (Kept own) ++ records_in (Kept []) rest) ++ last_record p) (pending_feed (Kept own) rest)
-    ∙ append_assoc (ended_record (Kept own)) (records_in (Kept []) rest) (last_record (pending_after (Kept []) rest))
+    ∙ ap (λ (p : Pending). (ended_record (Kept own) ++ records_ending_in (Kept []) rest) ++ last_record p) (pending_feed (Kept own) rest)
+    ∙ append_assoc (ended_record (Kept own)) (records_ending_in (Kept []) rest) (last_record (pending_after (Kept []) rest))
     ∙ ap (λ (rs : List (Result Record Fault)). rs ++ more) line
     ∙ ap (λ (rs : List (Result Record Fault)). record_of true (without 13 own) ++ rs) others
     ∙ line_and_more (without 13 own) (map (without 13) (lines_from [] rest))
@@ -133,8 +133,8 @@ heard_other own byte rest other short others =
     let lines : lines_from own (byte ∷ rest) ≡ lines_from (own ++ byte ∷ []) rest =
     ap (λ (c : List ℕ × List (List ℕ)). (own ++ c.0) ∷ c.1) (cut_other byte rest other) ∙ ap (λ (l : List ℕ). l ∷ (cut 10 rest).1) (sym (append_assoc own (byte ∷ []) (cut 10 rest).0)) in
     ap (λ (ls : List Pending). flat_map ended_record ls ++ last_record (pending_after (Kept own) (byte ∷ rest))) (no_lines_if (Kept own) byte rest other)
-    ∙ ap (λ (p : Pending). records_in (longer (Kept own) (byte ∷ [])) rest ++ last_record p) (no_end_if (Kept own) byte rest other)
-    ∙ ap (λ (p : Pending). records_in p rest ++ last_record (pending_after p rest)) grown
+    ∙ ap (λ (p : Pending). records_ending_in (longer (Kept own) (byte ∷ [])) rest ++ last_record p) (no_end_if (Kept own) byte rest other)
+    ∙ ap (λ (p : Pending). records_ending_in p rest ++ last_record (pending_after p rest)) grown
     ∙ others ∙ sym (ap (λ (ls : List (List ℕ)). heard_lines (map (without 13) ls)) lines)
 
 heard_text : (own text : List ℕ) → is_input_text (own ++ text) ≡ true → AreShort (lines_from own text) → heard_from own text ≡ heard_lines (map (without 13) (lines_from own text))

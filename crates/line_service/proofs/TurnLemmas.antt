@@ -10,7 +10,7 @@ use Rattle.line_fields.specs.Records.{Record}
 use Rattle.line_service.specs.declared.outcomes.Outcome.{Outcome}
 use Rattle.line_service.specs.declared.outcomes.Outcome.TheVariants as outcomes
 use Rattle.line_service.specs.Lines.{Pending, Kept, last_record, pending_after}
-use Rattle.line_service.specs.Services.{HearsAll, Serves, Standing, answers_text, fresh, records_in, worst}
+use Rattle.line_service.specs.Services.{HearsAll, Serves, Standing, answers_text, first_standing, records_ending_in, worst}
 use Rattle.line_service.specs.Turns.{AnswersFrontOf, AnswersLines, AnswersText, AnswersUntilFailure, BreaksOff, BreaksTurn, LosesBytes, PutsAnswers, PutsAnswersFront, PutsLast, TakesTurn}
 use Rattle.line_service.proofs.HeardLemmas.{HearsAll-both, answers_text-append, front_after, worst-append}
 use Rattle.line_service.proofs.LawLemmas.{of_pieces}
@@ -48,10 +48,10 @@ all_but_none : (taken now : Option (List ℕ)) (text : List ℕ) → Puts taken 
 all_but_none taken now text put = record { front = text; put = put; parts = sym (append-nil text) }
 
 -- of the answers to more a front was put
-pub front_on : (mid : Standing) (text : List ℕ) (more : List (Result Record Fault)) (taken between now : Option (List ℕ)) → PutsAnswers fresh text mid taken between → PutsAnswersFront mid.machine [] more between now
-    → PutsAnswersFront None [] (records_in (Kept []) text ++ more) taken now
+pub front_on : (mid : Standing) (text : List ℕ) (more : List (Result Record Fault)) (taken between now : Option (List ℕ)) → PutsAnswers first_standing text mid taken between → PutsAnswersFront mid.machine [] more between now
+    → PutsAnswersFront None [] (records_ending_in (Kept []) text ++ more) taken now
 front_on mid text more taken between now h k =
-    front_after None mid.machine [] [] (records_in (Kept []) text) more h.answers taken between now h.serves.heard (all_but_none taken between (answers_text h.answers) h.put) k
+    front_after None mid.machine [] [] (records_ending_in (Kept []) text) more h.answers taken between now h.serves.heard (all_but_none taken between (answers_text h.answers) h.put) k
 
 -- ---- a conversation so far
 
@@ -60,19 +60,19 @@ pub record IsServedTo (turns : ℕ) (new : Standing) (left later : Option (List 
   pub text : List ℕ
   pub fills : Fills left later text
   pub count : counted ≡ given + length text
-  pub answered : PutsAnswers fresh text new taken now
+  pub answered : PutsAnswers first_standing text new taken now
   pub few : turns ≤ length text
 
 fills_nothing : (left : Option (List ℕ)) → Fills left left []
 fills_nothing None = tt
 fills_nothing (Some xs) = refl
 
-pub served_none : (new : Standing) (left : Option (List ℕ)) (given : ℕ) (taken : Option (List ℕ)) → new ≡ fresh → IsServedTo 0 new left left given given taken taken
+pub served_none : (new : Standing) (left : Option (List ℕ)) (given : ℕ) (taken : Option (List ℕ)) → new ≡ first_standing → IsServedTo 0 new left left given given taken taken
 served_none new left given taken is = record {
   text = [];
   fills = fills_nothing left;
   count = let nothing : length {A = ℕ} [] ≡ 0 = refl in omega (arith, nothing);
-  answered = subst (λ (s : Standing). PutsAnswers fresh [] s taken taken) (sym is) (none_put fresh taken);
+  answered = subst (λ (s : Standing). PutsAnswers first_standing [] s taken taken) (sym is) (none_put first_standing taken);
   few = omega arith;
 }
 
@@ -89,7 +89,7 @@ module _ (turns : ℕ) (mid : Standing) (left between : Option (List ℕ)) (give
     text = h.text ++ k.bytes;
     fills = fills_both left between later h.text k.bytes h.fills k.fills;
     count = omega (arith, h.count, k.count, length-append h.text k.bytes);
-    answered = answers_on fresh mid new h.text k.bytes taken put now h.answered k.answered;
+    answered = answers_on first_standing mid new h.text k.bytes taken put now h.answered k.answered;
     few = omega (arith, h.few, k.some refl, length-append h.text k.bytes);
   }
 
@@ -106,7 +106,7 @@ module _ (turns : ℕ) (mid : Standing) (left between : Option (List ℕ)) (give
           told = λ xs told. (all_told left between h.text xs told h.fills done, none_left left between later h.text xs told h.fills (subst (λ (bs : List ℕ). Fills between later bs) none k.fills) done);
         };
         fills = fills;
-        answered = subst (λ (t : List ℕ). PutsAnswers fresh t new taken now) text (answers_on fresh mid new h.text k.bytes taken put now h.answered k.answered);
+        answered = subst (λ (t : List ℕ). PutsAnswers first_standing t new taken now) text (answers_on first_standing mid new h.text k.bytes taken put now h.answered k.answered);
       }
 
   pub served_until : (later : Option (List ℕ)) (total : ℕ) (now : Option (List ℕ)) → LosesBytes between later counted total → now ≡ put → AnswersUntilFailure left later given total taken now
@@ -117,32 +117,32 @@ module _ (turns : ℕ) (mid : Standing) (left between : Option (List ℕ)) (give
     fills = h.fills;
     lost = k.lost;
     count = k.count ∙ h.count;
-    answered = subst (λ (t : Option (List ℕ)). PutsAnswers fresh h.text mid taken t) (sym same) h.answered;
+    answered = subst (λ (t : Option (List ℕ)). PutsAnswers first_standing h.text mid taken t) (sym same) h.answered;
   }
 
   pub served_front : (later : Option (List ℕ)) (total : ℕ) (now : Option (List ℕ)) → BreaksTurn mid between later counted total put now → BreaksOff left later given total taken now
   served_front later total now k =
-      let more : PutsAnswersFront mid.machine [] (records_in (pending_after (Kept []) h.text) k.bytes) put now =
-      subst (λ (p : Pending). PutsAnswersFront mid.machine [] (records_in p k.bytes) put now) h.answered.serves.pending k.answered in
+      let more : PutsAnswersFront mid.machine [] (records_ending_in (pending_after (Kept []) h.text) k.bytes) put now =
+      subst (λ (p : Pending). PutsAnswersFront mid.machine [] (records_ending_in p k.bytes) put now) h.answered.serves.pending k.answered in
       record {
         text = h.text ++ k.bytes;
         fills = fills_both left between later h.text k.bytes h.fills k.fills;
         count = omega (arith, h.count, k.count, length-append h.text k.bytes);
         answered =
             subst (λ (rs : List (Result Record Fault)). PutsAnswersFront None [] rs taken now) (sym (records_both (Kept []) h.text k.bytes))
-            (front_on mid h.text (records_in (pending_after (Kept []) h.text) k.bytes) taken put now h.answered more);
+            (front_on mid h.text (records_ending_in (pending_after (Kept []) h.text) k.bytes) taken put now h.answered more);
       }
 
 -- ---- the end of the input
 
-pub answers_whole : (mid new : Standing) (text : List ℕ) (taken between now : Option (List ℕ)) (outcome : Outcome) → PutsAnswers fresh text mid taken between → PutsLast mid new between now → outcome ≡ new.outcome → AnswersText text outcome taken now
+pub answers_whole : (mid new : Standing) (text : List ℕ) (taken between now : Option (List ℕ)) (outcome : Outcome) → PutsAnswers first_standing text mid taken between → PutsLast mid new between now → outcome ≡ new.outcome → AnswersText text outcome taken now
 answers_whole mid new text taken between now outcome h k is =
     let last : HearsAll mid.machine (last_record (pending_after (Kept []) text)) k.answers new.machine =
     subst (λ (p : Pending). HearsAll mid.machine (last_record p) k.answers new.machine) h.serves.pending k.ends.heard in
     record {
       answers = h.answers ++ k.answers;
       machine = new.machine;
-      serves = HearsAll-both None mid.machine new.machine (records_in (Kept []) text) (last_record (pending_after (Kept []) text)) h.answers k.answers h.serves.heard last;
+      serves = HearsAll-both None mid.machine new.machine (records_ending_in (Kept []) text) (last_record (pending_after (Kept []) text)) h.answers k.answers h.serves.heard last;
       worst_of = is ∙ k.ends.outcome ∙ ap (λ (o : Outcome). worst o k.answers) h.serves.outcome ∙ sym (worst-append outcomes.Done h.answers k.answers);
       put =
           subst (λ (t : List ℕ). Puts taken now t) (sym (answers_text-append h.answers k.answers))
@@ -188,5 +188,5 @@ module _ (old : Standing) (left later : Option (List ℕ)) (given counted : ℕ)
     none = λ e. absurd (false≢true (sym e));
   }
 
-  pub turn_broken : PutsAnswersFront old.machine [] (records_in old.pending (take count room)) taken now → BreaksTurn old left later given counted taken now
+  pub turn_broken : PutsAnswersFront old.machine [] (records_ending_in old.pending (take count room)) taken now → BreaksTurn old left later given counted taken now
   turn_broken answered = record { bytes = take count room; fills = fills; count = counted_in; answered = answered }

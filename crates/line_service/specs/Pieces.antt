@@ -1,18 +1,18 @@
 -- Inputs in pieces, and inputs that are scripts.
 use Rattle.std.specs.Prelude.{◌≡◌, ◌≤◌, ℕ, ◌++◌, List, ◌∷◌, Option, Some, length, map}
 use Rattle.std.specs.List.{AllByRecursion}
-use Rattle.line_answers.specs.Answers.{Told, TellsAll}
+use Rattle.line_answers.specs.Answers.{CommandAnswer, TellsAll}
 use Rattle.line_fields.specs.Records.{parts}
 use Rattle.line_scripts.specs.Scripts.{Script}
 use Rattle.line_service.specs.declared.limits.TheConstants.{MOST_LINE}
-use Rattle.line_service.specs.Services.{Answer, Began, Replied, Serves, Standing}
+use Rattle.line_service.specs.Services.{ServiceAnswer, Began, Replied, Serves, Standing}
 use Rattle.line_world.specs.Machine.{Machine, start}
 
 -- two pieces of an input are answered one after the other
-pub record ServesBoth (old : Standing) (bytes more : List ℕ) (answers : List Answer)
+pub record ServesBoth (old : Standing) (bytes more : List ℕ) (answers : List ServiceAnswer)
     (new : Standing) : Type 0 where
-  pub first : List Answer
-  pub rest : List Answer
+  pub first : List ServiceAnswer
+  pub rest : List ServiceAnswer
   pub all : answers ≡ first ++ rest
   pub mid : Standing
   pub before : Serves old bytes first mid
@@ -24,8 +24,9 @@ HasShortLines text = AllByRecursion (λ line. length line ≤ MOST_LINE) (parts 
 
 -- the machine of a script runs its commands, and what they are told are the answers after that to
 -- its first record
-pub record IsRunOf (script : Script) (answers : List Answer) (new : Option Machine) : Type 0 where
-  pub told : List Told
+pub record IsRunOf (script : Script) (answers : List ServiceAnswer)
+    (new : Option Machine) : Type 0 where
+  pub told : List CommandAnswer
   pub end : Machine
   pub run : TellsAll (start script.n script.mode) script.commands told end
   pub answers_are : answers ≡ Began ∷ map Replied told

@@ -1,7 +1,7 @@
 -- What the parts of a service do, record by record. No contract that a caller reads needs this.
 use Rattle.std.specs.Prelude.{◌≡◌, ℕ, ◌++◌, List, [], ◌∷◌, ◌==◌, Option, None, Some, Result, Ok}
 use Rattle.std.specs.Prelude.{Err, if◌then◌else◌, nat_le, take, true}
-use Rattle.line_answers.specs.Answers.{DoesFront, Tells, Told, told_records}
+use Rattle.line_answers.specs.Answers.{DoesFront, Tells, CommandAnswer, command_answer_records}
 use Rattle.line_devices.specs.Devices.{Puts, PutsButEnd, one_more}
 use Rattle.line_fields.specs.declared.faults.Fault.{Fault}
 use Rattle.line_fields.specs.declared.faults.Fault.TheVariants.{BadRecord}
@@ -15,8 +15,9 @@ use Rattle.line_service.specs.declared.seats.Seat.{Seat}
 use Rattle.line_service.specs.declared.seats.Stop.{Stop}
 use Rattle.line_service.specs.declared.seats.Stop.TheVariants as stops
 use Rattle.line_service.specs.Lines.{IsFirstFeed, Kept, ended_record, has_no_feed, pending_after}
-use Rattle.line_service.specs.Services.{Answer, Faulted, Hears, HearsAll, Replied, answer_records}
-use Rattle.line_service.specs.Services.{answers_text, outcome_of, records_in, worst}
+use Rattle.line_service.specs.Services.{ServiceAnswer, Faulted, Hears, HearsAll, Replied}
+use Rattle.line_service.specs.Services.{service_answer_records}
+use Rattle.line_service.specs.Services.{answers_text, outcome_of, records_ending_in, worst}
 use Rattle.line_service.specs.Turns.{PutsAnswersFront}
 use Rattle.line_world.specs.Machine.{Machine}
 
@@ -24,10 +25,10 @@ use Rattle.line_world.specs.Machine.{Machine}
 -- which is held
 pub record TellsOne (old : Machine) (command : Command) (new : Machine)
     (taken now : Option (List ℕ)) (held later : List ℕ) (outcome : Outcome) : Type 0 where
-  pub told : Told
+  pub told : CommandAnswer
   pub tells : Tells old command told new
   pub outcome_is : outcome ≡ outcome_of (Replied told)
-  pub put : PutsButEnd taken now later (held ++ records_text (told_records told))
+  pub put : PutsButEnd taken now later (held ++ records_text (command_answer_records told))
 
 -- memory did not suffice for a command, and nothing changed; or the sink failed
 abbrev pub TellsNone : Stop → Machine → Command → Machine → Option (List ℕ) → Option (List ℕ)
@@ -41,10 +42,10 @@ TellsNone stops.Write old command new taken now held later =
 -- put but for their end, which is held
 pub record AnswersOne (old : Option Machine) (one : Result Record Fault) (new : Option Machine)
     (taken now : Option (List ℕ)) (held later : List ℕ) (outcome : Outcome) : Type 0 where
-  pub answer : Answer
+  pub answer : ServiceAnswer
   pub heard : Hears old one answer new
   pub outcome_is : outcome ≡ outcome_of answer
-  pub put : PutsButEnd taken now later (held ++ records_text (answer_records answer))
+  pub put : PutsButEnd taken now later (held ++ records_text (service_answer_records answer))
 
 -- a record was not done for this fault, and nothing changed; or the sink failed
 abbrev pub StopsOne : Stop → Option Machine → Result Record Fault → Option Machine → Option (List ℕ)
@@ -55,9 +56,9 @@ StopsOne stops.Write old one new taken now held later =
     PutsAnswersFront old held (one ∷ []) taken now
 
 -- a sink has one fault more where it failed, and none else
-abbrev pub Blames : Stop → ℕ → ℕ → Type 0
-Blames (stops.Fault error) old new = new ≡ old
-Blames stops.Write old new = new ≡ one_more old
+abbrev pub BlamesSink : Stop → ℕ → ℕ → Type 0
+BlamesSink (stops.Fault error) old new = new ≡ old
+BlamesSink stops.Write old new = new ≡ one_more old
 
 -- how far a service is with its answers: its machine, the worst outcome so far, and the text that
 -- is not put yet
@@ -71,9 +72,9 @@ spot seat = record { world = seat.world; outcome = seat.outcome; writer = seat.w
 
 -- records were answered: what was held and the text of the answers were put but for their end,
 -- which is held
-pub record Answers (old : Spot) (records : List (Result Record Fault)) (new : Spot)
+pub record AnswersRecords (old : Spot) (records : List (Result Record Fault)) (new : Spot)
     (taken now : Option (List ℕ)) : Type 0 where
-  pub answers : List Answer
+  pub answers : List ServiceAnswer
   pub heard : HearsAll old.world records answers new.world
   pub outcome : new.outcome ≡ worst old.outcome answers
   pub put : PutsButEnd taken now new.writer (old.writer ++ answers_text answers)
@@ -81,9 +82,10 @@ pub record Answers (old : Spot) (records : List (Result Record Fault)) (new : Sp
 -- the first line of some bytes was answered, if it ends within them; its line feed stands there
 abbrev pub AnswersNext : Spot → List ℕ → Option ℕ → Spot → Option (List ℕ) → Option (List ℕ)
     → Type 0
-AnswersNext old bytes None new taken now = (has_no_feed bytes ≡ true) × Answers old [] new taken now
+AnswersNext old bytes None new taken now =
+    (has_no_feed bytes ≡ true) × AnswersRecords old [] new taken now
 AnswersNext old bytes (Some at) new taken now = IsFirstFeed bytes at
-    × Answers old (ended_record (pending_after (Kept []) (take at bytes))) new taken now
+    × AnswersRecords old (ended_record (pending_after (Kept []) (take at bytes))) new taken now
 
 -- the record of a line with so many bytes, and so many without the carriage return at its end,
 -- whose fields were read
@@ -97,12 +99,12 @@ pub record AnswersWhole (old : Spot) (bytes left : List ℕ) (new : Spot)
   pub done : List ℕ
   pub parts : bytes ≡ done ++ left
   pub none_pending : pending_after (Kept []) done ≡ Kept []
-  pub answered : Answers old (records_in (Kept []) done) new taken now
+  pub answered : AnswersRecords old (records_ending_in (Kept []) done) new taken now
 
 -- records were answered, and the text of the answers was put
 pub record PutsAll (old : Spot) (records : List (Result Record Fault)) (new : Spot)
     (taken now : Option (List ℕ)) : Type 0 where
-  pub answers : List Answer
+  pub answers : List ServiceAnswer
   pub heard : HearsAll old.world records answers new.world
   pub outcome : new.outcome ≡ worst old.outcome answers
   pub put : Puts taken now (answers_text answers)

@@ -9,20 +9,21 @@ use Rattle.line_service.specs.declared.faults.ServeError.TheVariants as errors
 use Rattle.line_service.specs.declared.outcomes.Outcome.{Outcome}
 use Rattle.line_service.specs.declared.outcomes.Outcome.TheVariants as outcomes
 use Rattle.line_service.specs.Lines.{Kept}
-use Rattle.line_service.specs.Services.{Answer, Ends, HearsAll, Serves, ServesText, Standing}
-use Rattle.line_service.specs.Services.{answers_text, fresh, records_in, records_of, worst}
+use Rattle.line_service.specs.Services.{ServiceAnswer, Ends, HearsAll, Serves, ServesText, Standing}
+use Rattle.line_service.specs.Services.{answers_text, first_standing, records_ending_in, records_of}
+use Rattle.line_service.specs.Services.{worst}
 use Rattle.line_world.specs.Machine.{Machine}
 
 -- bytes that came were answered, and the text of the answers was put
 pub record PutsAnswers (old : Standing) (bytes : List ℕ) (new : Standing)
     (taken now : Option (List ℕ)) : Type 0 where
-  pub answers : List Answer
+  pub answers : List ServiceAnswer
   pub serves : Serves old bytes answers new
   pub put : Puts taken now (answers_text answers)
 
 -- the end of the input was answered, and the text of that was put
 pub record PutsLast (old : Standing) (new : Standing) (taken now : Option (List ℕ)) : Type 0 where
-  pub answers : List Answer
+  pub answers : List ServiceAnswer
   pub ends : Ends old answers new
   pub put : Puts taken now (answers_text answers)
 
@@ -30,7 +31,7 @@ pub record PutsLast (old : Standing) (new : Standing) (taken now : Option (List 
 pub record PutsAnswersFront (old : Option Machine) (held : List ℕ)
     (records : List (Result Record Fault)) (taken now : Option (List ℕ)) : Type 0 where
   pub done : ℕ
-  pub answers : List Answer
+  pub answers : List ServiceAnswer
   pub machine : Option Machine
   pub heard : HearsAll old (take done records) answers machine
   pub put : PutsFront taken now (held ++ answers_text answers)
@@ -44,17 +45,17 @@ pub record GivesText (text : List ℕ) (old new : Option (List ℕ)) (given late
 -- a whole input was answered, this was the worst outcome, and the text of the answers was put
 pub record AnswersText (text : List ℕ) (outcome : Outcome)
     (taken now : Option (List ℕ)) : Type 0 where
-  pub answers : List Answer
+  pub answers : List ServiceAnswer
   pub machine : Option Machine
   pub serves : ServesText text answers machine
   pub worst_of : outcome ≡ worst outcomes.Done answers
   pub put : Puts taken now (answers_text answers)
 
 -- the number of why a service did not begin, or ended before its input did
-abbrev pub code_of : ServeError → ℕ
-code_of errors.OutOfMemory = 0
-code_of errors.Read = 36
-code_of errors.Write = 37
+abbrev pub serve_error_code : ServeError → ℕ
+serve_error_code errors.OutOfMemory = 0
+serve_error_code errors.Read = 36
+serve_error_code errors.Write = 37
 
 -- a source gave some bytes, or none where nothing is left, which were answered, and the text of the
 -- answers was put
@@ -73,7 +74,7 @@ pub record BreaksTurn (old : Standing) (left later : Option (List ℕ)) (given c
   pub bytes : List ℕ
   pub fills : Fills left later bytes
   pub count : counted ≡ given + length bytes
-  pub answered : PutsAnswersFront old.machine [] (records_in old.pending bytes) taken now
+  pub answered : PutsAnswersFront old.machine [] (records_ending_in old.pending bytes) taken now
 
 -- a source gave this text to its end, all lines that ended in it were answered, and the text of the
 -- answers was put
@@ -82,7 +83,7 @@ pub record AnswersLines (new : Standing) (left later : Option (List ℕ)) (given
   pub text : List ℕ
   pub gives : GivesText text left later given counted
   pub fills : Fills left later text
-  pub answered : PutsAnswers fresh text new taken now
+  pub answered : PutsAnswers first_standing text new taken now
 
 -- a source gave this text before it failed or its calls were too many, and all lines that ended in
 -- it were answered
@@ -94,7 +95,7 @@ pub record AnswersUntilFailure (left later : Option (List ℕ)) (given counted :
   pub fills : Fills left mid text
   pub lost : FillsFront mid later
   pub count : counted ≡ given + length text
-  pub answered : PutsAnswers fresh text new taken now
+  pub answered : PutsAnswers first_standing text new taken now
 
 -- a source gave this text, and a prefix of the text of its answers was put
 pub record BreaksOff (left later : Option (List ℕ)) (given counted : ℕ)
@@ -102,7 +103,7 @@ pub record BreaksOff (left later : Option (List ℕ)) (given counted : ℕ)
   pub text : List ℕ
   pub fills : Fills left later text
   pub count : counted ≡ given + length text
-  pub answered : PutsAnswersFront None [] (records_in (Kept []) text) taken now
+  pub answered : PutsAnswersFront None [] (records_ending_in (Kept []) text) taken now
 
 -- a source gave this text, and a prefix of the text of the answers was put: to the lines that ended
 -- in it, or to all of it where it was the whole input
@@ -111,7 +112,7 @@ pub record AnswersFrontOf (left later : Option (List ℕ)) (given counted : ℕ)
   pub text : List ℕ
   pub fills : Fills left later text
   pub count : counted ≡ given + length text
-  pub answered : PutsAnswersFront None [] (records_in (Kept []) text) taken now
+  pub answered : PutsAnswersFront None [] (records_ending_in (Kept []) text) taken now
       ⊎ (GivesText text left later given counted
       × PutsAnswersFront None [] (records_of text) taken now)
 

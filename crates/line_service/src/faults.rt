@@ -4,11 +4,11 @@ ghost use Rattle.std.specs.Prelude.{◌≡◌, ◌++◌};
 ghost use Rattle.line_service.specs.declared.faults.ServeError.TheVariants as errors;
 ghost use Rattle.line_devices.specs.Devices.{Outputs};
 ghost use Rattle.line_service.specs.Services.{Faulted, answer_text, error_code};
-ghost use Rattle.line_service.specs.Turns.{code_of};
+ghost use Rattle.line_service.specs.Turns.{serve_error_code};
 
 use line_claims::name_of;
 use line_devices::{DeviceFault, Sink};
-use line_fields::{Field, ReadError, RecordWriter, end_record, put_ending};
+use line_fields::{Field, ReadError, RecordWriter, close_record, put_ending};
 use thiserror::Error;
 
 /// Why a service did not begin, or ended before its input did. It is shown by its name, and its
@@ -29,7 +29,7 @@ pub enum ServeError {
 impl ServeError {
     /// The number of the fault: 0 where memory is out, 36 or 37 where a source or a sink failed.
     pub fn code(self) -> u32
-        ensures { result ≡ code_of self }
+        ensures { result ≡ serve_error_code self }
     {
         match self {
             ServeError::OutOfMemory => 0,
@@ -62,5 +62,5 @@ pub(crate) fn put_fault<K: Sink>(
     let code = error_code(error);
     let name = name_of(code).as_bytes();
     put_ending(sink, writer, b"fault", &[code as u64], Field::Word(name))?;
-    end_record(sink, writer)
+    close_record(sink, writer)
 }

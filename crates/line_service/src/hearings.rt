@@ -6,7 +6,7 @@ ghost use Rattle.line_fields.specs.Bytes.{is_input_text, is_line_text};
 ghost use Rattle.line_service.specs.Lines.{IsFirstFeed, Kept, ended_record, has_no_feed};
 ghost use Rattle.line_service.specs.Lines.{last_record, pending_after, record_of};
 ghost use Rattle.line_service.specs.Progress as spec;
-ghost use Rattle.line_service.specs.Services.{records_in};
+ghost use Rattle.line_service.specs.Services.{records_ending_in};
 ghost use Rattle.line_service.specs.Turns.{PutsAnswersFront};
 
 use crate::limits::MOST_LINE;
@@ -17,7 +17,7 @@ use line_fields::{Fault, ReadError, RecordWriter, is_plain};
 
 /// Answers the record of a line that is given without what ends it.
 fn answer_text<K: Sink>(seat: &mut Seat, line: &[u8], sink: &mut K) -> Result<(), DeviceFault>
-    ensures ok { OnOk result (spec.Answers (spec.spot seat.old)
+    ensures ok { OnOk result (spec.AnswersRecords (spec.spot seat.old)
         (record_of (is_line_text line.now) line.now) (spec.spot seat.new) (K.taken sink.old)
         (K.taken sink.new)) }
     ensures err { OnErr result (PutsAnswersFront seat.old.world seat.old.writer
@@ -38,7 +38,8 @@ fn answer_text<K: Sink>(seat: &mut Seat, line: &[u8], sink: &mut K) -> Result<()
 /// Answers the record of a line that a line feed ended, with as many bytes as a line may have.
 fn answer_line<K: Sink>(seat: &mut Seat, line: &[u8], sink: &mut K) -> Result<(), DeviceFault>
     requires { has_no_feed line.now ≡ true }
-    ensures ok { OnOk result (spec.Answers (spec.spot seat.old) (ended_record (Kept line.now))
+    ensures ok { OnOk result
+        (spec.AnswersRecords (spec.spot seat.old) (ended_record (Kept line.now))
         (spec.spot seat.new) (K.taken sink.old) (K.taken sink.new)) }
     ensures err { OnErr result (PutsAnswersFront seat.old.world seat.old.writer
         (ended_record (Kept line.now)) (K.taken sink.old) (K.taken sink.new)) }
@@ -51,7 +52,7 @@ fn answer_line<K: Sink>(seat: &mut Seat, line: &[u8], sink: &mut K) -> Result<()
 /// Answers the record of a line that stands whole among bytes that came.
 fn answer_whole<K: Sink>(seat: &mut Seat, line: &[u8], sink: &mut K) -> Result<(), DeviceFault>
     requires { has_no_feed line.now ≡ true }
-    ensures ok { OnOk result (spec.Answers (spec.spot seat.old)
+    ensures ok { OnOk result (spec.AnswersRecords (spec.spot seat.old)
         (ended_record (pending_after (Kept []) line.now)) (spec.spot seat.new) (K.taken sink.old)
         (K.taken sink.new)) }
     ensures err { OnErr result (PutsAnswersFront seat.old.world seat.old.writer
@@ -71,7 +72,7 @@ fn answer_pending<K: Sink>(
     seat: &mut Seat,
     sink: &mut K,
 ) -> Result<(), DeviceFault>
-    ensures ok { OnOk result (spec.Answers (spec.spot seat.old) (ended_record pending.now)
+    ensures ok { OnOk result (spec.AnswersRecords (spec.spot seat.old) (ended_record pending.now)
         (spec.spot seat.new) (K.taken sink.old) (K.taken sink.new)) }
     ensures err { OnErr result (PutsAnswersFront seat.old.world seat.old.writer
         (ended_record pending.now) (K.taken sink.old) (K.taken sink.new)) }
@@ -93,7 +94,7 @@ fn answer_first<K: Sink>(
 ) -> Result<(), DeviceFault>
     requires { has_no_feed bytes.now ≡ true }
     ensures none_pending { OnOk result (pending.new ≡ Kept []) }
-    ensures ok { OnOk result (spec.Answers (spec.spot seat.old)
+    ensures ok { OnOk result (spec.AnswersRecords (spec.spot seat.old)
         (ended_record (pending_after pending.old bytes.now)) (spec.spot seat.new) (K.taken sink.old)
         (K.taken sink.new)) }
     ensures err { OnErr result (PutsAnswersFront seat.old.world seat.old.writer
@@ -121,7 +122,7 @@ fn answer_next<K: Sink>(
     ensures ok { IfOk result (λ at. spec.AnswersNext (spec.spot seat.old) bytes.now at
         (spec.spot seat.new) (K.taken sink.old) (K.taken sink.new)) }
     ensures err { OnErr result (PutsAnswersFront seat.old.world seat.old.writer
-        (records_in (Kept []) bytes.now) (K.taken sink.old) (K.taken sink.new)) }
+        (records_ending_in (Kept []) bytes.now) (K.taken sink.old) (K.taken sink.new)) }
     ensures sound { OnOk result (K.faults sink.new ≡ K.faults sink.old) }
     ensures failed { OnErr result (K.faults sink.new ≡ one_more (K.faults sink.old)) }
 {
@@ -142,7 +143,7 @@ fn answer_row<K: Sink>(
     bare: usize,
     sink: &mut K,
 ) -> Result<(), DeviceFault>
-    ensures ok { OnOk result (spec.Answers (spec.spot seat.old)
+    ensures ok { OnOk result (spec.AnswersRecords (spec.spot seat.old)
         (spec.row_records len bare seat.old.row) (spec.spot seat.new) (K.taken sink.old)
         (K.taken sink.new)) }
     ensures err { OnErr result (PutsAnswersFront seat.old.world seat.old.writer
@@ -170,7 +171,7 @@ fn answer_plain<K: Sink>(
     ensures ok { IfOk result (λ at. spec.AnswersNext (spec.spot seat.old) bytes.now at
         (spec.spot seat.new) (K.taken sink.old) (K.taken sink.new)) }
     ensures err { OnErr result (PutsAnswersFront seat.old.world seat.old.writer
-        (records_in (Kept []) bytes.now) (K.taken sink.old) (K.taken sink.new)) }
+        (records_ending_in (Kept []) bytes.now) (K.taken sink.old) (K.taken sink.new)) }
     ensures sound { OnOk result (K.faults sink.new ≡ K.faults sink.old) }
     ensures failed { OnErr result (K.faults sink.new ≡ one_more (K.faults sink.old)) }
 {
@@ -198,7 +199,7 @@ fn answer_either<K: Sink>(
     ensures ok { IfOk result (λ at. spec.AnswersNext (spec.spot seat.old) bytes.now at
         (spec.spot seat.new) (K.taken sink.old) (K.taken sink.new)) }
     ensures err { OnErr result (PutsAnswersFront seat.old.world seat.old.writer
-        (records_in (Kept []) bytes.now) (K.taken sink.old) (K.taken sink.new)) }
+        (records_ending_in (Kept []) bytes.now) (K.taken sink.old) (K.taken sink.new)) }
     ensures sound { OnOk result (K.faults sink.new ≡ K.faults sink.old) }
     ensures failed { OnErr result (K.faults sink.new ≡ one_more (K.faults sink.old)) }
 {
@@ -220,7 +221,7 @@ fn answer_lines<'a, K: Sink>(
         (spec.spot seat.new) (K.taken sink.old) (K.taken sink.new)) }
     ensures left { IfOk result (λ left. has_no_feed left.now ≡ true) }
     ensures err { OnErr result (PutsAnswersFront seat.old.world seat.old.writer
-        (records_in (Kept []) bytes.now) (K.taken sink.old) (K.taken sink.new)) }
+        (records_ending_in (Kept []) bytes.now) (K.taken sink.old) (K.taken sink.new)) }
     ensures sound { OnOk result (K.faults sink.new ≡ K.faults sink.old) }
     ensures failed { OnErr result (K.faults sink.new ≡ one_more (K.faults sink.old)) }
 {
@@ -244,10 +245,11 @@ fn hear_rest<K: Sink>(
 ) -> Result<(), DeviceFault>
     requires { pending.old ≡ Kept [] }
     ensures pending { OnOk result (pending.new ≡ pending_after (Kept []) bytes.now) }
-    ensures ok { OnOk result (spec.Answers (spec.spot seat.old) (records_in (Kept []) bytes.now)
+    ensures ok { OnOk result
+        (spec.AnswersRecords (spec.spot seat.old) (records_ending_in (Kept []) bytes.now)
         (spec.spot seat.new) (K.taken sink.old) (K.taken sink.new)) }
     ensures err { OnErr result (PutsAnswersFront seat.old.world seat.old.writer
-        (records_in (Kept []) bytes.now) (K.taken sink.old) (K.taken sink.new)) }
+        (records_ending_in (Kept []) bytes.now) (K.taken sink.old) (K.taken sink.new)) }
     ensures sound { OnOk result (K.faults sink.new ≡ K.faults sink.old) }
     ensures failed { OnErr result (K.faults sink.new ≡ one_more (K.faults sink.old)) }
 {
@@ -266,10 +268,11 @@ fn hear_lines<K: Sink>(
 ) -> Result<(), DeviceFault>
     requires { IsFirstFeed bytes.now end }
     ensures pending { OnOk result (pending.new ≡ pending_after pending.old bytes.now) }
-    ensures ok { OnOk result (spec.Answers (spec.spot seat.old) (records_in pending.old bytes.now)
+    ensures ok { OnOk result
+        (spec.AnswersRecords (spec.spot seat.old) (records_ending_in pending.old bytes.now)
         (spec.spot seat.new) (K.taken sink.old) (K.taken sink.new)) }
     ensures err { OnErr result (PutsAnswersFront seat.old.world seat.old.writer
-        (records_in pending.old bytes.now) (K.taken sink.old) (K.taken sink.new)) }
+        (records_ending_in pending.old bytes.now) (K.taken sink.old) (K.taken sink.new)) }
     ensures sound { OnOk result (K.faults sink.new ≡ K.faults sink.old) }
     ensures failed { OnErr result (K.faults sink.new ≡ one_more (K.faults sink.old)) }
 {
@@ -286,10 +289,11 @@ fn hear_bytes<K: Sink>(
     sink: &mut K,
 ) -> Result<(), DeviceFault>
     ensures pending { OnOk result (pending.new ≡ pending_after pending.old bytes.now) }
-    ensures ok { OnOk result (spec.Answers (spec.spot seat.old) (records_in pending.old bytes.now)
+    ensures ok { OnOk result
+        (spec.AnswersRecords (spec.spot seat.old) (records_ending_in pending.old bytes.now)
         (spec.spot seat.new) (K.taken sink.old) (K.taken sink.new)) }
     ensures err { OnErr result (PutsAnswersFront seat.old.world seat.old.writer
-        (records_in pending.old bytes.now) (K.taken sink.old) (K.taken sink.new)) }
+        (records_ending_in pending.old bytes.now) (K.taken sink.old) (K.taken sink.new)) }
     ensures sound { OnOk result (K.faults sink.new ≡ K.faults sink.old) }
     ensures failed { OnErr result (K.faults sink.new ≡ one_more (K.faults sink.old)) }
 {
@@ -308,7 +312,7 @@ fn hear_end<K: Sink>(
     seat: &mut Seat,
     sink: &mut K,
 ) -> Result<(), DeviceFault>
-    ensures ok { OnOk result (spec.Answers (spec.spot seat.old) (last_record pending.now)
+    ensures ok { OnOk result (spec.AnswersRecords (spec.spot seat.old) (last_record pending.now)
         (spec.spot seat.new) (K.taken sink.old) (K.taken sink.new)) }
     ensures err { OnErr result (PutsAnswersFront seat.old.world seat.old.writer
         (last_record pending.now) (K.taken sink.old) (K.taken sink.new)) }
@@ -355,10 +359,11 @@ pub(crate) fn answer_bytes<K: Sink>(
     requires { seat.old.writer ≡ [] }
     ensures cleared { seat.new.writer ≡ [] }
     ensures pending { OnOk result (pending.new ≡ pending_after pending.old bytes.now) }
-    ensures ok { OnOk result (spec.PutsAll (spec.spot seat.old) (records_in pending.old bytes.now)
+    ensures ok { OnOk result
+        (spec.PutsAll (spec.spot seat.old) (records_ending_in pending.old bytes.now)
         (spec.spot seat.new) (K.taken sink.old) (K.taken sink.new)) }
     ensures err { OnErr result (PutsAnswersFront seat.old.world []
-        (records_in pending.old bytes.now) (K.taken sink.old) (K.taken sink.new)) }
+        (records_ending_in pending.old bytes.now) (K.taken sink.old) (K.taken sink.new)) }
     ensures sound { OnOk result (K.faults sink.new ≡ K.faults sink.old) }
     ensures failed { OnErr result (K.faults sink.new ≡ one_more (K.faults sink.old)) }
 {

@@ -3,7 +3,7 @@
 ghost use Rattle.std.specs.Prelude.{◌≡◌, ◌≢◌, ◌↔◌, ◌++◌, ◌∷◌, ℕ, List, Option, None, Some, Ok};
 ghost use Rattle.std.specs.Prelude.{Result, map};
 ghost use Rattle.std.specs.List.{flat_map};
-ghost use Rattle.line_answers.specs.Answers.{Told, text_of};
+ghost use Rattle.line_answers.specs.Answers.{CommandAnswer, text_of};
 ghost use Rattle.line_fields.specs.declared.faults.Fault.{Fault};
 ghost use Rattle.line_fields.specs.declared.faults.ReadError.{ReadError};
 ghost use Rattle.line_fields.specs.Records.{Record};
@@ -11,14 +11,15 @@ ghost use Rattle.line_fields.specs.Texts.{records_text};
 ghost use Rattle.line_scripts.specs.Scripts.{Script, script_of_text};
 ghost use Rattle.line_service.specs.declared.outcomes.Outcome.TheVariants as outcomes;
 ghost use Rattle.line_service.specs.Pieces.{HasShortLines, IsRunOf, ServesBoth};
-ghost use Rattle.line_service.specs.Services.{Answer, Began, Faulted, Hears, Replied, Serves};
-ghost use Rattle.line_service.specs.Services.{ServesText, Standing, answer_records, worst};
+ghost use Rattle.line_service.specs.Services.{ServiceAnswer, Began, Faulted, Hears, Replied};
+ghost use Rattle.line_service.specs.Services.{Serves};
+ghost use Rattle.line_service.specs.Services.{ServesText, Standing, service_answer_records, worst};
 ghost use Rattle.line_world.specs.Machine.{Machine};
 
 /// However an input is cut into pieces, its answers are the same: what two pieces may be answered,
 /// one after the other, is what they may be answered as one.
 pub fn pieces_are_answered_alike()
-    ensures { (old new : Standing) (bytes more : List ℕ) (answers : List Answer)
+    ensures { (old new : Standing) (bytes more : List ℕ) (answers : List ServiceAnswer)
         → Serves old (bytes ++ more) answers new ↔ ServesBoth old bytes more answers new }
 {}
 
@@ -27,17 +28,18 @@ pub fn pieces_are_answered_alike()
 /// and what any run may tell them is what they may be told. Without the empty lines the text of the
 /// answers is that of the run.
 pub fn scripts_are_served_as_they_run()
-    ensures served { (text : List ℕ) (script : Script) (answers : List Answer)
+    ensures served { (text : List ℕ) (script : Script) (answers : List ServiceAnswer)
         (new : Option Machine)
         → script_of_text text ≡ Ok script → HasShortLines text
         → ServesText text answers new → worst outcomes.Done answers ≢ outcomes.Faulted
         → IsRunOf script answers new }
-    ensures run { (text : List ℕ) (script : Script) (answers : List Answer) (new : Option Machine)
+    ensures run { (text : List ℕ) (script : Script) (answers : List ServiceAnswer)
+        (new : Option Machine)
         → script_of_text text ≡ Ok script → HasShortLines text
         → IsRunOf script answers new → ServesText text answers new
         × (worst outcomes.Done answers ≢ outcomes.Faulted) }
-    ensures texts { (told : List Told)
-        → records_text (flat_map answer_records (Began ∷ map Replied told)) ≡ text_of told }
+    ensures texts { (told : List CommandAnswer)
+        → records_text (flat_map service_answer_records (Began ∷ map Replied told)) ≡ text_of told }
 {}
 
 /// A record that is answered by a fault, or by `OutOfMemory`, changes nothing: the machine is the

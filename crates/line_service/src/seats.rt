@@ -5,7 +5,7 @@ ghost use Rattle.std.specs.Prelude.{IfErr, IfOk, OnErr, OnOk};
 ghost use Rattle.line_devices.specs.Devices.{one_more};
 ghost use Rattle.line_fields.specs.declared.faults.Fault.{Fault};
 ghost use Rattle.line_fields.specs.Records.{Record};
-ghost use Rattle.line_scripts.specs.Shown.{HasShortBody, shown};
+ghost use Rattle.line_scripts.specs.Shown.{HasShortBodyInStep, command_of_ref};
 ghost use Rattle.line_service.specs.declared.outcomes.Outcome.TheVariants as outcomes;
 ghost use Rattle.line_service.specs.Progress as spec;
 ghost use Rattle.line_service.specs.Services.{Began, Faulted, Hears};
@@ -15,7 +15,7 @@ use crate::faults::put_fault;
 use crate::outcomes::Outcome;
 use line_answers::{Halt, do_command};
 use line_devices::{DeviceFault, Sink};
-use line_fields::{ReadError, RecordWriter, Row, end_record};
+use line_fields::{ReadError, RecordWriter, Row, close_record};
 use line_scripts::{CommandReader, CommandRef, world_of};
 use line_tape::CountError;
 use line_world::World;
@@ -85,13 +85,15 @@ fn tell<K: Sink>(
     writer: &mut RecordWriter,
     sink: &mut K,
 ) -> Result<Outcome, Stop>
-    requires { HasShortBody command.now }
-    ensures ok { IfOk result (λ outcome. spec.TellsOne world.old (shown command.now) world.new
+    requires { HasShortBodyInStep command.now }
+    ensures ok { IfOk result
+        (λ outcome. spec.TellsOne world.old (command_of_ref command.now) world.new
         (K.taken sink.old) (K.taken sink.new) writer.old writer.new outcome) }
-    ensures err { IfErr result (λ stop. spec.TellsNone stop world.old (shown command.now) world.new
+    ensures err { IfErr result
+        (λ stop. spec.TellsNone stop world.old (command_of_ref command.now) world.new
         (K.taken sink.old) (K.taken sink.new) writer.old writer.new) }
     ensures sound { OnOk result (K.faults sink.new ≡ K.faults sink.old) }
-    ensures blamed { IfErr result (λ stop. spec.Blames stop (K.faults sink.old)
+    ensures blamed { IfErr result (λ stop. spec.BlamesSink stop (K.faults sink.old)
         (K.faults sink.new)) }
 {
     match do_command(alloc, world, sink, writer, command) {
@@ -115,7 +117,7 @@ fn obey<K: Sink>(
     ensures err { IfErr result (λ stop. spec.StopsOne stop (Some world.old) (Ok row.now)
         (Some world.new) (K.taken sink.old) (K.taken sink.new) writer.old writer.new) }
     ensures sound { OnOk result (K.faults sink.new ≡ K.faults sink.old) }
-    ensures blamed { IfErr result (λ stop. spec.Blames stop (K.faults sink.old)
+    ensures blamed { IfErr result (λ stop. spec.BlamesSink stop (K.faults sink.old)
         (K.faults sink.new)) }
 {
     let n = world.history().n();
@@ -139,7 +141,7 @@ fn answer_one<K: Sink>(
     ensures err { IfErr result (λ stop. spec.StopsOne stop world.old (Ok row.now) world.new
         (K.taken sink.old) (K.taken sink.new) writer.old writer.new) }
     ensures sound { OnOk result (K.faults sink.new ≡ K.faults sink.old) }
-    ensures blamed { IfErr result (λ stop. spec.Blames stop (K.faults sink.old)
+    ensures blamed { IfErr result (λ stop. spec.BlamesSink stop (K.faults sink.old)
         (K.faults sink.new)) }
 {
     match world {
@@ -159,7 +161,7 @@ pub(crate) fn answer_fault<K: Sink>(
 ) -> Result<(), DeviceFault>
     ensures ok { (one : Result Record Fault)
         → Hears seat.old.world one (Faulted error) seat.old.world
-        → OnOk result (spec.Answers (spec.spot seat.old) (one ∷ []) (spec.spot seat.new)
+        → OnOk result (spec.AnswersRecords (spec.spot seat.old) (one ∷ []) (spec.spot seat.new)
         (K.taken sink.old) (K.taken sink.new)) }
     ensures err { (one : Result Record Fault)
         → Hears seat.old.world one (Faulted error) seat.old.world
@@ -174,7 +176,7 @@ pub(crate) fn answer_fault<K: Sink>(
 
 /// Answers the record whose fields the row has.
 pub(crate) fn answer_record<K: Sink>(seat: &mut Seat, sink: &mut K) -> Result<(), DeviceFault>
-    ensures ok { OnOk result (spec.Answers (spec.spot seat.old) (Ok seat.old.row ∷ [])
+    ensures ok { OnOk result (spec.AnswersRecords (spec.spot seat.old) (Ok seat.old.row ∷ [])
         (spec.spot seat.new) (K.taken sink.old) (K.taken sink.new)) }
     ensures err { OnErr result (PutsAnswersFront seat.old.world seat.old.writer
         (Ok seat.old.row ∷ []) (K.taken sink.old) (K.taken sink.new)) }
@@ -191,7 +193,7 @@ pub(crate) fn answer_record<K: Sink>(seat: &mut Seat, sink: &mut K) -> Result<()
     ) {
         Ok(outcome) => {
             seat.outcome = seat.outcome.worse(outcome);
-            end_record(sink, &mut seat.writer)
+            close_record(sink, &mut seat.writer)
         }
         Err(Stop::Fault(error)) => answer_fault(seat, error, sink),
         Err(Stop::Write) => Err(DeviceFault),

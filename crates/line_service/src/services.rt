@@ -3,7 +3,7 @@
 ghost use Rattle.std.specs.Prelude.{◌≡◌, [], IfOk, OnErr, OnOk};
 ghost use Rattle.line_devices.specs.Devices.{one_more};
 ghost use Rattle.line_service.specs.Lines.{last_record};
-ghost use Rattle.line_service.specs.Services.{fresh, records_in};
+ghost use Rattle.line_service.specs.Services.{first_standing, records_ending_in};
 ghost use Rattle.line_service.specs.Turns.{PutsAnswers, PutsAnswersFront, PutsLast};
 
 use crate::hearings::{answer_bytes, answer_end};
@@ -46,7 +46,7 @@ impl Service {
     /// A service that has heard nothing. It makes room for the longest line, and for the text of
     /// answers, which is put where it finds no room.
     pub fn new(alloc: Global) -> Result<Service, AllocError>
-        ensures { IfOk result (λ service. service ≡ fresh) }
+        ensures { IfOk result (λ service. service ≡ first_standing) }
     {
         let pending = PendingLine::new(alloc)?;
         let writer = RecordWriter::with_room(alloc)?;
@@ -74,7 +74,7 @@ impl Service {
         ensures ok { OnOk result (PutsAnswers self.old bytes.now self.new (K.taken sink.old)
             (K.taken sink.new)) }
         ensures err { OnErr result (PutsAnswersFront self.old.machine []
-            (records_in self.old.pending bytes.now) (K.taken sink.old) (K.taken sink.new)) }
+            (records_ending_in self.old.pending bytes.now) (K.taken sink.old) (K.taken sink.new)) }
         ensures sound { OnOk result (K.faults sink.new ≡ K.faults sink.old) }
         ensures failed { OnErr result (K.faults sink.new ≡ one_more (K.faults sink.old)) }
     {

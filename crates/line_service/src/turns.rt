@@ -5,7 +5,7 @@ ghost use Rattle.std.specs.Prelude.{◌≡◌, ◌<◌, ◌≤◌, ◌+◌, ◌-
 ghost use Rattle.std.specs.Prelude.{IfErr, IfOk, OnErr, OnOk, length};
 ghost use Rattle.line_devices.specs.Devices.{IsDone, one_more};
 ghost use Rattle.line_service.specs.declared.faults.ServeError.TheVariants as errors;
-ghost use Rattle.line_service.specs.Services.{fresh};
+ghost use Rattle.line_service.specs.Services.{first_standing};
 ghost use Rattle.line_service.specs.Turns.{GivesText};
 ghost use Rattle.line_service.specs.Turns as spec;
 
@@ -70,7 +70,7 @@ fn serve_lines<S: Source, K: Sink>(
     source: &mut S,
     sink: &mut K,
 ) -> Result<(), ServeError>
-    requires fresh { service.old ≡ fresh }
+    requires fresh { service.old ≡ first_standing }
     requires room { 0 < length room.old }
     ensures ok { OnOk result (spec.AnswersLines service.new (S.left source.old) (S.left source.new)
         (S.given source.old) (S.given source.new) (K.taken sink.old) (K.taken sink.new)) }
@@ -109,7 +109,7 @@ fn serve_all<S: Source, K: Sink>(
     source: &mut S,
     sink: &mut K,
 ) -> Result<Outcome, ServeError>
-    requires fresh { service.old ≡ fresh }
+    requires fresh { service.old ≡ first_standing }
     requires room { 0 < length room.old }
     ensures done { IfOk result (λ outcome. (text : List ℕ)
         × GivesText text (S.left source.old) (S.left source.new) (S.given source.old)

@@ -9,7 +9,7 @@ use line_tape::State;
 /// What goes into it is, of an accepted call: a letter for its kind, then its numbers, each with
 /// its highest byte first, and the bytes of the body or the state after their length.
 #[derive(Clone, Copy, Drop)]
-pub struct Log {
+pub struct AnswerLog {
     digest: u32,
     opening: u32,
     pub reported: u32,
@@ -28,10 +28,10 @@ fn with_byte(digest: u32, byte: u8) -> u32 {
     value
 }
 
-impl Log {
+impl AnswerLog {
     /// No call yet, where the tape has so many events.
-    pub fn new(opening: u32) -> Log {
-        Log {
+    pub fn new(opening: u32) -> AnswerLog {
+        AnswerLog {
             digest: u32::MAX,
             opening,
             reported: 0,

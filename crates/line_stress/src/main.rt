@@ -19,7 +19,7 @@ mod watches;
 mod workers;
 
 use crate::dice::Dice;
-use crate::logs::Log;
+use crate::logs::AnswerLog;
 use crate::settings::{Settings, capacity, next_settings, workers};
 use crate::texts::{Text, own_history, print_history, process};
 use crate::watches::is_right;
@@ -95,7 +95,7 @@ fn next_work(alloc: Global, dice: &mut Dice, n: u32, marks: &Marks) -> Result<Ra
 }
 
 /// What each worker remembers.
-fn logs_of(alloc: Global, work: &RandomWork) -> Result<Vec<Option<Log>>> {
+fn logs_of(alloc: Global, work: &RandomWork) -> Result<Vec<Option<AnswerLog>>> {
     let mut logs = Vec::new(alloc);
     for cell in &work.logs {
         match cell.get() {

@@ -1,6 +1,6 @@
 //! What a generation did, as records for a checker of another make.
 
-use crate::logs::Log;
+use crate::logs::AnswerLog;
 use crate::watches::{LivePlan, Watch};
 use anyhow::Result;
 use line_claims::write_history;
@@ -83,7 +83,7 @@ impl Text {
     }
 
     /// What a worker remembers.
-    fn log(&mut self, p: usize, log: &Log) -> Result<()> {
+    fn log(&mut self, p: usize, log: &AnswerLog) -> Result<()> {
         self.row(
             "log",
             &[
@@ -98,7 +98,7 @@ impl Text {
     }
 
     /// What each worker remembers.
-    pub fn logs(&mut self, logs: &[Option<Log>]) -> Result<()> {
+    pub fn logs(&mut self, logs: &[Option<AnswerLog>]) -> Result<()> {
         for (p, log) in logs.iter().enumerate() {
             if let Some(log) = log {
                 self.log(p, log)?;

@@ -3,7 +3,7 @@ ghost use Rattle.line_posts.specs.Collected.{HasCollectedMore};
 ghost use Rattle.line_posts.specs.Generations.{IsSamePost};
 
 use crate::dice::Dice;
-use crate::logs::Log;
+use crate::logs::AnswerLog;
 use crate::settings::Settings;
 use crate::watches::Watch;
 use line_names::{Body, ProcId, ProcSet};
@@ -34,7 +34,7 @@ pub struct RandomWork {
     /// How many workers have started, and how many have ended.
     pub started: AtomicU32,
     pub ended: AtomicU32,
-    pub logs: Vec<OnceLock<Log>>,
+    pub logs: Vec<OnceLock<AnswerLog>>,
     pub watch: OnceLock<Watch>,
 }
 
@@ -68,7 +68,7 @@ impl RandomWork {
     }
 
     /// Sends to one of those that it sends to.
-    fn send(&self, dice: &mut Dice, log: &mut Log, post: &mut Post)
+    fn send(&self, dice: &mut Dice, log: &mut AnswerLog, post: &mut Post)
         ensures { IsSamePost post.old post.new }
     {
         let places = dice.to(self.settings.reach.max(1));
@@ -97,7 +97,7 @@ impl RandomWork {
     }
 
     /// Receives from that worker, if there is something.
-    fn receive(&self, dice: &mut Dice, log: &mut Log, post: &mut Post, from: ProcId)
+    fn receive(&self, dice: &mut Dice, log: &mut AnswerLog, post: &mut Post, from: ProcId)
         ensures { IsSamePost post.old post.new }
     {
         let Some(state) = random_state(self.alloc, dice, self.settings.state) else {
@@ -124,7 +124,14 @@ impl RandomWork {
     }
 
     /// Receives from the worker so many places after another.
-    fn receive_after(&self, dice: &mut Dice, log: &mut Log, post: &mut Post, p: u32, places: u32)
+    fn receive_after(
+        &self,
+        dice: &mut Dice,
+        log: &mut AnswerLog,
+        post: &mut Post,
+        p: u32,
+        places: u32,
+    )
         ensures { IsSamePost post.old post.new }
     {
         let Some(from) = self.after(p, places) else {
@@ -134,7 +141,7 @@ impl RandomWork {
     }
 
     /// Receives from one of those that send to it.
-    fn receive_one(&self, dice: &mut Dice, log: &mut Log, post: &mut Post)
+    fn receive_one(&self, dice: &mut Dice, log: &mut AnswerLog, post: &mut Post)
         ensures { IsSamePost post.old post.new }
     {
         let places = dice.to(self.settings.reach.max(1)) % self.n.max(1);
@@ -142,7 +149,7 @@ impl RandomWork {
     }
 
     /// Receives from each other worker once.
-    fn sweep(&self, dice: &mut Dice, log: &mut Log, post: &mut Post)
+    fn sweep(&self, dice: &mut Dice, log: &mut AnswerLog, post: &mut Post)
         ensures { IsSamePost post.old post.new }
     {
         let start = dice.below(self.n.max(1));
@@ -152,7 +159,7 @@ impl RandomWork {
     }
 
     /// Takes a check.
-    fn check(&self, dice: &mut Dice, log: &mut Log, post: &mut Post)
+    fn check(&self, dice: &mut Dice, log: &mut AnswerLog, post: &mut Post)
         ensures { IsSamePost post.old post.new }
     {
         let Some(state) = random_state(self.alloc, dice, self.settings.state) else {
@@ -168,7 +175,7 @@ impl RandomWork {
     }
 
     /// Begins a round, which the lead alone may, and it only where its last round is closed.
-    fn begin(&self, dice: &mut Dice, log: &mut Log, post: &mut Post)
+    fn begin(&self, dice: &mut Dice, log: &mut AnswerLog, post: &mut Post)
         ensures { IsSamePost post.old post.new }
     {
         let Some(state) = random_state(self.alloc, dice, self.settings.state) else {
@@ -196,7 +203,7 @@ impl RandomWork {
     }
 
     /// Reports.
-    fn report(&self, log: &mut Log, post: &mut Post)
+    fn report(&self, log: &mut AnswerLog, post: &mut Post)
         ensures { IsSamePost post.old post.new }
     {
         match post.report() {
@@ -206,7 +213,7 @@ impl RandomWork {
     }
 
     /// One call, or what goes with it.
-    fn turn(&self, dice: &mut Dice, log: &mut Log, post: &mut Post)
+    fn turn(&self, dice: &mut Dice, log: &mut AnswerLog, post: &mut Post)
         ensures { IsSamePost post.old post.new }
     {
         let receives = self.settings.sends.wrapping_add(self.settings.receives);
@@ -265,7 +272,7 @@ impl RandomWork {
     }
 
     /// Keeps what a worker remembers, and counts it as ended.
-    fn keep(&self, p: u32, log: Log) {
+    fn keep(&self, p: u32, log: AnswerLog) {
         if let Some(cell) = self.logs.get(p as usize) {
             let _ = cell.try_set(log);
         }
@@ -297,7 +304,7 @@ impl Work for RandomWork {
         let mut post = post;
         let p = post.number();
         let mut dice = Dice::new(self.seed ^ (u64::from(p) << 40));
-        let mut log = Log::new(post.tape().len());
+        let mut log = AnswerLog::new(post.tape().len());
         self.meet();
         for _turn in 0..self.turns_of(p) {
             self.turn(&mut dice, &mut log, &mut post);

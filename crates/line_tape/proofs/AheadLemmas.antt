@@ -4,8 +4,8 @@ use Rattle.std.proofs.lemmas.Bool.{cases_lt, cases_eq}
 use Rattle.line_names.specs.declared.limits.TheConstants.{MOST_PROCESSES}
 use Rattle.line_names.specs.declared.messages.MsgName.{MsgName}
 use Rattle.line_tape.specs.declared.receipts.chains.Receipt.{Receipt}
-use Rattle.line_tape.specs.Ends.{EndsView, IsEndPut, end_of}
-use Rattle.line_tape.specs.Noted.{AreAlike, AreChained, AreLast, IsAhead, IsAside, IsBack, IsLast, name_at, receipt_at}
+use Rattle.line_tape.specs.Ends.{EndsView, IsEndPut, link_of_sender}
+use Rattle.line_tape.specs.Noted.{AreAlike, AreChained, AreLast, IsAhead, IsAside, IsBack, IsLastOfSender, name_at, receipt_at}
 
 abbrev pub from_of : MsgName → ℕ
 from_of m = m.from
@@ -54,7 +54,7 @@ pub back_le : (rs : List Receipt) (n s link : ℕ) → IsBack rs n s link → li
 back_le rs n s zero b = omega arith
 back_le rs n s (suc i) b = let l : i < n = (b.each i refl).0 in omega arith
 
-pub last_alike : (rs os : List Receipt) (n k s t link other : ℕ) → AreAlike rs os n → k ≤ n → s ≡ t → link ≡ other → IsLast rs k s link → IsLast os k t other
+pub last_alike : (rs os : List Receipt) (n k s t link other : ℕ) → AreAlike rs os n → k ≤ n → s ≡ t → link ≡ other → IsLastOfSender rs k s link → IsLastOfSender os k t other
 last_alike rs os n k s t link other h few same is b = record {
   back = back_alike rs os n k s t link other h few same is b.back;
   most = λ i l e.
@@ -71,7 +71,7 @@ last_alike rs os n k s t link other h few same is b = record {
 -- the last one is still that of its sender when a receipt comes that is not above it
 pub last_longer : (rs os : List Receipt) (n s link : ℕ) → AreAlike rs os n
     → (from_of (name_at os n) ≡ s → (j : ℕ) × (j < n) × (from_of (name_at rs j) ≡ s) × (number_of (name_at os n) ≤ number_of (name_at rs j)))
-    → IsLast rs n s link → IsLast os (suc n) s link
+    → IsLastOfSender rs n s link → IsLastOfSender os (suc n) s link
 last_longer rs os n s link h below b = record {
   back = record {
     each = λ i e.
@@ -95,7 +95,7 @@ last_longer rs os n s link h below b = record {
 }
 
 -- and when the last receipt goes, and is not it
-pub last_shorter : (rs os : List Receipt) (n s link : ℕ) → AreAlike os rs n → link ≢ suc n → IsLast os (suc n) s link → IsLast rs n s link
+pub last_shorter : (rs os : List Receipt) (n s link : ℕ) → AreAlike os rs n → link ≢ suc n → IsLastOfSender os (suc n) s link → IsLastOfSender rs n s link
 last_shorter rs os n s link h other b = last_alike os rs n n s s link link h (omega arith) refl refl (record {
   back = record {
     each = λ i e.
@@ -108,7 +108,7 @@ last_shorter rs os n s link h other b = last_alike os rs n n s s link link h (om
 })
 
 -- the last receipt is the link's where it is ahead
-pub last_here : (os : List Receipt) (n s : ℕ) → IsAhead os n → from_of (name_at os n) ≡ s → IsLast os (suc n) s (suc n)
+pub last_here : (os : List Receipt) (n s : ℕ) → IsAhead os n → from_of (name_at os n) ≡ s → IsLastOfSender os (suc n) s (suc n)
 last_here os n s a from = record {
   back = record {
     each = λ i e.
@@ -127,7 +127,7 @@ last_here os n s a from = record {
 }
 
 -- and it is no other's
-pub last_is_here : (os : List Receipt) (n s link : ℕ) → IsAhead os n → from_of (name_at os n) ≡ s → IsLast os (suc n) s link → link ≡ suc n
+pub last_is_here : (os : List Receipt) (n s link : ℕ) → IsAhead os n → from_of (name_at os n) ≡ s → IsLastOfSender os (suc n) s link → link ≡ suc n
 last_is_here os n s link a from b =
     let old : (j : ℕ) × (link ≡ suc j) × (number_of (name_at os n) ≤ number_of (name_at os j)) = b.most n (omega arith) from in
     let there : (old.0 < suc n) × IsAhead os old.0 × (from_of (name_at os old.0) ≡ s) = b.back.each old.0 old.1 in
@@ -141,12 +141,12 @@ last_is_here os n s link a from b =
     ]
 
 -- the links to the last of each sender, where one of them is put anew
-pub ends_put : (os : List Receipt) (last new : EndsView) (m s link : ℕ) → length os ≡ m → IsEndPut last new s link → IsLast os m s link
-    → ((q : ℕ) → q < MOST_PROCESSES → q ≢ s → IsLast os m q (end_of last q)) → AreLast os new
+pub ends_put : (os : List Receipt) (last new : EndsView) (m s link : ℕ) → length os ≡ m → IsEndPut last new s link → IsLastOfSender os m s link
+    → ((q : ℕ) → q < MOST_PROCESSES → q ≢ s → IsLastOfSender os m q (link_of_sender last q)) → AreLast os new
 ends_put os last new m s link len put here others = record {
   each = λ q l. elim (cases_eq q s) [
-    | inl e ↦ subst (λ x. IsLast os x q (end_of new q)) (sym len) (subst (IsLast os m q) (sym (ap (end_of new) e ∙ put.there)) (subst (λ x. IsLast os m x link) (sym e) here))
-    | inr ne ↦ subst (λ x. IsLast os x q (end_of new q)) (sym len) (subst (IsLast os m q) (sym (put.elsewhere q ne)) (others q l ne))
+    | inl e ↦ subst (λ x. IsLastOfSender os x q (link_of_sender new q)) (sym len) (subst (IsLastOfSender os m q) (sym (ap (link_of_sender new) e ∙ put.there)) (subst (λ x. IsLastOfSender os m x link) (sym e) here))
+    | inr ne ↦ subst (λ x. IsLastOfSender os x q (link_of_sender new q)) (sym len) (subst (IsLastOfSender os m q) (sym (put.elsewhere q ne)) (others q l ne))
   ];
 }
 
@@ -154,7 +154,7 @@ ends_put os last new m s link len put here others = record {
 pub chained_alike : (rs os : List Receipt) (n : ℕ) → AreAlike rs os n → n ≤ length rs → AreChained rs
     → ((i : ℕ) → i < n → IsAhead rs i → ((receipt_at rs i).near ≡ (receipt_at os i).near) × ((receipt_at rs i).far ≡ (receipt_at os i).far))
     → (i : ℕ) → i < n → IsAhead os i
-    → IsLast os i (from_of (name_at os i)) (receipt_at os i).near × IsBack os i (from_of (name_at os i)) (receipt_at os i).far
+    → IsLastOfSender os i (from_of (name_at os i)) (receipt_at os i).near × IsBack os i (from_of (name_at os i)) (receipt_at os i).far
 chained_alike rs os n h few chained links i l a =
     let old : IsAhead rs i = ahead_alike os rs n i (alike_back rs os n h) l a in
     let from : from_of (name_at rs i) ≡ from_of (name_at os i) = ap from_of (h.each i l) in
@@ -166,14 +166,14 @@ chained_alike rs os n h few chained links i l a =
 -- one receipt more
 pub chained_more : (rs os : List Receipt) (n : ℕ) → length rs ≡ n → length os ≡ suc n → AreAlike rs os n → AreChained rs
     → ((i : ℕ) → i < n → IsAhead rs i → ((receipt_at rs i).near ≡ (receipt_at os i).near) × ((receipt_at rs i).far ≡ (receipt_at os i).far))
-    → (IsAhead os n → IsLast rs n (from_of (name_at os n)) (receipt_at os n).near × IsBack rs n (from_of (name_at os n)) (receipt_at os n).far)
+    → (IsAhead os n → IsLastOfSender rs n (from_of (name_at os n)) (receipt_at os n).near × IsBack rs n (from_of (name_at os n)) (receipt_at os n).far)
     → from_of (name_at os n) < MOST_PROCESSES → AreChained os
 chained_more rs os n short long h chained links here sender = record {
   near = λ i l a. elim (cases_lt i n) [
     | inl g ↦ (chained_alike rs os n h (omega arith) chained links i g a).0
     | inr g ↦
         let is : n ≡ i = omega arith in
-        subst (λ k. IsLast os k (from_of (name_at os k)) (receipt_at os k).near) is (last_alike rs os n n _ _ _ _ h (omega arith) refl refl (here (subst (IsAhead os) (sym is) a)).0)
+        subst (λ k. IsLastOfSender os k (from_of (name_at os k)) (receipt_at os k).near) is (last_alike rs os n n _ _ _ _ h (omega arith) refl refl (here (subst (IsAhead os) (sym is) a)).0)
   ];
   far = λ i l a. elim (cases_lt i n) [
     | inl g ↦ (chained_alike rs os n h (omega arith) chained links i g a).1

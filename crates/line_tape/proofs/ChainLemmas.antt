@@ -16,7 +16,7 @@ use Rattle.line_tape.specs.Front.{front, place}
 use Rattle.line_tape.specs.History.{Process, tape_at}
 use Rattle.line_tape.specs.Line.{IsSentBefore, IsReceivedBefore}
 use Rattle.line_tape.specs.Survival.{survives, IsRecoverable, IsLatest}
-use Rattle.line_tape.specs.Chain.{latest_choice, next_lower, first_ceilings, IsRight, lowered, LeadsTo, IsChain}
+use Rattle.line_tape.specs.Chain.{latest_choice, next_lower, first_ceilings, IsRight, lowered_ceilings, LeadsTo, IsChain}
 use Rattle.line_tape.specs.Views.{MarksView}
 use Rattle.line_tape.proofs.FrontLemmas.{place-mono, Holds-take_more}
 use Rattle.line_tape.proofs.ChoiceLemmas.{IsNoLater-refl, latest_choice_above, latest_choice_survives, next_lower_survives, next_lower_above}
@@ -75,7 +75,7 @@ module _ (history : List Process) (marks : MarksView) (failed : List Bool) where
   passed_apart ceilings other entry r o below e =
       r.orphan.unsent (sent_later history other ceilings entry.message below (o.consistent entry.at entry.message (received_same history ceilings other entry.at entry.message (sym e) r.orphan.received)))
 
-  pub lowered_are_ceilings : (ceilings : List Choice) (entry : Passed) → AreCeilings history marks failed ceilings → IsRight history ceilings entry → AreCeilings history marks failed (lowered history marks failed ceilings entry.at)
+  pub lowered_are_ceilings : (ceilings : List Choice) (entry : Passed) → AreCeilings history marks failed ceilings → IsRight history ceilings entry → AreCeilings history marks failed (lowered_ceilings history marks failed ceilings entry.at)
   lowered_are_ceilings ceilings entry c r =
       let next : Choice = next_lower history marks failed entry.at (choice_at ceilings entry.at) in
       record {
@@ -92,7 +92,7 @@ module _ (history : List Process) (marks : MarksView) (failed : List Bool) where
 
   pub led_are_ceilings : (ceilings : List Choice) (entries : List Passed) (line : List Choice) → AreCeilings history marks failed ceilings → LeadsTo history marks failed ceilings entries line → AreCeilings history marks failed line
   led_are_ceilings ceilings [] line c e = subst (AreCeilings history marks failed) e c
-  led_are_ceilings ceilings (entry ∷ entries) line c (r, rest) = led_are_ceilings (lowered history marks failed ceilings entry.at) entries line (lowered_are_ceilings ceilings entry c r) rest
+  led_are_ceilings ceilings (entry ∷ entries) line c (r, rest) = led_are_ceilings (lowered_ceilings history marks failed ceilings entry.at) entries line (lowered_are_ceilings ceilings entry c r) rest
 
 pub latest_from_chain : (history : List Process) (marks : MarksView) (failed : List Bool) (entries : List Passed) (line : List Choice) → IsChain history marks failed entries line → IsLatest history marks failed line
 latest_from_chain history marks failed entries line chain =

@@ -14,7 +14,7 @@ use Rattle.line_tape.specs.declared.events.Event.TheVariants.{Send, Recv, Check,
 use Rattle.line_tape.specs.Colours.{greatest, colour, send_place, message_colour, ColoursRise}
 use Rattle.line_tape.specs.Event.{incarnations_sent, Holds}
 use Rattle.line_tape.specs.History.{Process, tape_at, with_event}
-use Rattle.line_tape.specs.Restart.{restarted}
+use Rattle.line_tape.specs.Restart.{restarted_history}
 use Rattle.line_tape.specs.Rounds.{checked_round, rounds_checked, has_check_of}
 use Rattle.line_tape.specs.Line.{events_before}
 use Rattle.line_tape.specs.Spent.{next_name}
@@ -130,7 +130,7 @@ pub message_colour_below : (history : List Process) (m : MsgName) → message_co
 message_colour_below history m = colour-take (send_place (tape_at history m.from) m.number) (tape_at history m.from)
 
 -- after a restart all colours are 0
-pub colour_restarted : (history : List Process) (line : List Choice) (p : ℕ) → length line ≡ length history → colour (tape_at (restarted history line) p) ≡ 0
+pub colour_restarted : (history : List Process) (line : List Choice) (p : ℕ) → length line ≡ length history → colour (tape_at (restarted_history history line) p) ≡ 0
 colour_restarted history line p e = ap colour (tape_restarted history line p e) ∙ ap greatest (no_rounds (events_before history line p))
 
 -- behind an event rounds rise too

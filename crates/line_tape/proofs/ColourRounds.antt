@@ -16,8 +16,8 @@ use Rattle.line_tape.specs.Fit.{IsFitUnordered, IsNextUnordered}
 use Rattle.line_tape.specs.Front.{front}
 use Rattle.line_tape.specs.History.{Process, fresh, tape_at, with_event}
 use Rattle.line_tape.specs.Line.{events_before, IsConsistent}
-use Rattle.line_tape.specs.Restart.{restarted, restarted_event}
-use Rattle.line_tape.specs.Rounds.{is_check_of, has_check_of, check_of, after_check, is_checked, checks_of, round_line, IsSnapshot}
+use Rattle.line_tape.specs.Restart.{restarted_history, restarted_event}
+use Rattle.line_tape.specs.Rounds.{is_check_of, has_check_of, check_index, after_check, is_checked, checks_of, round_line, IsSnapshot}
 use Rattle.line_tape.proofs.ColourLemmas.{colour-append, colour-take, colour-last, before_later_send, message_colour_event, message_colour_below, colour_restarted}
 use Rattle.line_tape.proofs.CopyLemmas.{slice_get_front, next_received}
 use Rattle.line_tape.proofs.FrontLemmas.{slice_get-append_left}
@@ -50,7 +50,7 @@ pub record IsSplit (tape before : List Event) (r : ℕ) : Type 0 where
   pub state : List ℕ
   pub after : List Event
   pub is : tape ≡ before ++ (Check state (Some r) ∷ after)
-  pub front_is : front tape (AtCheck (check_of r tape)) ≡ before ++ Check state (Some r) ∷ []
+  pub front_is : front tape (AtCheck (check_index r tape)) ≡ before ++ Check state (Some r) ∷ []
 
 pub split_at_check : (tape : List Event) (r : ℕ) → has_check_of r tape ≡ true → IsSplit tape (before_first (is_check_of r) tape) r
 split_at_check tape r t =
@@ -186,10 +186,10 @@ no_round (Check st s ∷ es) (suc i) state r e = no_round es i state r e
 no_round (Mark f s ∷ es) i state r e = no_round es i state r e
 
 -- so it keeps the rule
-pub coloured_restarted : (history : List Process) (line : List Choice) → length line ≡ length history → AreColoured (restarted history line)
+pub coloured_restarted : (history : List Process) (line : List Choice) → length line ≡ length history → AreColoured (restarted_history history line)
 coloured_restarted history line e = record {
   rise = λ p i state r at. absurd (no_round (events_before history line p) i state r (ap (λ (es : List Event). slice_get es i) (sym (tape_restarted history line p e)) ∙ at));
-  received = λ q i m got. omega (arith, message_colour_below (restarted history line) m, colour_restarted history line m.from e);
+  received = λ q i m got. omega (arith, message_colour_below (restarted_history history line) m, colour_restarted history line m.from e);
 }
 
 -- at the start it holds

@@ -12,11 +12,11 @@ use Rattle.line_tape.specs.declared.events.Event.TheVariants.{Send, Recv, Check,
 use Rattle.line_tape.specs.declared.items.Item.{Item}
 use Rattle.line_tape.specs.declared.items.Item.TheVariants.{Marker}
 use Rattle.line_tape.specs.Event.{checks}
-use Rattle.line_tape.specs.Fit.{sent, received, link}
+use Rattle.line_tape.specs.Fit.{sent_between, received_from, link}
 use Rattle.line_tape.specs.History.{Process, tape_at, with_event}
 use Rattle.line_tape.specs.Line.{events_before}
-use Rattle.line_tape.specs.Restart.{restarted, restarted_event}
-use Rattle.line_tape.specs.Rounds.{checked_round, rounds_checked, is_check_of, is_mark_of, has_check_of, has_mark_of, check_of, is_checked, is_closed_at, is_completed_fifo}
+use Rattle.line_tape.specs.Restart.{restarted_history, restarted_event}
+use Rattle.line_tape.specs.Rounds.{checked_round, rounds_checked, is_check_of, is_mark_of, has_check_of, has_mark_of, check_index, is_checked, is_closed_at, is_completed_fifo}
 use Rattle.std.specs.List.{filter_map}
 use Rattle.line_tape.proofs.GrowthLemmas.{or-false, any_at, before_push_in, before_push_at, has_check_push, has_mark_push, is_closed}
 use Rattle.line_tape.proofs.LinkLemmas.{tape_restarted, no_rounds}
@@ -138,8 +138,8 @@ contains_round (Mark from s ∷ es) r t = contains_round es r t
 -- a marker on a link is of a round that its sender has checked
 pub marker_checked : (history : List Process) (p q r : ℕ) → Contains (link history p q) (Marker r) → has_check_of r (tape_at history p) ≡ true
 marker_checked history p q r (k, l, e) =
-    let items : List Item = sent history p q in
-    let n : ℕ = length (received history q p) in
+    let items : List Item = sent_between history p q in
+    let n : ℕ = length (received_from history q p) in
     let held : list_any (is_marker r) (drop n items) ≡ true = any_at (is_marker r) (drop n items) k (Marker r) l (ap (is_marker r) e ∙ eq-eqb r r refl) in
     let among : list_any (is_marker r) items ≡ true =
     ap (list_any (is_marker r)) (sym (take-append-drop n items)) ∙ list_any-append (is_marker r) (take n items) (drop n items) ∙ or_right (list_any (is_marker r) (take n items)) (list_any (is_marker r) (drop n items)) held in
@@ -149,14 +149,14 @@ marker_checked history p q r (k, l, e) =
     ] refl
 
 -- further events leave a check of a round where it is
-pub check_of_push : (tape : List Event) (e : Event) (r : ℕ) → has_check_of r tape ≡ true → check_of r (tape ++ e ∷ []) ≡ check_of r tape
+pub check_of_push : (tape : List Event) (e : Event) (r : ℕ) → has_check_of r tape ≡ true → check_index r (tape ++ e ∷ []) ≡ check_index r tape
 check_of_push tape e r has = ap (λ (es : List Event). suc (checks es)) (before_push_in (is_check_of r) tape e has)
 
 -- and a new check of a round comes after the checks that there are
-pub check_of_new : (tape : List Event) (e : Event) (r : ℕ) → has_check_of r tape ≡ false → is_check_of r e ≡ true → check_of r (tape ++ e ∷ []) ≡ suc (checks tape)
+pub check_of_new : (tape : List Event) (e : Event) (r : ℕ) → has_check_of r tape ≡ false → is_check_of r e ≡ true → check_index r (tape ++ e ∷ []) ≡ suc (checks tape)
 check_of_new tape e r none is = ap (λ (es : List Event). suc (checks es)) (before_push_at (is_check_of r) tape e none is)
 
-pub check_of_least : (tape : List Event) (r : ℕ) → 1 ≤ check_of r tape
+pub check_of_least : (tape : List Event) (r : ℕ) → 1 ≤ check_index r tape
 check_of_least tape r = omega arith
 
 -- an event that is no check of a round is a check of none
@@ -175,13 +175,13 @@ no_check_left r (Recv m ∷ es) = no_check_left r es
 no_check_left r (Check state s ∷ es) = no_check_left r es
 no_check_left r (Mark from s ∷ es) = no_check_left r es
 
-pub no_check_restarted : (history : List Process) (line : List Choice) (r p : ℕ) → length line ≡ length history → has_check_of r (tape_at (restarted history line) p) ≡ false
+pub no_check_restarted : (history : List Process) (line : List Choice) (r p : ℕ) → length line ≡ length history → has_check_of r (tape_at (restarted_history history line) p) ≡ false
 no_check_restarted history line r p e = ap (has_check_of r) (tape_restarted history line p e) ∙ no_check_left r (events_before history line p)
 
-pub no_rounds_restarted : (history : List Process) (line : List Choice) (p : ℕ) → length line ≡ length history → rounds_checked (tape_at (restarted history line) p) ≡ []
+pub no_rounds_restarted : (history : List Process) (line : List Choice) (p : ℕ) → length line ≡ length history → rounds_checked (tape_at (restarted_history history line) p) ≡ []
 no_rounds_restarted history line p e = ap rounds_checked (tape_restarted history line p e) ∙ no_rounds (events_before history line p)
 
 -- nor a marker on a link
-pub no_marker_restarted : (history : List Process) (line : List Choice) (p q r : ℕ) → length line ≡ length history → Contains (link (restarted history line) p q) (Marker r) → ⊥
+pub no_marker_restarted : (history : List Process) (line : List Choice) (p q r : ℕ) → length line ≡ length history → Contains (link (restarted_history history line) p q) (Marker r) → ⊥
 no_marker_restarted history line p q r e on =
-    both_ways (has_check_of r (tape_at (restarted history line) p)) (no_check_restarted history line r p e) (marker_checked (restarted history line) p q r on)
+    both_ways (has_check_of r (tape_at (restarted_history history line) p)) (no_check_restarted history line r p e) (marker_checked (restarted_history history line) p q r on)

@@ -20,7 +20,7 @@ use Rattle.line_tape.specs.Fit.{AreDistinct, IsSentTo, IsFitUnordered, IsNextUno
 use Rattle.line_tape.specs.Front.{place}
 use Rattle.line_tape.specs.History.{Process, fresh, tape_at, incarnation_at, with_event}
 use Rattle.line_tape.specs.Line.{events_before, IsConsistent}
-use Rattle.line_tape.specs.Restart.{restarted}
+use Rattle.line_tape.specs.Restart.{restarted_history}
 use Rattle.line_tape.specs.Spent.{next_name, IsSpentName, HasNoLaterSend}
 use Rattle.line_tape.specs.Transit.{Letter, open_letters, received_name, names_received, has_received, in_transit_between, addressee_of, addressees, addressee}
 use Rattle.line_tape.proofs.FrontLemmas.{slice_get-append_left}
@@ -66,8 +66,8 @@ sent_to_event history at e q m h is = record {
 }
 
 -- and by a restart that keeps its send
-pub addressee_restarted : (history : List Process) (line : List Choice) (m : MsgName) (q : ℕ) → length line ≡ length history → Holds (tape_at (restarted history line) m.from) m.inc m.number
-    → addressee history m ≡ Some q → addressee (restarted history line) m ≡ Some q
+pub addressee_restarted : (history : List Process) (line : List Choice) (m : MsgName) (q : ℕ) → length line ≡ length history → Holds (tape_at (restarted_history history line) m.from) m.inc m.number
+    → addressee history m ≡ Some q → addressee (restarted_history history line) m ≡ Some q
 addressee_restarted history line m q e held is =
     let tape : List Event = tape_at history m.from in
     let n : ℕ = place tape (choice_at line m.from) in
@@ -78,7 +78,7 @@ addressee_restarted history line m q e held is =
     ap (λ (v : List ℕ). slice_get v m.number) (ap addressees (tape_restarted history line m.from e) ∙ addressees_restarted es) ∙ there
 
 -- what a restarted tape holds, it held before
-pub held_before : (history : List Process) (line : List Choice) (p inc k : ℕ) → length line ≡ length history → Holds (tape_at (restarted history line) p) inc k → Holds (tape_at history p) inc k
+pub held_before : (history : List Process) (line : List Choice) (p inc k : ℕ) → length line ≡ length history → Holds (tape_at (restarted_history history line) p) inc k → Holds (tape_at history p) inc k
 held_before history line p inc k e held = holds_whole history line p inc k (ap (λ (v : List ℕ). slice_get v k) (sym (incs_restarted history line p e)) ∙ held)
 
 -- a name that stands among names is found there
@@ -210,10 +210,10 @@ unordered_event history at e old new is h next grows = record {
 
 module _ (history : List Process) (line : List Choice) (consistent : IsConsistent history line) (same : length line ≡ length history) where
   -- after a restart at a consistent line the history still fits
-  pub fit_restarted : IsFitUnordered history → IsFitUnordered (restarted history line)
+  pub fit_restarted : IsFitUnordered history → IsFitUnordered (restarted_history history line)
   fit_restarted fit = record {
     held = λ q m received.
-        let held : Holds (tape_at (restarted history line) m.from) m.inc m.number = restarted_held history line consistent same q m received in
+        let held : Holds (tape_at (restarted_history history line) m.from) m.inc m.number = restarted_held history line consistent same q m received in
         let n : ℕ = place (tape_at history q) (choice_at line q) in
         let before : Contains (events_before history line q) (Recv m) = received_left (events_before history line q) m (subst (λ (es : List Event). Contains es (Recv m)) (tape_restarted history line q same) received) in
         let whole : Contains (tape_at history q) (Recv m) = subst (λ (es : List Event). Contains es (Recv m)) (take-append-drop n (tape_at history q)) (Contains-append_left (take n (tape_at history q)) (drop n (tape_at history q)) (Recv m) before) in
@@ -227,7 +227,7 @@ module _ (history : List Process) (line : List Choice) (consistent : IsConsisten
   }
 
   -- a copy stays one
-  pub copy_restarted : HasNoLaterSend history → (p q : ℕ) (m : MsgName) → IsCopy history p q m → IsCopy (restarted history line) p q m
+  pub copy_restarted : HasNoLaterSend history → (p q : ℕ) (m : MsgName) → IsCopy history p q m → IsCopy (restarted_history history line) p q m
   copy_restarted no_later p q m is = record {
     from_is = is.from_is;
     spent = spent_restarted history line m no_later same is.spent;
@@ -235,31 +235,31 @@ module _ (history : List Process) (line : List Choice) (consistent : IsConsisten
   }
 
   -- what was in transit on a link is a copy there
-  pub transit_copies : (p q : ℕ) → All (IsCopy (restarted history line) p q) (in_transit_between history line p q)
+  pub transit_copies : (p q : ℕ) → All (IsCopy (restarted_history history line) p q) (in_transit_between history line p q)
   transit_copies p q =
-      let held : List Process = restarted history line in
+      let held : List Process = restarted_history history line in
       let is : Letter → Type 0 = IsLetterOf p (incarnations_sent (tape_at held p)) (addressees (tape_at held p)) in
       let ours : Letter → Bool = λ (letter : Letter). letter.to == q in
       let are : All is (filter ours (open_letters history line p)) = All-filter ours is (open_letters history line p) (open_restarted history line same p) in
       let go : All (λ (letter : Letter). ours letter ≡ true) (filter ours (open_letters history line p)) = filter_passes ours (open_letters history line p) in
       All-map (IsCopy held p q) (λ (letter : Letter). letter.message) (filter ours (open_letters history line p)) (λ k d l. one _ (are k d l) (go k d l))
     where
-      one : (letter : Letter) → IsLetterOf p (incarnations_sent (tape_at (restarted history line) p)) (addressees (tape_at (restarted history line) p)) letter → (letter.to == q) ≡ true → IsCopy (restarted history line) p q letter.message
+      one : (letter : Letter) → IsLetterOf p (incarnations_sent (tape_at (restarted_history history line) p)) (addressees (tape_at (restarted_history history line) p)) letter → (letter.to == q) ≡ true → IsCopy (restarted_history history line) p q letter.message
       one letter is to =
-          let sent = letter_sent (restarted history line) p letter is in
+          let sent = letter_sent (restarted_history history line) p letter is in
           record { from_is = is.from_is; spent = inl sent.held; to_is = λ held. sent.to_is ∙ ap Some (eqb-true letter.to q to) }
 
 -- by a restart at a consistent line all of it stays so
 pub unordered_restarted : (history : List Process) (line : List Choice) (old new : ℕ → ℕ → List MsgName) → IsUnordered history old → IsConsistent history line → length line ≡ length history
-    → ((p q : ℕ) → p < length history → q < length history → new p q ≡ old p q ++ in_transit_between history line p q) → IsUnordered (restarted history line) new
+    → ((p q : ℕ) → p < length history → q < length history → new p q ≡ old p q ++ in_transit_between history line p q) → IsUnordered (restarted_history history line) new
 unordered_restarted history line old new is consistent same grows = record {
   fit = fit_restarted history line consistent same is.fit;
   links = λ p q lp lq.
       let wp : p < length history = omega (arith, lp, length_restarted history line same) in
       let wq : q < length history = omega (arith, lq, length_restarted history line same) in
-      subst (All (IsCopy (restarted history line) p q)) (sym (grows p q wp wq))
-      (All-append (IsCopy (restarted history line) p q) (old p q) (in_transit_between history line p q)
-      (All-weaker (IsCopy history p q) (IsCopy (restarted history line) p q) (copy_restarted history line consistent same is.sends p q) (old p q) (is.links p q wp wq))
+      subst (All (IsCopy (restarted_history history line) p q)) (sym (grows p q wp wq))
+      (All-append (IsCopy (restarted_history history line) p q) (old p q) (in_transit_between history line p q)
+      (All-weaker (IsCopy history p q) (IsCopy (restarted_history history line) p q) (copy_restarted history line consistent same is.sends p q) (old p q) (is.links p q wp wq))
       (transit_copies history line consistent same p q));
   sends = no_later_restarted history line is.sends same;
 }

@@ -3,7 +3,7 @@ use Rattle.std.proofs.Common.{◌≡◌, ℕ, zero, suc, ◌<◌, ◌≤◌, Lis
 use Rattle.line_names.specs.declared.choices.Choice.{Choice}
 use Rattle.line_names.specs.declared.choices.Choice.TheVariants.{Now}
 use Rattle.line_tape.specs.History.{Process}
-use Rattle.line_tape.specs.Restart.{is_kept, restarted, restarted_process, restarted_damage}
+use Rattle.line_tape.specs.Restart.{is_kept, restarted_history, restarted_process, restarted_damage}
 
 -- each element goes on from its choice
 abbrev pub each : {X : Type 0} → (X → Choice → X) → List X → List Choice → List X
@@ -60,7 +60,7 @@ module _ {X : Type 0} (step : X → Choice → X) where
   length-each (x ∷ xs) [] h = absurd (omega arith)
   length-each (x ∷ xs) (choice ∷ line) h = ap suc (length-each xs line (omega arith))
 
-pub restarted-each : (history : List Process) (line : List Choice) → restarted history line ≡ each restarted_process history line
+pub restarted-each : (history : List Process) (line : List Choice) → restarted_history history line ≡ each restarted_process history line
 restarted-each [] line = refl
 restarted-each (process ∷ rest) [] = refl
 restarted-each (process ∷ rest) (choice ∷ line) = ap (λ xs. restarted_process process choice ∷ xs) (restarted-each rest line)

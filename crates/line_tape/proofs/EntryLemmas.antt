@@ -10,7 +10,7 @@ use Rattle.line_names.specs.Order.{IsNoLater}
 use Rattle.line_names.specs.Lines.{choice_at, IsNowhereLater}
 use Rattle.line_tape.specs.declared.events.Event.TheVariants.{Recv}
 use Rattle.line_tape.specs.History.{Process}
-use Rattle.line_tape.specs.Chain.{next_lower, first_ceilings, IsRight, lowered, LeadsTo, IsChain, IsAbove, PassesOver, IsPassedOnce}
+use Rattle.line_tape.specs.Chain.{next_lower, first_ceilings, IsRight, lowered_ceilings, LeadsTo, IsChain, IsAbove, PassesOver, IsPassedOnce}
 use Rattle.line_tape.specs.Views.{MarksView}
 use Rattle.line_tape.proofs.ChainLemmas.{AreCeilings, set_cases, first_at, first_are_ceilings, lowered_are_ceilings}
 use Rattle.line_tape.proofs.ChoiceLemmas.{IsNoLater-refl, IsNoLater-trans, choice_cases, latest_choice_above, next_lower_above, next_lower-le, next_lower-before}
@@ -46,11 +46,11 @@ passed_later entry entries p choice none once = record { index = suc once.index;
 
 module _ (history : List Process) (marks : MarksView) (failed : List Bool) where
   -- what a process is lowered to
-  lowered_at : (ceilings : List Choice) (q : ℕ) → q < length ceilings → choice_at (lowered history marks failed ceilings q) q ≡ next_lower history marks failed q (choice_at ceilings q)
+  lowered_at : (ceilings : List Choice) (q : ℕ) → q < length ceilings → choice_at (lowered_ceilings history marks failed ceilings q) q ≡ next_lower history marks failed q (choice_at ceilings q)
   lowered_at ceilings q h = get_or-set_same ceilings q (next_lower history marks failed q (choice_at ceilings q)) (AtCheck 0) h
 
   -- ceilings fall
-  lowered-le : (ceilings : List Choice) (q : ℕ) → IsNowhereLater (lowered history marks failed ceilings q) ceilings
+  lowered-le : (ceilings : List Choice) (q : ℕ) → IsNowhereLater (lowered_ceilings history marks failed ceilings q) ceilings
   lowered-le ceilings q p =
       let next : Choice = next_lower history marks failed q (choice_at ceilings q) in
       elim (set_cases ceilings q next p) [
@@ -62,7 +62,7 @@ module _ (history : List Process) (marks : MarksView) (failed : List Bool) where
   led-le : (ceilings : List Choice) (entries : List Passed) (line : List Choice) → LeadsTo history marks failed ceilings entries line → IsNowhereLater line ceilings
   led-le ceilings [] line e p = subst (λ (l : List Choice). IsNoLater (choice_at l p) (choice_at ceilings p)) e (IsNoLater-refl (choice_at ceilings p))
   led-le ceilings (entry ∷ entries) line (r, rest) p =
-      IsNoLater-trans (choice_at line p) (choice_at (lowered history marks failed ceilings entry.at) p) (choice_at ceilings p) (led-le (lowered history marks failed ceilings entry.at) entries line rest p) (lowered-le ceilings entry.at p)
+      IsNoLater-trans (choice_at line p) (choice_at (lowered_ceilings history marks failed ceilings entry.at) p) (choice_at ceilings p) (led-le (lowered_ceilings history marks failed ceilings entry.at) entries line rest p) (lowered-le ceilings entry.at p)
 
   -- what entries pass over is nowhere later than the ceilings before them
   passed-le : (ceilings : List Choice) (entries : List Passed) (line : List Choice) → LeadsTo history marks failed ceilings entries line → (k p : ℕ) (choice : Choice) → PassesOver entries k p choice → IsNoLater choice (choice_at ceilings p)
@@ -72,7 +72,7 @@ module _ (history : List Process) (marks : MarksView) (failed : List Bool) where
       let top : choice ≡ choice_at ceilings p = sym (is.1) ∙ r.top ∙ ap (choice_at ceilings) (is.0) in
       subst (IsNoLater choice) top (IsNoLater-refl choice)
   passed-le ceilings (entry ∷ entries) line (r, rest) (suc k) p choice passed =
-      IsNoLater-trans choice (choice_at (lowered history marks failed ceilings entry.at) p) (choice_at ceilings p) (passed-le (lowered history marks failed ceilings entry.at) entries line rest k p choice passed) (lowered-le ceilings entry.at p)
+      IsNoLater-trans choice (choice_at (lowered_ceilings history marks failed ceilings entry.at) p) (choice_at ceilings p) (passed-le (lowered_ceilings history marks failed ceilings entry.at) entries line rest k p choice passed) (lowered-le ceilings entry.at p)
 
   -- an entry is of a process that there is
   entry_within : (ceilings : List Choice) (entry : Passed) → IsRight history ceilings entry → entry.at < length history
@@ -82,7 +82,7 @@ module _ (history : List Process) (marks : MarksView) (failed : List Bool) where
   ]
 
   -- the ceiling that an entry passes over is later than what its process is lowered to
-  lowered_before : (ceilings : List Choice) (entry : Passed) → AreCeilings history marks failed ceilings → IsRight history ceilings entry → IsNoLater (choice_at ceilings entry.at) (choice_at (lowered history marks failed ceilings entry.at) entry.at) → ⊥
+  lowered_before : (ceilings : List Choice) (entry : Passed) → AreCeilings history marks failed ceilings → IsRight history ceilings entry → IsNoLater (choice_at ceilings entry.at) (choice_at (lowered_ceilings history marks failed ceilings entry.at) entry.at) → ⊥
   lowered_before ceilings entry c r h =
       let within : entry.at < length history = entry_within ceilings entry r in
       next_lower-before history marks failed entry.at (choice_at ceilings entry.at) (orphan_above history ceilings entry.at entry.message r.orphan)
@@ -97,17 +97,17 @@ module _ (history : List Process) (marks : MarksView) (failed : List Bool) where
       let here : IsAbove history marks failed line entry.at (choice_at ceilings entry.at) = record {
         process = entry_within ceilings entry r;
         surviving = c.surviving entry.at;
-        later = λ h. lowered_before ceilings entry c r (IsNoLater-trans (choice_at ceilings entry.at) (choice_at line entry.at) (choice_at (lowered history marks failed ceilings entry.at) entry.at) h (led-le (lowered history marks failed ceilings entry.at) entries line rest entry.at));
+        later = λ h. lowered_before ceilings entry c r (IsNoLater-trans (choice_at ceilings entry.at) (choice_at line entry.at) (choice_at (lowered_ceilings history marks failed ceilings entry.at) entry.at) h (led-le (lowered_ceilings history marks failed ceilings entry.at) entries line rest entry.at));
       } in
       subst (λ (q : ℕ). IsAbove history marks failed line q choice) (is.0) (subst (IsAbove history marks failed line entry.at) top here)
   above_from ceilings (entry ∷ entries) line c (r, rest) (suc k) p choice passed =
-      above_from (lowered history marks failed ceilings entry.at) entries line (lowered_are_ceilings history marks failed ceilings entry c r) rest k p choice passed
+      above_from (lowered_ceilings history marks failed ceilings entry.at) entries line (lowered_are_ceilings history marks failed ceilings entry c r) rest k p choice passed
 
   -- a surviving choice between the ceilings and the line is passed over once
   once_from : (ceilings : List Choice) (entries : List Passed) (line : List Choice) → AreCeilings history marks failed ceilings → LeadsTo history marks failed ceilings entries line → (p : ℕ) (choice : Choice) → IsAbove history marks failed line p choice → IsNoLater choice (choice_at ceilings p) → IsPassedOnce entries p choice
   once_from ceilings [] line c e p choice above upto = absurd (above.later (subst (λ (l : List Choice). IsNoLater choice (choice_at l p)) e upto))
   once_from ceilings (entry ∷ entries) line c (r, rest) p choice above upto =
-      let next : List Choice = lowered history marks failed ceilings entry.at in
+      let next : List Choice = lowered_ceilings history marks failed ceilings entry.at in
       let below : AreCeilings history marks failed next = lowered_are_ceilings history marks failed ceilings entry c r in
       elim (cases_eq entry.at p) [
         | inl at ↦ elim (choice_cases choice (choice_at ceilings p)) [
@@ -117,7 +117,7 @@ module _ (history : List Process) (marks : MarksView) (failed : List Bool) where
               lowered_before ceilings entry c r (subst (λ (d : Choice). IsNoLater d (choice_at next entry.at)) (sym top) (subst (λ (q : ℕ). IsNoLater choice (choice_at next q)) (sym at) (passed-le next entries line rest k p choice passed))))
           | inr apart ↦
               let lower : choice_at next p ≡ next_lower history marks failed p (choice_at ceilings p) =
-              subst (λ (q : ℕ). choice_at (lowered history marks failed ceilings q) p ≡ next_lower history marks failed p (choice_at ceilings p)) (sym at) (lowered_at ceilings p (omega (arith, c.length_is, above.process))) in
+              subst (λ (q : ℕ). choice_at (lowered_ceilings history marks failed ceilings q) p ≡ next_lower history marks failed p (choice_at ceilings p)) (sym at) (lowered_at ceilings p (omega (arith, c.length_is, above.process))) in
               let still : IsNoLater choice (choice_at next p) = subst (IsNoLater choice) (sym lower) (next_lower_above history marks failed p (choice_at ceilings p) choice upto apart above.surviving) in
               passed_later entry entries p choice (λ (message, e). apart (sym ((entry_is entry p choice message e).1) ∙ r.top ∙ ap (choice_at ceilings) at)) (once_from next entries line below rest p choice above still)
         ]

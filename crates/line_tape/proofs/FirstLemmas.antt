@@ -8,8 +8,8 @@ use Rattle.line_names.specs.declared.messages.MsgName.{MsgName}
 use Rattle.line_names.specs.Names.{is_name}
 use Rattle.line_names.proofs.NameLemmas.{is_name-true, is_name-same}
 use Rattle.line_tape.specs.declared.receipts.chains.Receipt.{Receipt}
-use Rattle.line_tape.specs.Ends.{EndsView, end_of}
-use Rattle.line_tape.specs.Noted.{AreNoted, IsAhead, IsAside, IsNode, IsSeatOf, message_of, name_at, seated}
+use Rattle.line_tape.specs.Ends.{EndsView, link_of_sender}
+use Rattle.line_tape.specs.Noted.{AreNoted, IsAhead, IsAside, IsNode, IsSeatOf, name_of_receipt, name_at, link_in_seat}
 use Rattle.line_tape.proofs.AheadLemmas.{from_of, number_of}
 use Rattle.line_tape.proofs.SeatLemmas.{none_node}
 
@@ -35,7 +35,7 @@ first_among rs m (suc n) = elim (first_among rs m n) [
 ]
 
 -- a message that is neither ahead nor in the tree is not received
-pub none_received : (rs : List Receipt) (root above : ℕ) (far : Bool) (m : MsgName) → IsSeatOf rs root m above far → seated rs root above far ≡ 0
+pub none_received : (rs : List Receipt) (root above : ℕ) (far : Bool) (m : MsgName) → IsSeatOf rs root m above far → link_in_seat rs root above far ≡ 0
     → ((i : ℕ) → i < length rs → IsAhead rs i → name_at rs i ≢ m) → (i : ℕ) → i < length rs → name_at rs i ≢ m
 none_received rs root above far m seat empty ahead i l named = elim (first_among rs m (length rs)) [
   | inl none ↦ none i l named
@@ -45,7 +45,7 @@ none_received rs root above far m seat empty ahead i l named = elim (first_among
 ]
 
 -- where a message has no receipt in the tree, each of its receipts is ahead
-pub only_ahead : (rs : List Receipt) (root above : ℕ) (far : Bool) (m : MsgName) → IsSeatOf rs root m above far → seated rs root above far ≡ 0
+pub only_ahead : (rs : List Receipt) (root above : ℕ) (far : Bool) (m : MsgName) → IsSeatOf rs root m above far → link_in_seat rs root above far ≡ 0
     → (i : ℕ) → i < length rs → (IsAhead rs i → ⊥) → name_at rs i ≢ m
 only_ahead rs root above far m seat empty i l = none_below (suc i) (omega arith) i (omega arith)
   where
@@ -71,38 +71,38 @@ ahead_first rs i j m a named l same =
 pub aside_first : (rs : List Receipt) (i j : ℕ) (m : MsgName) → IsAside rs i → (IsAhead rs j → name_at rs j ≢ m) → name_at rs i ≡ m → j < i → name_at rs j ≢ m
 aside_first rs i j m a none named l same = a.first j l (λ ahead. none ahead same) (same ∙ sym named)
 
-name_in : (rs : List Receipt) (i : ℕ) (m : MsgName) → i < length rs → get_or (map message_of rs) i m ≡ name_at rs i
+name_in : (rs : List Receipt) (i : ℕ) (m : MsgName) → i < length rs → get_or (map name_of_receipt rs) i m ≡ name_at rs i
 name_in rs i m l =
-    let many : length (map message_of rs) ≡ length rs = length-map rs message_of in
-    get_or_default (map message_of rs) i m _ (omega arith) ∙ get_or-map message_of rs i _
+    let many : length (map name_of_receipt rs) ≡ length rs = length-map rs name_of_receipt in
+    get_or_default (map name_of_receipt rs) i m _ (omega arith) ∙ get_or-map name_of_receipt rs i _
 
 -- a link to the first receipt of a message is no greater than a bound where a receipt before it is of the message
 pub first_within : (rs : List Receipt) (m : MsgName) (end link : ℕ)
     → ((i : ℕ) → link ≡ suc i → (i < length rs) × (name_at rs i ≡ m) × ((j : ℕ) → j < i → name_at rs j ≢ m))
-    → (link ≡ 0 → (i : ℕ) → i < length rs → name_at rs i ≢ m) → ((link ≢ 0) × (link ≤ end)) ↔ Contains (take end (map message_of rs)) m
+    → (link ≡ 0 → (i : ℕ) → i < length rs → name_at rs i ≢ m) → ((link ≢ 0) × (link ≤ end)) ↔ Contains (take end (map name_of_receipt rs)) m
 first_within rs m end zero found none = (
   λ both. absurd (both.0 refl),
   λ k.
       let i : ℕ = k.0 in
-      let many : length (map message_of rs) ≡ length rs = length-map rs message_of in
-      let low : i < length (take end (map message_of rs)) = k.1 in
-      let few : i < length rs = omega (arith, length-take end (map message_of rs)) in
-      let early : i < end = omega (arith, length-take end (map message_of rs)) in
-      absurd (none refl i few (sym (name_in rs i m few) ∙ sym (get_or-take end (map message_of rs) i m early) ∙ k.2)),
+      let many : length (map name_of_receipt rs) ≡ length rs = length-map rs name_of_receipt in
+      let low : i < length (take end (map name_of_receipt rs)) = k.1 in
+      let few : i < length rs = omega (arith, length-take end (map name_of_receipt rs)) in
+      let early : i < end = omega (arith, length-take end (map name_of_receipt rs)) in
+      absurd (none refl i few (sym (name_in rs i m few) ∙ sym (get_or-take end (map name_of_receipt rs) i m early) ∙ k.2)),
 )
 first_within rs m end (suc i) found none =
     let here : (i < length rs) × (name_at rs i ≡ m) × ((j : ℕ) → j < i → name_at rs j ≢ m) = found i refl in
     let l : i < length rs = here.0 in
-    let many : length (map message_of rs) ≡ length rs = length-map rs message_of in (
+    let many : length (map name_of_receipt rs) ≡ length rs = length-map rs name_of_receipt in (
       λ both.
           let low : suc i ≤ end = both.1 in
-          (i, omega (arith, length-take end (map message_of rs)), get_or-take end (map message_of rs) i m (omega arith) ∙ name_in rs i m l ∙ here.1),
+          (i, omega (arith, length-take end (map name_of_receipt rs)), get_or-take end (map name_of_receipt rs) i m (omega arith) ∙ name_in rs i m l ∙ here.1),
       λ k.
           let j : ℕ = k.0 in
-          let low : j < length (take end (map message_of rs)) = k.1 in
-          let few : j < length rs = omega (arith, length-take end (map message_of rs)) in
-          let early : j < end = omega (arith, length-take end (map message_of rs)) in
-          let named : name_at rs j ≡ m = sym (name_in rs j m few) ∙ sym (get_or-take end (map message_of rs) j m early) ∙ k.2 in (
+          let low : j < length (take end (map name_of_receipt rs)) = k.1 in
+          let few : j < length rs = omega (arith, length-take end (map name_of_receipt rs)) in
+          let early : j < end = omega (arith, length-take end (map name_of_receipt rs)) in
+          let named : name_at rs j ≡ m = sym (name_in rs j m few) ∙ sym (get_or-take end (map name_of_receipt rs) j m early) ∙ k.2 in (
             λ none. absurd (omega arith),
             elim (cases_lt j i) [
               | inl g ↦ absurd (here.2 j g named)
@@ -112,7 +112,7 @@ first_within rs m end (suc i) found none =
     )
 
 -- the index of no receipts
-pub noted_none : (rs : List Receipt) (last : EndsView) → rs ≡ [] → ((sender : ℕ) → end_of last sender ≡ 0) → AreNoted rs last 0
+pub noted_none : (rs : List Receipt) (last : EndsView) → rs ≡ [] → ((sender : ℕ) → link_of_sender last sender ≡ 0) → AreNoted rs last 0
 noted_none rs last none zeros =
     let few : length rs ≡ 0 = ap (λ (xs : List Receipt). length xs) none in
     record {
@@ -120,7 +120,7 @@ noted_none rs last none zeros =
       chained = record { near = λ i l a. absurd (omega arith); far = λ i l a. absurd (omega arith); senders = λ i l. absurd (omega arith) };
       ends = record {
         each = λ s l.
-            let is : end_of last s ≡ 0 = zeros s in
+            let is : link_of_sender last s ≡ 0 = zeros s in
             record { back = record { each = λ k e. absurd (omega arith) }; most = λ i low same. absurd (omega arith) };
       };
       tree = record {
@@ -131,7 +131,7 @@ noted_none rs last none zeros =
       };
     }
   where
-    empty : (link : ℕ) (far : Bool) → IsNode rs link → seated rs 0 link far ≡ 0
+    empty : (link : ℕ) (far : Bool) → IsNode rs link → link_in_seat rs 0 link far ≡ 0
     empty zero far node = refl
     empty (suc i) far node =
         let l : i < length rs = (node.each i refl).0 in
@@ -139,8 +139,8 @@ noted_none rs last none zeros =
         absurd (omega arith)
 
 -- the same of names that are told otherwise
-pub first_within_names : (rs : List Receipt) (wanted m : MsgName) (names : List MsgName) (end link : ℕ) → map message_of rs ≡ names → wanted ≡ m
+pub first_within_names : (rs : List Receipt) (wanted m : MsgName) (names : List MsgName) (end link : ℕ) → map name_of_receipt rs ≡ names → wanted ≡ m
     → ((i : ℕ) → link ≡ suc i → (i < length rs) × (name_at rs i ≡ wanted) × ((j : ℕ) → j < i → name_at rs j ≢ wanted))
     → (link ≡ 0 → (i : ℕ) → i < length rs → name_at rs i ≢ wanted) → ((link ≢ 0) × (link ≤ end)) ↔ Contains (take end names) m
 first_within_names rs wanted m names end link told same found none =
-    subst (λ (xs : List MsgName). ((link ≢ 0) × (link ≤ end)) ↔ Contains (take end xs) m) told (subst (λ (x : MsgName). ((link ≢ 0) × (link ≤ end)) ↔ Contains (take end (map message_of rs)) x) same (first_within rs wanted end link found none))
+    subst (λ (xs : List MsgName). ((link ≢ 0) × (link ≤ end)) ↔ Contains (take end xs) m) told (subst (λ (x : MsgName). ((link ≢ 0) × (link ≤ end)) ↔ Contains (take end (map name_of_receipt rs)) x) same (first_within rs wanted end link found none))

@@ -9,7 +9,7 @@ use Rattle.line_tape.specs.declared.histories.ProcessTape.{ProcessTape}
 use Rattle.line_tape.specs.Event.{NamesBelow}
 use Rattle.line_tape.specs.Front.{place}
 use Rattle.line_tape.specs.History.{Process, fresh, IsProcess, IsHistory}
-use Rattle.line_tape.specs.Plain.{room_of}
+use Rattle.line_tape.specs.Plain.{tape_room}
 use Rattle.line_tape.specs.Restart.{restarted_process}
 use Rattle.line_tape.proofs.CutLemmas.{IsTape-take, IsTape-restarted, All-restarted, named_left}
 use Rattle.line_tape.proofs.EachLemmas.{each, each_at, length-each}
@@ -33,8 +33,8 @@ IsHistory-restarted history line enough is =
     record { some = omega (arith, is.some, many); few = omega (arith, is.few, many); processes = subst (λ (k : ℕ). All (IsProcess k) new) (sym many) all }
 
 -- no room falls where one process is written that has no less room
-pub rooms-more : (rooms : List ℕ) (items : List ProcessTape) (p : ℕ) (old new : ProcessTape) → p < length items → old ≡ get_or items p old → room_of old ≤ room_of new → ((q : ℕ) → get_or rooms q 0 ≤ get_or (map room_of items) q 0) → (q : ℕ) → get_or rooms q 0 ≤ get_or (map room_of (set items p new)) q 0
+pub rooms-more : (rooms : List ℕ) (items : List ProcessTape) (p : ℕ) (old new : ProcessTape) → p < length items → old ≡ get_or items p old → tape_room old ≤ tape_room new → ((q : ℕ) → get_or rooms q 0 ≤ get_or (map tape_room items) q 0) → (q : ℕ) → get_or rooms q 0 ≤ get_or (map tape_room (set items p new)) q 0
 rooms-more rooms items p old new within is more before q = elim (cases_eq q p) [
-  | inl e ↦ subst (λ (k : ℕ). get_or rooms k 0 ≤ get_or (map room_of (set items p new)) k 0) (sym e) (omega (arith, before p, room-old items p old new within is, room-new items p old new within is))
+  | inl e ↦ subst (λ (k : ℕ). get_or rooms k 0 ≤ get_or (map tape_room (set items p new)) k 0) (sym e) (omega (arith, before p, room-old items p old new within is, room-new items p old new within is))
   | inr apart ↦ omega (arith, before q, room-other items p old new within is q apart)
 ]

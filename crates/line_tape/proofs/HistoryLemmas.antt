@@ -6,7 +6,7 @@ use Rattle.std.proofs.lemmas.List.Elements.{All-set, All-get_or}
 use Rattle.std.proofs.Math.Seq.{map-set_same}
 use Rattle.line_tape.specs.declared.histories.ProcessTape.{ProcessTape}
 use Rattle.line_tape.specs.History.{Process, fresh, process_at, IsProcess, IsHistory}
-use Rattle.line_tape.specs.Plain.{plain, room_of}
+use Rattle.line_tape.specs.Plain.{process_kept, tape_room}
 
 -- a history stays one where a process of it is written
 pub IsHistory-set : (history : List Process) (p : ℕ) (process : Process) → IsProcess (length history) process → IsHistory history → IsHistory (set history p process)
@@ -24,29 +24,29 @@ IsHistory-at history p within h = All-get_or (IsProcess (length history)) histor
 
 module _ (items : List ProcessTape) (p : ℕ) (old new : ProcessTape) (within : p < length items) (is : old ≡ get_or items p old) where
   -- the process that stood there
-  pub plain-old : process_at (map plain items) p ≡ plain old
-  plain-old = get_or-map plain items p old fresh within ∙ ap plain (sym is)
+  pub plain-old : process_at (map process_kept items) p ≡ process_kept old
+  plain-old = get_or-map process_kept items p old fresh within ∙ ap process_kept (sym is)
 
   -- another process in its place
-  pub plain-written : map plain (set items p new) ≡ set (map plain items) p (plain new)
-  plain-written = map-set plain items p new
+  pub plain-written : map process_kept (set items p new) ≡ set (map process_kept items) p (process_kept new)
+  plain-written = map-set process_kept items p new
 
   -- the same process in its place
-  pub plain-same : plain new ≡ plain old → map plain (set items p new) ≡ map plain items
-  plain-same same = map-set_same plain items p new old (same ∙ ap plain is)
+  pub plain-same : process_kept new ≡ process_kept old → map process_kept (set items p new) ≡ map process_kept items
+  plain-same same = map-set_same process_kept items p new old (same ∙ ap process_kept is)
 
   -- the same room in its place
-  pub rooms-same : room_of new ≡ room_of old → map room_of (set items p new) ≡ map room_of items
-  rooms-same same = map-set_same room_of items p new old (same ∙ ap room_of is)
+  pub rooms-same : tape_room new ≡ tape_room old → map tape_room (set items p new) ≡ map tape_room items
+  rooms-same same = map-set_same tape_room items p new old (same ∙ ap tape_room is)
 
   -- the room before
-  pub room-old : get_or (map room_of items) p 0 ≡ room_of old
-  room-old = get_or-map room_of items p old 0 within ∙ ap room_of (sym is)
+  pub room-old : get_or (map tape_room items) p 0 ≡ tape_room old
+  room-old = get_or-map tape_room items p old 0 within ∙ ap tape_room (sym is)
 
   -- the room there
-  pub room-new : get_or (map room_of (set items p new)) p 0 ≡ room_of new
-  room-new = ap (λ xs. get_or xs p 0) (map-set room_of items p new) ∙ get_or-set_same (map room_of items) p (room_of new) 0 (omega (arith, length-map items room_of))
+  pub room-new : get_or (map tape_room (set items p new)) p 0 ≡ tape_room new
+  room-new = ap (λ xs. get_or xs p 0) (map-set tape_room items p new) ∙ get_or-set_same (map tape_room items) p (tape_room new) 0 (omega (arith, length-map items tape_room))
 
   -- the room elsewhere
-  pub room-other : (q : ℕ) → q ≢ p → get_or (map room_of (set items p new)) q 0 ≡ get_or (map room_of items) q 0
-  room-other q apart = ap (λ xs. get_or xs q 0) (map-set room_of items p new) ∙ get_or-set_other (map room_of items) p q (room_of new) 0 apart
+  pub room-other : (q : ℕ) → q ≢ p → get_or (map tape_room (set items p new)) q 0 ≡ get_or (map tape_room items) q 0
+  room-other q apart = ap (λ xs. get_or xs q 0) (map-set tape_room items p new) ∙ get_or-set_other (map tape_room items) p q (tape_room new) 0 apart

@@ -13,7 +13,7 @@ use Rattle.line_tape.specs.Event.{is_check, checks, incarnations_sent, sends, Is
 use Rattle.line_tape.specs.declared.limits.TheConstants.{MOST_EVENTS}
 use Rattle.line_tape.specs.Front.{check_place}
 use Rattle.line_tape.specs.History.{IsTape}
-use Rattle.line_tape.specs.Kept.{IsRow, AreRows, WithPlaces, IsSettled, AreSettled}
+use Rattle.line_tape.specs.Kept.{IsCheckRow, AreCheckRows, HaveCheckPlaces, IsSettled, AreSettled}
 use Rattle.line_tape.specs.Restart.{restarted_event}
 use Rattle.line_tape.specs.Transit.{addressee_of, addressees, names_received}
 use Rattle.line_tape.proofs.CopyLemmas.{length_addressees}
@@ -24,7 +24,7 @@ use Rattle.line_tape.proofs.RowLemmas.{check_place-append, check_place-last, che
 use Rattle.line_tape.proofs.StayLemmas.{front_restarted, names_restarted}
 
 -- a row serves the first events too, if its check is among them
-IsRow-take : (events : List Event) (n c : ℕ) (row : CheckRow) → c < checks (take n events) → IsRow events c row → IsRow (take n events) c row
+IsRow-take : (events : List Event) (n c : ℕ) (row : CheckRow) → c < checks (take n events) → IsCheckRow events c row → IsCheckRow (take n events) c row
 IsRow-take events n c row h r =
     let at : ℕ = check_place (take n events) (suc c) in
     let same : check_place events (suc c) ≡ at = ap (λ xs. check_place xs (suc c)) (sym (take-append-drop n events)) ∙ check_place-append (take n events) (drop n events) (suc c) h in
@@ -37,8 +37,8 @@ IsRow-take events n c row h r =
     }
 
 -- the first rows, incarnations and addressees are those of the first events
-pub AreRows-take : (events : List Event) (rows : List CheckRow) (incarnations addressed : List ℕ) (n : ℕ) → AreRows events rows incarnations addressed
-    → AreRows (take n events) (take (checks (take n events)) rows) (take (sends (take n events)) incarnations) (take (sends (take n events)) addressed)
+pub AreRows-take : (events : List Event) (rows : List CheckRow) (incarnations addressed : List ℕ) (n : ℕ) → AreCheckRows events rows incarnations addressed
+    → AreCheckRows (take n events) (take (checks (take n events)) rows) (take (sends (take n events)) incarnations) (take (sends (take n events)) addressed)
 AreRows-take events rows incarnations addressed n r =
     let few : ℕ = checks (take n events) in
     let sent : ℕ = sends (take n events) in
@@ -48,7 +48,7 @@ AreRows-take events rows incarnations addressed n r =
       count = omega (arith, length-take few rows, r.count, checks_take events n);
       each = λ c d k.
           let within : c < few = omega (arith, length-take few rows) in
-          subst (IsRow (take n events) c) (sym (get_or-take few rows c d within)) (IsRow-take events n c (get_or rows c d) within (r.each c d (omega (arith, r.count, checks_take events n))));
+          subst (IsCheckRow (take n events) c) (sym (get_or-take few rows c d within)) (IsRow-take events n c (get_or rows c d) within (r.each c d (omega (arith, r.count, checks_take events n))));
     }
 
 -- a tape keeps within the limits where there is room under them
@@ -216,7 +216,7 @@ module _ (events : List Event) (old new : List CheckRow) (i index : ℕ) (x : Ev
       }
 
 -- the rows have all their places once the loop has come to those that were right
-pub placed-done : (events : List Event) (old new : List CheckRow) (i index : ℕ) → ArePlaced events old new i index → ((k : ℕ) (d : CheckRow) → k < checks (take i events) → (get_or old k d).place ≡ check_place events (suc k)) → WithPlaces events old new
+pub placed-done : (events : List Event) (old new : List CheckRow) (i index : ℕ) → ArePlaced events old new i index → ((k : ℕ) (d : CheckRow) → k < checks (take i events) → (get_or old k d).place ≡ check_place events (suc k)) → HaveCheckPlaces events old new
 placed-done events old new i index h early =
     record {
       same_length = h.same_length;
@@ -228,9 +228,9 @@ placed-done events old new i index h early =
       receipts_same = h.receipts_same;
     }
 
-module _ (events : List Event) (rows : List CheckRow) (incarnations addressed : List ℕ) (r : AreRows events rows incarnations addressed) where
+module _ (events : List Event) (rows : List CheckRow) (incarnations addressed : List ℕ) (r : AreCheckRows events rows incarnations addressed) where
   -- the rows serve what a restart leaves, with new places
-  pub AreRows-restarted : (rows' : List CheckRow) → WithPlaces (filter_map restarted_event events) rows rows' → AreRows (filter_map restarted_event events) rows' incarnations addressed
+  pub AreRows-restarted : (rows' : List CheckRow) → HaveCheckPlaces (filter_map restarted_event events) rows rows' → AreCheckRows (filter_map restarted_event events) rows' incarnations addressed
   AreRows-restarted rows' w =
       record {
         sent = r.sent ∙ sym (sent_left events);
@@ -238,7 +238,7 @@ module _ (events : List Event) (rows : List CheckRow) (incarnations addressed : 
         count = w.same_length ∙ r.count ∙ sym (checks_left events);
         each = λ c d k.
             let inside : c < length rows = omega (arith, w.same_length) in
-            let old : IsRow events c (get_or rows c d) = r.each c d inside in
+            let old : IsCheckRow events c (get_or rows c d) = r.each c d inside in
             let before : List Event = take (check_place events (suc c)) events in
             record {
               place_is = w.places c d inside;
@@ -263,7 +263,7 @@ module _ (events : List Event) (rows : List CheckRow) (incarnations addressed : 
     pub settled_places : (c : ℕ) (d : CheckRow) → c < checks (take settled (filter_map restarted_event events)) → (get_or rows c d).place ≡ check_place (filter_map restarted_event events) (suc c)
     settled_places c d within =
         let early : c < checks (take settled events) = omega (arith, ap checks front_same) in
-        let row : IsRow events c (get_or rows c d) = r.each c d (omega (arith, r.count, checks_take events settled)) in
+        let row : IsCheckRow events c (get_or rows c d) = r.each c d (omega (arith, r.count, checks_take events settled)) in
         row.place_is ∙ ap (λ (xs : List Event). check_place xs (suc c)) (sym (take-append-drop settled events)) ∙ check_place-append (take settled events) (drop settled events) (suc c) early
         ∙ sym (check_place-append (take settled events) (filter_map restarted_event (drop settled events)) (suc c) early) ∙ ap (λ (xs : List Event). check_place xs (suc c)) (sym parts)
 

@@ -10,11 +10,11 @@ use Rattle.line_tape.specs.declared.events.Event.TheVariants.{Send, Recv, Check,
 use Rattle.line_tape.specs.declared.logs.KeptEvent.{KeptEvent}
 use Rattle.line_tape.specs.declared.logs.KeptEvent.TheVariants.{Send as KeptSend, Recv as KeptRecv, Check as KeptCheck, BareCheck as KeptBareCheck, Mark as KeptMark}
 use Rattle.line_tape.specs.Kept.{IsSettled}
-use Rattle.line_tape.specs.Laid.{Fits, IsLaid, event_of, first_byte, first_state, kept_as, restarted_kept, states_of}
+use Rattle.line_tape.specs.Laid.{IsKeptWithin, IsLaid, event_from_kept, first_byte, first_state, kept_as, restarted_kept, states_of}
 use Rattle.line_tape.specs.Restart.{restarted_event}
 
 -- what stands among so many bytes and states stands among more
-fits-more : (event : KeptEvent) (B S B' S' : ℕ) → B ≤ B' → S ≤ S' → Fits B S event → Fits B' S' event
+fits-more : (event : KeptEvent) (B S B' S' : ℕ) → B ≤ B' → S ≤ S' → IsKeptWithin B S event → IsKeptWithin B' S' event
 fits-more (KeptSend to start inc len) B S B' S' b s fits = omega (arith, b, fits)
 fits-more (KeptRecv message) B S B' S' b s fits = fits
 fits-more (KeptCheck before round) B S B' S' b s fits = omega (arith, s, fits)
@@ -27,7 +27,7 @@ pub record Reaches (events : List KeptEvent) (b s B S : ℕ) : Type 0 where
   pub few : B ≤ b + MOST_BODY * length events
   pub states : s ≤ S
   pub fewer : S ≤ s + length events
-  pub fit : All (Fits B S) events
+  pub fit : All (IsKeptWithin B S) events
 
 pub laid-reaches : (events : List KeptEvent) (b s B S : ℕ) → IsLaid events b s B S → Reaches events b s B S
 laid-reaches [] b s B S laid = record {
@@ -35,7 +35,7 @@ laid-reaches [] b s B S laid = record {
   few = omega (arith, laid.0);
   states = omega (arith, laid.1);
   fewer = omega (arith, laid.1);
-  fit = All-nil (Fits B S);
+  fit = All-nil (IsKeptWithin B S);
 }
 laid-reaches (KeptSend to start inc len ∷ rest) b s B S laid =
     let far : Reaches rest (b + len) s B S = laid-reaches rest (b + len) s B S laid.2 in
@@ -44,7 +44,7 @@ laid-reaches (KeptSend to start inc len ∷ rest) b s B S laid =
       few = omega (arith, far.few, laid.1);
       states = far.states;
       fewer = omega (arith, far.fewer);
-      fit = All-cons (Fits B S) (KeptSend to start inc len) rest (omega (arith, laid.0, far.bytes)) far.fit;
+      fit = All-cons (IsKeptWithin B S) (KeptSend to start inc len) rest (omega (arith, laid.0, far.bytes)) far.fit;
     }
 laid-reaches (KeptRecv message ∷ rest) b s B S laid =
     let far : Reaches rest b s B S = laid-reaches rest b s B S laid in
@@ -53,7 +53,7 @@ laid-reaches (KeptRecv message ∷ rest) b s B S laid =
       few = omega (arith, far.few);
       states = far.states;
       fewer = omega (arith, far.fewer);
-      fit = All-cons (Fits B S) (KeptRecv message) rest _ far.fit;
+      fit = All-cons (IsKeptWithin B S) (KeptRecv message) rest _ far.fit;
     }
 laid-reaches (KeptCheck before round ∷ rest) b s B S laid =
     let far : Reaches rest b (suc s) B S = laid-reaches rest b (suc s) B S laid.1 in
@@ -62,7 +62,7 @@ laid-reaches (KeptCheck before round ∷ rest) b s B S laid =
       few = omega (arith, far.few);
       states = omega (arith, far.states);
       fewer = omega (arith, far.fewer);
-      fit = All-cons (Fits B S) (KeptCheck before round) rest (omega (arith, laid.0, far.states)) far.fit;
+      fit = All-cons (IsKeptWithin B S) (KeptCheck before round) rest (omega (arith, laid.0, far.states)) far.fit;
     }
 laid-reaches (KeptBareCheck round ∷ rest) b s B S laid =
     let far : Reaches rest b s B S = laid-reaches rest b s B S laid in
@@ -71,7 +71,7 @@ laid-reaches (KeptBareCheck round ∷ rest) b s B S laid =
       few = omega (arith, far.few);
       states = far.states;
       fewer = omega (arith, far.fewer);
-      fit = All-cons (Fits B S) (KeptBareCheck round) rest _ far.fit;
+      fit = All-cons (IsKeptWithin B S) (KeptBareCheck round) rest _ far.fit;
     }
 laid-reaches (KeptMark from round ∷ rest) b s B S laid =
     let far : Reaches rest b s B S = laid-reaches rest b s B S laid in
@@ -80,7 +80,7 @@ laid-reaches (KeptMark from round ∷ rest) b s B S laid =
       few = omega (arith, far.few);
       states = far.states;
       fewer = omega (arith, far.fewer);
-      fit = All-cons (Fits B S) (KeptMark from round) rest _ far.fit;
+      fit = All-cons (IsKeptWithin B S) (KeptMark from round) rest _ far.fit;
     }
 
 -- events behind others
@@ -122,7 +122,7 @@ laid-parts (KeptMark from round ∷ rest) more b s B S laid =
 
 module _ (bodies more : List ℕ) (states others : List (List ℕ)) where
   -- further bytes and states change no event
-  event-same : (event : KeptEvent) → Fits (length bodies) (length states) event → event_of (bodies ++ more) (states ++ others) event ≡ event_of bodies states event
+  event-same : (event : KeptEvent) → IsKeptWithin (length bodies) (length states) event → event_from_kept (bodies ++ more) (states ++ others) event ≡ event_from_kept bodies states event
   event-same (KeptSend to start inc len) fits =
       let dropped : drop start (bodies ++ more) ≡ drop start bodies ++ more = drop-append-le start bodies more (omega (arith, fits)) in
       ap (Send to inc) (ap (take len) dropped ∙ take-append-le len (drop start bodies) more (omega (arith, fits, length-drop start bodies)))
@@ -132,33 +132,33 @@ module _ (bodies more : List ℕ) (states others : List (List ℕ)) where
   event-same (KeptBareCheck round) fits = refl
   event-same (KeptMark from round) fits = refl
 
-  pub events-same : (events : List KeptEvent) → All (Fits (length bodies) (length states)) events → map (event_of (bodies ++ more) (states ++ others)) events ≡ map (event_of bodies states) events
+  pub events-same : (events : List KeptEvent) → All (IsKeptWithin (length bodies) (length states)) events → map (event_from_kept (bodies ++ more) (states ++ others)) events ≡ map (event_from_kept bodies states) events
   events-same [] fits = refl
   events-same (event ∷ rest) fits =
-      ap (λ (e : Event). e ∷ map (event_of (bodies ++ more) (states ++ others)) rest) (event-same event (All-head (Fits (length bodies) (length states)) event rest fits))
-      ∙ ap (λ (es : List Event). event_of bodies states event ∷ es) (events-same rest (All-tail (Fits (length bodies) (length states)) event rest fits))
+      ap (λ (e : Event). e ∷ map (event_from_kept (bodies ++ more) (states ++ others)) rest) (event-same event (All-head (IsKeptWithin (length bodies) (length states)) event rest fits))
+      ∙ ap (λ (es : List Event). event_from_kept bodies states event ∷ es) (events-same rest (All-tail (IsKeptWithin (length bodies) (length states)) event rest fits))
 
 -- the first bytes and states tell the events that stand among them
-pub events-first : (bodies : List ℕ) (states : List (List ℕ)) (B S : ℕ) (events : List KeptEvent) → B ≤ length bodies → S ≤ length states → All (Fits B S) events → map (event_of (take B bodies) (take S states)) events ≡ map (event_of bodies states) events
+pub events-first : (bodies : List ℕ) (states : List (List ℕ)) (B S : ℕ) (events : List KeptEvent) → B ≤ length bodies → S ≤ length states → All (IsKeptWithin B S) events → map (event_from_kept (take B bodies) (take S states)) events ≡ map (event_from_kept bodies states) events
 events-first bodies states B S events b s fits =
     let bytes : B ≡ length (take B bodies) = sym (length-take-le B bodies b) in
     let count : S ≡ length (take S states) = sym (length-take-le S states s) in
-    let inside : All (Fits (length (take B bodies)) (length (take S states))) events = subst (λ k. All (Fits k (length (take S states))) events) bytes (subst (λ k. All (Fits B k) events) count fits) in
+    let inside : All (IsKeptWithin (length (take B bodies)) (length (take S states))) events = subst (λ k. All (IsKeptWithin k (length (take S states))) events) bytes (subst (λ k. All (IsKeptWithin B k) events) count fits) in
     sym (events-same (take B bodies) (drop B bodies) (take S states) (drop S states) events inside)
-    ∙ ap (λ (xs : List ℕ). map (event_of xs (take S states ++ drop S states)) events) (take-append-drop B bodies)
-    ∙ ap (λ (xs : List (List ℕ)). map (event_of bodies xs) events) (take-append-drop S states)
+    ∙ ap (λ (xs : List ℕ). map (event_from_kept xs (take S states ++ drop S states)) events) (take-append-drop B bodies)
+    ∙ ap (λ (xs : List (List ℕ)). map (event_from_kept bodies xs) events) (take-append-drop S states)
 
 -- a body that comes next
-pub body-next : (bodies body : List ℕ) (to inc : ℕ) (states : List (List ℕ)) → event_of (bodies ++ body) states (KeptSend to (length bodies) inc (length body)) ≡ Send to inc body
+pub body-next : (bodies body : List ℕ) (to inc : ℕ) (states : List (List ℕ)) → event_from_kept (bodies ++ body) states (KeptSend to (length bodies) inc (length body)) ≡ Send to inc body
 body-next bodies body to inc states =
     ap (Send to inc) (ap (take (length body)) (drop_at bodies body (length bodies) refl) ∙ take_all (length body) body (omega arith))
 
 -- what a restart leaves of the events
-pub events-restarted : (bodies : List ℕ) (states : List (List ℕ)) (events : List KeptEvent) → map (event_of bodies states) (filter_map restarted_kept events) ≡ filter_map restarted_event (map (event_of bodies states) events)
+pub events-restarted : (bodies : List ℕ) (states : List (List ℕ)) (events : List KeptEvent) → map (event_from_kept bodies states) (filter_map restarted_kept events) ≡ filter_map restarted_event (map (event_from_kept bodies states) events)
 events-restarted bodies states [] = refl
-events-restarted bodies states (KeptSend to start inc len ∷ rest) = ap (λ (es : List Event). event_of bodies states (KeptSend to start inc len) ∷ es) (events-restarted bodies states rest)
+events-restarted bodies states (KeptSend to start inc len ∷ rest) = ap (λ (es : List Event). event_from_kept bodies states (KeptSend to start inc len) ∷ es) (events-restarted bodies states rest)
 events-restarted bodies states (KeptRecv message ∷ rest) = ap (λ (es : List Event). Recv message ∷ es) (events-restarted bodies states rest)
-events-restarted bodies states (KeptCheck before round ∷ rest) = ap (λ (es : List Event). event_of bodies states (KeptCheck before None) ∷ es) (events-restarted bodies states rest)
+events-restarted bodies states (KeptCheck before round ∷ rest) = ap (λ (es : List Event). event_from_kept bodies states (KeptCheck before None) ∷ es) (events-restarted bodies states rest)
 events-restarted bodies states (KeptBareCheck round ∷ rest) = ap (λ (es : List Event). Check [] None ∷ es) (events-restarted bodies states rest)
 events-restarted bodies states (KeptMark from round ∷ rest) = events-restarted bodies states rest
 
@@ -171,7 +171,7 @@ laid-restarted (KeptBareCheck round ∷ rest) b s B S laid = laid-restarted rest
 laid-restarted (KeptMark from round ∷ rest) b s B S laid = laid-restarted rest b s B S laid
 
 -- what is kept of an event that is settled is settled
-settled-one : (bodies : List ℕ) (states : List (List ℕ)) (event : KeptEvent) → IsSettled (event_of bodies states event) → restarted_kept event ≡ Some event
+settled-one : (bodies : List ℕ) (states : List (List ℕ)) (event : KeptEvent) → IsSettled (event_from_kept bodies states event) → restarted_kept event ≡ Some event
 settled-one bodies states (KeptSend to start inc len) settled = refl
 settled-one bodies states (KeptRecv message) settled = refl
 settled-one bodies states (KeptCheck before round) settled =
@@ -182,25 +182,25 @@ settled-one bodies states (KeptBareCheck round) settled =
     ap (λ r. Some (KeptBareCheck r)) none
 settled-one bodies states (KeptMark from round) settled = absurd (cc settled)
 
-settled-each : (bodies : List ℕ) (states : List (List ℕ)) (events : List KeptEvent) → All IsSettled (map (event_of bodies states) events) → All (λ event. restarted_kept event ≡ Some event) events
+settled-each : (bodies : List ℕ) (states : List (List ℕ)) (events : List KeptEvent) → All IsSettled (map (event_from_kept bodies states) events) → All (λ event. restarted_kept event ≡ Some event) events
 settled-each bodies states [] settled = All-nil (λ event. restarted_kept event ≡ Some event)
 settled-each bodies states (event ∷ rest) settled =
-    All-cons (λ event. restarted_kept event ≡ Some event) event rest (settled-one bodies states event (All-head IsSettled (event_of bodies states event) (map (event_of bodies states) rest) settled)) (settled-each bodies states rest (All-tail IsSettled (event_of bodies states event) (map (event_of bodies states) rest) settled))
+    All-cons (λ event. restarted_kept event ≡ Some event) event rest (settled-one bodies states event (All-head IsSettled (event_from_kept bodies states event) (map (event_from_kept bodies states) rest) settled)) (settled-each bodies states rest (All-tail IsSettled (event_from_kept bodies states event) (map (event_from_kept bodies states) rest) settled))
 
-pub settled-kept : (bodies : List ℕ) (states : List (List ℕ)) (events : List KeptEvent) (n : ℕ) → All IsSettled (take n (map (event_of bodies states) events)) → All (λ event. restarted_kept event ≡ Some event) (take n events)
+pub settled-kept : (bodies : List ℕ) (states : List (List ℕ)) (events : List KeptEvent) (n : ℕ) → All IsSettled (take n (map (event_from_kept bodies states) events)) → All (λ event. restarted_kept event ≡ Some event) (take n events)
 settled-kept bodies states events n settled =
-    settled-each bodies states (take n events) (subst (All IsSettled) (take-map (event_of bodies states) n events) settled)
+    settled-each bodies states (take n events) (subst (All IsSettled) (take-map (event_from_kept bodies states) n events) settled)
 
 -- the bytes and the states of the events are there
-pub laid_fit : (events : List KeptEvent) (B S : ℕ) → IsLaid events 0 0 B S → All (Fits B S) events
+pub laid_fit : (events : List KeptEvent) (B S : ℕ) → IsLaid events 0 0 B S → All (IsKeptWithin B S) events
 laid_fit events B S laid = (laid-reaches events 0 0 B S laid).fit
 
 -- the first so many events, and those behind them
-pub events_of_first : (bodies : List ℕ) (states : List (List ℕ)) (events : List KeptEvent) (n : ℕ) → map (event_of bodies states) (take n events) ≡ take n (map (event_of bodies states) events)
-events_of_first bodies states events n = sym (take-map (event_of bodies states) n events)
+pub events_of_first : (bodies : List ℕ) (states : List (List ℕ)) (events : List KeptEvent) (n : ℕ) → map (event_from_kept bodies states) (take n events) ≡ take n (map (event_from_kept bodies states) events)
+events_of_first bodies states events n = sym (take-map (event_from_kept bodies states) n events)
 
-pub events_behind : (bodies : List ℕ) (states : List (List ℕ)) (events : List KeptEvent) (n : ℕ) → map (event_of bodies states) (drop n events) ≡ drop n (map (event_of bodies states) events)
-events_behind bodies states events n = sym (drop-map (event_of bodies states) n events)
+pub events_behind : (bodies : List ℕ) (states : List (List ℕ)) (events : List KeptEvent) (n : ℕ) → map (event_from_kept bodies states) (drop n events) ≡ drop n (map (event_from_kept bodies states) events)
+events_behind bodies states events n = sym (drop-map (event_from_kept bodies states) n events)
 
 -- the bytes of events that are laid begin where their first body stands, or end where they begin
 laid-byte : (events : List KeptEvent) (b s B S : ℕ) → IsLaid events b s B S → first_byte events B ≡ b
@@ -223,51 +223,51 @@ laid-state (KeptMark from round ∷ rest) b s B S laid = laid-state rest b s B S
 -- what the log is, where it has these events
 pub record IsLog (events : List KeptEvent) (bodies : List ℕ) (states : List (List ℕ)) (told : List Event) : Type 0 where
   pub laid : IsLaid events 0 0 (length bodies) (length states)
-  pub shows : map (event_of bodies states) events ≡ told
+  pub shows : map (event_from_kept bodies states) events ≡ told
 
 module _ (events : List KeptEvent) (bodies : List ℕ) (states : List (List ℕ)) (laid : IsLaid events 0 0 (length bodies) (length states)) where
   abbrev told : List Event
-  told = map (event_of bodies states) events
+  told = map (event_from_kept bodies states) events
 
   -- one event more, whose bytes and state come next
-  added : (event : KeptEvent) (body : List ℕ) (more : List (List ℕ)) → IsLaid (event ∷ []) (length bodies) (length states) (length (bodies ++ body)) (length (states ++ more)) → IsLog (events ++ event ∷ []) (bodies ++ body) (states ++ more) (told ++ event_of (bodies ++ body) (states ++ more) event ∷ [])
+  added : (event : KeptEvent) (body : List ℕ) (more : List (List ℕ)) → IsLaid (event ∷ []) (length bodies) (length states) (length (bodies ++ body)) (length (states ++ more)) → IsLog (events ++ event ∷ []) (bodies ++ body) (states ++ more) (told ++ event_from_kept (bodies ++ body) (states ++ more) event ∷ [])
   added event body more next = record {
     laid = laid-append events (event ∷ []) 0 0 (length bodies) (length states) (length (bodies ++ body)) (length (states ++ more)) laid next;
-    shows = map-append (event_of (bodies ++ body) (states ++ more)) events (event ∷ [])
-        ∙ ap (λ (es : List Event). es ++ event_of (bodies ++ body) (states ++ more) event ∷ []) (events-same bodies body states more events (laid_fit events (length bodies) (length states) laid));
+    shows = map-append (event_from_kept (bodies ++ body) (states ++ more)) events (event ∷ [])
+        ∙ ap (λ (es : List Event). es ++ event_from_kept (bodies ++ body) (states ++ more) event ∷ []) (events-same bodies body states more events (laid_fit events (length bodies) (length states) laid));
   }
 
   pub send-added : (to inc : ℕ) (body : List ℕ) → length body ≤ MOST_BODY → IsLog (events ++ KeptSend to (length bodies) inc (length body) ∷ []) (bodies ++ body) states (told ++ Send to inc body ∷ [])
   send-added to inc body short =
       let event : KeptEvent = KeptSend to (length bodies) inc (length body) in
-      let next : IsLog (events ++ event ∷ []) (bodies ++ body) (states ++ []) (told ++ event_of (bodies ++ body) (states ++ []) event ∷ []) = added event body [] (refl, short, (sym (length-append bodies body), sym (ap (λ (xs : List (List ℕ)). length xs) (append-nil states)))) in
+      let next : IsLog (events ++ event ∷ []) (bodies ++ body) (states ++ []) (told ++ event_from_kept (bodies ++ body) (states ++ []) event ∷ []) = added event body [] (refl, short, (sym (length-append bodies body), sym (ap (λ (xs : List (List ℕ)). length xs) (append-nil states)))) in
       subst (λ (e : Event). IsLog (events ++ event ∷ []) (bodies ++ body) states (told ++ e ∷ [])) (body-next bodies body to inc states)
-      (subst (λ (xs : List (List ℕ)). IsLog (events ++ event ∷ []) (bodies ++ body) xs (told ++ event_of (bodies ++ body) xs event ∷ [])) (append-nil states) next)
+      (subst (λ (xs : List (List ℕ)). IsLog (events ++ event ∷ []) (bodies ++ body) xs (told ++ event_from_kept (bodies ++ body) xs event ∷ [])) (append-nil states) next)
 
   pub recv-added : (message : MsgName) → IsLog (events ++ KeptRecv message ∷ []) bodies states (told ++ Recv message ∷ [])
   recv-added message = record {
     laid = laid-append events (KeptRecv message ∷ []) 0 0 (length bodies) (length states) (length bodies) (length states) laid (refl, refl);
-    shows = map-append (event_of bodies states) events (KeptRecv message ∷ []);
+    shows = map-append (event_from_kept bodies states) events (KeptRecv message ∷ []);
   }
 
   pub bare-added : (round : Option ℕ) → IsLog (events ++ KeptBareCheck round ∷ []) bodies states (told ++ Check [] round ∷ [])
   bare-added round = record {
     laid = laid-append events (KeptBareCheck round ∷ []) 0 0 (length bodies) (length states) (length bodies) (length states) laid (refl, refl);
-    shows = map-append (event_of bodies states) events (KeptBareCheck round ∷ []);
+    shows = map-append (event_from_kept bodies states) events (KeptBareCheck round ∷ []);
   }
 
   pub mark-added : (from round : ℕ) → IsLog (events ++ KeptMark from round ∷ []) bodies states (told ++ Mark from round ∷ [])
   mark-added from round = record {
     laid = laid-append events (KeptMark from round ∷ []) 0 0 (length bodies) (length states) (length bodies) (length states) laid (refl, refl);
-    shows = map-append (event_of bodies states) events (KeptMark from round ∷ []);
+    shows = map-append (event_from_kept bodies states) events (KeptMark from round ∷ []);
   }
 
   pub check-added : (state : List ℕ) (round : Option ℕ) → IsLog (events ++ KeptCheck (length states) round ∷ []) bodies (states ++ state ∷ []) (told ++ Check state round ∷ [])
   check-added state round =
       let event : KeptEvent = KeptCheck (length states) round in
-      let next : IsLog (events ++ event ∷ []) (bodies ++ []) (states ++ state ∷ []) (told ++ event_of (bodies ++ []) (states ++ state ∷ []) event ∷ []) = added event [] (state ∷ []) (refl, (sym (ap (λ (xs : List ℕ). length xs) (append-nil bodies)), omega (arith, length_push states state))) in
+      let next : IsLog (events ++ event ∷ []) (bodies ++ []) (states ++ state ∷ []) (told ++ event_from_kept (bodies ++ []) (states ++ state ∷ []) event ∷ []) = added event [] (state ∷ []) (refl, (sym (ap (λ (xs : List ℕ). length xs) (append-nil bodies)), omega (arith, length_push states state))) in
       subst (λ (e : Event). IsLog (events ++ event ∷ []) bodies (states ++ state ∷ []) (told ++ e ∷ [])) (ap (λ (s : List ℕ). Check s round) (get_or_push states state [] (length states) refl))
-      (subst (λ (xs : List ℕ). IsLog (events ++ event ∷ []) xs (states ++ state ∷ []) (told ++ event_of xs (states ++ state ∷ []) event ∷ [])) (append-nil bodies) next)
+      (subst (λ (xs : List ℕ). IsLog (events ++ event ∷ []) xs (states ++ state ∷ []) (told ++ event_from_kept xs (states ++ state ∷ []) event ∷ [])) (append-nil bodies) next)
 
   -- a check more, with bytes or without
   pub state-added : (state : List ℕ) (round : Option ℕ) → IsLog (events ++ kept_as (length bodies) (length states) (Check state round) ∷ []) bodies (states ++ states_of (Check state round)) (told ++ Check state round ∷ [])
@@ -275,7 +275,7 @@ module _ (events : List KeptEvent) (bodies : List ℕ) (states : List (List ℕ)
   state-added (byte ∷ state) round = check-added (byte ∷ state) round
 
   -- the first events, where those behind them go with their bytes and states
-  pub more-gone : (first more : List KeptEvent) → events ≡ first ++ more → IsLog first (take (first_byte more (length bodies)) bodies) (take (first_state more (length states)) states) (map (event_of bodies states) first)
+  pub more-gone : (first more : List KeptEvent) → events ≡ first ++ more → IsLog first (take (first_byte more (length bodies)) bodies) (take (first_state more (length states)) states) (map (event_from_kept bodies states) first)
   more-gone first more is =
       let parts : Parted first more 0 0 (length bodies) (length states) = laid-parts first more 0 0 (length bodies) (length states) (subst (λ es. IsLaid es 0 0 (length bodies) (length states)) is laid) in
       let far : Reaches more parts.byte parts.state (length bodies) (length states) = laid-reaches more parts.byte parts.state (length bodies) (length states) parts.others in

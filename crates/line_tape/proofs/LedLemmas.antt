@@ -10,7 +10,7 @@ use Rattle.line_names.specs.Lines.{choice_at}
 use Rattle.line_tape.specs.declared.events.Event.{Event}
 use Rattle.line_tape.specs.declared.events.Event.TheVariants.{Recv}
 use Rattle.line_tape.specs.declared.limits.TheConstants.{MOST_EVENTS}
-use Rattle.line_tape.specs.Chain.{latest_check, latest_choice, next_lower, first_ceilings, lowered, LeadsTo, IsRight, IsLed}
+use Rattle.line_tape.specs.Chain.{latest_check, latest_choice, next_lower, first_ceilings, lowered_ceilings, LeadsTo, IsRight, IsLed}
 use Rattle.line_tape.specs.Event.{checks}
 use Rattle.line_tape.specs.Front.{front, HasChoice}
 use Rattle.line_tape.specs.History.{Process, tape_at, IsHistory}
@@ -50,11 +50,11 @@ orphan_above history line q message orphan e =
 
 module _ (history : List Process) (marks : MarksView) (failed : List Bool) where
   -- one entry more
-  pub LeadsTo-push : (ceilings : List Choice) (entries : List Passed) (line : List Choice) (entry : Passed) → LeadsTo history marks failed ceilings entries line → IsRight history line entry → LeadsTo history marks failed ceilings (entries ++ entry ∷ []) (lowered history marks failed line entry.at)
+  pub LeadsTo-push : (ceilings : List Choice) (entries : List Passed) (line : List Choice) (entry : Passed) → LeadsTo history marks failed ceilings entries line → IsRight history line entry → LeadsTo history marks failed ceilings (entries ++ entry ∷ []) (lowered_ceilings history marks failed line entry.at)
   LeadsTo-push ceilings [] line entry e r =
-      (subst (λ (c : List Choice). IsRight history c entry) (sym e) r, ap (λ (c : List Choice). lowered history marks failed c entry.at) e)
+      (subst (λ (c : List Choice). IsRight history c entry) (sym e) r, ap (λ (c : List Choice). lowered_ceilings history marks failed c entry.at) e)
   LeadsTo-push ceilings (first ∷ entries) line entry (s, rest) r =
-      (s, LeadsTo-push (lowered history marks failed ceilings first.at) entries line entry rest r)
+      (s, LeadsTo-push (lowered_ceilings history marks failed ceilings first.at) entries line entry rest r)
 
   -- a tape has the choices of it that survive
   has_choice : (p : ℕ) (choice : Choice) → survives history marks failed p choice ≡ true → HasChoice (tape_at history p) choice
@@ -73,7 +73,7 @@ module _ (history : List Process) (marks : MarksView) (failed : List Bool) where
   rank-next_lower p Now h = omega (arith, rank-latest_check (tape_at history p) (survives history marks failed p) (checks (tape_at history p)))
 
   -- a line gets lower where a process is lowered for an orphan
-  pub height-lowered : (line : List Choice) (q : ℕ) (message : MsgName) → q < length history → length line ≡ length history → IsOrphan history line q message → height history (lowered history marks failed line q) < height history line
+  pub height-lowered : (line : List Choice) (q : ℕ) (message : MsgName) → q < length history → length line ≡ length history → IsOrphan history line q message → height history (lowered_ceilings history marks failed line q) < height history line
   height-lowered line q message h e orphan =
       omega (arith, height-set history line q (next_lower history marks failed q (choice_at line q)) h e, rank-next_lower q (choice_at line q) (orphan_above history line q message orphan))
 

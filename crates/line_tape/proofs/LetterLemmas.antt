@@ -15,8 +15,8 @@ use Rattle.line_tape.specs.Event.{incarnation_of, incarnations_sent, Holds}
 use Rattle.line_tape.specs.Front.{place, front}
 use Rattle.line_tape.specs.History.{Process, tape_at}
 use Rattle.line_tape.specs.Line.{events_before, IsConsistent}
-use Rattle.line_tape.specs.Restart.{restarted, restarted_event}
-use Rattle.line_tape.specs.Transit.{Letter, letters, is_open, open_letters, in_transit, in_transit_between, addressee_of, addressees, addressee, goes_between}
+use Rattle.line_tape.specs.Restart.{restarted_history, restarted_event}
+use Rattle.line_tape.specs.Transit.{Letter, letters, is_open_letter, open_letters, in_transit, in_transit_between, addressee_of, addressees, addressee, goes_between}
 use Rattle.line_tape.specs.Fit.{IsSentTo}
 use Rattle.line_tape.proofs.LineLemmas.{tape_at-past, front-empty}
 use Rattle.line_tape.proofs.LinkLemmas.{tape_restarted}
@@ -32,7 +32,7 @@ addressees_restarted (Mark from round ∷ es) = addressees_restarted es
 
 -- after a restart at a consistent line, each message that a tape has received is held by its sender's tape
 pub restarted_held : (history : List Process) (line : List Choice) → IsConsistent history line → length line ≡ length history → (q : ℕ) (m : MsgName)
-    → Contains (tape_at (restarted history line) q) (Recv m) → Holds (tape_at (restarted history line) m.from) m.inc m.number
+    → Contains (tape_at (restarted_history history line) q) (Recv m) → Holds (tape_at (restarted_history history line) m.from) m.inc m.number
 restarted_held history line consistent e q m received =
     let before : Contains (events_before history line q) (Recv m) = received_left (events_before history line q) m (subst (λ (es : List Event). Contains es (Recv m)) (tape_restarted history line q e) received) in
     subst (λ (xs : List ℕ). slice_get xs m.number ≡ Some m.inc) (sym (ap incarnations_sent (tape_restarted history line m.from e) ∙ sent_left (events_before history line m.from))) (consistent q m before)
@@ -67,18 +67,18 @@ open_are history line p =
     let n : ℕ = place tape (choice_at line p) in
     let incs : incarnations_sent tape ≡ incarnations_sent (take n tape) ++ incarnations_sent (drop n tape) = ap incarnations_sent (sym (take-append-drop n tape)) ∙ filter_map-append incarnation_of (take n tape) (drop n tape) in
     let tos : addressees tape ≡ addressees (take n tape) ++ addressees (drop n tape) = ap addressees (sym (take-append-drop n tape)) ∙ filter_map-append addressee_of (take n tape) (drop n tape) in
-    All-filter (is_open history line) (IsLetterOf p (incarnations_sent tape) (addressees tape)) (letters p 0 (events_before history line p))
+    All-filter (is_open_letter history line) (IsLetterOf p (incarnations_sent tape) (addressees tape)) (letters p 0 (events_before history line p))
     (letters_are p 0 (take n tape) (incarnations_sent tape) (addressees tape) (incarnations_sent (drop n tape)) (addressees (drop n tape)) incs tos)
 
 -- and of what a restart leaves of it
 pub open_restarted : (history : List Process) (line : List Choice) → length line ≡ length history → (p : ℕ)
-    → All (IsLetterOf p (incarnations_sent (tape_at (restarted history line) p)) (addressees (tape_at (restarted history line) p))) (open_letters history line p)
+    → All (IsLetterOf p (incarnations_sent (tape_at (restarted_history history line) p)) (addressees (tape_at (restarted_history history line) p))) (open_letters history line p)
 open_restarted history line e p =
     let es : List Event = events_before history line p in
-    let tape : List Event = tape_at (restarted history line) p in
+    let tape : List Event = tape_at (restarted_history history line) p in
     let incs : incarnations_sent tape ≡ incarnations_sent es ++ [] = ap incarnations_sent (tape_restarted history line p e) ∙ sent_left es ∙ sym (append-nil (incarnations_sent es)) in
     let tos : addressees tape ≡ addressees es ++ [] = ap addressees (tape_restarted history line p e) ∙ addressees_restarted es ∙ sym (append-nil (addressees es)) in
-    All-filter (is_open history line) (IsLetterOf p (incarnations_sent tape) (addressees tape)) (letters p 0 es)
+    All-filter (is_open_letter history line) (IsLetterOf p (incarnations_sent tape) (addressees tape)) (letters p 0 es)
     (letters_are p 0 es (incarnations_sent tape) (addressees tape) [] [] incs tos)
 
 abbrev names : List Letter → List MsgName
@@ -134,7 +134,7 @@ module _ (f : ℕ → List MsgName) (p : ℕ) (ours : List MsgName) (same : f p 
 pub none_from : (history : List Process) (line : List Choice) (p q : ℕ) → length history ≤ p → in_transit_between history line p q ≡ []
 none_from history line p q past =
     let none : events_before history line p ≡ [] = ap (λ (tape : List Event). front tape (choice_at line p)) (tape_at-past history p past) ∙ front-empty (choice_at line p) in
-    ap (λ (es : List Event). names (those_to q (filter (is_open history line) (letters p 0 es)))) none
+    ap (λ (es : List Event). names (those_to q (filter (is_open_letter history line) (letters p 0 es)))) none
 
 -- what is in transit, taken apart by the addressees of a history whose tapes hold it
 pub parts : (history : List Process) (line : List Choice) (held : List Process)

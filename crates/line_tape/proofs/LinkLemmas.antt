@@ -19,15 +19,15 @@ use Rattle.line_tape.specs.Event.{incarnations_sent}
 use Rattle.line_tape.specs.Front.{place}
 use Rattle.line_tape.specs.History.{Process, tape_at}
 use Rattle.line_tape.specs.Line.{events_before, IsConsistent}
-use Rattle.line_tape.specs.Restart.{restarted, restarted_event}
-use Rattle.line_tape.specs.Transit.{Letter, letters, is_open, has_received, names_received, in_transit_between}
+use Rattle.line_tape.specs.Restart.{restarted_history, restarted_event}
+use Rattle.line_tape.specs.Transit.{Letter, letters, is_open_letter, has_received, names_received, in_transit_between}
 use Rattle.line_tape.specs.Rounds.{rounds_checked}
-use Rattle.line_tape.specs.Fit.{items_sent, item_received, sent, received, link, AreDistinct, IsFitFifo}
+use Rattle.line_tape.specs.Fit.{items_sent, item_received, sent_between, received_from, link, AreDistinct, IsFitFifo}
 use Rattle.line_tape.proofs.SentLemmas.{messages, item_message, name_of, In, Ascends, Ascends-in, In-append_left, begins, sent_restarted, received_restarted, sent_append, sent_ascends, sent_in_front, sent_from, received_in, in_received}
 use Rattle.line_tape.proofs.NextLemmas.{prefix_from, rest_from}
 
 -- what is left of a tape
-pub tape_restarted : (history : List Process) (line : List Choice) (p : ℕ) → length line ≡ length history → tape_at (restarted history line) p ≡ filter_map restarted_event (events_before history line p)
+pub tape_restarted : (history : List Process) (line : List Choice) (p : ℕ) → length line ≡ length history → tape_at (restarted_history history line) p ≡ filter_map restarted_event (events_before history line p)
 tape_restarted [] [] p e = refl
 tape_restarted [] (choice ∷ line) p e = absurd (omega arith)
 tape_restarted (process ∷ rest) [] p e = absurd (omega arith)
@@ -64,7 +64,7 @@ behind history line fit consistent p q =
     ap (filter_map (item_received p)) (sym (take-append-drop j other)) ∙ filter_map-append (item_received p) (take j other) (drop j other) in
     let held : List Item = link history p q in
     let by_received : messages (items_sent p q 0 tape) ≡ messages got ++ (messages later ++ messages held) =
-    ap messages (sym (fit.order p q)) ∙ filter_map-append item_message (received history q p) held
+    ap messages (sym (fit.order p q)) ∙ filter_map-append item_message (received_from history q p) held
     ∙ ap (λ (v : List MsgName). v ++ messages held) (ap messages parts ∙ filter_map-append item_message got later)
     ∙ append_assoc (messages got) (messages later) (messages held) in
     let within : (m : MsgName) → In m (messages got) → In m (messages (items_sent p q 0 (take i tape))) = λ m k.
@@ -81,10 +81,10 @@ behind history line fit consistent p q =
 -- what is sent after the restart is what is received after it, and then these messages
 pub sent_after : (history : List Process) (line : List Choice) → length line ≡ length history → (p q : ℕ) (z : List MsgName)
     → messages (items_sent p q 0 (events_before history line p)) ≡ messages (filter_map (item_received p) (events_before history line q)) ++ z
-    → sent (restarted history line) p q ≡ received (restarted history line) q p ++ map (λ m. Message m) z
+    → sent_between (restarted_history history line) p q ≡ received_from (restarted_history history line) q p ++ map (λ m. Message m) z
 sent_after history line e p q z b =
     let mr : List MsgName = messages (filter_map (item_received p) (events_before history line q)) in
-    let got : received (restarted history line) q p ≡ map (λ m. Message m) mr =
+    let got : received_from (restarted_history history line) q p ≡ map (λ m. Message m) mr =
     ap (filter_map (item_received p)) (tape_restarted history line q e) ∙ received_restarted p (events_before history line q) in
     ap (items_sent p q 0) (tape_restarted history line p e) ∙ sent_restarted p q 0 (events_before history line p) ∙ ap (map (λ m. Message m)) b
     ∙ map-append (λ m. Message m) mr z ∙ ap (λ (v : List Item). v ++ map (λ m. Message m) z) (sym got)
@@ -133,27 +133,27 @@ only_rest f (x ∷ r) z g h = ap (λ b. cond b (x ∷ filter f (r ++ z)) (filter
 
 -- what is in transit from p to q is what p sends to q and q has not received
 pub between_is : (history : List Process) (line : List Choice) (p q k : ℕ) (es : List Event)
-    → map (λ (letter : Letter). letter.message) (filter (λ (letter : Letter). letter.to == q) (filter (is_open history line) (letters p k es)))
+    → map (λ (letter : Letter). letter.message) (filter (λ (letter : Letter). letter.to == q) (filter (is_open_letter history line) (letters p k es)))
     ≡ filter (λ (m : MsgName). not (has_received (events_before history line q) m)) (messages (items_sent p q k es))
 between_is history line p q k [] = refl
 between_is history line p q k (Send to inc body ∷ es) =
     let ih = between_is history line p q (suc k) es in
     let n : MsgName = name_of p inc k in
     let l : Letter = record { message = n; to = to } in
-    let rest : List Letter = filter (is_open history line) (letters p (suc k) es) in
+    let rest : List Letter = filter (is_open_letter history line) (letters p (suc k) es) in
     let ours : List Letter → List Letter = filter (λ (letter : Letter). letter.to == q) in
     let names : List Letter → List MsgName = map (λ (letter : Letter). letter.message) in
     let g : MsgName → Bool = λ m. not (has_received (events_before history line q) m) in
     let items : List Item = items_sent p q (suc k) es in
-    elim (to == q) as (λ b. (to == q) ≡ b → names (ours (cond (is_open history line l) (l ∷ rest) rest)) ≡ filter g (messages (cond b (Message n ∷ items) items))) [
+    elim (to == q) as (λ b. (to == q) ≡ b → names (ours (cond (is_open_letter history line l) (l ∷ rest) rest)) ≡ filter g (messages (cond b (Message n ∷ items) items))) [
       | true ↦ λ t.
-          let open_is : is_open history line l ≡ g n = ap (λ (x : ℕ). not (has_received (events_before history line x) n)) (eqb-true to q t) in
+          let open_is : is_open_letter history line l ≡ g n = ap (λ (x : ℕ). not (has_received (events_before history line x) n)) (eqb-true to q t) in
           ap (λ v. names (ours (cond v (l ∷ rest) rest))) open_is
           ∙ elim (g n) as (λ v. names (ours (cond v (l ∷ rest) rest)) ≡ cond v (n ∷ filter g (messages items)) (filter g (messages items))) [
             | true ↦ ap (λ w. names (cond w (l ∷ ours rest) (ours rest))) t ∙ ap (λ (v : List MsgName). n ∷ v) ih
             | false ↦ ih
           ]
-      | false ↦ λ t. elim (is_open history line l) as (λ v. names (ours (cond v (l ∷ rest) rest)) ≡ filter g (messages items)) [
+      | false ↦ λ t. elim (is_open_letter history line l) as (λ v. names (ours (cond v (l ∷ rest) rest)) ≡ filter g (messages items)) [
         | true ↦ ap (λ w. names (cond w (l ∷ ours rest) (ours rest))) t ∙ ih
         | false ↦ ih
       ]
@@ -180,13 +180,13 @@ transit_is history line p q z b =
     between_is history line p q 0 (events_before history line p) ∙ ap (filter g) b ∙ only_rest g mr z gone stays
 
 -- a restart at a consistent line keeps a history fit
-pub restart_fit : (history : List Process) (line : List Choice) → IsFitFifo history → IsConsistent history line → length line ≡ length history → IsFitFifo (restarted history line)
+pub restart_fit : (history : List Process) (line : List Choice) → IsFitFifo history → IsConsistent history line → length line ≡ length history → IsFitFifo (restarted_history history line)
 restart_fit history line fit consistent e = record {
   order = λ p q.
       let b = behind history line fit consistent p q in
-      prefix_from (received (restarted history line) q p) (sent (restarted history line) p q) (map (λ m. Message m) b.0) (sent_after history line e p q b.0 b.1);
+      prefix_from (received_from (restarted_history history line) q p) (sent_between (restarted_history history line) p q) (map (λ m. Message m) b.0) (sent_after history line e p q b.0 b.1);
   rounds = λ p.
-      let none : rounds_checked (tape_at (restarted history line) p) ≡ [] = ap rounds_checked (tape_restarted history line p e) ∙ no_rounds (events_before history line p) in
+      let none : rounds_checked (tape_at (restarted_history history line) p) ≡ [] = ap rounds_checked (tape_restarted history line p e) ∙ no_rounds (events_before history line p) in
       subst (λ (rs : List ℕ). AreDistinct rs) (sym none) (λ i j d l k. absurd (omega arith));
   marks = λ p i from round h.
       absurd (no_mark (events_before history line p) i from round (ap (λ (es : List Event). slice_get es i) (sym (tape_restarted history line p e)) ∙ h));
@@ -194,8 +194,8 @@ restart_fit history line fit consistent e = record {
 
 -- and then each link holds what was in transit on it
 pub restart_link : (history : List Process) (line : List Choice) → IsFitFifo history → IsConsistent history line → length line ≡ length history → (p q : ℕ)
-    → link (restarted history line) p q ≡ map (λ m. Message m) (in_transit_between history line p q)
+    → link (restarted_history history line) p q ≡ map (λ m. Message m) (in_transit_between history line p q)
 restart_link history line fit consistent e p q =
     let b = behind history line fit consistent p q in
-    rest_from (received (restarted history line) q p) (sent (restarted history line) p q) (map (λ m. Message m) b.0) (sent_after history line e p q b.0 b.1)
+    rest_from (received_from (restarted_history history line) q p) (sent_between (restarted_history history line) p q) (map (λ m. Message m) b.0) (sent_after history line e p q b.0 b.1)
     ∙ ap (map (λ m. Message m)) (sym (transit_is history line p q b.0 b.1))

@@ -15,7 +15,7 @@ use Rattle.std.proofs.lemmas.List.Folds.{list_any_none}
 use Rattle.std.proofs.lemmas.List.{length_push}
 use Rattle.std.proofs.lemmas.Option.{same_Some}
 use Rattle.std.proofs.lemmas.Map.Keys.{any_passes_from_place, ge_from_not_lt}
-use Rattle.line_tape.specs.Marked.{put_mark, by_number, checks_marked, AreNumbered}
+use Rattle.line_tape.specs.Marked.{put_mark, by_number, checks_marked, AreNumberedBelow}
 
 -- ---- whether a check is among them
 
@@ -83,7 +83,7 @@ has_marked c marks = found c marks ∙ sym (any_marked (λ damaged. damaged == c
 -- ---- one mark more
 
 -- a mark that is numbered above all others is the last
-put_last : (mark : ℕ × ℕ) (marks : List (ℕ × ℕ)) → AreNumbered mark.1 marks
+put_last : (mark : ℕ × ℕ) (marks : List (ℕ × ℕ)) → AreNumberedBelow mark.1 marks
     → put_mark mark marks ≡ marks ++ mark ∷ []
 put_last mark [] below = refl
 put_last mark (first ∷ rest) below =
@@ -107,33 +107,33 @@ put_before mark last (first ∷ rest) below =
     ]
 
 numbered_put : (next : ℕ) (mark : ℕ × ℕ) (marks : List (ℕ × ℕ)) → mark.1 < next
-    → AreNumbered next marks → AreNumbered next (put_mark mark marks)
+    → AreNumberedBelow next marks → AreNumberedBelow next (put_mark mark marks)
 numbered_put next mark [] below are = (below, tt)
 numbered_put next mark (first ∷ rest) below are =
     elim (nat_le mark.1 first.1)
-    as (λ b. AreNumbered next (cond b (mark ∷ first ∷ rest) (first ∷ put_mark mark rest))) [
+    as (λ b. AreNumberedBelow next (cond b (mark ∷ first ∷ rest) (first ∷ put_mark mark rest))) [
       | true ↦ (below, are)
       | false ↦ (are.0, numbered_put next mark rest below are.1)
     ]
 
-numbered_order : (next : ℕ) (marks : List (ℕ × ℕ)) → AreNumbered next marks
-    → AreNumbered next (by_number marks)
+numbered_order : (next : ℕ) (marks : List (ℕ × ℕ)) → AreNumberedBelow next marks
+    → AreNumberedBelow next (by_number marks)
 numbered_order next [] are = tt
 numbered_order next (mark ∷ marks) are =
     numbered_put next mark (by_number marks) are.0 (numbered_order next marks are.1)
 
-numbered_more : (next : ℕ) (marks : List (ℕ × ℕ)) → AreNumbered next marks
-    → AreNumbered (next + 1) marks
+numbered_more : (next : ℕ) (marks : List (ℕ × ℕ)) → AreNumberedBelow next marks
+    → AreNumberedBelow (next + 1) marks
 numbered_more next [] are = tt
 numbered_more next (mark ∷ marks) are = (omega (arith, are.0), numbered_more next marks are.1)
 
 -- with one mark more they are numbered below one number more
-pub numbered_insert : (c next : ℕ) (marks : List (ℕ × ℕ)) → AreNumbered next marks
-    → AreNumbered (next + 1) (insert_entry nat_cmp marks c next)
+pub numbered_insert : (c next : ℕ) (marks : List (ℕ × ℕ)) → AreNumberedBelow next marks
+    → AreNumberedBelow (next + 1) (insert_entry nat_cmp marks c next)
 numbered_insert c next [] are = (omega arith, tt)
 numbered_insert c next (mark ∷ marks) are =
     elim (nat_cmp c mark.0)
-    as (λ o. AreNumbered (next + 1)
+    as (λ o. AreNumberedBelow (next + 1)
     (match_ordering o ((c, next) ∷ mark ∷ marks) ((mark.0, next) ∷ marks)
     (mark ∷ insert_entry nat_cmp marks c next))) [
       | Less ↦ (omega arith, (omega (arith, are.0), numbered_more next marks are.1))
@@ -149,7 +149,7 @@ or_others : (a b : Bool) → (a || b) ≡ false → b ≡ false
 or_others false b none = none
 or_others true b none = absurd (true≢false none)
 
-order_insert : (c n : ℕ) (marks : List (ℕ × ℕ)) → AreNumbered n marks
+order_insert : (c n : ℕ) (marks : List (ℕ × ℕ)) → AreNumberedBelow n marks
     → list_any (λ mark. eqb mark.0 c) marks ≡ false
     → by_number (insert_entry nat_cmp marks c n) ≡ by_number marks ++ (c, n) ∷ []
 order_insert c n [] are none = refl
@@ -177,7 +177,7 @@ map_push [] c n = refl
 map_push (mark ∷ marks) c n = ap (λ cs. mark.0 ∷ cs) (map_push marks c n)
 
 -- a check that had no mark is the last of those that were marked
-pub marked_insert : (c n : ℕ) (marks : List (ℕ × ℕ)) → AreNumbered n marks
+pub marked_insert : (c n : ℕ) (marks : List (ℕ × ℕ)) → AreNumberedBelow n marks
     → list_any (λ damaged. damaged == c) (checks_marked marks) ≡ false
     → checks_marked (insert_entry nat_cmp marks c n) ≡ checks_marked marks ++ c ∷ []
 marked_insert c n marks are none =
@@ -355,7 +355,7 @@ marked_all test marks pass = ap checks_marked (sym (all_pass (λ mark. test mark
 
 -- without the last of them they are numbered as before
 pub numbered_front : (next : ℕ) (marks : List (ℕ × ℕ)) (mark : ℕ × ℕ)
-    → AreNumbered next (marks ++ mark ∷ []) → AreNumbered next marks
+    → AreNumberedBelow next (marks ++ mark ∷ []) → AreNumberedBelow next marks
 numbered_front next [] mark are = tt
 numbered_front next (first ∷ rest) mark are = (are.0, numbered_front next rest mark are.1)
 

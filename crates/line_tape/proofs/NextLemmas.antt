@@ -13,7 +13,7 @@ use Rattle.line_tape.specs.declared.items.Item.TheVariants.{Message, Marker}
 use Rattle.line_tape.specs.Event.{incarnations_sent}
 use Rattle.line_tape.specs.History.{Process, tape_at, with_event}
 use Rattle.line_tape.specs.Rounds.{checked_round, rounds_checked, is_check_of, has_check_of}
-use Rattle.line_tape.specs.Fit.{items_sent, item_received, sent, received, link, IsPrefix, AreDistinct, MarksFollow, IsFitFifo, IsNextFifo, items_put, items_got}
+use Rattle.line_tape.specs.Fit.{items_sent, item_received, sent_between, received_from, link, IsPrefix, AreDistinct, MarksFollow, IsFitFifo, IsNextFifo, items_put, items_got}
 use Rattle.line_names.specs.declared.messages.MsgName.{MsgName}
 
 abbrev name_of : ℕ → ℕ → ℕ → MsgName
@@ -56,21 +56,21 @@ sent_push p q k (Check st (Some s) ∷ es) e = ap (λ (xs : List Item). Marker s
 sent_push p q k (Mark from s ∷ es) e = sent_push p q k es e
 
 module _ (history : List Process) (at : ℕ) (e : Event) (h : at < length history) where
-  pub sent_grows : (p q : ℕ) → sent (with_event history at e) p q ≡ sent history p q ++ items_put history at e p q
+  pub sent_grows : (p q : ℕ) → sent_between (with_event history at e) p q ≡ sent_between history p q ++ items_put history at e p q
   sent_grows p q = elim (cases_eq p at) [
     | inl same ↦ ap (items_sent p q 0) (tape_same history at e p h same) ∙ sent_push p q 0 (tape_at history p) e
-        ∙ ap (λ n. sent history p q ++ items_sent p q n (e ∷ [])) (omega arith)
-        ∙ ap (λ b. sent history p q ++ cond b (items_sent p q (length (incarnations_sent (tape_at history p))) (e ∷ [])) []) (sym (eq-eqb p at same))
-    | inr other ↦ ap (items_sent p q 0) (tape_other history at e p other) ∙ sym (append-nil (sent history p q))
-        ∙ ap (λ b. sent history p q ++ cond b (items_sent p q (length (incarnations_sent (tape_at history p))) (e ∷ [])) []) (sym (ne_eqb p at other))
+        ∙ ap (λ n. sent_between history p q ++ items_sent p q n (e ∷ [])) (omega arith)
+        ∙ ap (λ b. sent_between history p q ++ cond b (items_sent p q (length (incarnations_sent (tape_at history p))) (e ∷ [])) []) (sym (eq-eqb p at same))
+    | inr other ↦ ap (items_sent p q 0) (tape_other history at e p other) ∙ sym (append-nil (sent_between history p q))
+        ∙ ap (λ b. sent_between history p q ++ cond b (items_sent p q (length (incarnations_sent (tape_at history p))) (e ∷ [])) []) (sym (ne_eqb p at other))
   ]
 
-  pub received_grows : (p q : ℕ) → received (with_event history at e) q p ≡ received history q p ++ items_got at e p q
+  pub received_grows : (p q : ℕ) → received_from (with_event history at e) q p ≡ received_from history q p ++ items_got at e p q
   received_grows p q = elim (cases_eq q at) [
     | inl same ↦ ap (filter_map (item_received p)) (tape_same history at e q h same) ∙ filter_map-append (item_received p) (tape_at history q) (e ∷ [])
-        ∙ ap (λ b. received history q p ++ cond b (filter_map (item_received p) (e ∷ [])) []) (sym (eq-eqb q at same))
-    | inr other ↦ ap (filter_map (item_received p)) (tape_other history at e q other) ∙ sym (append-nil (received history q p))
-        ∙ ap (λ b. received history q p ++ cond b (filter_map (item_received p) (e ∷ [])) []) (sym (ne_eqb q at other))
+        ∙ ap (λ b. received_from history q p ++ cond b (filter_map (item_received p) (e ∷ [])) []) (sym (eq-eqb q at same))
+    | inr other ↦ ap (filter_map (item_received p)) (tape_other history at e q other) ∙ sym (append-nil (received_from history q p))
+        ∙ ap (λ b. received_from history q p ++ cond b (filter_map (item_received p) (e ∷ [])) []) (sym (ne_eqb q at other))
   ]
 
   -- what the event takes is first on its link
@@ -98,12 +98,12 @@ module _ (history : List Process) (at : ℕ) (e : Event) (h : at < length histor
 
   -- all that is sent, in its new parts
   pub sent_parts : IsFitFifo history → (p q : ℕ) (rest : List Item) → link history p q ≡ items_got at e p q ++ rest
-      → sent (with_event history at e) p q ≡ received (with_event history at e) q p ++ (rest ++ items_put history at e p q)
+      → sent_between (with_event history at e) p q ≡ received_from (with_event history at e) q p ++ (rest ++ items_put history at e p q)
   sent_parts fit p q rest f =
-      let r : List Item = received history q p in
+      let r : List Item = received_from history q p in
       let g : List Item = items_got at e p q in
       let w : List Item = items_put history at e p q in
-      let old : sent history p q ≡ (r ++ g) ++ rest = sym (fit.order p q) ∙ ap (λ (v : List Item). r ++ v) f ∙ sym (append_assoc r g rest) in
+      let old : sent_between history p q ≡ (r ++ g) ++ rest = sym (fit.order p q) ∙ ap (λ (v : List Item). r ++ v) f ∙ sym (append_assoc r g rest) in
       sent_grows p q ∙ ap (λ (v : List Item). v ++ w) old ∙ append_assoc (r ++ g) rest w ∙ ap (λ (v : List Item). v ++ (rest ++ w)) (sym (received_grows p q))
 
 pub slice_get_push : {X : Type 0} (xs : List X) (y x : X) (i : ℕ) → slice_get (xs ++ y ∷ []) i ≡ Some x → ((i < length xs) × (slice_get xs i ≡ Some x)) ⊎ ((i ≡ length xs) × (y ≡ x))
@@ -148,7 +148,7 @@ pub stays_fit : (history : List Process) (at : ℕ) (e : Event) → IsFitFifo hi
 stays_fit history at e fit h next = record {
   order = λ p q.
       let f = got_first history at e h next p q in
-      prefix_from (received (with_event history at e) q p) (sent (with_event history at e) p q) (f.0 ++ items_put history at e p q) (sent_parts history at e h fit p q f.0 f.1);
+      prefix_from (received_from (with_event history at e) q p) (sent_between (with_event history at e) p q) (f.0 ++ items_put history at e p q) (sent_parts history at e h fit p q f.0 f.1);
   rounds = λ p. elim (cases_eq p at) [
     | inl same ↦ subst (λ (v : List Event). AreDistinct (rounds_checked v)) (sym (tape_same history at e p h same))
         (rounds_push (tape_at history p) e (fit.rounds p) (subst (λ (v : ℕ). (r : ℕ) → checked_round e ≡ Some r → has_check_of r (tape_at history v) ≡ false) (sym same) (next_round history at e next)))
@@ -164,4 +164,4 @@ stays_fit history at e fit h next = record {
 -- the link afterwards: the rest after what the event takes, and then what it puts there
 pub link_after : (history : List Process) (at : ℕ) (e : Event) → IsFitFifo history → at < length history → (p q : ℕ) (rest : List Item) → link history p q ≡ items_got at e p q ++ rest
     → link (with_event history at e) p q ≡ rest ++ items_put history at e p q
-link_after history at e fit h p q rest f = rest_from (received (with_event history at e) q p) (sent (with_event history at e) p q) (rest ++ items_put history at e p q) (sent_parts history at e h fit p q rest f)
+link_after history at e fit h p q rest f = rest_from (received_from (with_event history at e) q p) (sent_between (with_event history at e) p q) (rest ++ items_put history at e p q) (sent_parts history at e h fit p q rest f)

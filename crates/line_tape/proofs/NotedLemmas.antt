@@ -10,8 +10,8 @@ use Rattle.line_names.specs.declared.limits.TheConstants.{MOST_PROCESSES}
 use Rattle.line_names.specs.declared.messages.MsgName.{MsgName}
 use Rattle.line_tape.specs.declared.limits.TheConstants.{MOST_EVENTS}
 use Rattle.line_tape.specs.declared.receipts.chains.Receipt.{Receipt}
-use Rattle.line_tape.specs.Ends.{EndsView, IsEndPut, end_of}
-use Rattle.line_tape.specs.Noted.{AreAlike, AreInTree, AreNoted, IsAhead, IsAside, IsBack, IsLast, IsLed, IsNode, IsPut, IsSeatOf, key_of, message_of, name_at, receipt_at, seated}
+use Rattle.line_tape.specs.Ends.{EndsView, IsEndPut, link_of_sender}
+use Rattle.line_tape.specs.Noted.{AreAlike, AreInTree, AreNoted, IsAhead, IsAside, IsBack, IsLastOfSender, IsWalkedTo, IsNode, IsPut, IsSeatOf, key_of, name_of_receipt, name_at, receipt_at, link_in_seat}
 use Rattle.line_tape.proofs.AheadLemmas.{ahead_alike, aside_alike, chained_less, chained_more, ends_put, from_of, last_alike, last_here, last_is_here, last_longer, last_shorter, number_of}
 use Rattle.line_tape.proofs.FirstLemmas.{only_ahead}
 use Rattle.line_tape.proofs.SeatLemmas.{node_alike, node_le, same_seat, seated-append, seated-take, tree_less, tree_more, tree_same}
@@ -23,23 +23,23 @@ abbrev far_of : Receipt → ℕ
 far_of r = r.far
 
 -- a link put into a seat below a receipt
-put_below : (rs : List Receipt) (root k link : ℕ) (far : Bool) (r : Receipt) → k < length rs → message_of r ≡ name_at rs k → (if far then r.far else r.near) ≡ link
+put_below : (rs : List Receipt) (root k link : ℕ) (far : Bool) (r : Receipt) → k < length rs → name_of_receipt r ≡ name_at rs k → (if far then r.far else r.near) ≡ link
     → (if far then r.near else r.far) ≡ (if far then (receipt_at rs k).near else (receipt_at rs k).far) → IsPut rs root (set rs k r) root (suc k) far link
 put_below rs root k link far r low name here other = record {
   there = ap (λ (x : Receipt). if far then x.far else x.near) (get_or-set_same rs k r _ low) ∙ here;
   elsewhere = λ seat side. go far side seat here other;
-  names = map-set_same message_of rs k r _ name;
+  names = map-set_same name_of_receipt rs k r _ name;
 }
   where
     same : (far side : Bool) (j : ℕ) → (if far then r.near else r.far) ≡ (if far then (receipt_at rs k).near else (receipt_at rs k).far) → j ≡ k
-        → (seated (set rs k r) root (suc j) side ≡ seated rs root (suc j) side) ⊎ ((suc j ≡ suc k) × (suc j ≢ 0 → side ≡ far))
+        → (link_in_seat (set rs k r) root (suc j) side ≡ link_in_seat rs root (suc j) side) ⊎ ((suc j ≡ suc k) × (suc j ≢ 0 → side ≡ far))
     same true true j o e = inr (ap (λ x. suc x) e, λ _. refl)
     same true false j o e = inl (ap near_of (get_or-set_at rs k j r _ e low) ∙ o ∙ ap (λ x. (receipt_at rs x).near) (sym e))
     same false true j o e = inl (ap far_of (get_or-set_at rs k j r _ e low) ∙ o ∙ ap (λ x. (receipt_at rs x).far) (sym e))
     same false false j o e = inr (ap (λ x. suc x) e, λ _. refl)
 
     go : (far side : Bool) (seat : ℕ) → (if far then r.far else r.near) ≡ link → (if far then r.near else r.far) ≡ (if far then (receipt_at rs k).near else (receipt_at rs k).far)
-        → (seated (set rs k r) root seat side ≡ seated rs root seat side) ⊎ ((seat ≡ suc k) × (seat ≢ 0 → side ≡ far))
+        → (link_in_seat (set rs k r) root seat side ≡ link_in_seat rs root seat side) ⊎ ((seat ≡ suc k) × (seat ≢ 0 → side ≡ far))
     go far side zero i o = inl refl
     go far side (suc j) i o = elim (cases_eq j k) [
       | inl e ↦ same far side j o e
@@ -47,13 +47,13 @@ put_below rs root k link far r low name here other = record {
     ]
 
 pub put_seat : (rs : List Receipt) (root above link : ℕ) (far side : Bool) (x r : Receipt) → side ≡ far → above ≢ 0 → above ≤ length rs → x ≡ get_or rs (above - 1) x
-    → message_of r ≡ message_of x → (if far then r.far else r.near) ≡ link → (if far then r.near else r.far) ≡ (if far then x.near else x.far) → IsPut rs root (set rs (above - 1) r) root above side link
+    → name_of_receipt r ≡ name_of_receipt x → (if far then r.far else r.near) ≡ link → (if far then r.near else r.far) ≡ (if far then x.near else x.far) → IsPut rs root (set rs (above - 1) r) root above side link
 put_seat rs root zero link far side x r same some low is name here other = absurd (some refl)
 put_seat rs root (suc k) link far side x r same some low is name here other =
     let e : suc k - 1 ≡ k = omega arith in
     let l : k < length rs = omega arith in
     let found : x ≡ receipt_at rs k = is ∙ ap (λ j. get_or rs j x) e ∙ get_or_default rs k x _ l in
-    subst (λ f. IsPut rs root (set rs (suc k - 1) r) root (suc k) f link) (sym same) (subst (λ j. IsPut rs root (set rs j r) root (suc k) far link) (sym e) (put_below rs root k link far r l (name ∙ ap message_of found) here (moved far other found)))
+    subst (λ f. IsPut rs root (set rs (suc k - 1) r) root (suc k) f link) (sym same) (subst (λ j. IsPut rs root (set rs j r) root (suc k) far link) (sym e) (put_below rs root k link far r l (name ∙ ap name_of_receipt found) here (moved far other found)))
   where
     moved : (far : Bool) → (if far then r.near else r.far) ≡ (if far then x.near else x.far) → x ≡ receipt_at rs k → (if far then r.near else r.far) ≡ (if far then (receipt_at rs k).near else (receipt_at rs k).far)
     moved true o found = o ∙ ap near_of found
@@ -61,18 +61,18 @@ put_seat rs root (suc k) link far side x r same some low is name here other =
 
 pub put_root : (rs : List Receipt) (root link above : ℕ) (far : Bool) → above ≡ 0 → IsPut rs root rs link above far link
 put_root rs root link above far none = record {
-  there = ap (λ k. seated rs link k far) none;
+  there = ap (λ k. link_in_seat rs link k far) none;
   elsewhere = λ seat side. go seat side;
   names = refl;
 }
   where
-    go : (seat : ℕ) (side : Bool) → (seated rs link seat side ≡ seated rs root seat side) ⊎ ((seat ≡ above) × (seat ≢ 0 → side ≡ far))
+    go : (seat : ℕ) (side : Bool) → (link_in_seat rs link seat side ≡ link_in_seat rs root seat side) ⊎ ((seat ≡ above) × (seat ≢ 0 → side ≡ far))
     go zero side = inr (sym none, λ ne. absurd (ne refl))
     go (suc j) side = inl refl
 
-pub names_alike : (rs os : List Receipt) (n : ℕ) → map message_of os ≡ map message_of rs → AreAlike rs os n
+pub names_alike : (rs os : List Receipt) (n : ℕ) → map name_of_receipt os ≡ map name_of_receipt rs → AreAlike rs os n
 names_alike rs os n same = record {
-  each = λ i l. sym (get_or-map message_of rs i _) ∙ ap (λ (names : List MsgName). get_or names i (message_of (receipt_at [] 0))) (sym same) ∙ get_or-map message_of os i _;
+  each = λ i l. sym (get_or-map name_of_receipt rs i _) ∙ ap (λ (names : List MsgName). get_or names i (name_of_receipt (receipt_at [] 0))) (sym same) ∙ get_or-map name_of_receipt os i _;
 }
 
 -- the receipts with one more
@@ -81,7 +81,7 @@ module _ (rs : List Receipt) (r : Receipt) where
   more = rs ++ r ∷ []
 
   pub more_alike : AreAlike rs more (length rs)
-  more_alike = record { each = λ i l. ap message_of (sym (get_or_append_left rs (r ∷ []) _ i l)) }
+  more_alike = record { each = λ i l. ap name_of_receipt (sym (get_or_append_left rs (r ∷ []) _ i l)) }
 
   pub more_here : receipt_at more (length rs) ≡ r
   more_here = get_or-append_seam rs r [] _
@@ -94,14 +94,14 @@ module _ (rs : List Receipt) (r : Receipt) where
 -- a receipt more that is ahead
 pub noted_ahead : (rs : List Receipt) (last new : EndsView) (root : ℕ) (r : Receipt) → AreNoted rs last root → length rs < MOST_EVENTS → r.from < MOST_PROCESSES → IsEndPut last new r.from (length rs + 1)
     → ((i : ℕ) → i < length rs → (name_at rs i).from ≡ r.from → (name_at rs i).number < r.number)
-    → r.near ≡ end_of last r.from → IsBack rs (length rs) r.from r.far
+    → r.near ≡ link_of_sender last r.from → IsBack rs (length rs) r.from r.far
     → AreNoted (rs ++ r ∷ []) new root
 noted_ahead rs last new root r noted few sender put above near far =
     let n : ℕ = length rs in
     let os : List Receipt = rs ++ r ∷ [] in
     let h : AreAlike rs os n = more_alike rs r in
     let at : receipt_at os n ≡ r = more_here rs r in
-    let name : name_at os n ≡ message_of r = ap message_of at in
+    let name : name_at os n ≡ name_of_receipt r = ap name_of_receipt at in
     let from : from_of (name_at os n) ≡ r.from = ap from_of name in
     let long : length os ≡ suc n = omega (arith, length_push rs r) in
     let ahead : IsAhead os n = record {
@@ -112,19 +112,19 @@ noted_ahead rs last new root r noted few sender put above near far =
           let w : number_of (name_at rs j) < r.number = above j l (ap from_of e ∙ same ∙ from) in
           omega arith;
     } in
-    let old : IsLast rs n r.from (end_of last r.from) = noted.ends.each r.from sender in
+    let old : IsLastOfSender rs n r.from (link_of_sender last r.from) = noted.ends.each r.from sender in
     record {
       few = omega arith;
       chained = chained_more rs os n refl long h noted.chained (more_links rs r)
           (λ a. (last_alike rs rs n n _ _ _ _ (record { each = λ i l. refl }) (omega arith) (sym from) (sym near ∙ sym (ap near_of at)) old, subst (λ (x : Receipt). IsBack rs n (from_of (name_at os n)) x.far) (sym at) (subst (λ s. IsBack rs n s r.far) (sym from) far)))
           (subst (λ s. s < MOST_PROCESSES) (sym from) sender);
       ends = ends_put os last new (suc n) r.from (suc n) long (subst (IsEndPut last new r.from) (omega arith) put) (last_here os n r.from ahead from)
-          (λ q l ne. last_longer rs os n q (end_of last q) h (λ same. absurd (ne (sym same ∙ from))) (noted.ends.each q l));
+          (λ q l ne. last_longer rs os n q (link_of_sender last q) h (λ same. absurd (ne (sym same ∙ from))) (noted.ends.each q l));
       tree = tree_same rs os root n refl long h noted.tree (λ link side low. seated-append rs (r ∷ []) root link side low) (λ a. a.behind ahead);
     }
 
 -- a receipt is not ahead where one before it has no lower number
-pub not_ahead : (rs os : List Receipt) (r : Receipt) → AreAlike rs os (length rs) → name_at os (length rs) ≡ message_of r
+pub not_ahead : (rs os : List Receipt) (r : Receipt) → AreAlike rs os (length rs) → name_at os (length rs) ≡ name_of_receipt r
     → ((i : ℕ) × (i < length rs) × ((name_at rs i).from ≡ r.from) × (r.number ≤ (name_at rs i).number)) → IsAhead os (length rs) → ⊥
 not_ahead rs os r h name (i, l, from, low) a =
     let e : name_at rs i ≡ name_at os i = h.each i l in
@@ -135,7 +135,7 @@ not_ahead rs os r h name (i, l, from, low) a =
 
 -- a receipt more that is not, with other links of the tree at most
 pub noted_behind : (rs os : List Receipt) (last : EndsView) (root other : ℕ) (r : Receipt) → AreNoted rs last root → length rs < MOST_EVENTS → length os ≡ suc (length rs)
-    → AreAlike rs os (length rs) → name_at os (length rs) ≡ message_of r → r.from < MOST_PROCESSES
+    → AreAlike rs os (length rs) → name_at os (length rs) ≡ name_of_receipt r → r.from < MOST_PROCESSES
     → ((i : ℕ) → i < length rs → IsAhead rs i → ((receipt_at rs i).near ≡ (receipt_at os i).near) × ((receipt_at rs i).far ≡ (receipt_at os i).far))
     → ((i : ℕ) × (i < length rs) × ((name_at rs i).from ≡ r.from) × (r.number ≤ (name_at rs i).number))
     → AreInTree os other → AreNoted os last other
@@ -148,17 +148,17 @@ noted_behind rs os last root other r noted few long h name sender links below tr
       few = omega arith;
       chained = chained_more rs os n refl long h noted.chained links (λ a. absurd (not_ahead rs os r h name below a)) (subst (λ s. s < MOST_PROCESSES) (sym from) sender);
       ends = record {
-        each = λ q l. subst (λ m. IsLast os m q (end_of last q)) (sym long) (last_longer rs os n q (end_of last q) h (λ same. (below.0, below.1, below.2 ∙ sym from ∙ same, low)) (noted.ends.each q l));
+        each = λ q l. subst (λ m. IsLastOfSender os m q (link_of_sender last q)) (sym long) (last_longer rs os n q (link_of_sender last q) h (λ same. (below.0, below.1, below.2 ∙ sym from ∙ same, low)) (noted.ends.each q l));
       };
       tree = tree;
     }
 
 links_put : (rs more os : List Receipt) (root other above link n i : ℕ) (far : Bool) → length rs ≡ n → IsNode rs above → IsPut more root os other above far link
-    → ((l : ℕ) (side : Bool) → l ≤ n → seated more root l side ≡ seated rs root l side) → i < n → IsAhead rs i
+    → ((l : ℕ) (side : Bool) → l ≤ n → link_in_seat more root l side ≡ link_in_seat rs root l side) → i < n → IsAhead rs i
     → ((receipt_at rs i).near ≡ (receipt_at os i).near) × ((receipt_at rs i).far ≡ (receipt_at os i).far)
 links_put rs more os root other above link n i far short node put same l a = (go false, go true)
   where
-    go : (side : Bool) → seated rs root (suc i) side ≡ seated os other (suc i) side
+    go : (side : Bool) → link_in_seat rs root (suc i) side ≡ link_in_seat os other (suc i) side
     go side = elim (put.elsewhere (suc i) side) [
       | inl e ↦ sym (e ∙ same (suc i) side (omega arith))
       | inr (e, f) ↦ absurd ((node.each i (sym e)).1.behind a)
@@ -167,12 +167,12 @@ links_put rs more os root other above link n i far short node put same l a = (go
 -- a receipt more of a message that has one in the tree
 pub noted_again : (rs : List Receipt) (last : EndsView) (root : ℕ) (r : Receipt) → AreNoted rs last root → length rs < MOST_EVENTS → r.from < MOST_PROCESSES
     → ((i : ℕ) × (i < length rs) × ((name_at rs i).from ≡ r.from) × (r.number ≤ (name_at rs i).number))
-    → ((i : ℕ) × (i < length rs) × IsAside rs i × (name_at rs i ≡ message_of r)) → AreNoted (rs ++ r ∷ []) last root
+    → ((i : ℕ) × (i < length rs) × IsAside rs i × (name_at rs i ≡ name_of_receipt r)) → AreNoted (rs ++ r ∷ []) last root
 noted_again rs last root r noted few sender below (i, l, aside, named) =
     let n : ℕ = length rs in
     let os : List Receipt = rs ++ r ∷ [] in
     let h : AreAlike rs os n = more_alike rs r in
-    let name : name_at os n ≡ message_of r = ap message_of (more_here rs r) in
+    let name : name_at os n ≡ name_of_receipt r = ap name_of_receipt (more_here rs r) in
     let long : length os ≡ suc n = omega (arith, length_push rs r) in
     noted_behind rs os last root root r noted few long h name sender (more_links rs r) below (tree_same rs os root n refl long h noted.tree (λ link side low. seated-append rs (r ∷ []) root link side low) (λ a. a.first i l (aside_alike rs os n i h l aside).behind (sym (h.each i l) ∙ named ∙ sym name)))
 
@@ -184,19 +184,19 @@ leaf_of r false near far = near
 pub noted_aside : (rs os : List Receipt) (last : EndsView) (root other above : ℕ) (far : Bool) (r : Receipt) → AreNoted rs last root → length rs < MOST_EVENTS → length os ≡ suc (length rs) → r.from < MOST_PROCESSES
     → r.near ≡ 0 → r.far ≡ 0
     → ((i : ℕ) × (i < length rs) × ((name_at rs i).from ≡ r.from) × (r.number ≤ (name_at rs i).number))
-    → seated rs root above far ≡ 0
-    → IsSeatOf rs root (message_of r) above far → IsPut (rs ++ r ∷ []) root os other above far (length rs + 1) → AreNoted os last other
+    → link_in_seat rs root above far ≡ 0
+    → IsSeatOf rs root (name_of_receipt r) above far → IsPut (rs ++ r ∷ []) root os other above far (length rs + 1) → AreNoted os last other
 noted_aside rs os last root other above far r noted few long sender near back below was seat put =
     let n : ℕ = length rs in
     let more : List Receipt = rs ++ r ∷ [] in
     let h : AreAlike rs more n = more_alike rs r in
     let k : AreAlike more os (suc n) = names_alike more os (suc n) put.names in
     let alike : AreAlike rs os n = record { each = λ i l. h.each i l ∙ k.each i (omega arith) } in
-    let name : name_at os n ≡ message_of r = sym (k.each n (omega arith)) ∙ ap message_of (more_here rs r) in
+    let name : name_at os n ≡ name_of_receipt r = sym (k.each n (omega arith)) ∙ ap name_of_receipt (more_here rs r) in
     let low : above ≤ n = node_le rs above seat.node in
-    let there : seated os other above far ≡ suc n = omega (arith, put.there) in
+    let there : link_in_seat os other above far ≡ suc n = omega (arith, put.there) in
     let aside : IsAside os n = record {
-      first = λ j l behind same. only_ahead rs root above far (message_of r) seat was j l (λ a. behind (ahead_alike rs os n j alike l a)) (alike.each j l ∙ same ∙ name);
+      first = λ j l behind same. only_ahead rs root above far (name_of_receipt r) seat was j l (λ a. behind (ahead_alike rs os n j alike l a)) (alike.each j l ∙ same ∙ name);
       behind = λ a. not_ahead rs os r alike name below a;
     } in
     noted_behind rs os last root other r noted few long alike name sender (λ i l a. links_put rs more os root other above (n + 1) n i far refl seat.node put (λ link side low. seated-append rs (r ∷ []) root link side low) l a) below
@@ -207,11 +207,11 @@ noted_aside rs os last root other above far r noted few long sender near back be
       | inl e ↦ e ∙ ap (λ (x : Receipt). if side then x.far else x.near) (more_here rs r) ∙ leaf_of r side near back
       | inr (e, f) ↦ absurd (omega arith)
     ])
-    aside seat.node (subst (λ (m : MsgName). IsLed rs root (key_of m) above far seat.led.0) (sym name) seat.led.1))
+    aside seat.node (subst (λ (m : MsgName). IsWalkedTo rs root (key_of m) above far seat.led.0) (sym name) seat.led.1))
 
 -- the receipts without the last
 take_alike : (os : List Receipt) (n : ℕ) → AreAlike os (take n os) n
-take_alike os n = record { each = λ i l. ap message_of (sym (get_or-take n os i _ l)) }
+take_alike os n = record { each = λ i l. ap name_of_receipt (sym (get_or-take n os i _ l)) }
 
 take_links : (os : List Receipt) (n i : ℕ) → i < n → ((receipt_at os i).near ≡ (receipt_at (take n os) i).near) × ((receipt_at os i).far ≡ (receipt_at (take n os) i).far)
 take_links os n i l =
@@ -219,12 +219,12 @@ take_links os n i l =
     (ap near_of e, ap far_of e)
 
 -- no link of the tree is to a receipt that isn't aside
-no_link : (os : List Receipt) (root n link : ℕ) (side : Bool) → AreInTree os root → (IsAside os n → ⊥) → IsNode os link → seated os root link side ≢ suc n
+no_link : (os : List Receipt) (root n link : ℕ) (side : Bool) → AreInTree os root → (IsAside os n → ⊥) → IsNode os link → link_in_seat os root link side ≢ suc n
 no_link os root n link side tree other node e = other ((tree.nodes link side node).each n e).1
 
 -- a receipt less that is ahead
 pub noted_less_ahead : (os : List Receipt) (last new : EndsView) (root n : ℕ) → AreNoted os last root → length os ≡ suc n → IsEndPut last new (receipt_at os n).from (receipt_at os n).near
-    → end_of last (receipt_at os n).from ≡ suc n → AreNoted (take n os) new root
+    → link_of_sender last (receipt_at os n).from ≡ suc n → AreNoted (take n os) new root
 noted_less_ahead os last new root n noted long put at =
     let rs : List Receipt = take n os in
     let s : ℕ = (receipt_at os n).from in
@@ -237,8 +237,8 @@ noted_less_ahead os last new root n noted long put at =
       chained = chained_less rs os n short long h noted.chained (λ i l a. take_links os n i l);
       ends = ends_put rs last new n s (receipt_at os n).near short put (last_alike os rs n n _ _ _ _ h (omega arith) refl refl (noted.chained.near n (omega arith) here.1))
           (λ q l ne.
-          let old : IsLast os (suc n) q (end_of last q) = subst (λ m. IsLast os m q (end_of last q)) long (noted.ends.each q l) in
-          last_shorter rs os n q (end_of last q) h (λ e. ne (sym (old.back.each n e).2)) old);
+          let old : IsLastOfSender os (suc n) q (link_of_sender last q) = subst (λ m. IsLastOfSender os m q (link_of_sender last q)) long (noted.ends.each q l) in
+          last_shorter rs os n q (link_of_sender last q) h (λ e. ne (sym (old.back.each n e).2)) old);
       tree = tree_less rs os root root n short long h noted.tree (λ link side low node. inl (seated-take os n root link side low, no_link os root n link side noted.tree (λ a. a.behind here.1) node));
     }
 
@@ -251,21 +251,21 @@ less_behind rs os last root other n noted short long h links behind tree = recor
   chained = chained_less rs os n short long h noted.chained links;
   ends = record {
     each = λ q l.
-        let old : IsLast os (suc n) q (end_of last q) = subst (λ m. IsLast os m q (end_of last q)) long (noted.ends.each q l) in
-        subst (λ m. IsLast rs m q (end_of last q)) (sym short) (last_shorter rs os n q (end_of last q) h (λ e. behind (old.back.each n e).1) old);
+        let old : IsLastOfSender os (suc n) q (link_of_sender last q) = subst (λ m. IsLastOfSender os m q (link_of_sender last q)) long (noted.ends.each q l) in
+        subst (λ m. IsLastOfSender rs m q (link_of_sender last q)) (sym short) (last_shorter rs os n q (link_of_sender last q) h (λ e. behind (old.back.each n e).1) old);
   };
   tree = tree;
 }
 
-is_behind : (os : List Receipt) (last : EndsView) (root n : ℕ) → AreNoted os last root → length os ≡ suc n → end_of last (receipt_at os n).from ≢ suc n → IsAhead os n → ⊥
+is_behind : (os : List Receipt) (last : EndsView) (root n : ℕ) → AreNoted os last root → length os ≡ suc n → link_of_sender last (receipt_at os n).from ≢ suc n → IsAhead os n → ⊥
 is_behind os last root n noted long other a =
     let s : ℕ = (receipt_at os n).from in
     let sender : s < MOST_PROCESSES = noted.chained.senders n (omega arith) in
-    other (last_is_here os n s (end_of last s) a refl (subst (λ m. IsLast os m s (end_of last s)) long (noted.ends.each s sender)))
+    other (last_is_here os n s (link_of_sender last s) a refl (subst (λ m. IsLastOfSender os m s (link_of_sender last s)) long (noted.ends.each s sender)))
 
 -- a receipt less that is in no link
 pub noted_less_again : (os : List Receipt) (last : EndsView) (root n above : ℕ) (far : Bool) → AreNoted os last root → length os ≡ suc n
-    → end_of last (receipt_at os n).from ≢ suc n → IsSeatOf os root (name_at os n) above far → seated os root above far ≢ suc n → AreNoted (take n os) last root
+    → link_of_sender last (receipt_at os n).from ≢ suc n → IsSeatOf os root (name_at os n) above far → link_in_seat os root above far ≢ suc n → AreNoted (take n os) last root
 noted_less_again os last root n above far noted long other seat ne =
     let rs : List Receipt = take n os in
     let h : AreAlike os rs n = take_alike os n in
@@ -275,7 +275,7 @@ noted_less_again os last root n above far noted long other seat ne =
 
 -- a receipt less of the tree
 pub noted_less_aside : (os mid : List Receipt) (last : EndsView) (root other n above : ℕ) (far : Bool) → AreNoted os last root → length os ≡ suc n → length mid ≡ suc n
-    → end_of last (receipt_at os n).from ≢ suc n → IsSeatOf os root (name_at os n) above far → seated os root above far ≡ suc n
+    → link_of_sender last (receipt_at os n).from ≢ suc n → IsSeatOf os root (name_at os n) above far → link_in_seat os root above far ≡ suc n
     → IsPut os root mid other above far 0 → AreNoted (take n mid) last other
 noted_less_aside os mid last root other n above far noted long whole ne seat at put =
     let rs : List Receipt = take n mid in
@@ -290,11 +290,11 @@ noted_less_aside os mid last root other n above far noted long whole ne seat at 
     (e.0 ∙ f.0, e.1 ∙ f.1))
     (is_behind os last root n noted long ne)
     (tree_less rs os root other n short long h noted.tree (λ link side low node.
-    let cut : seated rs other link side ≡ seated mid other link side = seated-take mid n other link side low in
-    let gone : (link ≡ above) × (link ≢ 0 → side ≡ far) → ((seated rs other link side ≡ 0) × (seated os root link side ≡ suc n)) = λ same.
+    let cut : link_in_seat rs other link side ≡ link_in_seat mid other link side = seated-take mid n other link side low in
+    let gone : (link ≡ above) × (link ≢ 0 → side ≡ far) → ((link_in_seat rs other link side ≡ 0) × (link_in_seat os root link side ≡ suc n)) = λ same.
     (cut ∙ same_seat mid other link above side far same.0 same.1 ∙ put.there, same_seat os root link above side far same.0 same.1 ∙ at) in
     elim (put.elsewhere link side) [
-      | inl e ↦ elim (cases_eq (seated os root link side) (suc n)) [
+      | inl e ↦ elim (cases_eq (link_in_seat os root link side) (suc n)) [
         | inl is ↦ inr (gone (noted.tree.apart link above side far node seat.node (λ none. absurd (omega (arith, is, none))) (is ∙ sym at)))
         | inr other ↦ inl (cut ∙ e, other)
       ]
@@ -312,10 +312,10 @@ module _ (rs items : List Receipt) (last : EndsView) (root : ℕ) (seen : rs ≡
   pushed_so : (new : List Receipt) (r : Receipt) → new ≡ items ++ r ∷ [] → new ≡ rs ++ r ∷ []
   pushed_so new r pushed = pushed ∙ ap (λ (xs : List Receipt). xs ++ r ∷ []) (sym seen)
 
-  pub added_ahead : (new : List Receipt) (ends : EndsView) (link : ℕ) (receipt linked : Receipt) → new ≡ items ++ linked ∷ [] → link ≡ length items + 1 → message_of linked ≡ message_of receipt
+  pub added_ahead : (new : List Receipt) (ends : EndsView) (link : ℕ) (receipt linked : Receipt) → new ≡ items ++ linked ∷ [] → link ≡ length items + 1 → name_of_receipt linked ≡ name_of_receipt receipt
       → receipt.from < MOST_PROCESSES → IsEndPut last ends receipt.from link
       → ((i : ℕ) → i < length rs → (name_at rs i).from ≡ receipt.from → (name_at rs i).number < receipt.number)
-      → linked.near ≡ end_of last receipt.from → IsBack rs (length rs) receipt.from linked.far → AreNoted new ends root
+      → linked.near ≡ link_of_sender last receipt.from → IsBack rs (length rs) receipt.from linked.far → AreNoted new ends root
   added_ahead new ends link receipt linked pushed is same sender put above near far =
       let from : linked.from ≡ receipt.from = ap from_of same in
       let number : linked.number ≡ receipt.number = ap number_of same in
@@ -324,14 +324,14 @@ module _ (rs items : List Receipt) (last : EndsView) (root : ℕ) (seen : rs ≡
       let put_so : IsEndPut last ends linked.from (length rs + 1) = subst (IsEndPut last ends linked.from) links (subst (λ s. IsEndPut last ends s link) (sym from) put) in
       subst (λ (xs : List Receipt). AreNoted xs ends root) (sym (pushed_so new linked pushed)) (noted_ahead rs last ends root linked noted_so few_so (omega arith) put_so
       (λ i l e. let w : number_of (name_at rs i) < receipt.number = above i l (e ∙ from) in omega arith)
-      (near ∙ ap (λ s. end_of last s) (sym from)) (subst (λ s. IsBack rs (length rs) s linked.far) (sym from) far))
+      (near ∙ ap (λ s. link_of_sender last s) (sym from)) (subst (λ s. IsBack rs (length rs) s linked.far) (sym from) far))
 
   pub added_again : (new : List Receipt) (r : Receipt) → new ≡ items ++ r ∷ [] → r.from < MOST_PROCESSES
       → ((i : ℕ) × (i < length rs) × ((name_at rs i).from ≡ r.from) × (r.number ≤ (name_at rs i).number))
-      → (above : ℕ) (far : Bool) → IsSeatOf rs root (message_of r) above far → seated rs root above far ≢ 0 → AreNoted new last root
+      → (above : ℕ) (far : Bool) → IsSeatOf rs root (name_of_receipt r) above far → link_in_seat rs root above far ≢ 0 → AreNoted new last root
   added_again new r pushed sender below above far seat some =
-      let k : ℕ = seated rs root above far - 1 in
-      let is : seated rs root above far ≡ suc k = omega arith in
+      let k : ℕ = link_in_seat rs root above far - 1 in
+      let is : link_in_seat rs root above far ≡ suc k = omega arith in
       let there : (k < length rs) × IsAside rs k = (noted_so.tree.nodes above far seat.node).each k is in
       subst (λ (xs : List Receipt). AreNoted xs last root) (sym (pushed_so new r pushed)) (noted_again rs last root r noted_so few_so sender below (k, there.0, there.1, seat.named k is))
 
@@ -343,8 +343,8 @@ module _ (rs items : List Receipt) (last : EndsView) (root : ℕ) (seen : rs ≡
   pub added_aside : (mid os : List Receipt) (other above link : ℕ) (far : Bool) (r : Receipt) → mid ≡ items ++ r ∷ [] → link ≡ length items + 1
       → length os ≡ suc (length items) → r.from < MOST_PROCESSES → r.near ≡ 0 → r.far ≡ 0
       → ((i : ℕ) × (i < length rs) × ((name_at rs i).from ≡ r.from) × (r.number ≤ (name_at rs i).number))
-      → seated rs root above far ≡ 0
-      → IsSeatOf rs root (message_of r) above far → IsPut mid root os other above far link → AreNoted os last other
+      → link_in_seat rs root above far ≡ 0
+      → IsSeatOf rs root (name_of_receipt r) above far → IsPut mid root os other above far link → AreNoted os last other
   added_aside mid os other above link far r pushed is long sender near back below was seat put =
       let many : length rs ≡ length items = ap (λ (xs : List Receipt). length xs) seen in
       noted_aside rs os last root other above far r noted_so few_so (omega arith) sender near back below was seat (subst (λ k. IsPut (rs ++ r ∷ []) root os other above far k) (omega arith) (subst (λ (xs : List Receipt). IsPut xs root os other above far link) (pushed_so mid r pushed) put))
@@ -357,21 +357,21 @@ module _ (rs items : List Receipt) (last : EndsView) (root n k link : ℕ) (seen
   long_seen : length rs ≡ suc n
   long_seen = ap (λ (xs : List Receipt). length xs) seen ∙ long
 
-  pub unlinked_ahead : (new : EndsView) → IsEndPut last new (receipt_at rs k).from (receipt_at rs k).near → end_of last (receipt_at rs k).from ≡ link → AreNoted (take n items) new root
+  pub unlinked_ahead : (new : EndsView) → IsEndPut last new (receipt_at rs k).from (receipt_at rs k).near → link_of_sender last (receipt_at rs k).from ≡ link → AreNoted (take n items) new root
   unlinked_ahead new put e =
       let p : IsEndPut last new (receipt_at rs n).from (receipt_at rs n).near = subst (λ j. IsEndPut last new (receipt_at rs j).from (receipt_at rs j).near) here put in
-      let f : end_of last (receipt_at rs n).from ≡ suc n = subst (λ j. end_of last (receipt_at rs j).from ≡ link) here e ∙ is in
+      let f : link_of_sender last (receipt_at rs n).from ≡ suc n = subst (λ j. link_of_sender last (receipt_at rs j).from ≡ link) here e ∙ is in
       subst (λ (xs : List Receipt). AreNoted (take n xs) new root) seen (noted_less_ahead rs last new root n noted_seen long_seen p f)
 
-  other_at : end_of last (receipt_at rs k).from ≢ link → end_of last (receipt_at rs n).from ≢ suc n
-  other_at ne e = ne (subst (λ j. end_of last (receipt_at rs j).from ≡ link) (sym here) (e ∙ sym is))
+  other_at : link_of_sender last (receipt_at rs k).from ≢ link → link_of_sender last (receipt_at rs n).from ≢ suc n
+  other_at ne e = ne (subst (λ j. link_of_sender last (receipt_at rs j).from ≡ link) (sym here) (e ∙ sym is))
 
   seat_at : (above : ℕ) (far : Bool) → IsSeatOf rs root (name_at rs k) above far → IsSeatOf rs root (name_at rs n) above far
   seat_at above far seat = subst (λ j. IsSeatOf rs root (name_at rs j) above far) here seat
 
-  pub unlinked_again : (above : ℕ) (far : Bool) → end_of last (receipt_at rs k).from ≢ link → IsSeatOf rs root (name_at rs k) above far → seated rs root above far ≢ link → AreNoted (take n items) last root
+  pub unlinked_again : (above : ℕ) (far : Bool) → link_of_sender last (receipt_at rs k).from ≢ link → IsSeatOf rs root (name_at rs k) above far → link_in_seat rs root above far ≢ link → AreNoted (take n items) last root
   unlinked_again above far other seat ne = subst (λ (xs : List Receipt). AreNoted (take n xs) last root) seen (noted_less_again rs last root n above far noted_seen long_seen (other_at other) (seat_at above far seat) (λ e. ne (e ∙ sym is)))
 
-  pub unlinked_aside : (mid : List Receipt) (other_root above : ℕ) (far : Bool) → length mid ≡ suc n → end_of last (receipt_at rs k).from ≢ link → IsSeatOf rs root (name_at rs k) above far → seated rs root above far ≡ link
+  pub unlinked_aside : (mid : List Receipt) (other_root above : ℕ) (far : Bool) → length mid ≡ suc n → link_of_sender last (receipt_at rs k).from ≢ link → IsSeatOf rs root (name_at rs k) above far → link_in_seat rs root above far ≡ link
       → IsPut items root mid other_root above far 0 → AreNoted (take n mid) last other_root
   unlinked_aside mid other_root above far whole other seat e put = noted_less_aside rs mid last root other_root n above far noted_seen long_seen whole (other_at other) (seat_at above far seat) (e ∙ is) (subst (λ (xs : List Receipt). IsPut xs root mid other_root above far 0) (sym seen) put)

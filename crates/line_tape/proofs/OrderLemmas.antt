@@ -11,7 +11,7 @@ use Rattle.line_tape.specs.declared.events.Event.{Event}
 use Rattle.line_tape.specs.declared.events.Event.TheVariants.{Send, Recv, Check, Mark}
 use Rattle.line_tape.specs.declared.items.Item.TheVariants.{Message, Marker}
 use Rattle.line_tape.specs.Event.{incarnations_sent}
-use Rattle.line_tape.specs.Fit.{items_sent, item_received, received, link, AreDistinct, IsFitFifo, IsFitUnordered}
+use Rattle.line_tape.specs.Fit.{items_sent, item_received, received_from, link, AreDistinct, IsFitFifo, IsFitUnordered}
 use Rattle.line_tape.specs.History.{Process, tape_at}
 use Rattle.line_tape.specs.Transit.{names_received, addressees}
 use Rattle.line_tape.proofs.LetterLemmas.{drop_next}
@@ -88,19 +88,19 @@ once_from (Check state round ∷ es) up = once_from es up
 once_from (Mark from round ∷ es) up = once_from es (ascending_mark from round es up)
 
 -- the messages sent on a link are those received of it, and then those that it holds
-pub messages_sent : (history : List Process) → IsFitFifo history → (p q : ℕ) → messages (items_sent p q 0 (tape_at history p)) ≡ messages (received history q p) ++ messages (link history p q)
-messages_sent history fit p q = ap messages (sym (fit.order p q)) ∙ filter_map-append item_message (received history q p) (link history p q)
+pub messages_sent : (history : List Process) → IsFitFifo history → (p q : ℕ) → messages (items_sent p q 0 (tape_at history p)) ≡ messages (received_from history q p) ++ messages (link history p q)
+messages_sent history fit p q = ap messages (sym (fit.order p q)) ∙ filter_map-append item_message (received_from history q p) (link history p q)
 
 pub ordered_fit : (history : List Process) → IsFitFifo history → IsFitUnordered history
 ordered_fit history fit = record {
   held = λ q m got.
       let p : ℕ = m.from in
       let tape : List Event = tape_at history p in
-      let among : In m (messages (received history q p)) = in_received p (tape_at history q) m (receipt_in (tape_at history q) m got) refl in
-      let put : In m (messages (items_sent p q 0 tape)) = subst (In m) (sym (messages_sent history fit p q)) (In-append_left m (messages (received history q p)) (messages (link history p q)) among) in
+      let among : In m (messages (received_from history q p)) = in_received p (tape_at history q) m (receipt_in (tape_at history q) m got) refl in
+      let put : In m (messages (items_sent p q 0 tape)) = subst (In m) (sym (messages_sent history fit p q)) (In-append_left m (messages (received_from history q p)) (messages (link history p q)) among) in
       let is = sent_is p q 0 tape (incarnations_sent tape) (addressees tape) [] [] m (sym (append-nil (incarnations_sent tape))) (sym (append-nil (addressees tape))) put in
       record { held = is.0; to_is = is.1 };
   once = λ q. once_from (tape_at history q) (λ p.
-      Ascends-front 0 (messages (received history q p)) (messages (link history p q))
+      Ascends-front 0 (messages (received_from history q p)) (messages (link history p q))
       (subst (Ascends 0) (messages_sent history fit p q) (sent_ascends p q 0 (tape_at history p))));
 }

@@ -20,7 +20,7 @@ use Rattle.line_tape.specs.Front.{front, place}
 use Rattle.line_tape.specs.History.{Process, tape_at}
 use Rattle.line_tape.specs.Line.{events_before}
 use Rattle.line_tape.specs.Received.{with_seen, seen_below, IsTold, AreTold}
-use Rattle.line_tape.specs.Transit.{Letter, letters, is_open, received_name, names_received, has_received, addressee_of, addressees}
+use Rattle.line_tape.specs.Transit.{Letter, letters, is_open_letter, received_name, names_received, has_received, addressee_of, addressees}
 use Rattle.line_tape.proofs.FrontLemmas.{slice_get-append_left}
 use Rattle.line_tape.proofs.GrowthLemmas.{any_push}
 use Rattle.line_tape.proofs.LineLemmas.{tape_at-past, front-empty}
@@ -225,7 +225,7 @@ length-letters p n (Mark from round ∷ es) = length-letters p n es
 
 -- the open messages among the first k sends of process p
 abbrev pub open_first : List Process → List Choice → ℕ → ℕ → List MsgName
-open_first history line p k = map (λ (letter : Letter). letter.message) (filter (is_open history line) (take k (letters p 0 (events_before history line p))))
+open_first history line p k = map (λ (letter : Letter). letter.message) (filter (is_open_letter history line) (take k (letters p 0 (events_before history line p))))
 
 -- one send more, which is open if no receipt of it is told
 pub open-next : (history : List Process) (line : List Choice) (p k inc to : ℕ) (received : List Bool) → IsTold history line (events_before history line) p received
@@ -237,11 +237,11 @@ open-next history line p k inc to received told i a =
     let within : k < length all = omega (arith, length-letters p 0 (events_before history line p), slice_get_within (incarnations_sent (events_before history line p)) k inc i) in
     let number : 0 + k ≡ k = omega arith in
     let letter : get_or all k d ≡ d = letter_at p 0 (events_before history line p) k inc to d i a ∙ ap (λ j. letter_of p inc j to) number in
-    let passes : is_open history line d ≡ not (get_or received k false) = ap not (sym (told.each k inc to i a)) in
-    let last : map (λ (letter : Letter). letter.message) (filter (is_open history line) (get_or all k d ∷ [])) ≡ cond (get_or received k false) [] (name_of p inc k ∷ []) = ap (λ (x : Letter). map (λ (letter : Letter). letter.message) (filter (is_open history line) (x ∷ []))) letter ∙ ap (λ b. map (λ (letter : Letter). letter.message) (cond b (d ∷ []) [])) passes ∙ swapped (get_or received k false) in
-    ap (λ (xs : List Letter). map (λ (letter : Letter). letter.message) (filter (is_open history line) xs)) (take_more all k d within)
-    ∙ ap (map (λ (letter : Letter). letter.message)) (filter-append (is_open history line) (take k all) (get_or all k d ∷ []))
-    ∙ map-append (λ (letter : Letter). letter.message) (filter (is_open history line) (take k all)) (filter (is_open history line) (get_or all k d ∷ []))
+    let passes : is_open_letter history line d ≡ not (get_or received k false) = ap not (sym (told.each k inc to i a)) in
+    let last : map (λ (letter : Letter). letter.message) (filter (is_open_letter history line) (get_or all k d ∷ [])) ≡ cond (get_or received k false) [] (name_of p inc k ∷ []) = ap (λ (x : Letter). map (λ (letter : Letter). letter.message) (filter (is_open_letter history line) (x ∷ []))) letter ∙ ap (λ b. map (λ (letter : Letter). letter.message) (cond b (d ∷ []) [])) passes ∙ swapped (get_or received k false) in
+    ap (λ (xs : List Letter). map (λ (letter : Letter). letter.message) (filter (is_open_letter history line) xs)) (take_more all k d within)
+    ∙ ap (map (λ (letter : Letter). letter.message)) (filter-append (is_open_letter history line) (take k all) (get_or all k d ∷ []))
+    ∙ map-append (λ (letter : Letter). letter.message) (filter (is_open_letter history line) (take k all)) (filter (is_open_letter history line) (get_or all k d ∷ []))
     ∙ ap (λ xs. open_first history line p k ++ xs) last
   where
     swapped : (b : Bool) → map (λ (letter : Letter). letter.message) (cond (not b) (letter_of p inc k to ∷ []) []) ≡ cond b [] (name_of p inc k ∷ [])

@@ -17,8 +17,8 @@ use Rattle.line_tape.specs.Event.{checks}
 use Rattle.line_tape.specs.Front.{check_place, front}
 use Rattle.line_tape.specs.History.{Process, tape_at}
 use Rattle.line_tape.specs.Transit.{names_received}
-use Rattle.line_tape.specs.Rounds.{rounds_checked, is_check_of, is_mark_of, has_check_of, check_of, after_check, names_from, channel_fifo}
-use Rattle.line_tape.specs.Fit.{items_sent, item_received, sent, received, link, MarksFollow, IsFitFifo}
+use Rattle.line_tape.specs.Rounds.{rounds_checked, is_check_of, is_mark_of, has_check_of, check_index, after_check, names_from, channel_fifo}
+use Rattle.line_tape.specs.Fit.{items_sent, item_received, sent_between, received_from, link, MarksFollow, IsFitFifo}
 use Rattle.line_tape.proofs.FrontLemmas.{slice_get-append_left}
 use Rattle.line_tape.proofs.NextLemmas.{check_in}
 use Rattle.line_tape.proofs.RowLemmas.{checks-push, check_place-last, check_place-append}
@@ -157,8 +157,8 @@ channel_is p (Mark from s ∷ es) =
 
 -- what p sends before its Check of round r, with its marker, begins all that it sends
 pub sent_to_check : (history : List Process) (r p q : ℕ) → has_check_of r (tape_at history p) ≡ true
-    → (rest : List Item) × (sent history p q ≡ items_sent p q 0 (before_first (is_check_of r) (tape_at history p)) ++ (Marker r ∷ rest))
-    × (items_sent p q 0 (front (tape_at history p) (AtCheck (check_of r (tape_at history p)))) ≡ items_sent p q 0 (before_first (is_check_of r) (tape_at history p)) ++ Marker r ∷ [])
+    → (rest : List Item) × (sent_between history p q ≡ items_sent p q 0 (before_first (is_check_of r) (tape_at history p)) ++ (Marker r ∷ rest))
+    × (items_sent p q 0 (front (tape_at history p) (AtCheck (check_index r (tape_at history p)))) ≡ items_sent p q 0 (before_first (is_check_of r) (tape_at history p)) ++ Marker r ∷ [])
 sent_to_check history r p q t =
     let tape : List Event = tape_at history p in
     let before : List Event = before_first (is_check_of r) tape in
@@ -178,8 +178,8 @@ sent_to_check history r p q t =
 -- what q receives from p before its Check of round r
 pub received_to_check : (history : List Process) → IsFitFifo history → (r p q : ℕ) → has_check_of r (tape_at history q) ≡ true
     → (list_any (is_marker r) (filter_map (item_received p) (before_first (is_check_of r) (tape_at history q))) ≡ false)
-    × (received history q p ≡ filter_map (item_received p) (before_first (is_check_of r) (tape_at history q)) ++ filter_map (item_received p) (after_check r (tape_at history q)))
-    × (filter_map (item_received p) (front (tape_at history q) (AtCheck (check_of r (tape_at history q)))) ≡ filter_map (item_received p) (before_first (is_check_of r) (tape_at history q)))
+    × (received_from history q p ≡ filter_map (item_received p) (before_first (is_check_of r) (tape_at history q)) ++ filter_map (item_received p) (after_check r (tape_at history q)))
+    × (filter_map (item_received p) (front (tape_at history q) (AtCheck (check_index r (tape_at history q)))) ≡ filter_map (item_received p) (before_first (is_check_of r) (tape_at history q)))
 received_to_check history fit r p q t =
     let tape : List Event = tape_at history q in
     let before : List Event = before_first (is_check_of r) tape in
@@ -196,8 +196,8 @@ received_to_check history fit r p q t =
 -- what is sent before the line of round r is what is received before it, and then the channel
 pub channel_follows : (history : List Process) → IsFitFifo history → (r p q : ℕ) → has_check_of r (tape_at history p) ≡ true → has_check_of r (tape_at history q) ≡ true
     → list_any (is_mark_of p r) (after_check r (tape_at history q)) ≡ true
-    → messages (items_sent p q 0 (front (tape_at history p) (AtCheck (check_of r (tape_at history p)))))
-    ≡ messages (filter_map (item_received p) (front (tape_at history q) (AtCheck (check_of r (tape_at history q))))) ++ channel_fifo history r p q
+    → messages (items_sent p q 0 (front (tape_at history p) (AtCheck (check_index r (tape_at history p)))))
+    ≡ messages (filter_map (item_received p) (front (tape_at history q) (AtCheck (check_index r (tape_at history q))))) ++ channel_fifo history r p q
 channel_follows history fit r p q tp tq tm =
     let s = sent_to_check history r p q tp in
     let g = received_to_check history fit r p q tq in
@@ -214,7 +214,7 @@ channel_follows history fit r p q tp tq tm =
     ap (filter_map (item_received p)) split ∙ filter_map-append (item_received p) until (Mark p r ∷ beyond) ∙ ap (λ (v : List Item). inner ++ v) mark_item in
     let before : List Item = items_sent p q 0 (before_first (is_check_of r) (tape_at history p)) in
     let held : List Item = link history p q in
-    let all_received : received history q p ++ held ≡ (early ++ inner) ++ (Marker r ∷ (outer ++ held)) =
+    let all_received : received_from history q p ++ held ≡ (early ++ inner) ++ (Marker r ∷ (outer ++ held)) =
     ap (λ (v : List Item). v ++ held) (g.1 ∙ ap (λ (v : List Item). early ++ v) by_after ∙ sym (append_assoc early inner (Marker r ∷ outer)))
     ∙ append_assoc (early ++ inner) (Marker r ∷ outer) held in
     let whole : (early ++ inner) ++ (Marker r ∷ (outer ++ held)) ≡ before ++ (Marker r ∷ s.0) = sym all_received ∙ fit.order p q ∙ s.1 in

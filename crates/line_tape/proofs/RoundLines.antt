@@ -18,8 +18,8 @@ use Rattle.line_tape.specs.Event.{is_check, checks, incarnations_sent}
 use Rattle.line_tape.specs.Front.{front, HasChoice}
 use Rattle.line_tape.specs.History.{Process, tape_at}
 use Rattle.line_tape.specs.Line.{IsLine, IsConsistent}
-use Rattle.line_tape.specs.Rounds.{is_check_of, is_mark_of, has_check_of, check_of, is_checked, checks_of, after_check, is_closed_at, is_completed_fifo, round_line, channel_fifo, IsSnapshot}
-use Rattle.line_tape.specs.Fit.{items_sent, item_received, sent, link, IsFitFifo}
+use Rattle.line_tape.specs.Rounds.{is_check_of, is_mark_of, has_check_of, check_index, is_checked, checks_of, after_check, is_closed_at, is_completed_fifo, round_line, channel_fifo, IsSnapshot}
+use Rattle.line_tape.specs.Fit.{items_sent, item_received, sent_between, link, IsFitFifo}
 use Rattle.line_tape.proofs.SentLemmas.{messages, item_message, name_of, In, In-append_left, in_received}
 use Rattle.line_tape.proofs.RoundLemmas.{split_first, check_is, sent_to_check, received_to_check, channel_follows, short_of_marker}
 use Rattle.line_tape.proofs.LinkLemmas.{transit_is}
@@ -40,12 +40,12 @@ get_range f a (suc n) zero d h = ap f (omega arith)
 get_range f a (suc n) (suc p) d h = get_range f (a + 1) n p d (omega arith) ∙ ap f (omega arith)
 
 -- the choice of a process in the line of a round
-pub round_choice : (history : List Process) (r p : ℕ) → p < length history → choice_at (round_line history r) p ≡ AtCheck (check_of r (tape_at history p))
+pub round_choice : (history : List Process) (r p : ℕ) → p < length history → choice_at (round_line history r) p ≡ AtCheck (check_index r (tape_at history p))
 round_choice history r p h =
-    let within : p < length (checks_of history r) = omega (arith, length-map (range_with_len 0 (length history)) (λ q. check_of r (tape_at history q)), length-range_with_len 0 (length history)) in
+    let within : p < length (checks_of history r) = omega (arith, length-map (range_with_len 0 (length history)) (λ q. check_index r (tape_at history q)), length-range_with_len 0 (length history)) in
     get_or-map (λ c. AtCheck c) (checks_of history r) p 0 (AtCheck 0) within
-    ∙ ap (λ c. AtCheck c) (get_range (λ q. check_of r (tape_at history q)) 0 (length history) p 0 h)
-    ∙ ap (λ v. AtCheck (check_of r (tape_at history v))) (omega arith)
+    ∙ ap (λ c. AtCheck c) (get_range (λ q. check_index r (tape_at history q)) 0 (length history) p 0 h)
+    ∙ ap (λ v. AtCheck (check_index r (tape_at history v))) (omega arith)
 
 -- each tape has its check of a round that is on every tape
 pub checked_has : (history : List Process) (r q : ℕ) → is_checked history r ≡ true → q < length history → has_check_of r (tape_at history q) ≡ true
@@ -67,7 +67,7 @@ checks-append (x ∷ xs) ys =
     elim (is_check x) as (λ b. cond b (suc (checks (xs ++ ys))) (checks (xs ++ ys)) ≡ cond b (suc (checks xs)) (checks xs) + checks ys) [ true ↦ omega (arith, ih) | false ↦ ih ]
 
 -- the tape has its check of a round that is on it
-pub check_of_within : (tape : List Event) (r : ℕ) → has_check_of r tape ≡ true → check_of r tape ≤ checks tape
+pub check_of_within : (tape : List Event) (r : ℕ) → has_check_of r tape ≡ true → check_index r tape ≤ checks tape
 check_of_within tape r t =
     let before : List Event = before_first (is_check_of r) tape in
     let after : List Event = after_check r tape in
@@ -80,12 +80,12 @@ check_of_within tape r t =
 -- past the processes the line of a round has initial states
 pub round_past : (history : List Process) (r q : ℕ) → length history ≤ q → choice_at (round_line history r) q ≡ AtCheck 0
 round_past history r q h =
-    get_or_past (round_line history r) q (AtCheck 0) (omega (arith, length-map (checks_of history r) (λ c. AtCheck c), length-map (range_with_len 0 (length history)) (λ p. check_of r (tape_at history p)), length-range_with_len 0 (length history)))
+    get_or_past (round_line history r) q (AtCheck 0) (omega (arith, length-map (checks_of history r) (λ c. AtCheck c), length-map (range_with_len 0 (length history)) (λ p. check_index r (tape_at history p)), length-range_with_len 0 (length history)))
 
 -- the checks of a round that is on every tape make a line
 pub round_is_line : (history : List Process) (r : ℕ) → is_checked history r ≡ true → IsLine history (round_line history r)
 round_is_line history r t = record {
-  length_is = length-map (checks_of history r) (λ c. AtCheck c) ∙ length-map (range_with_len 0 (length history)) (λ p. check_of r (tape_at history p)) ∙ length-range_with_len 0 (length history);
+  length_is = length-map (checks_of history r) (λ c. AtCheck c) ∙ length-map (range_with_len 0 (length history)) (λ p. check_index r (tape_at history p)) ∙ length-range_with_len 0 (length history);
   exist = λ p. elim (cases_lt p (length history)) [
     | inl within ↦ subst (HasChoice (tape_at history p)) (sym (round_choice history r p within)) (check_of_within (tape_at history p) r (checked_has history r p t within))
     | inr past ↦ subst (HasChoice (tape_at history p)) (sym (round_past history r p past)) (omega arith)
@@ -145,18 +145,18 @@ round_consistent history r fit done q m seen =
           let front_is : filter_map (item_received p) (front (tape_at history q) (choice_at (round_line history r) q)) ≡ early = ap (λ (v : Choice). filter_map (item_received p) (front (tape_at history q) v)) at_q ∙ g.2 in
           let got : In m (messages early) = subst (λ (v : List Item). In m (messages v)) front_is (early_in (front (tape_at history q) (choice_at (round_line history r) q)) seen) in
           let held : List Item = link history p q in
-          let whole : early ++ (later ++ held) ≡ sent history p q = sym (append_assoc early later held) ∙ ap (λ (v : List Item). v ++ held) (sym g.1) ∙ fit.order p q in
+          let whole : early ++ (later ++ held) ≡ sent_between history p q = sym (append_assoc early later held) ∙ ap (λ (v : List Item). v ++ held) (sym g.1) ∙ fit.order p q in
           elim (cases_lt p (length history)) [
             | inl lp ↦
                 let s = sent_to_check history r p q (checked_has history r p done lp) in
                 let before : List Item = items_sent p q 0 (before_first (is_check_of r) (tape_at history p)) in
                 let z = short_of_marker r early before (later ++ held) s.0 (whole ∙ s.1) g.0 in
-                let among : In m (messages (items_sent p q 0 (front (tape_at history p) (AtCheck (check_of r (tape_at history p)))))) =
+                let among : In m (messages (items_sent p q 0 (front (tape_at history p) (AtCheck (check_index r (tape_at history p)))))) =
                 subst (In m) (sym (ap messages s.2 ∙ filter_map-append item_message before (Marker r ∷ []) ∙ append-nil (messages before) ∙ ap messages z.1 ∙ filter_map-append item_message early z.0)) (In-append_left m (messages early) (messages z.0) got) in
-                let at = sent_at_number p q 0 (front (tape_at history p) (AtCheck (check_of r (tape_at history p)))) m among in
+                let at = sent_at_number p q 0 (front (tape_at history p) (AtCheck (check_index r (tape_at history p)))) m among in
                 let number_is : at.0 ≡ m.number = omega (arith, at.1) in
                 ap (λ (v : Choice). slice_get (incarnations_sent (front (tape_at history p) v)) m.number) (round_choice history r p lp)
-                ∙ ap (slice_get (incarnations_sent (front (tape_at history p) (AtCheck (check_of r (tape_at history p)))))) (sym number_is) ∙ at.2
+                ∙ ap (slice_get (incarnations_sent (front (tape_at history p) (AtCheck (check_index r (tape_at history p)))))) (sym number_is) ∙ at.2
             | inr gp ↦
                 let empty : tape_at history p ≡ [] = ap (λ (v : Process). v.tape) (get_or_past history p _ gp) in
                 let nothing : early ++ (later ++ held) ≡ [] = whole ∙ ap (items_sent p q 0) empty in

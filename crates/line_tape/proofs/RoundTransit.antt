@@ -16,7 +16,7 @@ use Rattle.line_tape.specs.Fit.{items_sent}
 use Rattle.line_tape.specs.Front.{front}
 use Rattle.line_tape.specs.History.{Process, tape_at, with_event}
 use Rattle.line_tape.specs.Line.{events_before}
-use Rattle.line_tape.specs.Rounds.{has_check_of, check_of, round_line}
+use Rattle.line_tape.specs.Rounds.{has_check_of, check_index, round_line}
 use Rattle.line_tape.specs.Transit.{has_received, received_name, names_received, in_transit_between}
 use Rattle.line_tape.proofs.CompletionLemmas.{check_of_new}
 use Rattle.line_tape.proofs.LinkLemmas.{between_is}
@@ -48,7 +48,7 @@ pub check_receives_none : (tape : List Event) (state : List ℕ) (r : ℕ) → n
 check_receives_none tape state r = filter_map-append received_name tape (Check state (Some r) ∷ []) ∙ append-nil (names_received tape)
 
 module _ (history : List Process) (at : ℕ) (state : List ℕ) (r : ℕ) (line : List Choice) (h : at < length history) (none : has_check_of r (tape_at history at) ≡ false) (now : choice_at line at ≡ Now)
-    (others : (q : ℕ) → q < length history → (q ≡ at → ⊥) → choice_at line q ≡ AtCheck (check_of r (tape_at history q))) where
+    (others : (q : ℕ) → q < length history → (q ≡ at → ⊥) → choice_at line q ≡ AtCheck (check_index r (tape_at history q))) where
   abbrev event : Event
   event = Check state (Some r)
 
@@ -63,7 +63,7 @@ module _ (history : List Process) (at : ℕ) (state : List ℕ) (r : ℕ) (line 
   before_new =
       let tape : List Event = tape_at history at in
       ap (front (tape_at new at)) (round_choice new r at (within at h))
-      ∙ ap (λ (es : List Event). front es (AtCheck (check_of r es))) (tape_same history at event at h refl)
+      ∙ ap (λ (es : List Event). front es (AtCheck (check_index r es))) (tape_same history at event at h refl)
       ∙ ap (λ c. front (tape ++ event ∷ []) (AtCheck c)) (check_of_new tape event r none (eq-eqb r r refl))
       ∙ front_of_check (tape ++ event ∷ []) tape [] state r refl
 
@@ -74,7 +74,7 @@ module _ (history : List Process) (at : ℕ) (state : List ℕ) (r : ℕ) (line 
   before_other : (q : ℕ) → q < length history → (q ≡ at → ⊥) → events_before new (round_line new r) q ≡ events_before history line q
   before_other q l other =
       ap (front (tape_at new q)) (round_choice new r q (within q l))
-      ∙ ap (λ (es : List Event). front es (AtCheck (check_of r es))) (tape_other history at event q other)
+      ∙ ap (λ (es : List Event). front es (AtCheck (check_index r es))) (tape_other history at event q other)
       ∙ ap (front (tape_at history q)) (sym (others q l other))
 
   sends_alike : (p q : ℕ) → p < length history → messages (items_sent p q 0 (events_before new (round_line new r) p)) ≡ messages (items_sent p q 0 (events_before history line p))

@@ -10,7 +10,7 @@ use Rattle.line_tape.specs.declared.events.Event.TheVariants.{Send, Recv, Check,
 use Rattle.line_tape.specs.declared.tapes.CheckRow.{CheckRow}
 use Rattle.line_tape.specs.Event.{is_check, checks, incarnations_sent, incarnation_of, state_of, stored_state}
 use Rattle.line_tape.specs.Front.{check_place}
-use Rattle.line_tape.specs.Kept.{IsRow, AreRows}
+use Rattle.line_tape.specs.Kept.{IsCheckRow, AreCheckRows}
 use Rattle.line_tape.specs.Transit.{addressee_of, names_received, received_name}
 use Rattle.line_tape.proofs.FrontLemmas.{check_place-le}
 
@@ -89,7 +89,7 @@ checks_front (Recv message ∷ es) (suc c) h = checks_front es (suc c) h
 checks_front (Mark from round ∷ es) (suc c) h = checks_front es (suc c) h
 
 -- the rows of a tape stay right when an event is added
-pub IsRow-push : (events : List Event) (e : Event) (c : ℕ) (row : CheckRow) → c < checks events → IsRow events c row → IsRow (events ++ e ∷ []) c row
+pub IsRow-push : (events : List Event) (e : Event) (c : ℕ) (row : CheckRow) → c < checks events → IsCheckRow events c row → IsCheckRow (events ++ e ∷ []) c row
 IsRow-push events e c row h r =
     let same = check_place-push events e (suc c) h in
     let front_same : take (check_place events (suc c)) (events ++ e ∷ []) ≡ take (check_place events (suc c)) events = take-append-le (check_place events (suc c)) events (e ∷ []) (check_place-le events (suc c)) in
@@ -108,7 +108,7 @@ pub told-some : {X : Type 0} (tell : Event → Option X) (events : List Event) (
 told-some tell events e x some = filter_map-append tell events (e ∷ []) ∙ ap (λ o. filter_map tell events ++ cons_option o []) some
 
 -- the row of a check that is added
-pub IsRow-last : (events : List Event) (e : Event) (row : CheckRow) → is_check e ≡ true → incarnation_of e ≡ None → received_name e ≡ None → row.place ≡ length events + 1 → row.sends ≡ length (incarnations_sent events) → row.receipts ≡ length (names_received events) → IsRow (events ++ e ∷ []) (checks events) row
+pub IsRow-last : (events : List Event) (e : Event) (row : CheckRow) → is_check e ≡ true → incarnation_of e ≡ None → received_name e ≡ None → row.place ≡ length events + 1 → row.sends ≡ length (incarnations_sent events) → row.receipts ≡ length (names_received events) → IsCheckRow (events ++ e ∷ []) (checks events) row
 IsRow-last events e row h none no_receipt p s t =
     let last = check_place-last events e h in
     let whole : take (check_place (events ++ e ∷ []) (suc (checks events))) (events ++ e ∷ []) ≡ events ++ e ∷ [] = take_all _ (events ++ e ∷ []) (omega (arith, last, length_push events e)) in
@@ -120,7 +120,7 @@ IsRow-last events e row h none no_receipt p s t =
     }
 
 -- an event that is no check and no send
-pub AreRows-other : (events : List Event) (e : Event) (rows : List CheckRow) (incarnations addressed : List ℕ) → is_check e ≡ false → incarnation_of e ≡ None → addressee_of e ≡ None → AreRows events rows incarnations addressed → AreRows (events ++ e ∷ []) rows incarnations addressed
+pub AreRows-other : (events : List Event) (e : Event) (rows : List CheckRow) (incarnations addressed : List ℕ) → is_check e ≡ false → incarnation_of e ≡ None → addressee_of e ≡ None → AreCheckRows events rows incarnations addressed → AreCheckRows (events ++ e ∷ []) rows incarnations addressed
 AreRows-other events e rows incarnations addressed h none no_one r =
     let more : checks (events ++ e ∷ []) ≡ checks events + 0 = checks-push events e ∙ ap (λ b. checks events + cond b 1 0) h in
     record {
@@ -131,7 +131,7 @@ AreRows-other events e rows incarnations addressed h none no_one r =
     }
 
 -- a send
-pub AreRows-send : (events : List Event) (e : Event) (rows : List CheckRow) (incarnations addressed : List ℕ) (inc to : ℕ) → is_check e ≡ false → incarnation_of e ≡ Some inc → addressee_of e ≡ Some to → AreRows events rows incarnations addressed → AreRows (events ++ e ∷ []) rows (incarnations ++ inc ∷ []) (addressed ++ to ∷ [])
+pub AreRows-send : (events : List Event) (e : Event) (rows : List CheckRow) (incarnations addressed : List ℕ) (inc to : ℕ) → is_check e ≡ false → incarnation_of e ≡ Some inc → addressee_of e ≡ Some to → AreCheckRows events rows incarnations addressed → AreCheckRows (events ++ e ∷ []) rows (incarnations ++ inc ∷ []) (addressed ++ to ∷ [])
 AreRows-send events e rows incarnations addressed inc to h some one r =
     let more : checks (events ++ e ∷ []) ≡ checks events + 0 = checks-push events e ∙ ap (λ b. checks events + cond b 1 0) h in
     record {
@@ -142,7 +142,7 @@ AreRows-send events e rows incarnations addressed inc to h some one r =
     }
 
 -- a check
-pub AreRows-check : (events : List Event) (e : Event) (rows : List CheckRow) (incarnations addressed : List ℕ) (row : CheckRow) → is_check e ≡ true → incarnation_of e ≡ None → addressee_of e ≡ None → received_name e ≡ None → row.place ≡ length events + 1 → row.sends ≡ length incarnations → row.receipts ≡ length (names_received events) → AreRows events rows incarnations addressed → AreRows (events ++ e ∷ []) (rows ++ row ∷ []) incarnations addressed
+pub AreRows-check : (events : List Event) (e : Event) (rows : List CheckRow) (incarnations addressed : List ℕ) (row : CheckRow) → is_check e ≡ true → incarnation_of e ≡ None → addressee_of e ≡ None → received_name e ≡ None → row.place ≡ length events + 1 → row.sends ≡ length incarnations → row.receipts ≡ length (names_received events) → AreCheckRows events rows incarnations addressed → AreCheckRows (events ++ e ∷ []) (rows ++ row ∷ []) incarnations addressed
 AreRows-check events e rows incarnations addressed row h none no_one no_receipt p s t r =
     let more : checks (events ++ e ∷ []) ≡ checks events + 1 = checks-push events e ∙ ap (λ b. checks events + cond b 1 0) h in
     record {
@@ -150,10 +150,10 @@ AreRows-check events e rows incarnations addressed row h none no_one no_receipt 
       named = r.named ∙ sym (told-none addressee_of events e no_one);
       count = omega (arith, r.count, more, length_push rows row);
       each = λ c d k. elim (cases_lt c (length rows)) [
-        | inl l ↦ subst (IsRow (events ++ e ∷ []) c) (sym (get_or_append_left rows (row ∷ []) d c l)) (IsRow-push events e c (get_or rows c d) (omega (arith, r.count)) (r.each c d l))
+        | inl l ↦ subst (IsCheckRow (events ++ e ∷ []) c) (sym (get_or_append_left rows (row ∷ []) d c l)) (IsRow-push events e c (get_or rows c d) (omega (arith, r.count)) (r.each c d l))
         | inr g ↦
             let at : c ≡ checks events = omega (arith, r.count, length_push rows row) in
-            subst (λ (x : ℕ). IsRow (events ++ e ∷ []) x (get_or (rows ++ row ∷ []) c d)) (sym at) (subst (IsRow (events ++ e ∷ []) (checks events)) (sym (get_or_push rows row d c (omega (arith, r.count)))) (IsRow-last events e row h none no_receipt p (s ∙ ap length r.sent) t))
+            subst (λ (x : ℕ). IsCheckRow (events ++ e ∷ []) x (get_or (rows ++ row ∷ []) c d)) (sym at) (subst (IsCheckRow (events ++ e ∷ []) (checks events)) (sym (get_or_push rows row d c (omega (arith, r.count)))) (IsRow-last events e row h none no_receipt p (s ∙ ap length r.sent) t))
       ];
     }
 
@@ -185,7 +185,7 @@ state_at (Check state round ∷ es) (suc c) d h =
     ap state_of (get_or-behind (Check state round) es (check_place es (suc c)) d (check_place-some es c within)) ∙ state_at es c d within
 
 -- the row of a check
-pub row_of : (events : List Event) (rows : List CheckRow) (incarnations addressed : List ℕ) (check : ℕ) (row : CheckRow) → check ≢ 0 → check ≤ checks events → AreRows events rows incarnations addressed → row ≡ get_or rows (check - 1) row → row.place ≡ check_place events check
+pub row_of : (events : List Event) (rows : List CheckRow) (incarnations addressed : List ℕ) (check : ℕ) (row : CheckRow) → check ≢ 0 → check ≤ checks events → AreCheckRows events rows incarnations addressed → row ≡ get_or rows (check - 1) row → row.place ≡ check_place events check
 row_of events rows incarnations addressed zero row some within are is = absurd (some refl)
 row_of events rows incarnations addressed (suc c) row some within are is =
     let index : suc c - 1 ≡ c = omega arith in
@@ -193,13 +193,13 @@ row_of events rows incarnations addressed (suc c) row some within are is =
     subst (λ (r : CheckRow). r.place ≡ check_place events (suc c)) (sym at) ((are.each c row (omega (arith, are.count))).place_is)
 
 -- the row of a check leads to an event
-pub row_within : (events : List Event) (rows : List CheckRow) (incarnations addressed : List ℕ) (check : ℕ) (row : CheckRow) → check ≢ 0 → check ≤ checks events → AreRows events rows incarnations addressed → row ≡ get_or rows (check - 1) row → row.place - 1 < length events
+pub row_within : (events : List Event) (rows : List CheckRow) (incarnations addressed : List ℕ) (check : ℕ) (row : CheckRow) → check ≢ 0 → check ≤ checks events → AreCheckRows events rows incarnations addressed → row ≡ get_or rows (check - 1) row → row.place - 1 < length events
 row_within events rows incarnations addressed zero row some within are is = absurd (some refl)
 row_within events rows incarnations addressed (suc c) row some within are is =
     omega (arith, row_of events rows incarnations addressed (suc c) row some within are is, check_place-le events (suc c), check_place-some events c within)
 
 -- that event stores what is stored with the check
-pub row_state : (events : List Event) (rows : List CheckRow) (incarnations addressed : List ℕ) (check : ℕ) (row : CheckRow) (event : Event) → check ≢ 0 → check ≤ checks events → AreRows events rows incarnations addressed → row ≡ get_or rows (check - 1) row → event ≡ get_or events (row.place - 1) event → state_of event ≡ Some (stored_state events check)
+pub row_state : (events : List Event) (rows : List CheckRow) (incarnations addressed : List ℕ) (check : ℕ) (row : CheckRow) (event : Event) → check ≢ 0 → check ≤ checks events → AreCheckRows events rows incarnations addressed → row ≡ get_or rows (check - 1) row → event ≡ get_or events (row.place - 1) event → state_of event ≡ Some (stored_state events check)
 row_state events rows incarnations addressed zero row event some within are is at = absurd (some refl)
 row_state events rows incarnations addressed (suc c) row event some within are is at =
     ap state_of (at ∙ ap (λ k. get_or events (k - 1) event) (row_of events rows incarnations addressed (suc c) row some within are is)) ∙ state_at events c event within

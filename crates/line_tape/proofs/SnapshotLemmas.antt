@@ -15,10 +15,10 @@ use Rattle.line_tape.specs.Event.{is_check, checks, incarnations_sent, Holds}
 use Rattle.line_tape.specs.Front.{check_place, front, HasChoice}
 use Rattle.line_tape.specs.History.{Process, tape_at, with_event}
 use Rattle.line_tape.specs.Line.{events_before, IsLine, IsConsistent}
-use Rattle.line_tape.specs.Restart.{is_kept, restarted}
+use Rattle.line_tape.specs.Restart.{is_kept, restarted_history}
 use Rattle.line_tape.specs.Rounds.{check_line, IsSnapshot}
 use Rattle.line_tape.specs.Survival.{survives, IsLatest}
-use Rattle.line_tape.specs.Transit.{Letter, letters, is_open, has_received, open_letters, in_transit_between}
+use Rattle.line_tape.specs.Transit.{Letter, letters, is_open_letter, has_received, open_letters, in_transit_between}
 use Rattle.line_tape.specs.Views.{MarksView}
 use Rattle.line_tape.proofs.FrontLemmas.{check_place-le}
 use Rattle.line_tape.proofs.LinkLemmas.{tape_restarted}
@@ -32,9 +32,9 @@ module _ (old new : List Process) (line : List Choice) (same : (p : ℕ) → eve
   -- where the same stands before a line, the same is in transit there
   pub transit_same : (p q : ℕ) → in_transit_between new line p q ≡ in_transit_between old line p q
   transit_same p q =
-      let opened : (letter : Letter) → is_open new line letter ≡ is_open old line letter = λ letter. ap (λ (es : List Event). not (has_received es letter.message)) (same letter.to) in
+      let opened : (letter : Letter) → is_open_letter new line letter ≡ is_open_letter old line letter = λ letter. ap (λ (es : List Event). not (has_received es letter.message)) (same letter.to) in
       let letters_same : open_letters new line p ≡ open_letters old line p =
-      ap (λ (es : List Event). filter (is_open new line) (letters p 0 es)) (same p) ∙ filter_agree (is_open new line) (is_open old line) opened (letters p 0 (events_before old line p)) in
+      ap (λ (es : List Event). filter (is_open_letter new line) (letters p 0 es)) (same p) ∙ filter_agree (is_open_letter new line) (is_open_letter old line) opened (letters p 0 (events_before old line p)) in
       ap (λ (v : List Letter). map (λ (letter : Letter). letter.message) (filter (λ (letter : Letter). letter.to == q) v)) letters_same
 
   -- and the line is as consistent as before
@@ -102,16 +102,16 @@ kept_in_front tape Now c kept h = subst (λ (es : List Event). c ≤ checks es) 
 
 -- a snapshot stays one by a restart that keeps its checks
 pub snapshot_restarted : (history : List Process) (line : List Choice) (indices : List ℕ) (channels : ℕ → ℕ → List MsgName) → length line ≡ length history
-    → ((p : ℕ) → IsTrue (is_kept (choice_at line p) (get_or indices p 0))) → IsSnapshot history indices channels → IsSnapshot (restarted history line) indices channels
+    → ((p : ℕ) → IsTrue (is_kept (choice_at line p) (get_or indices p 0))) → IsSnapshot history indices channels → IsSnapshot (restarted_history history line) indices channels
 snapshot_restarted history line indices channels e kept is =
     let fronts = kept_front history line indices e kept in
-    let same : length (restarted history line) ≡ length history = length_restarted history line e in
+    let same : length (restarted_history history line) ≡ length history = length_restarted history line e in
     record {
       line = record {
         length_is = is.line.length_is ∙ sym same;
         exist = λ p.
-            let count : checks (tape_at (restarted history line) p) ≡ checks (events_before history line p) = ap checks (tape_restarted history line p e) ∙ checks_left (events_before history line p) in
-            subst (HasChoice (tape_at (restarted history line) p)) (sym (choice_of_checks indices p))
+            let count : checks (tape_at (restarted_history history line) p) ≡ checks (events_before history line p) = ap checks (tape_restarted history line p e) ∙ checks_left (events_before history line p) in
+            subst (HasChoice (tape_at (restarted_history history line) p)) (sym (choice_of_checks indices p))
             (omega (arith, count, kept_in_front (tape_at history p) (choice_at line p) (get_or indices p 0) (kept p) (check_there history indices is.line p)));
       };
       consistent = λ q m seen.

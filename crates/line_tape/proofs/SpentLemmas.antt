@@ -15,7 +15,7 @@ use Rattle.line_tape.specs.Event.{incarnation_of, incarnations_sent, Holds}
 use Rattle.line_tape.specs.Front.{place, front}
 use Rattle.line_tape.specs.History.{Process, fresh, tape_at, incarnation_at, with_event}
 use Rattle.line_tape.specs.Line.{events_before}
-use Rattle.line_tape.specs.Restart.{restarted, restarted_incarnation}
+use Rattle.line_tape.specs.Restart.{restarted_history, restarted_incarnation}
 use Rattle.line_tape.specs.Spent.{next_name, IsSpentName, HasNoLaterSend}
 use Rattle.line_tape.proofs.FrontLemmas.{slice_get-append_left}
 use Rattle.line_tape.proofs.LineLemmas.{tape_at-past, front-empty}
@@ -60,16 +60,16 @@ holds_whole history line p inc k held =
     let n : ℕ = place tape (choice_at line p) in
     subst (λ (es : List Event). Holds es inc k) (take-append-drop n tape) (holds_more (take n tape) (drop n tape) inc k held)
 
-pub incs_restarted : (history : List Process) (line : List Choice) (p : ℕ) → length line ≡ length history → incarnations_sent (tape_at (restarted history line) p) ≡ incarnations_sent (events_before history line p)
+pub incs_restarted : (history : List Process) (line : List Choice) (p : ℕ) → length line ≡ length history → incarnations_sent (tape_at (restarted_history history line) p) ≡ incarnations_sent (events_before history line p)
 incs_restarted history line p e = ap incarnations_sent (tape_restarted history line p e) ∙ sent_left (events_before history line p)
 
-pub incarnation_restarted : (history : List Process) (line : List Choice) (p : ℕ) → length line ≡ length history → p < length history → incarnation_at (restarted history line) p ≡ restarted_incarnation (choice_at line p) (incarnation_at history p)
+pub incarnation_restarted : (history : List Process) (line : List Choice) (p : ℕ) → length line ≡ length history → p < length history → incarnation_at (restarted_history history line) p ≡ restarted_incarnation (choice_at line p) (incarnation_at history p)
 incarnation_restarted [] line p e h = absurd (omega arith)
 incarnation_restarted (process ∷ rest) [] p e h = absurd (omega arith)
 incarnation_restarted (process ∷ rest) (choice ∷ line) zero e h = refl
 incarnation_restarted (process ∷ rest) (choice ∷ line) (suc p) e h = incarnation_restarted rest line p (omega arith) (omega arith)
 
-pub length_restarted : (history : List Process) (line : List Choice) → length line ≡ length history → length (restarted history line) ≡ length history
+pub length_restarted : (history : List Process) (line : List Choice) → length line ≡ length history → length (restarted_history history line) ≡ length history
 length_restarted [] line e = refl
 length_restarted (process ∷ rest) [] e = absurd (omega arith)
 length_restarted (process ∷ rest) (choice ∷ line) e = ap suc (length_restarted rest line (omega arith))
@@ -120,19 +120,19 @@ spent_within history m spent = elim (cases_lt m.from (length history)) [
         omega (arith, below, first)
 
 -- what is spent stays so by a restart
-pub spent_restarted : (history : List Process) (line : List Choice) (m : MsgName) → HasNoLaterSend history → length line ≡ length history → IsSpentName history m → IsSpentName (restarted history line) m
+pub spent_restarted : (history : List Process) (line : List Choice) (m : MsgName) → HasNoLaterSend history → length line ≡ length history → IsSpentName history m → IsSpentName (restarted_history history line) m
 spent_restarted history line m no_later e spent = from_each spent (choice_at line m.from) refl
   where
     within : m.from < length history
     within = spent_within history m spent
 
-    rises : incarnation_at history m.from ≤ incarnation_at (restarted history line) m.from
+    rises : incarnation_at history m.from ≤ incarnation_at (restarted_history history line) m.from
     rises = subst (λ (v : ℕ). incarnation_at history m.from ≤ v) (sym (incarnation_restarted history line m.from e within)) (incarnation_rises (choice_at line m.from) (incarnation_at history m.from))
 
-    from_each : IsSpentName history m → (choice : Choice) → choice_at line m.from ≡ choice → IsSpentName (restarted history line) m
+    from_each : IsSpentName history m → (choice : Choice) → choice_at line m.from ≡ choice → IsSpentName (restarted_history history line) m
     from_each (inr below) choice is = inr (omega (arith, below, rises))
     from_each (inl held) (AtCheck c) is =
-        let up : incarnation_at (restarted history line) m.from ≡ incarnation_at history m.from + 1 = incarnation_restarted history line m.from e within ∙ ap (λ (v : Choice). restarted_incarnation v (incarnation_at history m.from)) is in
+        let up : incarnation_at (restarted_history history line) m.from ≡ incarnation_at history m.from + 1 = incarnation_restarted history line m.from e within ∙ ap (λ (v : Choice). restarted_incarnation v (incarnation_at history m.from)) is in
         inr (omega (arith, up, held_no_later history no_later m.from m.inc m.number held))
     from_each (inl held) Now is =
         let tape : List Event = tape_at history m.from in
@@ -152,17 +152,17 @@ no_later_event history at e no_later h new p = subst (λ (n : ℕ). All (λ inc.
     added (Some inc) f = All-cons (λ v. v ≤ incarnation_at history p) inc [] (f inc refl) (All-nil (λ v. v ≤ incarnation_at history p))
 
 -- nor after a restart
-pub no_later_restarted : (history : List Process) (line : List Choice) → HasNoLaterSend history → length line ≡ length history → HasNoLaterSend (restarted history line)
-no_later_restarted history line no_later e p = subst (λ (xs : List ℕ). All (λ inc. inc ≤ incarnation_at (restarted history line) p) xs) (sym (incs_restarted history line p e)) (elim (cases_lt p (length history)) [
+pub no_later_restarted : (history : List Process) (line : List Choice) → HasNoLaterSend history → length line ≡ length history → HasNoLaterSend (restarted_history history line)
+no_later_restarted history line no_later e p = subst (λ (xs : List ℕ). All (λ inc. inc ≤ incarnation_at (restarted_history history line) p) xs) (sym (incs_restarted history line p e)) (elim (cases_lt p (length history)) [
   | inl within ↦
       let tape : List Event = tape_at history p in
       let n : ℕ = place tape (choice_at line p) in
-      let rises : incarnation_at history p ≤ incarnation_at (restarted history line) p = subst (λ (v : ℕ). incarnation_at history p ≤ v) (sym (incarnation_restarted history line p e within)) (incarnation_rises (choice_at line p) (incarnation_at history p)) in
-      All-weaker (λ inc. inc ≤ incarnation_at history p) (λ inc. inc ≤ incarnation_at (restarted history line) p) (λ inc l. omega (arith, l, rises)) (incarnations_sent (take n tape))
+      let rises : incarnation_at history p ≤ incarnation_at (restarted_history history line) p = subst (λ (v : ℕ). incarnation_at history p ≤ v) (sym (incarnation_restarted history line p e within)) (incarnation_rises (choice_at line p) (incarnation_at history p)) in
+      All-weaker (λ inc. inc ≤ incarnation_at history p) (λ inc. inc ≤ incarnation_at (restarted_history history line) p) (λ inc l. omega (arith, l, rises)) (incarnations_sent (take n tape))
       (subst (λ (xs : List ℕ). All (λ inc. inc ≤ incarnation_at history p) xs) (sym (sent_front tape n)) (All-take (λ inc. inc ≤ incarnation_at history p) (length (incarnations_sent (take n tape))) (incarnations_sent tape) (no_later p)))
   | inr past ↦
       let none : events_before history line p ≡ [] = ap (λ (tape : List Event). front tape (choice_at line p)) (tape_at-past history p past) ∙ front-empty (choice_at line p) in
-      subst (λ (es : List Event). All (λ inc. inc ≤ incarnation_at (restarted history line) p) (incarnations_sent es)) (sym none) (All-nil (λ inc. inc ≤ incarnation_at (restarted history line) p))
+      subst (λ (es : List Event). All (λ inc. inc ≤ incarnation_at (restarted_history history line) p) (incarnations_sent es)) (sym none) (All-nil (λ inc. inc ≤ incarnation_at (restarted_history history line) p))
 ])
 
 -- before anything is done all tapes are empty

@@ -16,7 +16,7 @@ use Rattle.line_tape.specs.Colours.{greatest, colour, colour_at, send_place, mes
 use Rattle.line_tape.specs.Event.{incarnations_sent, sends, Holds}
 use Rattle.line_tape.specs.History.{Process, tape_at}
 use Rattle.line_tape.specs.Line.{events_before}
-use Rattle.line_tape.specs.Restart.{restarted, restarted_event}
+use Rattle.line_tape.specs.Restart.{restarted_history, restarted_event}
 use Rattle.line_tape.specs.Rounds.{checked_round, rounds_checked}
 use Rattle.line_tape.specs.Turns.{Turn, turns_from, turns_of, rounds_of, colour_by}
 use Rattle.line_tape.proofs.ColourLemmas.{greatest-push}
@@ -72,7 +72,7 @@ no_turns count (Recv m ∷ es) = no_turns count es
 no_turns count (Check state r ∷ es) = no_turns count es
 no_turns count (Mark from r ∷ es) = no_turns count es
 
-pub turns_restarted : (history : List Process) (line : List Choice) (p : ℕ) → length line ≡ length history → turns_of (tape_at (restarted history line) p) ≡ []
+pub turns_restarted : (history : List Process) (line : List Choice) (p : ℕ) → length line ≡ length history → turns_of (tape_at (restarted_history history line) p) ≡ []
 turns_restarted history line p e = ap turns_of (tape_restarted history line p e) ∙ no_turns 0 (events_before history line p)
 
 -- turns that come later have more sends before them

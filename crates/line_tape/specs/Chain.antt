@@ -40,8 +40,8 @@ first_ceilings history marks failed =
     map (latest_choice history marks failed) (range_with_len 0 (length history))
 
 -- the ceilings once process p is lowered to its next lower surviving choice
-abbrev pub lowered : List Process → MarksView → List Bool → List Choice → ℕ → List Choice
-lowered history marks failed ceilings p =
+abbrev pub lowered_ceilings : List Process → MarksView → List Bool → List Choice → ℕ → List Choice
+lowered_ceilings history marks failed ceilings p =
     slice_set ceilings p (next_lower history marks failed p (choice_at ceilings p))
 
 -- the entry passes its process's present ceiling, for an orphan there
@@ -55,7 +55,8 @@ abbrev pub LeadsTo : List Process → MarksView → List Bool → List Choice �
 LeadsTo history marks failed ceilings [] line = ceilings ≡ line
 LeadsTo history marks failed ceilings (entry ∷ entries) line =
     IsRight history ceilings entry
-    × LeadsTo history marks failed (lowered history marks failed ceilings entry.at) entries line
+    × LeadsTo history marks failed
+    (lowered_ceilings history marks failed ceilings entry.at) entries line
 
 -- these entries lead from the latest surviving choices to the line
 abbrev pub IsLed : List Process → MarksView → List Bool → List Passed → List Choice → Type 0

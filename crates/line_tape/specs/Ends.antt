@@ -19,19 +19,19 @@ link_in links zero place = 0
 link_in links (suc block) place = slice_index_or links (block * 16 + place) 0
 
 -- the link that a sender has; 0 where it has none
-abbrev pub end_of : EndsView → ℕ → ℕ
-end_of ends sender = link_in ends.links (block_of ends sender) (sender % 16)
+abbrev pub link_of_sender : EndsView → ℕ → ℕ
+link_of_sender ends sender = link_in ends.links (block_of ends sender) (sender % 16)
 
 -- one sender has this link now, and the others have theirs
 pub record IsEndPut (old new : EndsView) (sender link : ℕ) : Type 0 where
-  pub there : end_of new sender ≡ link
-  pub elsewhere : (other : ℕ) → other ≢ sender → end_of new other ≡ end_of old other
+  pub there : link_of_sender new sender ≡ link
+  pub elsewhere : (other : ℕ) → other ≢ sender → link_of_sender new other ≡ link_of_sender old other
 
 -- how many blocks are taken
-abbrev pub taken : List ℕ → ℕ
-taken [] = 0
-taken (zero ∷ blocks) = taken blocks
-taken (suc block ∷ blocks) = suc (taken blocks)
+abbrev pub block_count : List ℕ → ℕ
+block_count [] = 0
+block_count (zero ∷ blocks) = block_count blocks
+block_count (suc block ∷ blocks) = suc (block_count blocks)
 
 -- for how many further senders there is room in this capacity: for any number where all have room
 abbrev pub room_in : ℕ → ℕ → ℕ
@@ -39,7 +39,7 @@ room_in capacity len = (capacity - len) / 16 + capacity / 256 * 1844674407370955
 
 -- each block is that of one sixteen, and has its sixteen links
 pub record AreBlocks (blocks links : List ℕ) : Type 0 where
-  pub full : length links ≡ taken blocks * 16
-  pub within : (group : ℕ) → slice_index_or blocks group 0 ≤ taken blocks
+  pub full : length links ≡ block_count blocks * 16
+  pub within : (group : ℕ) → slice_index_or blocks group 0 ≤ block_count blocks
   pub apart : (group other : ℕ) → slice_index_or blocks group 0 ≢ 0
       → slice_index_or blocks group 0 ≡ slice_index_or blocks other 0 → group ≡ other

@@ -29,8 +29,8 @@ items_sent p q number (Check state (Some round) ∷ rest) = Marker round ∷ ite
 items_sent p q number (Mark from round ∷ rest) = items_sent p q number rest
 
 -- what was sent from process p to q
-abbrev pub sent : List Process → ℕ → ℕ → List Item
-sent history p q = items_sent p q 0 (tape_at history p)
+abbrev pub sent_between : List Process → ℕ → ℕ → List Item
+sent_between history p q = items_sent p q 0 (tape_at history p)
 
 -- what an event takes from the link from process p
 abbrev pub item_received : ℕ → Event → Option Item
@@ -40,12 +40,12 @@ item_received p (Check state round) = None
 item_received p (Mark from round) = if from == p then Some (Marker round) else None
 
 -- what process q received from p
-abbrev pub received : List Process → ℕ → ℕ → List Item
-received history q p = filter_map (item_received p) (tape_at history q)
+abbrev pub received_from : List Process → ℕ → ℕ → List Item
+received_from history q p = filter_map (item_received p) (tape_at history q)
 
 -- what the link from process p to q holds: what remains of what was sent after what was received
 abbrev pub link : List Process → ℕ → ℕ → List Item
-link history p q = drop (length (received history q p)) (sent history p q)
+link history p q = drop (length (received_from history q p)) (sent_between history p q)
 
 -- the one list begins the other
 abbrev pub IsPrefix : {X : Type 0} → List X → List X → Type 0
@@ -64,7 +64,7 @@ MarksFollow tape =
 -- links deliver in the order of sending, no tape has two checks of a round, and markers follow the
 -- checks of their rounds
 pub record IsFitFifo (history : List Process) : Type 0 where
-  pub order : (p q : ℕ) → IsPrefix (received history q p) (sent history p q)
+  pub order : (p q : ℕ) → IsPrefix (received_from history q p) (sent_between history p q)
   pub rounds : (p : ℕ) → AreDistinct (rounds_checked (tape_at history p))
   pub marks : (p : ℕ) → MarksFollow (tape_at history p)
 

@@ -11,7 +11,7 @@ use Rattle.line_tape.specs.Restart.{restarted_event}
 use Rattle.line_tape.specs.Transit.{addressees, names_received}
 
 -- the row of the check that stands at this index, counted from 0
-pub record IsRow (events : List Event) (index : ℕ) (row : CheckRow) : Type 0 where
+pub record IsCheckRow (events : List Event) (index : ℕ) (row : CheckRow) : Type 0 where
   pub place_is : row.place ≡ check_place events (suc index)
   pub sends_is : row.sends ≡ sends (take (check_place events (suc index)) events)
   pub receipts_is : row.receipts
@@ -19,7 +19,7 @@ pub record IsRow (events : List Event) (index : ℕ) (row : CheckRow) : Type 0 w
 
 -- the rows of checks with the places that these checks have among the events, and otherwise as they
 -- were
-pub record WithPlaces (events : List Event) (old new : List CheckRow) : Type 0 where
+pub record HaveCheckPlaces (events : List Event) (old new : List CheckRow) : Type 0 where
   pub same_length : length new ≡ length old
   pub places : (index : ℕ) (d : CheckRow) → index < length old
       → (slice_index_or new index d).place ≡ check_place events (suc index)
@@ -29,13 +29,13 @@ pub record WithPlaces (events : List Event) (old new : List CheckRow) : Type 0 w
       → (slice_index_or new index d).receipts ≡ (slice_index_or old index d).receipts
 
 -- one row for each check, and the incarnation and the addressee of each send
-pub record AreRows (events : List Event) (rows : List CheckRow)
+pub record AreCheckRows (events : List Event) (rows : List CheckRow)
     (incarnations addressed : List ℕ) : Type 0 where
   pub sent : incarnations ≡ incarnations_sent events
   pub named : addressed ≡ addressees events
   pub count : length rows ≡ checks events
   pub each : (index : ℕ) (d : CheckRow) → index < length rows
-      → IsRow events index (slice_index_or rows index d)
+      → IsCheckRow events index (slice_index_or rows index d)
 
 -- a restart leaves the event as it is
 abbrev pub IsSettled : Event → Type 0
@@ -52,7 +52,7 @@ pub record AreSettled (events : List Event) (settled : ℕ) : Type 0 where
 pub record IsIndexed (events : List Event) (rows : List CheckRow) (incarnations addressed : List ℕ)
     (receipts : ReceiptsView) (settled spare room room_beside : ℕ) : Type 0 where
   pub tape : IsTape events
-  pub checked : AreRows events rows incarnations addressed
+  pub checked : AreCheckRows events rows incarnations addressed
   pub received : receipts.names ≡ names_received events
   pub unchanged : AreSettled events settled
   pub counted : spare ≤ room

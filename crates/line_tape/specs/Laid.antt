@@ -11,12 +11,14 @@ use Rattle.line_tape.specs.declared.logs.KeptEvent.TheVariants.{BareCheck as Kep
 use Rattle.line_tape.specs.declared.logs.KeptEvent.TheVariants.{Mark as KeptMark}
 
 -- the event that is kept so, beside these bytes and states
-abbrev pub event_of : List ℕ → List (List ℕ) → KeptEvent → Event
-event_of bodies states (KeptSend to start inc len) = Send to inc (take len (drop start bodies))
-event_of bodies states (KeptRecv message) = Recv message
-event_of bodies states (KeptCheck before round) = Check (slice_index_or states before []) round
-event_of bodies states (KeptBareCheck round) = Check [] round
-event_of bodies states (KeptMark from round) = Mark from round
+abbrev pub event_from_kept : List ℕ → List (List ℕ) → KeptEvent → Event
+event_from_kept bodies states (KeptSend to start inc len) =
+    Send to inc (take len (drop start bodies))
+event_from_kept bodies states (KeptRecv message) = Recv message
+event_from_kept bodies states (KeptCheck before round) =
+    Check (slice_index_or states before []) round
+event_from_kept bodies states (KeptBareCheck round) = Check [] round
+event_from_kept bodies states (KeptMark from round) = Mark from round
 
 -- how an event is kept after so many bytes and states: a check without bytes by itself
 abbrev pub kept_as : ℕ → ℕ → Event → KeptEvent
@@ -42,12 +44,12 @@ states_of (Check (byte ∷ state) round) = (byte ∷ state) ∷ []
 states_of (Mark from round) = []
 
 -- its bytes and its state are among so many
-abbrev pub Fits : ℕ → ℕ → KeptEvent → Type 0
-Fits bytes states (KeptSend to start inc len) = start + len ≤ bytes
-Fits bytes states (KeptRecv message) = Unit {0}
-Fits bytes states (KeptCheck before round) = before < states
-Fits bytes states (KeptBareCheck round) = Unit {0}
-Fits bytes states (KeptMark from round) = Unit {0}
+abbrev pub IsKeptWithin : ℕ → ℕ → KeptEvent → Type 0
+IsKeptWithin bytes states (KeptSend to start inc len) = start + len ≤ bytes
+IsKeptWithin bytes states (KeptRecv message) = Unit {0}
+IsKeptWithin bytes states (KeptCheck before round) = before < states
+IsKeptWithin bytes states (KeptBareCheck round) = Unit {0}
+IsKeptWithin bytes states (KeptMark from round) = Unit {0}
 
 -- after so many bytes and states those of the events stand one after another, up to so many
 abbrev pub IsLaid : List KeptEvent → ℕ → ℕ → ℕ → ℕ → Type 0

@@ -18,6 +18,6 @@ abbrev pub checks_marked : List (ℕ × ℕ) → List ℕ
 checks_marked marks = map (λ mark. mark.0) (by_number marks)
 
 -- each mark is numbered below the next one to come
-abbrev pub AreNumbered : ℕ → List (ℕ × ℕ) → Type 0
-AreNumbered next [] = Unit {0}
-AreNumbered next (mark ∷ marks) = (mark.1 < next) × AreNumbered next marks
+abbrev pub AreNumberedBelow : ℕ → List (ℕ × ℕ) → Type 0
+AreNumberedBelow next [] = Unit {0}
+AreNumberedBelow next (mark ∷ marks) = (mark.1 < next) × AreNumberedBelow next marks

@@ -6,7 +6,7 @@ use Rattle.line_names.specs.declared.limits.TheConstants.{MOST_PROCESSES}
 use Rattle.line_tape.specs.declared.limits.TheConstants.{MOST_EVENTS}
 use Rattle.line_names.specs.declared.messages.MsgName.{MsgName}
 use Rattle.line_tape.specs.declared.receipts.chains.Receipt.{Receipt}
-use Rattle.line_tape.specs.Ends.{EndsView, end_of}
+use Rattle.line_tape.specs.Ends.{EndsView, link_of_sender}
 
 -- the messages received, in order, and for how many further ones, and for how many further senders,
 -- there is room
@@ -16,8 +16,8 @@ pub record ReceiptsView : Type 0 where
   pub senders : ℕ
 
 -- the message that a receipt is of
-abbrev pub message_of : Receipt → MsgName
-message_of receipt = record { from = receipt.from; inc = receipt.inc; number = receipt.number }
+abbrev pub name_of_receipt : Receipt → MsgName
+name_of_receipt receipt = record { from = receipt.from; inc = receipt.inc; number = receipt.number }
 
 -- the receipt after i others
 abbrev pub receipt_at : List Receipt → ℕ → Receipt
@@ -27,7 +27,7 @@ receipt_at receipts i =
 
 -- the message that the receipt after i others is of
 abbrev pub name_at : List Receipt → ℕ → MsgName
-name_at receipts i = message_of (receipt_at receipts i)
+name_at receipts i = name_of_receipt (receipt_at receipts i)
 
 -- the number of this receipt's message is above those of all receipts before it from its sender
 pub record IsAhead (receipts : List Receipt) (i : ℕ) : Type 0 where
@@ -46,7 +46,7 @@ pub record IsBack (receipts : List Receipt) (n sender link : ℕ) : Type 0 where
       → (k < n) × IsAhead receipts k × ((name_at receipts k).from ≡ sender)
 
 -- the link to the last of them
-pub record IsLast (receipts : List Receipt) (n sender link : ℕ) : Type 0 where
+pub record IsLastOfSender (receipts : List Receipt) (n sender link : ℕ) : Type 0 where
   pub back : IsBack receipts n sender link
   pub most : (i : ℕ) → i < n → (name_at receipts i).from ≡ sender
       → (k : ℕ) × (link ≡ suc k) × ((name_at receipts i).number ≤ (name_at receipts k).number)
@@ -55,7 +55,7 @@ pub record IsLast (receipts : List Receipt) (n sender link : ℕ) : Type 0 where
 -- back
 pub record AreChained (receipts : List Receipt) : Type 0 where
   pub near : (i : ℕ) → i < length receipts → IsAhead receipts i
-      → IsLast receipts i (name_at receipts i).from (receipt_at receipts i).near
+      → IsLastOfSender receipts i (name_at receipts i).from (receipt_at receipts i).near
   pub far : (i : ℕ) → i < length receipts → IsAhead receipts i
       → IsBack receipts i (name_at receipts i).from (receipt_at receipts i).far
   pub senders : (i : ℕ) → i < length receipts → (name_at receipts i).from < MOST_PROCESSES
@@ -63,18 +63,18 @@ pub record AreChained (receipts : List Receipt) : Type 0 where
 -- the links to the last of each sender
 pub record AreLast (receipts : List Receipt) (ends : EndsView) : Type 0 where
   pub each : (sender : ℕ) → sender < MOST_PROCESSES
-      → IsLast receipts (length receipts) sender (end_of ends sender)
+      → IsLastOfSender receipts (length receipts) sender (link_of_sender ends sender)
 
 -- the link in a seat of the tree: the root, or one of the two links of the receipt above
-abbrev pub seated : List Receipt → ℕ → ℕ → Bool → ℕ
-seated receipts root zero far = root
-seated receipts root (suc i) far =
+abbrev pub link_in_seat : List Receipt → ℕ → ℕ → Bool → ℕ
+link_in_seat receipts root zero far = root
+link_in_seat receipts root (suc i) far =
     if far then (receipt_at receipts i).far else (receipt_at receipts i).near
 
 -- the link from a receipt of the tree downwards, or from none
 abbrev pub next_down : List Receipt → ℕ → ℕ → Bool → ℕ
 next_down receipts root zero far = 0
-next_down receipts root (suc i) far = seated receipts root (suc i) far
+next_down receipts root (suc i) far = link_in_seat receipts root (suc i) far
 
 -- the bits of a number in another order: the twentieth and those below it downwards, then those
 -- above it
@@ -95,10 +95,10 @@ abbrev pub is_far : ℕ → Bool
 is_far key = (key % 2) == 1
 
 -- the link that d bits of the key lead to
-abbrev pub walked : List Receipt → ℕ → ℕ → ℕ → ℕ
-walked receipts root key zero = root
-walked receipts root key (suc d) =
-    next_down receipts root (walked receipts root key d) (is_far (rest_of_key key d))
+abbrev pub link_by_key : List Receipt → ℕ → ℕ → ℕ → ℕ
+link_by_key receipts root key zero = root
+link_by_key receipts root key (suc d) =
+    next_down receipts root (link_by_key receipts root key d) (is_far (rest_of_key key d))
 
 -- none, or a receipt of the tree
 pub record IsNode (receipts : List Receipt) (link : ℕ) : Type 0 where
@@ -108,14 +108,15 @@ pub record IsNode (receipts : List Receipt) (link : ℕ) : Type 0 where
 -- of its key lead
 pub record AreInTree (receipts : List Receipt) (root : ℕ) : Type 0 where
   pub nodes : (link : ℕ) (far : Bool) → IsNode receipts link
-      → IsNode receipts (seated receipts root link far)
-  pub later : (link : ℕ) (far : Bool) → IsNode receipts link → seated receipts root link far ≢ 0
-      → link < seated receipts root link far
+      → IsNode receipts (link_in_seat receipts root link far)
+  pub later : (link : ℕ) (far : Bool) → IsNode receipts link
+      → link_in_seat receipts root link far ≢ 0
+      → link < link_in_seat receipts root link far
   pub apart : (a b : ℕ) (x y : Bool) → IsNode receipts a → IsNode receipts b
-      → seated receipts root a x ≢ 0
-      → seated receipts root a x ≡ seated receipts root b y → (a ≡ b) × (a ≢ 0 → x ≡ y)
+      → link_in_seat receipts root a x ≢ 0
+      → link_in_seat receipts root a x ≡ link_in_seat receipts root b y → (a ≡ b) × (a ≢ 0 → x ≡ y)
   pub reached : (i : ℕ) → i < length receipts → IsAside receipts i
-      → (d : ℕ) × (walked receipts root (key_of (name_at receipts i)) d ≡ suc i)
+      → (d : ℕ) × (link_by_key receipts root (key_of (name_at receipts i)) d ≡ suc i)
 
 -- the receipts with the links that lead to them
 pub record AreNoted (receipts : List Receipt) (last : EndsView) (root : ℕ) : Type 0 where
@@ -131,23 +132,23 @@ pub record AreAlike (receipts others : List Receipt) (n : ℕ) : Type 0 where
 -- one seat of the tree has another link, and all else is as it was
 pub record IsPut (receipts : List Receipt) (root : ℕ) (others : List Receipt) (other_root : ℕ)
     (above : ℕ) (far : Bool) (link : ℕ) : Type 0 where
-  pub there : seated others other_root above far ≡ link
+  pub there : link_in_seat others other_root above far ≡ link
   pub elsewhere : (other : ℕ) (side : Bool)
-      → (seated others other_root other side ≡ seated receipts root other side)
+      → (link_in_seat others other_root other side ≡ link_in_seat receipts root other side)
       ⊎ ((other ≡ above) × (other ≢ 0 → side ≡ far))
-  pub names : map message_of others ≡ map message_of receipts
+  pub names : map name_of_receipt others ≡ map name_of_receipt receipts
 
 -- the walk by a key comes to a seat in d steps
-abbrev pub IsLed : List Receipt → ℕ → ℕ → ℕ → Bool → ℕ → Type 0
-IsLed receipts root key above far zero = above ≡ 0
-IsLed receipts root key above far (suc d) =
-    (walked receipts root key d ≡ above) × (above ≢ 0) × (far ≡ is_far (rest_of_key key d))
+abbrev pub IsWalkedTo : List Receipt → ℕ → ℕ → ℕ → Bool → ℕ → Type 0
+IsWalkedTo receipts root key above far zero = above ≡ 0
+IsWalkedTo receipts root key above far (suc d) =
+    (link_by_key receipts root key d ≡ above) × (above ≢ 0) × (far ≡ is_far (rest_of_key key d))
 
 -- where a walk for a message ends: at the receipt of it, or in the empty seat that would have it
 pub record IsSeatOf (receipts : List Receipt) (root : ℕ) (message : MsgName) (above : ℕ)
     (far : Bool) : Type 0 where
   pub node : IsNode receipts above
-  pub led : (d : ℕ) × IsLed receipts root (key_of message) above far d
-  pub named : (i : ℕ) → seated receipts root above far ≡ suc i → name_at receipts i ≡ message
+  pub led : (d : ℕ) × IsWalkedTo receipts root (key_of message) above far d
+  pub named : (i : ℕ) → link_in_seat receipts root above far ≡ suc i → name_at receipts i ≡ message
   pub found : (i : ℕ) → i < length receipts → IsAside receipts i → name_at receipts i ≡ message
-      → seated receipts root above far ≡ suc i
+      → link_in_seat receipts root above far ≡ suc i

@@ -4,9 +4,9 @@ use Rattle.line_tape.specs.declared.histories.ProcessTape.{ProcessTape}
 use Rattle.line_tape.specs.History.{Process}
 
 -- its incarnation and its events
-abbrev pub plain : ProcessTape → Process
-plain kept = record { incarnation = kept.incarnation; tape = kept.tape.events }
+abbrev pub process_kept : ProcessTape → Process
+process_kept kept = record { incarnation = kept.incarnation; tape = kept.tape.events }
 
 -- the room of its tape
-abbrev pub room_of : ProcessTape → ℕ
-room_of kept = kept.tape.room
+abbrev pub tape_room : ProcessTape → ℕ
+tape_room kept = kept.tape.room

@@ -8,7 +8,7 @@ use Rattle.line_tape.specs.declared.histories.HistoryError.TheVariants.{OutOfMem
 use Rattle.line_tape.specs.declared.histories.HistoryError.TheVariants.{TapeFull}
 
 -- the same word
-abbrev pub refusal_of : TapeError → HistoryError
-refusal_of tape_memory = OutOfMemory
-refusal_of tape_long = StateTooLong
-refusal_of tape_full = TapeFull
+abbrev pub tape_error : TapeError → HistoryError
+tape_error tape_memory = OutOfMemory
+tape_error tape_long = StateTooLong
+tape_error tape_full = TapeFull

@@ -43,10 +43,11 @@ restarted_process process choice =
     }
 
 -- each process goes on from its choice of the line
-abbrev pub restarted : List Process → List Choice → List Process
-restarted [] line = []
-restarted (process ∷ rest) [] = []
-restarted (process ∷ rest) (choice ∷ line) = restarted_process process choice ∷ restarted rest line
+abbrev pub restarted_history : List Process → List Choice → List Process
+restarted_history [] line = []
+restarted_history (process ∷ rest) [] = []
+restarted_history (process ∷ rest) (choice ∷ line) =
+    restarted_process process choice ∷ restarted_history rest line
 
 -- check c stands before the choice, or is it
 abbrev pub is_kept : Choice → ℕ → Bool

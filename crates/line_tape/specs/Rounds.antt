@@ -44,8 +44,8 @@ is_mark_of p r (Check state round) = false
 is_mark_of p r (Mark from round) = (from == p) && (round == r)
 
 -- the index of the tape's check of round r: one more than the checks before it
-abbrev pub check_of : ℕ → List Event → ℕ
-check_of r tape = suc (checks (before_first (is_check_of r) tape))
+abbrev pub check_index : ℕ → List Event → ℕ
+check_index r tape = suc (checks (before_first (is_check_of r) tape))
 
 -- the events after the tape's check of round r
 abbrev pub after_check : ℕ → List Event → List Event
@@ -58,7 +58,8 @@ is_checked history r =
 
 -- each process's check of round r
 abbrev pub checks_of : List Process → ℕ → List ℕ
-checks_of history r = map (λ q. check_of r (tape_at history q)) (range_with_len 0 (length history))
+checks_of history r =
+    map (λ q. check_index r (tape_at history q)) (range_with_len 0 (length history))
 
 -- the line of some checks, one of each process
 abbrev pub check_line : List ℕ → List Choice

@@ -6,8 +6,8 @@ use Rattle.line_tape.specs.declared.events.EventRef.TheVariants.{Send as SendRef
 use Rattle.line_tape.specs.declared.events.EventRef.TheVariants.{Check as CheckRef, Mark as MarkRef}
 
 -- the event that is shown so, its bytes lent
-abbrev pub shown : EventRef → Event
-shown (SendRef to inc body) = Send to inc body.now
-shown (RecvRef message) = Recv message
-shown (CheckRef state round) = Check state.now round
-shown (MarkRef from round) = Mark from round
+abbrev pub event_of_ref : EventRef → Event
+event_of_ref (SendRef to inc body) = Send to inc body.now
+event_of_ref (RecvRef message) = Recv message
+event_of_ref (CheckRef state round) = Check state.now round
+event_of_ref (MarkRef from round) = Mark from round

@@ -3,6 +3,7 @@
 use Rattle.std.specs.Prelude.{◌≡◌, ℕ, zero, suc, ◌==◌, nat_le, Bool, true, false, not, ◌&&◌, IsTrue}
 use Rattle.std.specs.Prelude.{List, [], length, slice_index_or, Option, Some, None}
 use Rattle.std.specs.List.{list_any}
+use Rattle.std.specs.Option.{option_map_or}
 use Rattle.line_names.specs.declared.choices.Choice.{Choice}
 use Rattle.line_names.specs.declared.choices.Choice.TheVariants.{Check as AtCheck, Now}
 use Rattle.line_names.specs.Lines.{choice_at, IsNowhereLater}
@@ -24,7 +25,7 @@ is_allowed (Some bar) Now = false
 
 -- no choice of process p later than check c is allowed
 abbrev pub is_barred : MarksView → ℕ → ℕ → Bool
-is_barred marks p c = not (is_allowed (bar_at marks p) (AtCheck (suc c)))
+is_barred marks p c = option_map_or (λ bar. nat_le bar c) (bar_at marks p) false
 
 -- the initial state survives, and of what the process's bar allows each check without a mark, and
 -- `Now` where the process did not fail

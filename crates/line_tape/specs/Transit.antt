@@ -43,14 +43,14 @@ abbrev pub has_received : List Event → MsgName → Bool
 has_received events message = list_any (is_name message) (names_received events)
 
 -- the letter is not received before the choice of the process that it is for
-abbrev pub is_open : List Process → List Choice → Letter → Bool
-is_open history line letter =
+abbrev pub is_open_letter : List Process → List Choice → Letter → Bool
+is_open_letter history line letter =
     not (has_received (events_before history line letter.to) letter.message)
 
 -- the letters of process p that are sent before the line and not received before it, by number
 abbrev pub open_letters : List Process → List Choice → ℕ → List Letter
 open_letters history line p =
-    filter (is_open history line) (letters p 0 (events_before history line p))
+    filter (is_open_letter history line) (letters p 0 (events_before history line p))
 
 -- the messages in transit at a line, by sender, then number
 abbrev pub in_transit : List Process → List Choice → List MsgName

@@ -12,7 +12,7 @@ ghost use Rattle.line_tape.specs.Colours.{IsNextColoured};
 ghost use Rattle.line_tape.specs.Event.{sends, Holds};
 ghost use Rattle.line_tape.specs.Fit.{IsFitUnordered, IsNextUnordered};
 ghost use Rattle.line_tape.specs.History.{Process, fresh, tape_at, with_event};
-ghost use Rattle.line_tape.specs.Restart.{restarted};
+ghost use Rattle.line_tape.specs.Restart.{restarted_history};
 ghost use Rattle.line_tape.specs.Rounds.{checked_round, checks_of, has_check_of, is_checked};
 ghost use Rattle.line_tape.specs.Rounds.{rounds_checked, IsSnapshot};
 ghost use Rattle.line_tape.specs.Spent.{next_name};
@@ -40,7 +40,7 @@ pub fn colours_hold()
         → IsNextUnordered history at event → IsNextColoured history at event
         → AreColoured (with_event history at event) }
     ensures restart { (history : List Process) (line : List Choice) → length line ≡ length history
-        → AreColoured (restarted history line) }
+        → AreColoured (restarted_history history line) }
     ensures ascend { (history : List Process) → AreColoured history → (p : ℕ)
         → AllPairs (λ r s. r < s) (rounds_checked (tape_at history p)) }
 {}
@@ -63,7 +63,7 @@ pub fn colours_change()
         → Holds (tape_at history message.from) message.inc message.number
         → message_colour (with_event history at event) message ≡ message_colour history message }
     ensures restart { (history : List Process) (line : List Choice) (p : ℕ)
-        → length line ≡ length history → colour (tape_at (restarted history line) p) ≡ 0 }
+        → length line ≡ length history → colour (tape_at (restarted_history history line) p) ≡ 0 }
     ensures below { (history : List Process) (message : MsgName)
         → message_colour history message ≤ colour (tape_at history message.from) }
     ensures at_least { (tape : List Event) (r : ℕ) → IsTrue (has_check_of r tape)
@@ -89,7 +89,8 @@ pub fn turns_tell()
     ensures other { (tape : List Event) (event : Event) → checked_round event ≡ None
         → turns_of (tape ++ event ∷ []) ≡ turns_of tape }
     ensures restart { (history : List Process) (line : List Choice) (p : ℕ)
-        → length line ≡ length history → turns_of (tape_at (restarted history line) p) ≡ [] }
+        → length line ≡ length history
+        → turns_of (tape_at (restarted_history history line) p) ≡ [] }
     ensures sends { (tape : List Event)
         → AllPairs (λ (s t : Turn). s.sends ≤ t.sends) (turns_of tape) }
     ensures rounds { (tape : List Event) → AllPairs (λ r s. r < s) (rounds_checked tape)

@@ -8,7 +8,7 @@ ghost use Rattle.line_tape.specs.Event.{Holds};
 ghost use Rattle.line_tape.specs.Fit.{IsNextUnordered, IsSentTo};
 ghost use Rattle.line_tape.specs.History.{Process, fresh, tape_at, with_event};
 ghost use Rattle.line_tape.specs.Line.{IsConsistent};
-ghost use Rattle.line_tape.specs.Restart.{restarted};
+ghost use Rattle.line_tape.specs.Restart.{restarted_history};
 ghost use Rattle.line_tape.specs.Transit.{in_transit_between};
 
 /// What links without an order can lead to stays so by each event that may come next, and by each
@@ -30,7 +30,7 @@ pub fn copies_hold()
         → IsUnordered history old → IsConsistent history line → length line ≡ length history
         → ((p q : ℕ) → p < length history → q < length history
         → new p q ≡ old p q ++ in_transit_between history line p q)
-        → IsUnordered (restarted history line) new }
+        → IsUnordered (restarted_history history line) new }
     ensures addressed { (history : List Process) (copies : ℕ → ℕ → List MsgName) (p q : ℕ)
         (message : MsgName)
         → IsUnordered history copies → p < length history → q < length history

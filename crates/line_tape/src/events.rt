@@ -1,7 +1,7 @@
 //! Events, and the states that checks store.
 ghost use Rattle.std.specs.Prelude.{◌≡◌, ◌↔◌, IsTrue, IfOk, MatchOption, Some, None};
 ghost use Rattle.line_tape.specs.Event.{is_check, state_of, HasLongState, IsShort, NamesBelow};
-ghost use Rattle.line_tape.specs.Shown.{shown};
+ghost use Rattle.line_tape.specs.Shown.{event_of_ref};
 
 use line_names::{Body, MsgName, ProcId};
 use std::alloc::{AllocError, Global};
@@ -101,7 +101,7 @@ impl Event {
 
     /// The same event, its bytes lent.
     pub fn as_ref(&self) -> EventRef<'_>
-        ensures { shown result ≡ self.now }
+        ensures { event_of_ref result ≡ self.now }
     {
         match self {
             Event::Send { to, inc, body } => EventRef::Send {
@@ -150,7 +150,7 @@ pub enum EventRef<'a> {
 impl<'a> EventRef<'a> {
     /// Whether it is a check.
     pub(crate) fn is_check(&self) -> bool
-        ensures { result ≡ is_check (shown self.now) }
+        ensures { result ≡ is_check (event_of_ref self.now) }
     {
         match self {
             EventRef::Send { .. } => false,
@@ -162,8 +162,8 @@ impl<'a> EventRef<'a> {
 
     /// The bytes that it stores, where it is a check.
     pub fn state(&self) -> Option<&'a [u8]>
-        ensures { MatchOption result (state_of (shown self.now) ≡ None)
-            (λ bytes. state_of (shown self.now) ≡ Some bytes.now) }
+        ensures { MatchOption result (state_of (event_of_ref self.now) ≡ None)
+            (λ bytes. state_of (event_of_ref self.now) ≡ Some bytes.now) }
     {
         match self {
             EventRef::Send { .. } => None,
@@ -175,8 +175,8 @@ impl<'a> EventRef<'a> {
 
     /// The same event in memory of its own.
     pub fn to_event(&self, alloc: Global) -> Result<Event, AllocError>
-        requires { IsShort (shown self.now) }
-        ensures { IfOk result (λ event. event ≡ shown self.now) }
+        requires { IsShort (event_of_ref self.now) }
+        ensures { IfOk result (λ event. event ≡ event_of_ref self.now) }
     {
         match self {
             EventRef::Send { to, inc, body } => Ok(Event::Send {

@@ -4,7 +4,7 @@ ghost use Rattle.std.specs.Prelude.{OnOk, OnErr, IfOk, IsOk, IsErrOf};
 ghost use Rattle.line_tape.specs.Event.{HasLongState, NamesBelow};
 ghost use Rattle.line_tape.specs.History.{fresh, process_at, tape_at, incarnation_at, with_event};
 ghost use Rattle.line_tape.specs.History.{with_incarnation, IsProcess, IsHistory};
-ghost use Rattle.line_tape.specs.Plain.{plain};
+ghost use Rattle.line_tape.specs.Plain.{process_kept};
 ghost use Rattle.line_tape.specs.Transit.{addressee};
 ghost use Rattle.line_tape.specs.Views.{room_at};
 
@@ -42,19 +42,19 @@ impl Model for History {
     ghost Value = { HistoryView };
 
     ghost use Rattle.line_tape.specs.History.{IsHistory};
-    ghost use Rattle.line_tape.specs.Plain.{plain, room_of};
+    ghost use Rattle.line_tape.specs.Plain.{process_kept, tape_room};
 
     ghost view = { λ h. record {
-      processes = map plain h.processes.items;
-      rooms = map room_of h.processes.items;
+      processes = map process_kept h.processes.items;
+      rooms = map tape_room h.processes.items;
     } };
 
-    ghost invariant = { λ h. IsHistory (map plain h.processes.items) };
+    ghost invariant = { λ h. IsHistory (map process_kept h.processes.items) };
 }
 
 /// So many processes that have done nothing yet.
 fn fresh_tapes(alloc: Global, n: u32) -> Result<Vec<ProcessTape>, AllocError>
-    ensures { IfOk result (λ processes. map plain processes.items ≡ replicate n fresh) }
+    ensures { IfOk result (λ processes. map process_kept processes.items ≡ replicate n fresh) }
 {
     let mut processes = Vec::with_capacity(alloc, n as usize)?;
     for _p in 0..n {
@@ -262,9 +262,9 @@ impl HistoryError {
 
 impl From<TapeError> for HistoryError {
     ghost use Rattle.std.specs.Prelude.{◌≡◌};
-    ghost use Rattle.line_tape.specs.Refusals.{refusal_of};
+    ghost use Rattle.line_tape.specs.Refusals.{tape_error};
 
-    ghost from_gives = { λ t e. e ≡ refusal_of t };
+    ghost from_gives = { λ t e. e ≡ tape_error t };
 
     fn from(error: TapeError) -> HistoryError {
         match error {

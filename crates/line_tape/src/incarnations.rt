@@ -6,7 +6,7 @@ ghost use Rattle.line_tape.specs.declared.events.Event.{Event};
 ghost use Rattle.line_tape.specs.declared.events.Event.TheVariants.{Send};
 ghost use Rattle.line_tape.specs.Event.{incarnation_of};
 ghost use Rattle.line_tape.specs.History.{Process, fresh, incarnation_at, with_event};
-ghost use Rattle.line_tape.specs.Restart.{restarted};
+ghost use Rattle.line_tape.specs.Restart.{restarted_history};
 ghost use Rattle.line_tape.specs.Spent.{next_name, IsSpentName, HasNoLaterSend};
 
 /// The next name of a process is none of those that were sent, and a name that was sent stays so by
@@ -25,13 +25,13 @@ pub fn names_apart()
         → IsSpentName (with_event history at event) message }
     ensures restart { (history : List Process) (line : List Choice) (message : MsgName)
         → HasNoLaterSend history → length line ≡ length history → IsSpentName history message
-        → IsSpentName (restarted history line) message }
+        → IsSpentName (restarted_history history line) message }
     ensures sends_event { (history : List Process) (at : ℕ) (event : Event) → HasNoLaterSend history
         → at < length history
         → ((inc : ℕ) → incarnation_of event ≡ Some inc → inc ≤ incarnation_at history at)
         → HasNoLaterSend (with_event history at event) }
     ensures sends_restart { (history : List Process) (line : List Choice) → HasNoLaterSend history
         → length line ≡ length history
-        → HasNoLaterSend (restarted history line) }
+        → HasNoLaterSend (restarted_history history line) }
     ensures sends_start { (n : ℕ) → HasNoLaterSend (replicate n fresh) }
 {}

@@ -38,7 +38,7 @@ pub use incarnations::names_apart;
 pub use items::Item;
 pub use laws::{chain_makes_latest, chain_passes_each, latest_is_unique, now_is_latest};
 pub use limits::{LAST_INCARNATION, LAST_ROUND, MOST_EVENTS, MOST_STATE};
-pub use lines::{is_consistent, is_line, is_sent_before, orphan_among, orphan_at};
+pub use lines::{is_consistent, is_line, is_sent_before, orphan_among, orphan_on_tape};
 pub use links::{fronts_decide_transit, kept_checks, ordered_fits, restart_fits, transit_parts};
 pub use logs::Events;
 pub use marks::{MarkError, Marks};

@@ -3,7 +3,7 @@ ghost use Rattle.std.specs.Prelude.{◌≡◌, ◌⊎◌, ◌<◌, ◌++◌, ◌
 ghost use Rattle.line_tape.specs.declared.events.Event.{Event};
 ghost use Rattle.line_tape.specs.Line.{events_before, IsLine, IsSentBefore, IsFoundAmong};
 ghost use Rattle.line_tape.specs.Line.{IsConsistent};
-ghost use Rattle.line_tape.specs.Shown.{shown};
+ghost use Rattle.line_tape.specs.Shown.{event_of_ref};
 
 use crate::events::EventRef;
 use crate::histories::History;
@@ -66,7 +66,7 @@ fn with_event(
 ) -> Option<MsgName>
     requires { IsLine history.now.processes line.now }
     ensures { (seen : List Event) → IsFoundAmong history.now.processes line.now seen best
-        → IsFoundAmong history.now.processes line.now (seen ++ shown event.now ∷ []) result }
+        → IsFoundAmong history.now.processes line.now (seen ++ event_of_ref event.now ∷ []) result }
 {
     match event {
         EventRef::Recv { message } => {
@@ -101,7 +101,7 @@ pub fn orphan_among(history: &History, line: &Line, events: &Events<'_>) -> Opti
 /// sender the one with the greatest number.
 ///
 /// It looks once at each event before the process's choice.
-pub fn orphan_at(history: &History, line: &Line, q: ProcId) -> Option<MsgName>
+pub fn orphan_on_tape(history: &History, line: &Line, q: ProcId) -> Option<MsgName>
     requires line { IsLine history.now.processes line.now }
     requires process { q < length history.now.processes }
     ensures { IsFoundAmong history.now.processes line.now
@@ -120,7 +120,7 @@ pub fn is_consistent(history: &History, line: &Line) -> bool
     let n = history.n();
     for q in 0..n {
         let p = ProcId::try_new(q, n).unwrap();
-        if orphan_at(history, line, p).is_some() {
+        if orphan_on_tape(history, line, p).is_some() {
             return false;
         }
     }

@@ -11,8 +11,8 @@ ghost use Rattle.line_tape.specs.Event.{Holds};
 ghost use Rattle.line_tape.specs.Fit.{IsFitFifo, IsFitUnordered, IsSentTo, link};
 ghost use Rattle.line_tape.specs.History.{Process, tape_at, with_event};
 ghost use Rattle.line_tape.specs.Line.{events_before, IsConsistent};
-ghost use Rattle.line_tape.specs.Restart.{is_kept, restarted};
-ghost use Rattle.line_tape.specs.Rounds.{check_of, has_check_of, round_line};
+ghost use Rattle.line_tape.specs.Restart.{is_kept, restarted_history};
+ghost use Rattle.line_tape.specs.Rounds.{check_index, has_check_of, round_line};
 ghost use Rattle.line_tape.specs.Transit.{goes_between, in_transit, in_transit_between};
 
 /// What links that keep their order can lead to, links without an order can lead to as well: what a
@@ -30,15 +30,15 @@ pub fn ordered_fits()
 pub fn restart_fits()
     ensures fit { (history : List Process) (line : List Choice) → IsFitFifo history
         → IsConsistent history line → length line ≡ length history
-        → IsFitFifo (restarted history line) }
+        → IsFitFifo (restarted_history history line) }
     ensures links { (history : List Process) (line : List Choice) → IsFitFifo history
         → IsConsistent history line → length line ≡ length history → (p q : ℕ)
-        → link (restarted history line) p q
+        → link (restarted_history history line) p q
         ≡ map (λ m. Message m) (in_transit_between history line p q) }
     ensures agrees { (history : List Process) (line : List Choice) → IsConsistent history line
         → length line ≡ length history → (q : ℕ) (message : MsgName)
-        → Contains (tape_at (restarted history line) q) (Recv message)
-        → Holds (tape_at (restarted history line) message.from) message.inc message.number }
+        → Contains (tape_at (restarted_history history line) q) (Recv message)
+        → Holds (tape_at (restarted_history history line) message.from) message.inc message.number }
 {}
 
 /// What is in transit at checks that a restart keeps is the same after it.
@@ -48,7 +48,7 @@ pub fn kept_checks()
     ensures { (history : List Process) (line : List Choice) (checks : List ℕ)
         → length line ≡ length history
         → ((p : ℕ) → IsTrue (is_kept (choice_at line p) (slice_index_or checks p 0))) → (p q : ℕ)
-        → in_transit_between (restarted history line) (map (λ c. Check c) checks) p q
+        → in_transit_between (restarted_history history line) (map (λ c. Check c) checks) p q
         ≡ in_transit_between history (map (λ c. Check c) checks) p q }
 {}
 
@@ -63,11 +63,11 @@ pub fn transit_parts()
         ≡ in_transit_between history line p q }
     ensures after { (history : List Process) (line : List Choice) → length line ≡ length history
         → (p q : ℕ)
-        → filter (goes_between (restarted history line) p q) (in_transit history line)
+        → filter (goes_between (restarted_history history line) p q) (in_transit history line)
         ≡ in_transit_between history line p q }
     ensures held { (history : List Process) (line : List Choice) → length line ≡ length history
         → (message : MsgName) → Contains (in_transit history line) message
-        → (q : ℕ) × IsSentTo (restarted history line) q message }
+        → (q : ℕ) × IsSentTo (restarted_history history line) q message }
 {}
 
 /// What is in transit from one process to another at a line depends on what stands before it at
@@ -85,7 +85,7 @@ pub fn fronts_decide_transit()
         → at < length history
         → has_check_of r (tape_at history at) ≡ false → choice_at line at ≡ Now
         → ((q : ℕ) → q < length history → q ≢ at
-        → choice_at line q ≡ Check (check_of r (tape_at history q)))
+        → choice_at line q ≡ Check (check_index r (tape_at history q)))
         → (p q : ℕ) → p < length history → q < length history
         → in_transit_between (with_event history at (CheckEvent state (Some r)))
         (round_line (with_event history at (CheckEvent state (Some r))) r) p q

@@ -7,7 +7,7 @@ ghost use Rattle.line_tape.specs.declared.events.Event.TheVariants.{Check, Mark,
 ghost use Rattle.line_tape.specs.Kept.{IsSettled};
 ghost use Rattle.line_tape.specs.Laid.{kept_as, states_of};
 ghost use Rattle.line_tape.specs.Restart.{restarted_event};
-ghost use Rattle.line_tape.specs.Shown.{shown};
+ghost use Rattle.line_tape.specs.Shown.{event_of_ref};
 
 mod copies;
 mod restarts;
@@ -91,13 +91,13 @@ pub(crate) struct Log {
 impl Model for Log {
     ghost use Rattle.std.specs.Prelude.{◌-◌, ◌/◌, length, map, vec_capacity, vec_len};
     ghost use Rattle.line_names.specs.declared.limits.TheConstants.{MOST_BODY};
-    ghost use Rattle.line_tape.specs.Laid.{event_of, IsLaid};
+    ghost use Rattle.line_tape.specs.Laid.{event_from_kept, IsLaid};
     ghost use Rattle.line_tape.specs.Views.{LogView};
 
     ghost Value = { LogView };
 
     ghost view = { λ l. record {
-      events = map (event_of l.bodies.items l.states.items) l.events.items;
+      events = map (event_from_kept l.bodies.items l.states.items) l.events.items;
       room = vec_capacity l.events - vec_len l.events;
       bodies = (vec_capacity l.bodies - vec_len l.bodies) / MOST_BODY;
       states = vec_capacity l.states - vec_len l.states;
@@ -279,13 +279,14 @@ pub struct Events<'a> {
 impl<'a> Model for Events<'a> {
     ghost use Rattle.std.specs.Prelude.{All, List, length, map};
     ghost use Rattle.line_tape.specs.declared.events.Event.{Event};
-    ghost use Rattle.line_tape.specs.Laid.{event_of, Fits};
+    ghost use Rattle.line_tape.specs.Laid.{event_from_kept, IsKeptWithin};
 
     ghost Value = { List Event };
 
-    ghost view = { λ s. map (event_of s.bodies.now s.states.now) s.events.now };
+    ghost view = { λ s. map (event_from_kept s.bodies.now s.states.now) s.events.now };
 
-    ghost invariant = { λ s. All (Fits (length s.bodies.now) (length s.states.now)) s.events.now };
+    ghost invariant = { λ s. All
+        (IsKeptWithin (length s.bodies.now) (length s.states.now)) s.events.now };
 }
 
 impl<'a> Events<'a> {
@@ -306,7 +307,7 @@ impl<'a> Events<'a> {
     /// The one after `i` others.
     pub fn at(&self, i: usize) -> EventRef<'a>
         requires { i < length self.now }
-        ensures { slice_get self.now i ≡ Some (shown result) }
+        ensures { slice_get self.now i ≡ Some (event_of_ref result) }
     {
         let events = self.events;
         let bodies = self.bodies;

@@ -4,7 +4,7 @@ ghost use Rattle.std.specs.Prelude.{All, IsTrue, length, filter, slice_get, IfOk
 ghost use Rattle.std.specs.Prelude.{OnOk, OnErr, IsErrOf, Some};
 ghost use Rattle.std.specs.List.{list_any};
 ghost use Rattle.line_names.specs.declared.choices.Choice.TheVariants.{Check as AtCheck};
-ghost use Rattle.line_tape.specs.Marked.{checks_marked, AreNumbered};
+ghost use Rattle.line_tape.specs.Marked.{checks_marked, AreNumberedBelow};
 ghost use Rattle.line_tape.specs.Restart.{is_kept, restarted_marks};
 ghost use Rattle.line_tape.specs.Survival.{is_allowed, is_barred, is_damaged};
 ghost use Rattle.line_tape.specs.Views.{bar_at, damaged_at, no_marks, with_bar, with_mark};
@@ -29,11 +29,11 @@ impl Model for Damaged {
 
     ghost Value = { List ℕ };
 
-    ghost use Rattle.line_tape.specs.Marked.{checks_marked, AreNumbered};
+    ghost use Rattle.line_tape.specs.Marked.{checks_marked, AreNumberedBelow};
 
     ghost view = { λ d. checks_marked d.numbers.entries };
 
-    ghost invariant = { λ d. AreNumbered d.next d.numbers.entries };
+    ghost invariant = { λ d. AreNumberedBelow d.next d.numbers.entries };
 }
 
 /// The greatest check that has a mark.
@@ -54,8 +54,8 @@ fn greatest(numbers: &BTreeMap<u32, u64>) -> Option<u32>
 fn cut_after(numbers: &mut BTreeMap<u32, u64>, last: u32)
     ensures kept { checks_marked numbers.new.entries
         ≡ filter (is_kept (AtCheck last)) (checks_marked numbers.old.entries) }
-    ensures numbered { (next : ℕ) → AreNumbered next numbers.old.entries
-        → AreNumbered next numbers.new.entries }
+    ensures numbered { (next : ℕ) → AreNumberedBelow next numbers.old.entries
+        → AreNumberedBelow next numbers.new.entries }
 {
     while let Some(check) = greatest(numbers) {
         if check <= last {

@@ -3,7 +3,8 @@ ghost use Rattle.std.specs.Prelude.{◌≡◌, ◌≢◌, ◌<◌, ◌≤◌, �
 ghost use Rattle.std.specs.Prelude.{Contains, IfOk, IsOk, IsTrue, List, OnOk, length, map, take};
 ghost use Rattle.std.specs.Prelude.{vec_capacity, vec_len};
 ghost use Rattle.line_names.specs.declared.limits.TheConstants.{MOST_PROCESSES};
-ghost use Rattle.line_tape.specs.Noted.{AreChained, AreInTree, AreNoted, IsLast, message_of};
+ghost use Rattle.line_tape.specs.Noted.{AreChained, AreInTree, AreNoted, IsLastOfSender};
+ghost use Rattle.line_tape.specs.Noted.{name_of_receipt};
 ghost use Rattle.line_tape.specs.Noted.{name_at};
 
 mod chains;
@@ -16,7 +17,7 @@ use ends::LastLinks;
 use line_names::MsgName;
 use std::alloc::{AllocError, Global};
 use std::marker::Model;
-use trees::{link_at, put, seat_of};
+use trees::{link_at, put_receipt, seat_of};
 
 /// The receipts of a tape in their order, so that the first of a message is found.
 ///
@@ -33,12 +34,12 @@ pub struct Receipts {
 
 impl Model for Receipts {
     ghost use Rattle.std.specs.Prelude.{◌-◌, map, vec_capacity, vec_len};
-    ghost use Rattle.line_tape.specs.Noted.{AreNoted, ReceiptsView, message_of};
+    ghost use Rattle.line_tape.specs.Noted.{AreNoted, ReceiptsView, name_of_receipt};
 
     ghost Value = { ReceiptsView };
 
     ghost view = { λ r. record {
-      names = map message_of r.receipts.items;
+      names = map name_of_receipt r.receipts.items;
       room = vec_capacity r.receipts - vec_len r.receipts;
       senders = r.last.room;
     } };
@@ -52,13 +53,13 @@ impl Model for Receipts {
 /// tree: it has most of the receipts, and a receipt in it is the first one of its message.
 fn find(receipts: &[Receipt], last: u32, root: u32, wanted: &Receipt) -> u32
     requires chained { AreChained receipts.now }
-    requires last { IsLast receipts.now (length receipts.now) wanted.now.from last }
+    requires last { IsLastOfSender receipts.now (length receipts.now) wanted.now.from last }
     requires tree { AreInTree receipts.now root }
     ensures found { (i : ℕ) → result ≡ suc i
-        → (i < length receipts.now) × (name_at receipts.now i ≡ message_of wanted.now)
-        × ((j : ℕ) → j < i → name_at receipts.now j ≢ message_of wanted.now) }
+        → (i < length receipts.now) × (name_at receipts.now i ≡ name_of_receipt wanted.now)
+        × ((j : ℕ) → j < i → name_at receipts.now j ≢ name_of_receipt wanted.now) }
     ensures none { result ≡ 0 → (i : ℕ) → i < length receipts.now
-        → name_at receipts.now i ≢ message_of wanted.now }
+        → name_at receipts.now i ≢ name_of_receipt wanted.now }
 {
     if is_ahead(receipts, last, wanted) {
         return 0;
@@ -83,8 +84,8 @@ fn add(receipts: &mut Vec<Receipt>, last: &mut LastLinks, root: &mut u32, receip
     requires room { vec_len receipts.old < vec_capacity receipts.old }
     requires last_room { 0 < last.old.room }
     ensures noted { AreNoted receipts.new.items last.new root.new }
-    ensures names { map message_of receipts.new.items
-        ≡ map message_of receipts.old.items ++ message_of receipt ∷ [] }
+    ensures names { map name_of_receipt receipts.new.items
+        ≡ map name_of_receipt receipts.old.items ++ name_of_receipt receipt ∷ [] }
     ensures len { vec_len receipts.new ≡ vec_len receipts.old + 1 }
     ensures capacity { vec_capacity receipts.old ≤ vec_capacity receipts.new }
     ensures last_room { last.old.room ≤ last.new.room + 1 }
@@ -105,7 +106,7 @@ fn add(receipts: &mut Vec<Receipt>, last: &mut LastLinks, root: &mut u32, receip
     if known != 0 {
         return;
     }
-    put(receipts, root, seat, link);
+    put_receipt(receipts, root, seat, link);
 }
 
 /// Takes the last receipt out of the links, so that it can go.
@@ -114,7 +115,8 @@ fn unlink_last(receipts: &mut Vec<Receipt>, last: &mut LastLinks, root: &mut u32
     requires some { 0 < vec_len receipts.old }
     ensures noted { AreNoted (take (vec_len receipts.old - 1) receipts.new.items) last.new
         root.new }
-    ensures names { map message_of receipts.new.items ≡ map message_of receipts.old.items }
+    ensures names { map name_of_receipt receipts.new.items
+        ≡ map name_of_receipt receipts.old.items }
     ensures len { vec_len receipts.new ≡ vec_len receipts.old }
     ensures capacity { vec_capacity receipts.old ≤ vec_capacity receipts.new }
     ensures last_room { last.new.room ≡ last.old.room }
@@ -130,7 +132,7 @@ fn unlink_last(receipts: &mut Vec<Receipt>, last: &mut LastLinks, root: &mut u32
     if link_at(before, *root, seat) != link {
         return;
     }
-    put(receipts, root, seat, 0);
+    put_receipt(receipts, root, seat, 0);
 }
 
 impl Receipts {

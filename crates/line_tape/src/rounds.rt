@@ -12,8 +12,9 @@ ghost use Rattle.line_tape.specs.Event.{checks};
 ghost use Rattle.line_tape.specs.Fit.{IsFitFifo, link};
 ghost use Rattle.line_tape.specs.History.{Process, tape_at, with_event};
 ghost use Rattle.line_tape.specs.Line.{IsLine, IsConsistent};
-ghost use Rattle.line_tape.specs.Restart.{is_kept, restarted};
-ghost use Rattle.line_tape.specs.Rounds.{channel_fifo, channel_on, check_line, check_of, checks_of};
+ghost use Rattle.line_tape.specs.Restart.{is_kept, restarted_history};
+ghost use Rattle.line_tape.specs.Rounds.{channel_fifo, channel_on, check_line, check_index};
+ghost use Rattle.line_tape.specs.Rounds.{checks_of};
 ghost use Rattle.line_tape.specs.Rounds.{has_check_of, has_mark_of, is_check_of, is_checked};
 ghost use Rattle.line_tape.specs.Rounds.{is_closed_at, is_completed_fifo, is_mark_of, names_from};
 ghost use Rattle.line_tape.specs.Rounds.{round_line, rounds_checked, IsSnapshot};
@@ -58,7 +59,7 @@ pub fn snapshots_stay()
         → length line ≡ length history
         → ((p : ℕ) → IsTrue (is_kept (choice_at line p) (slice_index_or indices p 0)))
         → IsSnapshot history indices channels
-        → IsSnapshot (restarted history line) indices channels }
+        → IsSnapshot (restarted_history history line) indices channels }
 {}
 
 /// How one more event changes what its tape has of a round of markers: its check opens each
@@ -153,16 +154,16 @@ pub fn markers_follow_checks()
         → Contains (rounds_checked tape) r ↔ IsTrue (has_check_of r tape) }
     ensures new { (tape : List Event) (event : Event) (r : ℕ) → has_check_of r tape ≡ false
         → IsTrue (is_check_of r event)
-        → check_of r (tape ++ event ∷ []) ≡ suc (checks tape) }
+        → check_index r (tape ++ event ∷ []) ≡ suc (checks tape) }
     ensures kept { (tape : List Event) (event : Event) (r : ℕ) → IsTrue (has_check_of r tape)
-        → check_of r (tape ++ event ∷ []) ≡ check_of r tape }
+        → check_index r (tape ++ event ∷ []) ≡ check_index r tape }
     ensures restart_checks { (history : List Process) (line : List Choice) (r p : ℕ)
         → length line ≡ length history
-        → has_check_of r (tape_at (restarted history line) p) ≡ false }
+        → has_check_of r (tape_at (restarted_history history line) p) ≡ false }
     ensures restart_rounds { (history : List Process) (line : List Choice) (p : ℕ)
         → length line ≡ length history
-        → rounds_checked (tape_at (restarted history line) p) ≡ [] }
+        → rounds_checked (tape_at (restarted_history history line) p) ≡ [] }
     ensures restart_markers { (history : List Process) (line : List Choice) (p q r : ℕ)
         → length line ≡ length history
-        → Contains (link (restarted history line) p q) (Marker r) → ⊥ }
+        → Contains (link (restarted_history history line) p q) (Marker r) → ⊥ }
 {}

@@ -10,7 +10,7 @@ ghost use Rattle.line_tape.specs.Event.{incarnations_sent, checks, sends, stored
 ghost use Rattle.line_tape.specs.Event.{HasLongState, IsShort};
 ghost use Rattle.line_tape.specs.Front.{place, front, HasChoice};
 ghost use Rattle.line_tape.specs.History.{IsTape};
-ghost use Rattle.line_tape.specs.Shown.{shown};
+ghost use Rattle.line_tape.specs.Shown.{event_of_ref};
 ghost use Rattle.line_tape.specs.Transit.{addressees, names_received};
 
 mod appends;
@@ -125,7 +125,7 @@ impl Tape {
     /// The event after `i` others.
     pub fn event(&self, i: u32) -> EventRef<'_>
         requires { i < length self.now.events }
-        ensures { slice_get self.now.events i ≡ Some (shown result) }
+        ensures { slice_get self.now.events i ≡ Some (event_of_ref result) }
     {
         self.log.events().at(i as usize)
     }

@@ -6,7 +6,7 @@ ghost use Rattle.line_tape.specs.declared.events.Event.{Event};
 ghost use Rattle.line_tape.specs.Fit.{IsSentTo};
 ghost use Rattle.line_tape.specs.Line.{events_before, IsLine};
 ghost use Rattle.line_tape.specs.Received.{with_seen, seen_below, IsTold, AreTold};
-ghost use Rattle.line_tape.specs.Shown.{shown};
+ghost use Rattle.line_tape.specs.Shown.{event_of_ref};
 ghost use Rattle.line_tape.specs.Transit.{Letter, open_letters, in_transit};
 
 use crate::events::EventRef;
@@ -17,11 +17,11 @@ use std::marker::Model;
 
 /// Which of the sends of one process are received, by number.
 #[derive(Drop)]
-struct Received {
+struct ReceivedFlags {
     sends: Vec<bool>,
 }
 
-impl Model for Received {
+impl Model for ReceivedFlags {
     ghost use Rattle.std.specs.Prelude.{List, Bool};
 
     ghost Value = { List Bool };
@@ -29,13 +29,13 @@ impl Model for Received {
     ghost view = { λ r. r.sends.items };
 }
 
-impl Received {
+impl ReceivedFlags {
     /// None of so many sends.
-    fn none(alloc: Global, sends: u32) -> Result<Received, AllocError>
+    fn none(alloc: Global, sends: u32) -> Result<ReceivedFlags, AllocError>
         ensures { IfOk result (λ received. received ≡ replicate sends false) }
     {
         let sends = vec![in alloc; false; sends as usize]?;
-        Ok(Received { sends })
+        Ok(ReceivedFlags { sends })
     }
 
     /// The send of that number too, if it is one of these.
@@ -49,7 +49,11 @@ impl Received {
 }
 
 /// None of the sends before the line.
-fn none_received(history: &History, alloc: Global, line: &Line) -> Result<Vec<Received>, AllocError>
+fn none_received(
+    history: &History,
+    alloc: Global,
+    line: &Line,
+) -> Result<Vec<ReceivedFlags>, AllocError>
     requires { IsLine history.now.processes line.now }
     ensures { IfOk result
         (λ received. AreTold history.now.processes line.now
@@ -60,7 +64,7 @@ fn none_received(history: &History, alloc: Global, line: &Line) -> Result<Vec<Re
     for q in 0..n {
         let p = ProcId::try_new(q, n).unwrap();
         let sends = history.tape(p).sends_before(line.at(p));
-        received.push(Received::none(alloc, sends)?)?;
+        received.push(ReceivedFlags::none(alloc, sends)?)?;
     }
     Ok(received)
 }
@@ -83,12 +87,18 @@ fn is_sent_to(history: &History, message: &MsgName, q: ProcId) -> bool
 }
 
 /// Adds the message that an event of process `q` receives, if it was sent to `q`.
-fn add_receipt(history: &History, q: ProcId, event: &EventRef<'_>, received: &mut Vec<Received>)
+fn add_receipt(
+    history: &History,
+    q: ProcId,
+    event: &EventRef<'_>,
+    received: &mut Vec<ReceivedFlags>,
+)
     requires { length received.old.items ≡ length history.now.processes }
     ensures count { length received.new.items ≡ length received.old.items }
     ensures told { (line : List Choice) (seen : ℕ → List Event)
         → AreTold history.now.processes line seen received.old.items
-        → AreTold history.now.processes line (with_seen seen q (seen q ++ shown event.now ∷ []))
+        → AreTold history.now.processes line
+        (with_seen seen q (seen q ++ event_of_ref event.now ∷ []))
         received.new.items }
 {
     match event {
@@ -104,7 +114,7 @@ fn add_receipt(history: &History, q: ProcId, event: &EventRef<'_>, received: &mu
 }
 
 /// Adds the messages that process `q` receives before the line.
-fn add_receipts(history: &History, line: &Line, q: ProcId, received: &mut Vec<Received>)
+fn add_receipts(history: &History, line: &Line, q: ProcId, received: &mut Vec<ReceivedFlags>)
     requires line { IsLine history.now.processes line.now }
     requires process { q < length history.now.processes }
     requires count { length received.old.items ≡ length history.now.processes }
@@ -127,7 +137,7 @@ fn add_open(
     history: &History,
     line: &Line,
     p: ProcId,
-    received: &Received,
+    received: &ReceivedFlags,
     messages: &mut Vec<MsgName>,
 ) -> Result<(), AllocError>
     requires process { p < length history.now.processes }

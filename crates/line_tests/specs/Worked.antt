@@ -60,16 +60,16 @@ round_history =
     ∷ []
 
 -- no check is damaged, and no process is barred
-abbrev pub unmarked : MarksView
-unmarked = no_marks 2
+abbrev pub clean_marks : MarksView
+clean_marks = no_marks 2
 
 -- check 1 of process 1 is damaged
 abbrev pub second_marked : MarksView
-second_marked = with_mark unmarked 1 1
+second_marked = with_mark clean_marks 1 1
 
 -- process 1 is barred at its check 1
 abbrev pub second_barred : MarksView
-second_barred = with_bar unmarked 1 1
+second_barred = with_bar clean_marks 1 1
 
 -- nobody failed
 abbrev pub none_failed : List Bool

@@ -3,7 +3,7 @@ use Rattle.std.proofs.Common.{◌≡◌, ◌≢◌, ℕ, List, ◌++◌, Option,
 use Rattle.std.specs.Prelude.{◌↔◌, codes}
 use Rattle.line_fields.specs.declared.faults.Fault.TheVariants.{BadCount}
 use Rattle.line_check.specs.declared.faults.CertFault.{CertFault}
-use Rattle.line_claims.specs.Reads.{fault_at}
+use Rattle.line_claims.specs.Reads.{fault_of_record}
 use Rattle.line_claims.specs.Texts.{Check, check_of_text}
 use Rattle.line_scripts.specs.Scripts.{script_of_text}
 use Rattle.line_scripts.specs.Records.{DifferInVersion}
@@ -22,7 +22,7 @@ stops_other text other record_number old new same h = record { script = h.script
 
 -- a script of version 1 that has not too many processes for it
 abbrev IsCounted : List ℕ → Type 0
-IsCounted text = script_of_text (codes "world,1," ++ text) ≢ Err (fault_at 1 BadCount)
+IsCounted text = script_of_text (codes "world,1," ++ text) ≢ Err (fault_of_record 1 BadCount)
 
 pub runs_alike : (text : List ℕ) (refused : ℕ) (old new : Option (List ℕ)) → IsCounted text → RunsText (codes "world,1," ++ text) refused old new ↔ RunsText (codes "world,2," ++ text) refused old new
 runs_alike text refused old new good =
@@ -41,7 +41,7 @@ stops_alike text record_number old new good =
 
 -- a text that is not refused for the number of its processes
 abbrev HasRoom : List ℕ → Type 0
-HasRoom text = script_of_text text ≢ Err (fault_at 1 BadCount)
+HasRoom text = script_of_text text ≢ Err (fault_of_record 1 BadCount)
 
 pub runs_as_spelled : (text later : List ℕ) (refused : ℕ) (old new : Option (List ℕ)) → DifferInVersion text later → HasRoom text → RunsText text refused old new ↔ RunsText later refused old new
 runs_as_spelled text later refused old new h good =

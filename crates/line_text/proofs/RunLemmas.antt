@@ -9,7 +9,7 @@ use Rattle.line_world.specs.Machine.{Machine}
 use Rattle.line_scripts.specs.declared.commands.Command.{Command}
 use Rattle.line_devices.specs.Devices.{Puts, PutsButEnd, PutsFront}
 use Rattle.line_devices.proofs.PutLemmas.{front_of_front, holds_all, holds_more, puts_front_of_held, puts_of_held}
-use Rattle.line_answers.specs.Answers.{DoesFront, TellsAll, Told, refusals, text_of, told_records}
+use Rattle.line_answers.specs.Answers.{DoesFront, TellsAll, CommandAnswer, refusals, text_of, command_answer_records}
 use Rattle.line_answers.proofs.AnswerLemmas.{TellsAll-both, one_refusal, refusals-push, refusals_one, text_of-append, text_of-one}
 use Rattle.line_text.specs.Runs.{DoesOne, IsRunTo, Runs, RunsFront, RunsText, RunsTextFront, StopsAt, StopsText, first_of}
 use Rattle.line_scripts.specs.Scripts.{Script, script_of_text}
@@ -18,8 +18,8 @@ use Rattle.std.proofs.Math.Seq.{take-add}
 -- commands that stopped, of whose text a front was put
 pub stops_front : (first : Machine) (commands : List Command) (i : ℕ) (old new : Option (List ℕ)) → StopsAt first commands i (λ text. PutsFront old new text) → RunsFront first commands old new
 stops_front first commands i old new h =
-    let more : List Told = h.next.told in
-    let all : List Told = h.told ++ more in
+    let more : List CommandAnswer = h.next.told in
+    let all : List CommandAnswer = h.told ++ more in
     let text : text_of all ≡ (text_of h.told ++ h.own) ++ h.next.rest =
     text_of-append h.told more ∙ ap (λ (t : List ℕ). text_of h.told ++ t) h.next.text ∙ sym (append_assoc (text_of h.told) h.own h.next.rest) in
     let run : TellsAll first (take h.done commands ++ take (length more) (drop h.done commands)) all h.next.end =
@@ -74,12 +74,12 @@ starts first commands taken held none = record {
 pub does_on : (first mid later : Machine) (commands : List Command) (i : ℕ) (command : Command) (refused count : ℕ) (old now new : Option (List ℕ)) (held kept : List ℕ) → i < length commands → command ≡ get_or commands i command
     → IsRunTo first commands i mid refused old now held → DoesOne mid command later now new held refused kept count → IsRunTo first commands (i + 1) later count old new kept
 does_on first mid later commands i command refused count old now new held kept lt is before did =
-    let one : Told = did.does.told in
+    let one : CommandAnswer = did.does.told in
     let more : take (i + 1) commands ≡ take i commands ++ command ∷ [] = take_more commands i command lt ∙ ap (λ (x : Command). take i commands ++ x ∷ []) (sym is) in
-    let told : List Told = before.told ++ one ∷ [] in
-    let now_held : PutsButEnd old now (held ++ records_text (told_records one)) (text_of before.told ++ records_text (told_records one)) = holds_more old now held (text_of before.told) (records_text (told_records one)) before.text in
-    let text : text_of told ≡ text_of before.told ++ records_text (told_records one) = text_of-append before.told (one ∷ []) ∙ ap (λ (t : List ℕ). text_of before.told ++ t) (text_of-one one) in
-    let put : PutsButEnd old new kept (text_of before.told ++ records_text (told_records one)) = puts_of_held old now new (held ++ records_text (told_records one)) kept (text_of before.told ++ records_text (told_records one)) now_held did.does.put in
+    let told : List CommandAnswer = before.told ++ one ∷ [] in
+    let now_held : PutsButEnd old now (held ++ records_text (command_answer_records one)) (text_of before.told ++ records_text (command_answer_records one)) = holds_more old now held (text_of before.told) (records_text (command_answer_records one)) before.text in
+    let text : text_of told ≡ text_of before.told ++ records_text (command_answer_records one) = text_of-append before.told (one ∷ []) ∙ ap (λ (t : List ℕ). text_of before.told ++ t) (text_of-one one) in
+    let put : PutsButEnd old new kept (text_of before.told ++ records_text (command_answer_records one)) = puts_of_held old now new (held ++ records_text (command_answer_records one)) kept (text_of before.told ++ records_text (command_answer_records one)) now_held did.does.put in
     let counted : refusals (one ∷ []) ≡ cond did.one 1 0 = one_refusal one ∙ ap (λ (b : Bool). cond b 1 0) (sym did.does.counted) in
     record {
       told = told;
@@ -93,12 +93,12 @@ does_on first mid later commands i command refused count old now new held kept l
 pub front_in : (first mid later : Machine) (commands : List Command) (i : ℕ) (command : Command) (refused : ℕ) (old now new : Option (List ℕ)) (held : List ℕ) → i < length commands → command ≡ get_or commands i command
     → IsRunTo first commands i mid refused old now held → DoesFront mid command later now new held → RunsFront first commands old new
 front_in first mid later commands i command refused old now new held lt is before did =
-    let one : Told = did.told in
+    let one : CommandAnswer = did.told in
     let more : take (i + 1) commands ≡ take i commands ++ command ∷ [] = take_more commands i command lt ∙ ap (λ (x : Command). take i commands ++ x ∷ []) (sym is) in
-    let told : List Told = before.told ++ one ∷ [] in
-    let now_held : PutsButEnd old now (held ++ records_text (told_records one)) (text_of before.told ++ records_text (told_records one)) = holds_more old now held (text_of before.told) (records_text (told_records one)) before.text in
-    let text : text_of told ≡ text_of before.told ++ records_text (told_records one) = text_of-append before.told (one ∷ []) ∙ ap (λ (t : List ℕ). text_of before.told ++ t) (text_of-one one) in
-    let put : PutsFront old new (text_of before.told ++ records_text (told_records one)) = puts_front_of_held old now new (held ++ records_text (told_records one)) (text_of before.told ++ records_text (told_records one)) now_held did.put in
+    let told : List CommandAnswer = before.told ++ one ∷ [] in
+    let now_held : PutsButEnd old now (held ++ records_text (command_answer_records one)) (text_of before.told ++ records_text (command_answer_records one)) = holds_more old now held (text_of before.told) (records_text (command_answer_records one)) before.text in
+    let text : text_of told ≡ text_of before.told ++ records_text (command_answer_records one) = text_of-append before.told (one ∷ []) ∙ ap (λ (t : List ℕ). text_of before.told ++ t) (text_of-one one) in
+    let put : PutsFront old new (text_of before.told ++ records_text (command_answer_records one)) = puts_front_of_held old now new (held ++ records_text (command_answer_records one)) (text_of before.told ++ records_text (command_answer_records one)) now_held did.put in
     record {
       done = i + 1;
       told = told;

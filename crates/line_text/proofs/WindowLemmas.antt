@@ -12,7 +12,7 @@ use Rattle.line_devices.specs.Reads.{GivesAll, IsTooLong}
 use Rattle.line_devices.proofs.PutLemmas.{all_read, all_told, fills_both, slice_from}
 use Rattle.line_scripts.specs.declared.scripts.KeptScript as kept
 use Rattle.line_scripts.specs.Pieces.{EndsLine, at_end, begun_in}
-use Rattle.line_scripts.specs.Reads.{seen_kept}
+use Rattle.line_scripts.specs.Reads.{kept_script_view}
 use Rattle.line_scripts.specs.Scripts.{Script, script_of_text}
 use Rattle.line_scripts.proofs.PieceLemmas.{ended_text, nothing_begun}
 use Rattle.line_text.specs.declared.ends.TheConstants.{READ_FAULT}
@@ -149,7 +149,7 @@ ends_not before now later count some is same =
 -- ---- the script of a text that was read whole
 
 pub spelt_if_ok : (result : Result kept.KeptScript TextFault) (old new : Option (List ℕ)) (given later : ℕ) (begun : Result (Option Script) TextFault) → (text : List ℕ) × GivesAll text old new given later × (begun ≡ begun_in text)
-    → IfOk result (λ script. at_end begun ≡ Ok (seen_kept script)) → IfOk result (λ script. (text : List ℕ) × GivesAll text old new given later × (script_of_text text ≡ Ok (seen_kept script)))
+    → IfOk result (λ script. at_end begun ≡ Ok (kept_script_view script)) → IfOk result (λ script. (text : List ℕ) × GivesAll text old new given later × (script_of_text text ≡ Ok (kept_script_view script)))
 spelt_if_ok (Err fault) old new given later begun whole ok = tt
 spelt_if_ok (Ok script) old new given later begun (text, gives, is) ok = (text, gives, sym (ended_text text) ∙ ap at_end (sym is) ∙ ok)
 

@@ -5,9 +5,9 @@ use Rattle.line_devices.specs.Devices.{Puts, PutsButEnd, PutsFront, one_more}
 use Rattle.line_world.specs.Machine.{Machine, start}
 use Rattle.line_scripts.specs.declared.commands.Command.{Command}
 use Rattle.line_scripts.specs.Scripts.{Script, script_of_text}
-use Rattle.line_answers.specs.Answers.{Does, TellsAll, Told, refusals, text_of}
-use Rattle.line_text.specs.declared.engines.Stop.{Stop}
-use Rattle.line_text.specs.declared.engines.Stop.TheVariants as stops
+use Rattle.line_answers.specs.Answers.{DoesCommand, TellsAll, CommandAnswer, refusals, text_of}
+use Rattle.line_text.specs.declared.engines.RunStop.{RunStop}
+use Rattle.line_text.specs.declared.engines.RunStop.TheVariants as stops
 
 -- the machine as a script begins
 abbrev pub first_of : Script → Machine
@@ -17,7 +17,7 @@ first_of script = start script.n script.mode
 -- put
 pub record Runs (first : Machine) (commands : List Command) (refused : ℕ)
     (old new : Option (List ℕ)) : Type 0 where
-  pub told : List Told
+  pub told : List CommandAnswer
   pub end : Machine
   pub run : TellsAll first commands told end
   pub count : refused ≡ refusals told
@@ -27,7 +27,7 @@ pub record Runs (first : Machine) (commands : List Command) (refused : ℕ)
 pub record RunsFront (first : Machine) (commands : List Command)
     (old new : Option (List ℕ)) : Type 0 where
   pub done : ℕ
-  pub told : List Told
+  pub told : List CommandAnswer
   pub end : Machine
   pub run : TellsAll first (take done commands) told end
   pub text : PutsFront old new (text_of told)
@@ -35,7 +35,7 @@ pub record RunsFront (first : Machine) (commands : List Command)
 -- the first of these commands was told something or, out of memory, nothing, and these bytes
 -- are a prefix of the text of that
 pub record BeginsReply (first : Machine) (commands : List Command) (bytes : List ℕ) : Type 0 where
-  pub told : List Told
+  pub told : List CommandAnswer
   pub end : Machine
   pub rest : List ℕ
   pub one : length told ≤ 1
@@ -47,7 +47,7 @@ pub record BeginsReply (first : Machine) (commands : List Command) (bytes : List
 pub record StopsAt (first : Machine) (commands : List Command) (record_number : ℕ)
     (Holds : List ℕ → Type 0) : Type 0 where
   pub done : ℕ
-  pub told : List Told
+  pub told : List CommandAnswer
   pub end : Machine
   pub own : List ℕ
   pub at : record_number ≡ done + 2
@@ -79,27 +79,27 @@ pub record StopsText (text : List ℕ) (record_number : ℕ) (old new : Option (
 pub record DoesOne (old : Machine) (command : Command) (new : Machine) (taken now : Option (List ℕ))
     (held : List ℕ) (refused : ℕ) (later : List ℕ) (count : ℕ) : Type 0 where
   pub one : Bool
-  pub does : Does old command new taken now held later one
+  pub does : DoesCommand old command new taken now held later one
   pub counted : count ≡ refused + (if one then 1 else 0)
 
 -- the first commands were done, so many of them refused, and the text of what they were told is put
 -- but for what is held
 pub record IsRunTo (first : Machine) (commands : List Command) (done : ℕ) (now : Machine)
     (refused : ℕ) (old new : Option (List ℕ)) (held : List ℕ) : Type 0 where
-  pub told : List Told
+  pub told : List CommandAnswer
   pub run : TellsAll first (take done commands) told now
   pub count : refused ≡ refusals told
   pub few : refused ≤ done
   pub text : PutsButEnd old new held (text_of told)
 
 -- why commands were not done to their end, where this holds of the text of what they were told
-abbrev pub Stops : Stop → Machine → List Command → Option (List ℕ) → Option (List ℕ)
+abbrev pub Stops : RunStop → Machine → List Command → Option (List ℕ) → Option (List ℕ)
     → (List ℕ → Type 0) → Type 0
 Stops (stops.Memory record_number) first commands old new Holds =
     StopsAt first commands record_number Holds
 Stops stops.Write first commands old new Holds = RunsFront first commands old new
 
 -- a sink has one fault more where it failed, and none else
-abbrev pub Blames : Stop → ℕ → ℕ → Type 0
+abbrev pub Blames : RunStop → ℕ → ℕ → Type 0
 Blames (stops.Memory record_number) old new = new ≡ old
 Blames stops.Write old new = new ≡ one_more old

@@ -16,7 +16,7 @@ pub(crate) const READ_FAULT: u32 = 36;
 pub(crate) const WRITE_FAULT: u32 = 37;
 
 /// A fault of no record.
-pub(crate) fn fault_of(code: u32) -> TextFault
+pub(crate) fn fault_of_code(code: u32) -> TextFault
     ensures { result ≡ record { record_number = 0; code = code } }
 {
     TextFault {
@@ -43,9 +43,9 @@ pub(crate) fn read_input<S: Source>(alloc: Global, source: &mut S) -> Result<Vec
 {
     match read_all(alloc, source) {
         Ok(text) => Ok(text),
-        Err(ReadRefused::OutOfMemory) => Err(fault_of(0)),
-        Err(ReadRefused::Failed) => Err(fault_of(READ_FAULT)),
-        Err(ReadRefused::TooLong) => Err(fault_of(READ_FAULT)),
+        Err(ReadRefused::OutOfMemory) => Err(fault_of_code(0)),
+        Err(ReadRefused::Failed) => Err(fault_of_code(READ_FAULT)),
+        Err(ReadRefused::TooLong) => Err(fault_of_code(READ_FAULT)),
     }
 }
 

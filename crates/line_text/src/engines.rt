@@ -8,12 +8,12 @@ ghost use Rattle.line_devices.specs.Reads.{GivesAll, IsTooLong};
 ghost use Rattle.line_names.specs.declared.limits.TheConstants.{MOST_PROCESSES};
 ghost use Rattle.line_claims.specs.Reads.{IsOfText, no_memory};
 ghost use Rattle.line_text.specs.declared.ends.TheConstants.{READ_FAULT, WRITE_FAULT};
-ghost use Rattle.line_scripts.specs.Reads.{IsOfScript, seen_kept};
+ghost use Rattle.line_scripts.specs.Reads.{IsOfScript, kept_script_view};
 ghost use Rattle.line_text.specs.Inputs.{HearsEnd};
 ghost use Rattle.line_text.specs.Runs as spec;
 ghost use Rattle.line_scripts.specs.Scripts.{script_of_text};
 
-use crate::ends::{WRITE_FAULT, fault_of, put};
+use crate::ends::{WRITE_FAULT, fault_of_code, put};
 use crate::windows::read_lines;
 use line_answers::{Halt, do_command};
 use line_claims::TextFault;
@@ -26,7 +26,7 @@ use std::alloc::Global;
 
 // Why commands were not done to their end.
 #[derive(Clone, Copy)]
-enum Stop {
+enum RunStop {
     // Memory did not suffice for the command of that record.
     Memory(u64),
     // The sink failed.
@@ -97,7 +97,7 @@ fn do_commands<K: Sink>(
     commands: &mut Commands,
     sink: &mut K,
     writer: &mut RecordWriter,
-) -> Result<u64, Stop>
+) -> Result<u64, RunStop>
     requires empty { writer.old ≡ [] }
     requires few { length commands.old + 2 < 2 ^ 64 }
     ensures ok { IfOk result
@@ -115,8 +115,8 @@ fn do_commands<K: Sink>(
     'commands: loop {
         let more = match do_next(alloc, world, commands, sink, writer, &mut refused) {
             Ok(more) => more,
-            Err(Halt::Memory) => return Err(Stop::Memory(done + 2)),
-            Err(Halt::Write) => return Err(Stop::Write),
+            Err(Halt::Memory) => return Err(RunStop::Memory(done + 2)),
+            Err(Halt::Write) => return Err(RunStop::Write),
         };
         if !more {
             return Ok(refused);
@@ -152,28 +152,28 @@ fn run_commands<K: Sink>(
     match do_commands(alloc, world, commands, sink, writer) {
         Ok(refused) => match put(sink, writer.text()) {
             Ok(()) => Ok(refused),
-            Err(_) => Err(fault_of(WRITE_FAULT)),
+            Err(_) => Err(fault_of_code(WRITE_FAULT)),
         },
-        Err(Stop::Memory(record_number)) => match put(sink, writer.text()) {
+        Err(RunStop::Memory(record_number)) => match put(sink, writer.text()) {
             Ok(()) => Err(TextFault {
                 record_number,
                 code: 0,
             }),
-            Err(_) => Err(fault_of(WRITE_FAULT)),
+            Err(_) => Err(fault_of_code(WRITE_FAULT)),
         },
-        Err(Stop::Write) => Err(fault_of(WRITE_FAULT)),
+        Err(RunStop::Write) => Err(fault_of_code(WRITE_FAULT)),
     }
 }
 
 // The machine that a script begins with.
 fn world_of(alloc: Global, script: &KeptScript) -> Result<World, TextFault>
     requires { (1 ≤ script.now.n) × (script.now.n ≤ MOST_PROCESSES) }
-    ensures ok { IfOk result (λ world. world ≡ spec.first_of (seen_kept script.now)) }
+    ensures ok { IfOk result (λ world. world ≡ spec.first_of (kept_script_view script.now)) }
     ensures err { IfErr result (λ fault. fault ≡ no_memory) }
 {
     match World::new(alloc, script.n, script.mode) {
         Ok(world) => Ok(world),
-        Err(CountError::OutOfMemory) => Err(fault_of(0)),
+        Err(CountError::OutOfMemory) => Err(fault_of_code(0)),
         Err(CountError::BadCount) => unreachable!(),
     }
 }
@@ -184,7 +184,7 @@ fn script_of<S: Source>(alloc: Global, source: &mut S) -> Result<KeptScript, Tex
         (λ script. (text : List ℕ)
         × GivesAll text (S.left source.old) (S.left source.new) (S.given source.old)
         (S.given source.new)
-        × (script_of_text text ≡ Ok (seen_kept script))) }
+        × (script_of_text text ≡ Ok (kept_script_view script))) }
     ensures within { IfOk result (λ script. (1 ≤ script.n) × (script.n ≤ MOST_PROCESSES)) }
     ensures few { IfOk result (λ script. length script.commands + 2 < 2 ^ 64) }
     ensures text { IfErr result (λ fault. IsOfText fault
@@ -277,7 +277,7 @@ pub fn run_text<S: Source, K: Sink>(
     let script = script_of(alloc, source)?;
     let mut world = world_of(alloc, &script)?;
     let Ok(mut writer) = RecordWriter::with_room(alloc) else {
-        return Err(fault_of(0));
+        return Err(fault_of_code(0));
     };
     let mut commands = script.commands;
     match run_commands(alloc, &mut world, &mut commands, sink, &mut writer) {

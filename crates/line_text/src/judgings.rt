@@ -3,7 +3,7 @@
 ghost use Rattle.std.specs.Prelude.{◌≡◌, ◌≢◌, ◌++◌, ◌≤◌, ◌⊎◌, [], ℕ, List, Err, Some, IfErr, IfOk};
 ghost use Rattle.std.specs.Prelude.{OnErr, OnOk};
 ghost use Rattle.line_claims.specs.Reads.{IsOfText};
-ghost use Rattle.line_claims.specs.Texts.{check_of_text, seen_check};
+ghost use Rattle.line_claims.specs.Texts.{check_of_text, check_view};
 ghost use Rattle.line_devices.specs.Devices.{Outputs, Puts, PutsFront, one_more};
 ghost use Rattle.line_devices.specs.Reads.{GivesAll, IsTooLong};
 ghost use Rattle.line_fields.specs.Texts.{record_text};
@@ -11,7 +11,7 @@ ghost use Rattle.line_text.specs.declared.ends.TheConstants.{READ_FAULT, WRITE_F
 ghost use Rattle.line_text.specs.Inputs.{HearsEnd};
 ghost use Rattle.line_text.specs.Judgings as spec;
 
-use crate::ends::{WRITE_FAULT, fault_of, put, read_input};
+use crate::ends::{WRITE_FAULT, fault_of_code, put, read_input};
 use line_check::{CertFault, FaultCode, check_certificate};
 use line_claims::{CheckText, TextFault, name_of, number_field, read_check_text};
 use line_devices::{DeviceFault, Sink, Source};
@@ -20,7 +20,7 @@ use std::alloc::Global;
 
 // What is wrong with a claim, if anything is.
 fn verdict_of(check: &CheckText) -> Option<CertFault>
-    ensures { spec.IsVerdict (seen_check check.now) result }
+    ensures { spec.IsVerdict (check_view check.now) result }
 {
     let claim = &check.claim;
     match check_certificate(
@@ -159,10 +159,10 @@ pub fn check_text<S: Source, K: Sink>(
     let check = read_check_text(alloc, &text)?;
     let verdict = verdict_of(&check);
     let Ok(mut writer) = RecordWriter::with_room(alloc) else {
-        return Err(fault_of(0));
+        return Err(fault_of_code(0));
     };
     match tell_verdict(sink, &mut writer, verdict) {
         Ok(()) => Ok(verdict),
-        Err(_) => Err(fault_of(WRITE_FAULT)),
+        Err(_) => Err(fault_of_code(WRITE_FAULT)),
     }
 }

@@ -2,7 +2,7 @@
 
 ghost use Rattle.std.specs.Prelude.{◌≡◌, ◌≢◌, ◌↔◌, ◌++◌, ℕ, List, Option, Err, Ok, codes};
 ghost use Rattle.line_check.specs.declared.faults.CertFault.{CertFault};
-ghost use Rattle.line_claims.specs.Reads.{fault_at};
+ghost use Rattle.line_claims.specs.Reads.{fault_of_record};
 ghost use Rattle.line_claims.specs.Records.{in_version};
 ghost use Rattle.line_claims.specs.Texts.{records_in};
 ghost use Rattle.line_fields.specs.declared.faults.Fault.TheVariants.{BadCount};
@@ -18,25 +18,25 @@ ghost use Rattle.line_text.specs.Runs.{RunsText, RunsTextFront, StopsText};
 /// stands after empty lines or spells the version with leading zeros.
 pub fn scripts_of_both_versions_run_alike()
     ensures runs { (text : List ℕ) (refused : ℕ) (old new : Option (List ℕ))
-        → script_of_text (codes "world,1," ++ text) ≢ Err (fault_at 1 BadCount)
+        → script_of_text (codes "world,1," ++ text) ≢ Err (fault_of_record 1 BadCount)
         → RunsText (codes "world,1," ++ text) refused old new
         ↔ RunsText (codes "world,2," ++ text) refused old new }
     ensures fronts { (text : List ℕ) (old new : Option (List ℕ))
-        → script_of_text (codes "world,1," ++ text) ≢ Err (fault_at 1 BadCount)
+        → script_of_text (codes "world,1," ++ text) ≢ Err (fault_of_record 1 BadCount)
         → RunsTextFront (codes "world,1," ++ text) old new
         ↔ RunsTextFront (codes "world,2," ++ text) old new }
     ensures stops { (text : List ℕ) (record_number : ℕ) (old new : Option (List ℕ))
-        → script_of_text (codes "world,1," ++ text) ≢ Err (fault_at 1 BadCount)
+        → script_of_text (codes "world,1," ++ text) ≢ Err (fault_of_record 1 BadCount)
         → StopsText (codes "world,1," ++ text) record_number old new
         ↔ StopsText (codes "world,2," ++ text) record_number old new }
     ensures runs_as_spelled { (text later : List ℕ) (refused : ℕ) (old new : Option (List ℕ))
-        → DifferInVersion text later → script_of_text text ≢ Err (fault_at 1 BadCount)
+        → DifferInVersion text later → script_of_text text ≢ Err (fault_of_record 1 BadCount)
         → RunsText text refused old new ↔ RunsText later refused old new }
     ensures fronts_as_spelled { (text later : List ℕ) (old new : Option (List ℕ))
-        → DifferInVersion text later → script_of_text text ≢ Err (fault_at 1 BadCount)
+        → DifferInVersion text later → script_of_text text ≢ Err (fault_of_record 1 BadCount)
         → RunsTextFront text old new ↔ RunsTextFront later old new }
     ensures stops_as_spelled { (text later : List ℕ) (record_number : ℕ) (old new : Option (List ℕ))
-        → DifferInVersion text later → script_of_text text ≢ Err (fault_at 1 BadCount)
+        → DifferInVersion text later → script_of_text text ≢ Err (fault_of_record 1 BadCount)
         → StopsText text record_number old new ↔ StopsText later record_number old new }
 {}
 

@@ -10,7 +10,7 @@ ghost use Rattle.line_scripts.specs.Pieces.{EndsLine, begun_in};
 ghost use Rattle.line_text.specs.declared.ends.TheConstants.{READ_FAULT};
 ghost use Rattle.line_text.specs.Inputs.{HearsEnd, IsReadTo};
 
-use crate::ends::{READ_FAULT, fault_of};
+use crate::ends::{READ_FAULT, fault_of_code};
 use line_claims::TextFault;
 use line_devices::{MOST_INPUT, Source};
 use line_scripts::ScriptReader;
@@ -51,7 +51,7 @@ fn take_last(held: &[u8], reader: &mut ScriptReader) -> Result<(), TextFault>
 {
     match reader.take(held) {
         Ok(()) => Ok(()),
-        Err(_) => Err(fault_of(0)),
+        Err(_) => Err(fault_of_code(0)),
     }
 }
 
@@ -86,17 +86,17 @@ pub(crate) fn read_lines<S: Source>(
     for turn in 0..MOST_INPUT + 1 {
         prove!(turn <= read);
         let Ok(count) = source.fill(&mut chunk) else {
-            return Err(fault_of(READ_FAULT));
+            return Err(fault_of_code(READ_FAULT));
         };
         if count == 0 {
             return take_last(&held, reader);
         }
         if count > MOST_INPUT - read {
-            return Err(fault_of(READ_FAULT));
+            return Err(fault_of_code(READ_FAULT));
         }
         read += count;
         if take_lines(&mut held, &chunk[..count], reader).is_err() {
-            return Err(fault_of(0));
+            return Err(fault_of_code(0));
         }
     }
     unreachable!()

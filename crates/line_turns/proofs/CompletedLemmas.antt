@@ -10,7 +10,7 @@ use Rattle.line_tape.specs.Colours.{channel_unordered}
 use Rattle.line_tape.specs.Front.{HasChoice}
 use Rattle.line_tape.specs.History.{Process, tape_at, with_event}
 use Rattle.line_tape.specs.Line.{IsLine}
-use Rattle.line_tape.specs.Rounds.{has_check_of, check_of}
+use Rattle.line_tape.specs.Rounds.{has_check_of, check_index}
 use Rattle.line_tape.proofs.RoundLines.{check_of_within}
 use Rattle.line_tape.proofs.RoundTransit.{round_transit}
 use Rattle.line_turns.specs.Channels.{channels_at}
@@ -21,10 +21,10 @@ use Rattle.line_turns.proofs.ChannelLemmas.{channel-at}
 module _ (history : List Process) (turning : TurningView) (p : ℕ) (line : List Choice) (within : p < length history) (is : IsTurning history turning) (at : IsLastLine turning p line)
     (others : (q : ℕ) → q < length history → q ≢ p → has_check_of turning.number (tape_at history q) ≡ true) where
   -- each other process stands at its check of the round
-  pub line_choice : (q : ℕ) → q < length history → q ≢ p → choice_at line q ≡ AtCheck (check_of turning.number (tape_at history q))
+  pub line_choice : (q : ℕ) → q < length history → q ≢ p → choice_at line q ≡ AtCheck (check_index turning.number (tape_at history q))
   line_choice q q_within apart =
       at.others q (omega (arith, q_within, is.count)) apart
-      ∙ ap (λ c. AtCheck c) (is.checks q q_within ∙ ap (λ b. cond b (check_of turning.number (tape_at history q)) 0) (others q q_within apart))
+      ∙ ap (λ c. AtCheck c) (is.checks q q_within ∙ ap (λ b. cond b (check_index turning.number (tape_at history q)) 0) (others q q_within apart))
 
   -- which is a line of the history
   pub IsLine-last : IsLine history line

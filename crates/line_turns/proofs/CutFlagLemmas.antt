@@ -19,8 +19,8 @@ use Rattle.line_tape.specs.Fit.{IsSentTo}
 use Rattle.line_tape.specs.Front.{place}
 use Rattle.line_tape.specs.History.{Process, tape_at}
 use Rattle.line_tape.specs.Line.{events_before}
-use Rattle.line_tape.specs.Restart.{restarted}
-use Rattle.line_tape.specs.Transit.{Letter, letters, is_open, open_letters, in_transit, in_transit_between, has_received, addressee_of, addressees, goes_between}
+use Rattle.line_tape.specs.Restart.{restarted_history}
+use Rattle.line_tape.specs.Transit.{Letter, letters, is_open_letter, open_letters, in_transit, in_transit_between, has_received, addressee_of, addressees, goes_between}
 use Rattle.line_tape.proofs.CopyLemmas.{held_before}
 use Rattle.line_tape.proofs.CutLemmas.{cons_cases, contains_nothing, sends_take}
 use Rattle.line_tape.proofs.FrontLemmas.{slice_get-append_left}
@@ -151,7 +151,7 @@ front_past (suc n) (b ∷ flags) (suc k) past = front_past n flags k (omega (ari
 
 module _ (history : List Process) (line : List Choice) (size : length line ≡ length history) where
   abbrev pub after : List Process
-  after = restarted history line
+  after = restarted_history history line
 
   -- how many sends are left
   sends_left : (p : ℕ) → sends (tape_at after p) ≡ sends (events_before history line p)
@@ -190,7 +190,7 @@ module _ (history : List Process) (line : List Choice) (size : length line ≡ l
     sent : IsSentTo after to m
     lacks : has_received (events_before history line to) m ≡ false
 
-  missing_of : (r : ℕ) (letter : Letter) → IsLetterOf r (incarnations_sent (tape_at after r)) (addressees (tape_at after r)) letter → is_open history line letter ≡ true → IsMissing letter.message
+  missing_of : (r : ℕ) (letter : Letter) → IsLetterOf r (incarnations_sent (tape_at after r)) (addressees (tape_at after r)) letter → is_open_letter history line letter ≡ true → IsMissing letter.message
   missing_of r letter is open_is = record {
     to = letter.to;
     sent = letter_sent after r letter is;
@@ -204,7 +204,7 @@ module _ (history : List Process) (line : List Choice) (size : length line ≡ l
   missing_from : (p : ℕ) → All IsMissing (map (λ (letter : Letter). letter.message) (open_letters history line p))
   missing_from p =
       let are : All (IsLetterOf p (incarnations_sent (tape_at after p)) (addressees (tape_at after p))) (open_letters history line p) = open_restarted history line size p in
-      let go : All (λ (letter : Letter). is_open history line letter ≡ true) (open_letters history line p) = filter_passes (is_open history line) (letters p 0 (events_before history line p)) in
+      let go : All (λ (letter : Letter). is_open_letter history line letter ≡ true) (open_letters history line p) = filter_passes (is_open_letter history line) (letters p 0 (events_before history line p)) in
       All-map IsMissing (λ (letter : Letter). letter.message) (open_letters history line p) (λ k d l. missing_of p _ (are k d l) (go k d l))
 
   are_missing : All IsMissing (in_transit history line)
@@ -245,7 +245,7 @@ module _ (history : List Process) (line : List Choice) (size : length line ≡ l
       let i : slice_get (incarnations_sent es) m.number ≡ Some m.inc = ap (λ (v : List ℕ). slice_get v m.number) (sym (incs_restarted history line p size)) ∙ sent.held in
       let a : slice_get (addressees es) m.number ≡ Some q = ap (λ (v : List ℕ). slice_get v m.number) (sym (tos_left p)) ∙ sent.to_is in
       let there : Contains (letters p 0 es) letter = subst (λ j. Contains (letters p 0 es) (letter_of p m.inc j q)) zeroth (letter_in p 0 es m.number m.inc q i a) in
-      let open_there : Contains (open_letters history line p) letter = in_filter (is_open history line) (letters p 0 es) letter there (ap not lacks) in
+      let open_there : Contains (open_letters history line p) letter = in_filter (is_open_letter history line) (letters p 0 es) letter there (ap not lacks) in
       let to_there : Contains (filter (λ (l : Letter). l.to == q) (open_letters history line p)) letter = in_filter (λ (l : Letter). l.to == q) (open_letters history line p) letter open_there (eq-eqb q q refl) in
       let between_there : Contains (in_transit_between history line p q) m = in_map (λ (l : Letter). l.message) (filter (λ (l : Letter). l.to == q) (open_letters history line p)) letter to_there in
       let among : Contains (in_transit history line) m =

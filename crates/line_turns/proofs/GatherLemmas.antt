@@ -12,7 +12,7 @@ use Rattle.line_tape.specs.History.{Process}
 use Rattle.line_tape.specs.Transit.{addressee, goes_between, in_transit, in_transit_between}
 use Rattle.line_tape.proofs.LetterLemmas.{open_are, parts}
 use Rattle.line_turns.specs.Channels.{channels_at}
-use Rattle.line_turns.specs.Inboxes.{goes_to, held_for, sent_by, table_held, AreFrom, AreGathered, AreInboxes, InboxView, IsInbox}
+use Rattle.line_turns.specs.Inboxes.{goes_to, held_for, messages_from, table_held, AreFrom, AreByAddressee, AreInboxes, InboxView, IsInbox}
 use Rattle.line_turns.specs.Tables.{table_of}
 use Rattle.line_turns.proofs.ChannelLemmas.{sender_within}
 use Rattle.line_turns.proofs.InboxLemmas.{held_for-none, held_for-push_other, held_for-push_same, AreInboxes-push}
@@ -38,7 +38,7 @@ found_addressee (Some to) q h = ap (λ (v : ℕ). Some v) (eqb-true to q h)
 
 module _ (history : List Process) (messages : List MsgName) where
   -- nothing is gathered yet
-  pub AreGathered-none : (n : ℕ) → n ≡ length history → AreGathered history [] (replicate n [])
+  pub AreGathered-none : (n : ℕ) → n ≡ length history → AreByAddressee history [] (replicate n [])
   AreGathered-none n same = record {
     count = length-replicate n [] ∙ same;
     each = λ q within. get_or-replicate n q [] [] (omega (arith, within, same));
@@ -46,7 +46,7 @@ module _ (history : List Process) (messages : List MsgName) where
 
   module _ (i : ℕ) (rows : List (List MsgName)) (message : MsgName) (within : i < length messages)
       (is : message ≡ get_or messages i message)
-      (before : AreGathered history (take i messages) rows) where
+      (before : AreByAddressee history (take i messages) rows) where
     -- the messages to process q, with one more or without
     one_more : (q : ℕ) (b : Bool) → goes_to history q message ≡ b
         → filter (goes_to history q) (take (i + 1) messages) ≡ filter (goes_to history q)
@@ -65,7 +65,7 @@ module _ (history : List Process) (messages : List MsgName) where
 
     -- the message goes nowhere
     pub AreGathered-other : addressee history message ≡ None
-        → AreGathered history (take (i + 1) messages) rows
+        → AreByAddressee history (take (i + 1) messages) rows
     AreGathered-other none = record {
       count = before.count;
       each = λ q q_within. same_row q q_within
@@ -74,7 +74,7 @@ module _ (history : List Process) (messages : List MsgName) where
 
     -- it is put into the row of its addressee
     pub AreGathered-more : (to : ℕ) → addressee history message ≡ Some to → to < length history
-        → AreGathered history (take (i + 1) messages)
+        → AreByAddressee history (take (i + 1) messages)
         (set rows to (get_or rows to [] ++ message ∷ []))
     AreGathered-more to named to_within =
         let row : List MsgName = get_or rows to [] ++ message ∷ [] in
@@ -99,7 +99,7 @@ module _ (history : List Process) (messages : List MsgName) where
         }
 
   -- all are from processes of the history
-  pub gathered_from : (rows : List (List MsgName)) → AreGathered history messages rows
+  pub gathered_from : (rows : List (List MsgName)) → AreByAddressee history messages rows
       → All (AreFrom (length history)) rows
   gathered_from rows are q d within =
       let q_within : q < length history = omega (arith, within, are.count) in
@@ -113,16 +113,16 @@ module _ (history : List Process) (messages : List MsgName) where
 
   -- what is gathered of the messages in transit at a line are the channels at the line
   pub gathered_channels : (line : List Choice) (rows : List (List MsgName)) (n : ℕ)
-      → n ≡ length history → messages ≡ in_transit history line → AreGathered history messages rows
-      → table_of n (λ p q. sent_by p (get_or rows q [])) ≡ channels_at history line
+      → n ≡ length history → messages ≡ in_transit history line → AreByAddressee history messages rows
+      → table_of n (λ p q. messages_from p (get_or rows q [])) ≡ channels_at history line
   gathered_channels line rows n same found are =
-      let lists : ℕ → ℕ → List MsgName = λ p q. sent_by p (get_or rows q []) in
+      let lists : ℕ → ℕ → List MsgName = λ p q. messages_from p (get_or rows q []) in
       ap (λ (v : ℕ). table_of v lists) same
       ∙ table_of-all (length history) (in_transit_between history line)
       (table_of (length history) lists) (IsTable-of (length history) lists)
       (λ p q p_within q_within.
       between-of (length history) lists p q p_within q_within
-      ∙ ap (sent_by p) (are.each q q_within)
+      ∙ ap (messages_from p) (are.each q q_within)
       ∙ filter-both (λ (m : MsgName). m.from == p) (goes_to history q) messages
       ∙ ap (filter (goes_between history p q)) found
       ∙ parts history line history (open_are history line) p q)
@@ -137,7 +137,7 @@ pub record AreKept (n : ℕ) (rows : List (List MsgName)) (i : ℕ) (inboxes : L
   where
     pub are : AreInboxes n inboxes
     pub below : All (λ (inbox : InboxView). inbox.to < i) inboxes
-    pub held : (p q : ℕ) → q < i → sent_by p (held_for inboxes q) ≡ sent_by p (get_or rows q [])
+    pub held : (p q : ℕ) → q < i → messages_from p (held_for inboxes q) ≡ messages_from p (get_or rows q [])
 
 module _ (n : ℕ) (rows : List (List MsgName)) where
   pub AreKept-none : AreKept n rows 0 []
@@ -162,7 +162,7 @@ module _ (n : ℕ) (rows : List (List MsgName)) where
       are = before.are;
       below = lower;
       held = λ p q below. elim (cases_eq q i) [
-        | inl same ↦ ap (sent_by p)
+        | inl same ↦ ap (messages_from p)
             (held_for-none inboxes q
             (All-weaker (λ (inbox : InboxView). inbox.to < i) (λ (inbox : InboxView). inbox.to ≢ q)
             (λ inbox b e. absurd (omega (arith, b, e, same))) inboxes before.below)
@@ -173,7 +173,7 @@ module _ (n : ℕ) (rows : List (List MsgName)) where
 
     -- the inbox of the next process
     pub AreKept-more : (inbox : InboxView) → inbox.to ≡ i → IsInbox n inbox
-        → ((p : ℕ) → sent_by p inbox.messages ≡ sent_by p (get_or rows i []))
+        → ((p : ℕ) → messages_from p inbox.messages ≡ messages_from p (get_or rows i []))
         → AreKept n rows (i + 1) (inboxes ++ inbox ∷ [])
     AreKept-more inbox is valid same_sent =
         let below : All (λ (v : InboxView). v.to < inbox.to) inboxes =
@@ -184,10 +184,10 @@ module _ (n : ℕ) (rows : List (List MsgName)) where
           below = All-push (λ (v : InboxView). v.to < i + 1) inboxes inbox lower
               (omega (arith, is));
           held = λ p q q_below. elim (cases_eq q i) [
-            | inl same ↦ ap (λ (v : ℕ). sent_by p (held_for (inboxes ++ inbox ∷ []) v)) (same
-                ∙ sym is) ∙ ap (sent_by p) (held_for-push_same inbox inboxes below) ∙ same_sent p
-                ∙ ap (λ (v : ℕ). sent_by p (get_or rows v [])) (sym same)
-            | inr other ↦ ap (sent_by p)
+            | inl same ↦ ap (λ (v : ℕ). messages_from p (held_for (inboxes ++ inbox ∷ []) v)) (same
+                ∙ sym is) ∙ ap (messages_from p) (held_for-push_same inbox inboxes below) ∙ same_sent p
+                ∙ ap (λ (v : ℕ). messages_from p (get_or rows v [])) (sym same)
+            | inr other ↦ ap (messages_from p)
                 (held_for-push_other inbox inboxes q (λ e. other (sym e ∙ is)))
                 ∙ before.held p q (omega (arith, q_below, other))
           ];
@@ -196,10 +196,10 @@ module _ (n : ℕ) (rows : List (List MsgName)) where
 -- where all are kept, so is the table
 pub kept_table : (n : ℕ) (rows : List (List MsgName)) (i : ℕ) (inboxes : List InboxView) → n ≤ i
     → AreKept n rows i inboxes
-    → table_held n inboxes ≡ table_of n (λ p q. sent_by p (get_or rows q []))
+    → table_held n inboxes ≡ table_of n (λ p q. messages_from p (get_or rows q []))
 kept_table n rows i inboxes all kept =
-    let lists : ℕ → ℕ → List MsgName = λ p q. sent_by p (get_or rows q []) in
-    let held : ℕ → ℕ → List MsgName = λ p q. sent_by p (held_for inboxes q) in
+    let lists : ℕ → ℕ → List MsgName = λ p q. messages_from p (get_or rows q []) in
+    let held : ℕ → ℕ → List MsgName = λ p q. messages_from p (held_for inboxes q) in
     table_of-all n lists (table_held n inboxes) (IsTable-of n held)
     (λ p q p_within q_within. between-of n held p q p_within q_within
     ∙ kept.held p q (omega (arith, q_within, all)))

@@ -15,7 +15,7 @@ use Rattle.std.proofs.lemmas.List.Elements.{All-head, All-push, All-tail, filter
 use Rattle.std.proofs.lemmas.List.Folds.{drop_split}
 use Rattle.std.proofs.lemmas.List.Quantifiers.{all_pairs_push}
 use Rattle.line_names.specs.declared.messages.MsgName.{MsgName}
-use Rattle.line_turns.specs.Inboxes.{held_for, sent_by, table_held, AreInboxes, InboxView, IsInbox}
+use Rattle.line_turns.specs.Inboxes.{held_for, messages_from, table_held, AreInboxes, InboxView, IsInbox}
 use Rattle.line_turns.specs.Tables.{between}
 use Rattle.line_turns.proofs.TableLemmas.{between-of, IsTable-of}
 
@@ -57,7 +57,7 @@ module _ (messages : List MsgName) (p start end : ℕ)
     | inr above ↦ above
   ]
 
-  pub part_sent : end ≤ length messages → slice_range messages start end ≡ sent_by p messages
+  pub part_sent : end ≤ length messages → slice_range messages start end ≡ messages_from p messages
   part_sent end_within =
       let is : MsgName → Bool = λ (m : MsgName). m.from == p in
       let front : List MsgName = take start messages in
@@ -192,9 +192,9 @@ module _ (inboxes : List InboxView) (to place : ℕ)
 -- a list of the table that inboxes make
 pub between_held : (n : ℕ) (inboxes : List InboxView) (table : List (List (List MsgName))) (p q : ℕ)
     → table_held n inboxes ≡ table → p < length table → q < length (get_or table p [])
-    → sent_by p (held_for inboxes q) ≡ between table p q
+    → messages_from p (held_for inboxes q) ≡ between table p q
 between_held n inboxes table p q is p_within q_within =
-    let lists : ℕ → ℕ → List MsgName = λ v w. sent_by v (held_for inboxes w) in
+    let lists : ℕ → ℕ → List MsgName = λ v w. messages_from v (held_for inboxes w) in
     let p_below : p < n =
     omega (
       arith,
@@ -218,7 +218,7 @@ between_held n inboxes table p q is p_within q_within =
 pub stable_sent : {F : Type 0} {g : Mut F (Bor MsgName × Unit {0}) ℕ} {f : F} (xs ys : List MsgName)
     → ((key : MsgName → ℕ) → ComputesKey g key f → IsStableByKey key nat_cmp xs ys)
     → ((a : Bor MsgName × Unit {0}) (r : ℕ) (f' : F) → Called g f a r f'
-    → (r ≡ a.0.now.from) × (f' ≡ f)) → (p : ℕ) → sent_by p ys ≡ sent_by p xs
+    → (r ≡ a.0.now.from) × (f' ≡ f)) → (p : ℕ) → messages_from p ys ≡ messages_from p xs
 stable_sent {g = g} {f = f} xs ys stable calls p =
     let any : MsgName = record { from = p; inc = 0; number = 0 } in
     let tied : MsgName → Bool = ties (λ (a b : MsgName). is_lt (nat_cmp a.from b.from)) any in

@@ -12,38 +12,38 @@ use Rattle.line_tape.specs.declared.events.Event.TheVariants.{Check}
 use Rattle.line_tape.specs.Colours.{colour, message_colour, AreColoured}
 use Rattle.line_tape.specs.Event.{sends, Holds}
 use Rattle.line_tape.specs.History.{Process, fresh, tape_at, with_event}
-use Rattle.line_tape.specs.Restart.{restarted}
+use Rattle.line_tape.specs.Restart.{restarted_history}
 use Rattle.line_tape.specs.Rounds.{checked_round}
 use Rattle.line_tape.specs.Turns.{Turn, turns_of, colour_by}
 use Rattle.line_tape.proofs.ColourLemmas.{colour-check, colour-other, colour_restarted, rounds_ascend}
 use Rattle.line_tape.proofs.NextLemmas.{tape_same, tape_other}
 use Rattle.line_tape.proofs.SpentLemmas.{length_restarted}
 use Rattle.line_tape.proofs.TurnLemmas.{turns_idle, turns_push, turns_restarted, colour_of_message, turn_rounds_rise, turn_sends_rise, colour_before_turns, colour_at_turn}
-use Rattle.line_turns.specs.Kept.{Turned, unturned, turned_at, IsTurned, AreTurned}
+use Rattle.line_turns.specs.Kept.{ProcessTurns, no_turns, turns_at, IsTurned, AreTurned}
 
 -- processes that have done nothing yet
-pub AreTurned-fresh : (n : ℕ) → AreTurned (replicate n fresh) (replicate n unturned)
+pub AreTurned-fresh : (n : ℕ) → AreTurned (replicate n fresh) (replicate n no_turns)
 AreTurned-fresh n = record {
-  count = length-replicate n unturned ∙ sym (length-replicate n fresh);
+  count = length-replicate n no_turns ∙ sym (length-replicate n fresh);
   each = λ q q_within.
       let within : q < n = omega (arith, q_within, length-replicate n fresh) in
       let tape : tape_at (replicate n fresh) q ≡ [] = ap (λ (v : Process). v.tape) (get_or-replicate n q fresh fresh within) in
-      let none : turned_at (replicate n unturned) q ≡ unturned = get_or-replicate n q unturned unturned within in
+      let none : turns_at (replicate n no_turns) q ≡ no_turns = get_or-replicate n q no_turns no_turns within in
       record {
-        colour_is = ap (λ (v : Turned). v.colour) none ∙ ap colour (sym tape);
-        turns_are = ap (λ (v : Turned). v.turns) none ∙ ap turns_of (sym tape);
+        colour_is = ap (λ (v : ProcessTurns). v.colour) none ∙ ap colour (sym tape);
+        turns_are = ap (λ (v : ProcessTurns). v.turns) none ∙ ap turns_of (sym tape);
       };
 }
 
 -- an event that is no check of a round
-pub IsTurned-kept : (tape : List Event) (event : Event) (turned : Turned) → checked_round event ≡ None → IsTurned tape turned → IsTurned (tape ++ event ∷ []) turned
+pub IsTurned-kept : (tape : List Event) (event : Event) (turned : ProcessTurns) → checked_round event ≡ None → IsTurned tape turned → IsTurned (tape ++ event ∷ []) turned
 IsTurned-kept tape event turned none is = record {
   colour_is = is.colour_is ∙ sym (colour-other tape event none);
   turns_are = is.turns_are ∙ sym (turns_idle tape event none);
 }
 
 -- a check of a greater round
-pub IsTurned-check : (tape : List Event) (state : List ℕ) (round count : ℕ) (turned : Turned) → turned.colour < round → count ≡ sends tape → IsTurned tape turned
+pub IsTurned-check : (tape : List Event) (state : List ℕ) (round count : ℕ) (turned : ProcessTurns) → turned.colour < round → count ≡ sends tape → IsTurned tape turned
     → IsTurned (tape ++ Check state (Some round) ∷ []) (record { colour = round; turns = turned.turns ++ record { round = round; sends = count } ∷ [] })
 IsTurned-check tape state round count turned greater count_is is = record {
   colour_is = sym (colour-check tape state round (omega (arith, greater, is.colour_is)));
@@ -53,7 +53,7 @@ IsTurned-check tape state round count turned greater count_is is = record {
 }
 
 -- an event that is no check of a round changes nothing of what is kept
-pub AreTurned-kept : (history : List Process) (at : ℕ) (event : Event) (colours : List Turned) → at < length history → checked_round event ≡ None → AreTurned history colours
+pub AreTurned-kept : (history : List Process) (at : ℕ) (event : Event) (colours : List ProcessTurns) → at < length history → checked_round event ≡ None → AreTurned history colours
     → AreTurned (with_event history at event) colours
 AreTurned-kept history at event colours within none are =
     let same_length : length (with_event history at event) ≡ length history = length-set history at _ in
@@ -62,54 +62,54 @@ AreTurned-kept history at event colours within none are =
       each = λ q q_within.
           let q_before : q < length history = omega (arith, q_within, same_length) in
           elim (cases_eq q at) [
-            | inl same ↦ subst (λ (t : List Event). IsTurned t (turned_at colours q)) (sym (tape_same history at event q within same)) (IsTurned-kept (tape_at history q) event (turned_at colours q) none (are.each q q_before))
-            | inr other ↦ subst (λ (t : List Event). IsTurned t (turned_at colours q)) (sym (tape_other history at event q other)) (are.each q q_before)
+            | inl same ↦ subst (λ (t : List Event). IsTurned t (turns_at colours q)) (sym (tape_same history at event q within same)) (IsTurned-kept (tape_at history q) event (turns_at colours q) none (are.each q q_before))
+            | inr other ↦ subst (λ (t : List Event). IsTurned t (turns_at colours q)) (sym (tape_other history at event q other)) (are.each q q_before)
           ];
     }
 
 -- a process takes its check of a round
-pub AreTurned-check : (history : List Process) (p : ℕ) (state : List ℕ) (round count : ℕ) (colours : List Turned) → p < length colours → (turned_at colours p).colour < round → AreTurned history colours
+pub AreTurned-check : (history : List Process) (p : ℕ) (state : List ℕ) (round count : ℕ) (colours : List ProcessTurns) → p < length colours → (turns_at colours p).colour < round → AreTurned history colours
     → count ≡ sends (tape_at history p)
-    → AreTurned (with_event history p (Check state (Some round))) (set colours p (record { colour = round; turns = (turned_at colours p).turns ++ record { round = round; sends = count } ∷ [] }))
+    → AreTurned (with_event history p (Check state (Some round))) (set colours p (record { colour = round; turns = (turns_at colours p).turns ++ record { round = round; sends = count } ∷ [] }))
 AreTurned-check history p state round count colours within greater are count_is =
     let event : Event = Check state (Some round) in
-    let turned : Turned = record { colour = round; turns = (turned_at colours p).turns ++ record { round = round; sends = count } ∷ [] } in
+    let turned : ProcessTurns = record { colour = round; turns = (turns_at colours p).turns ++ record { round = round; sends = count } ∷ [] } in
     let p_within : p < length history = omega (arith, within, are.count) in
     let same_length : length (with_event history p event) ≡ length history = length-set history p _ in
-    let here : IsTurned (tape_at history p ++ event ∷ []) turned = IsTurned-check (tape_at history p) state round count (turned_at colours p) greater count_is (are.each p p_within) in
+    let here : IsTurned (tape_at history p ++ event ∷ []) turned = IsTurned-check (tape_at history p) state round count (turns_at colours p) greater count_is (are.each p p_within) in
     record {
       count = length-set colours p turned ∙ are.count ∙ sym same_length;
       each = λ q q_within. elim (cases_eq q p) [
-        | inl same ↦ subst (λ (v : ℕ). IsTurned (tape_at (with_event history p event) v) (turned_at (set colours p turned) v)) (sym same)
-            (subst (λ (t : List Event). IsTurned t (turned_at (set colours p turned) p)) (sym (tape_same history p event p p_within refl))
-            (subst (IsTurned (tape_at history p ++ event ∷ [])) (sym (get_or-set_same colours p turned unturned within)) here))
-        | inr other ↦ subst (λ (t : List Event). IsTurned t (turned_at (set colours p turned) q)) (sym (tape_other history p event q other))
-            (subst (IsTurned (tape_at history q)) (sym (get_or-set_other colours p q turned unturned other)) (are.each q (omega (arith, q_within, same_length))))
+        | inl same ↦ subst (λ (v : ℕ). IsTurned (tape_at (with_event history p event) v) (turns_at (set colours p turned) v)) (sym same)
+            (subst (λ (t : List Event). IsTurned t (turns_at (set colours p turned) p)) (sym (tape_same history p event p p_within refl))
+            (subst (IsTurned (tape_at history p ++ event ∷ [])) (sym (get_or-set_same colours p turned no_turns within)) here))
+        | inr other ↦ subst (λ (t : List Event). IsTurned t (turns_at (set colours p turned) q)) (sym (tape_other history p event q other))
+            (subst (IsTurned (tape_at history q)) (sym (get_or-set_other colours p q turned no_turns other)) (are.each q (omega (arith, q_within, same_length))))
       ];
     }
 
 -- after a restart no check has a round
-pub AreTurned-restarted : (history : List Process) (line : List Choice) (colours new : List Turned) → length line ≡ length history → AreTurned history colours → length new ≡ length colours
-    → ((q : ℕ) → q < length new → turned_at new q ≡ unturned) → AreTurned (restarted history line) new
+pub AreTurned-restarted : (history : List Process) (line : List Choice) (colours new : List ProcessTurns) → length line ≡ length history → AreTurned history colours → length new ≡ length colours
+    → ((q : ℕ) → q < length new → turns_at new q ≡ no_turns) → AreTurned (restarted_history history line) new
 AreTurned-restarted history line colours new length_is are count none =
-    let same_length : length (restarted history line) ≡ length history = length_restarted history line length_is in
+    let same_length : length (restarted_history history line) ≡ length history = length_restarted history line length_is in
     record {
       count = count ∙ are.count ∙ sym same_length;
       each = λ q q_within.
-          let here : turned_at new q ≡ unturned = none q (omega (arith, q_within, same_length, are.count, count)) in
+          let here : turns_at new q ≡ no_turns = none q (omega (arith, q_within, same_length, are.count, count)) in
           record {
-            colour_is = ap (λ (v : Turned). v.colour) here ∙ sym (colour_restarted history line q length_is);
-            turns_are = ap (λ (v : Turned). v.turns) here ∙ sym (turns_restarted history line q length_is);
+            colour_is = ap (λ (v : ProcessTurns). v.colour) here ∙ sym (colour_restarted history line q length_is);
+            turns_are = ap (λ (v : ProcessTurns). v.turns) here ∙ sym (turns_restarted history line q length_is);
           };
     }
 
 -- the colour of a message, as the turns of its sender have it
-pub message_colour_is : (history : List Process) (colours : List Turned) (m : MsgName) (sender : Turned) (r : ℕ) → AreTurned history colours → AreColoured history → Holds (tape_at history m.from) m.inc m.number
-    → m.from < length colours → sender ≡ turned_at colours m.from
+pub message_colour_is : (history : List Process) (colours : List ProcessTurns) (m : MsgName) (sender : ProcessTurns) (r : ℕ) → AreTurned history colours → AreColoured history → Holds (tape_at history m.from) m.inc m.number
+    → m.from < length colours → sender ≡ turns_at colours m.from
     → (AllPairs (λ (s t : Turn). s.round < t.round) sender.turns → AllPairs (λ (s t : Turn). s.sends ≤ t.sends) sender.turns → r ≡ colour_by sender.turns m.number) → r ≡ message_colour history m
 message_colour_is history colours m sender r are coloured held within sender_is found =
     let tape : List Event = tape_at history m.from in
-    let turns : sender.turns ≡ turns_of tape = ap (λ (v : Turned). v.turns) sender_is ∙ (are.each m.from (omega (arith, within, are.count))).turns_are in
+    let turns : sender.turns ≡ turns_of tape = ap (λ (v : ProcessTurns). v.turns) sender_is ∙ (are.each m.from (omega (arith, within, are.count))).turns_are in
     found (subst (λ (ts : List Turn). AllPairs (λ (s t : Turn). s.round < t.round) ts) (sym turns) (turn_rounds_rise tape (rounds_ascend tape (coloured.rise m.from))))
     (subst (λ (ts : List Turn). AllPairs (λ (s t : Turn). s.sends ≤ t.sends) ts) (sym turns) (turn_sends_rise tape))
     ∙ ap (λ (ts : List Turn). colour_by ts m.number) turns

@@ -7,7 +7,7 @@ use Rattle.line_tape.specs.declared.events.Event.{Event}
 use Rattle.line_tape.specs.declared.events.Event.TheVariants.{Check}
 use Rattle.line_tape.specs.Event.{checks}
 use Rattle.line_tape.specs.History.{Process, tape_at, with_event}
-use Rattle.line_tape.specs.Rounds.{is_check_of, has_check_of, check_of, checks_of, is_checked}
+use Rattle.line_tape.specs.Rounds.{is_check_of, has_check_of, check_index, checks_of, is_checked}
 use Rattle.line_tape.proofs.CompletionLemmas.{check_of_new, check_of_push, check_stays}
 use Rattle.line_tape.proofs.GrowthLemmas.{has_check_push}
 use Rattle.line_tape.proofs.NextLemmas.{tape_same, tape_other}
@@ -17,15 +17,15 @@ use Rattle.line_turns.specs.Turning.{TurningView, check_or_none, IsTurning}
 -- a tape has its check where its index isn't 0
 pub has_from : (r : ℕ) (tape : List Event) → check_or_none r tape ≢ 0 → has_check_of r tape ≡ true
 has_from r tape some = found (has_check_of r tape) some where
-  found : (b : Bool) → cond b (check_of r tape) 0 ≢ 0 → b ≡ true
+  found : (b : Bool) → cond b (check_index r tape) 0 ≢ 0 → b ≡ true
   found true h = refl
   found false h = absurd (h refl)
 
 -- an event that is no check of the round
 pub check_or_none-kept : (r : ℕ) (tape : List Event) (event : Event) → is_check_of r event ≡ false → check_or_none r (tape ++ event ∷ []) ≡ check_or_none r tape
 check_or_none-kept r tape event none =
-    ap (λ b. cond b (check_of r (tape ++ event ∷ [])) 0) (check_stays tape event r none) ∙ found (has_check_of r tape) refl where
-      found : (b : Bool) → has_check_of r tape ≡ b → cond b (check_of r (tape ++ event ∷ [])) 0 ≡ cond b (check_of r tape) 0
+    ap (λ b. cond b (check_index r (tape ++ event ∷ [])) 0) (check_stays tape event r none) ∙ found (has_check_of r tape) refl where
+      found : (b : Bool) → has_check_of r tape ≡ b → cond b (check_index r (tape ++ event ∷ [])) 0 ≡ cond b (check_index r tape) 0
       found true has = check_of_push tape event r has
       found false out = refl
 
@@ -35,7 +35,7 @@ check_or_none-new r tape state none =
     let event : Event = Check state (Some r) in
     let is : is_check_of r event ≡ true = eq-eqb r r refl in
     let has : has_check_of r (tape ++ event ∷ []) ≡ true = has_check_push tape event r ∙ or_right (has_check_of r tape) (is_check_of r event) is in
-    ap (λ b. cond b (check_of r (tape ++ event ∷ [])) 0) has ∙ check_of_new tape event r none is ∙ (let next : suc (checks tape) ≡ checks tape + 1 = omega arith in next)
+    ap (λ b. cond b (check_index r (tape ++ event ∷ [])) 0) has ∙ check_of_new tape event r none is ∙ (let next : suc (checks tape) ≡ checks tape + 1 = omega arith in next)
 
 -- an event that is no check of the round changes nothing of what is kept
 pub IsTurning-kept : (history : List Process) (at : ℕ) (event : Event) (turning : TurningView) → at < length history → is_check_of turning.number event ≡ false → IsTurning history turning
@@ -72,8 +72,8 @@ IsTurning-check history p state r indices index within is none index_is =
 pub IsTurning-checked : (history : List Process) (turning : TurningView) → IsTurning history turning → is_checked history turning.number ≡ true → turning.checks ≡ checks_of history turning.number
 IsTurning-checked history turning is checked =
     let r : ℕ = turning.number in
-    fill_by_all (λ q. check_of r (tape_at history q)) turning.checks (length history) 0 is.count
-    (λ q within. is.checks q within ∙ ap (λ b. cond b (check_of r (tape_at history q)) 0) (checked_has history r q checked within))
+    fill_by_all (λ q. check_index r (tape_at history q)) turning.checks (length history) 0 is.count
+    (λ q within. is.checks q within ∙ ap (λ b. cond b (check_index r (tape_at history q)) 0) (checked_has history r q checked within))
 
 -- every process but p has its check
 pub others_have : (history : List Process) (turning : TurningView) (p : ℕ) → IsTurning history turning → ((q : ℕ) → q < length turning.checks → q ≢ p → get_or turning.checks q 0 ≢ 0)

@@ -14,8 +14,8 @@ pub record InboxView : Type 0 where
   pub messages : List MsgName
 
 -- those of the messages that process p sent
-abbrev pub sent_by : ℕ → List MsgName → List MsgName
-sent_by p messages = filter (λ (message : MsgName). message.from == p) messages
+abbrev pub messages_from : ℕ → List MsgName → List MsgName
+messages_from p messages = filter (λ (message : MsgName). message.from == p) messages
 
 -- what is in the inbox of process q, nothing where it has none
 abbrev pub held_for : List InboxView → ℕ → List MsgName
@@ -24,7 +24,7 @@ held_for (inbox ∷ rest) q = if inbox.to == q then inbox.messages else held_for
 
 -- the table of what is in the inboxes of n processes
 abbrev pub table_held : ℕ → List InboxView → List (List (List MsgName))
-table_held n inboxes = table_of n (λ p q. sent_by p (held_for inboxes q))
+table_held n inboxes = table_of n (λ p q. messages_from p (held_for inboxes q))
 
 -- messages come by sender
 abbrev pub ComeBySender : List MsgName → Type 0
@@ -51,7 +51,7 @@ abbrev pub goes_to : List Process → ℕ → MsgName → Bool
 goes_to history q message = option_eq ◌==◌ (addressee history message) (Some q)
 
 -- each row has the messages that go to its process
-pub record AreGathered (history : List Process) (messages : List MsgName)
+pub record AreByAddressee (history : List Process) (messages : List MsgName)
     (rows : List (List MsgName)) : Type 0 where
   pub count : length rows ≡ length history
   pub each : (q : ℕ) → q < length history

@@ -7,24 +7,24 @@ use Rattle.line_tape.specs.History.{Process, tape_at}
 use Rattle.line_tape.specs.Turns.{Turn, turns_of}
 
 -- what is kept of one process: its colour, and the turns of its tape
-pub record Turned : Type 0 where
+pub record ProcessTurns : Type 0 where
   pub colour : ℕ
   pub turns : List Turn
 
 -- what is kept of a process that has no check of a round
-abbrev pub unturned : Turned
-unturned = record { colour = 0; turns = [] }
+abbrev pub no_turns : ProcessTurns
+no_turns = record { colour = 0; turns = [] }
 
 -- what is kept of process q
-abbrev pub turned_at : List Turned → ℕ → Turned
-turned_at colours q = slice_index_or colours q unturned
+abbrev pub turns_at : List ProcessTurns → ℕ → ProcessTurns
+turns_at colours q = slice_index_or colours q no_turns
 
 -- it follows the tape
-pub record IsTurned (tape : List Event) (turned : Turned) : Type 0 where
+pub record IsTurned (tape : List Event) (turned : ProcessTurns) : Type 0 where
   pub colour_is : turned.colour ≡ colour tape
   pub turns_are : turned.turns ≡ turns_of tape
 
 -- what is kept of each process follows the tapes
-pub record AreTurned (history : List Process) (colours : List Turned) : Type 0 where
+pub record AreTurned (history : List Process) (colours : List ProcessTurns) : Type 0 where
   pub count : length colours ≡ length history
-  pub each : (q : ℕ) → q < length history → IsTurned (tape_at history q) (turned_at colours q)
+  pub each : (q : ℕ) → q < length history → IsTurned (tape_at history q) (turns_at colours q)

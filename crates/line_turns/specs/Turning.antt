@@ -6,7 +6,7 @@ use Rattle.line_names.specs.declared.choices.Choice.TheVariants.{Check, Now}
 use Rattle.line_names.specs.Lines.{choice_at}
 use Rattle.line_tape.specs.declared.events.Event.{Event}
 use Rattle.line_tape.specs.History.{Process, tape_at}
-use Rattle.line_tape.specs.Rounds.{has_check_of, check_of}
+use Rattle.line_tape.specs.Rounds.{has_check_of, check_index}
 
 -- a round that is open: its number, and the check of each process or 0
 pub record TurningView : Type 0 where
@@ -15,7 +15,7 @@ pub record TurningView : Type 0 where
 
 -- the index of the tape's check of round r, or 0
 abbrev pub check_or_none : ℕ → List Event → ℕ
-check_or_none r tape = if has_check_of r tape then check_of r tape else 0
+check_or_none r tape = if has_check_of r tape then check_index r tape else 0
 
 -- the checks follow the tapes
 pub record IsTurning (history : List Process) (turning : TurningView) : Type 0 where

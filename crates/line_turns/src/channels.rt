@@ -4,7 +4,8 @@ ghost use Rattle.std.specs.Prelude.{slice_index_or, IfOk, IsTrue};
 ghost use Rattle.line_names.specs.declared.choices.Choice.{Choice};
 ghost use Rattle.line_tape.specs.Transit.{in_transit};
 ghost use Rattle.line_turns.specs.Channels.{channels_at};
-ghost use Rattle.line_turns.specs.Inboxes.{held_for, sent_by, AreFrom, AreGathered, InboxView};
+ghost use Rattle.line_turns.specs.Inboxes.{held_for, messages_from, AreFrom, AreByAddressee};
+ghost use Rattle.line_turns.specs.Inboxes.{InboxView};
 ghost use Rattle.line_turns.specs.Tables.{between, table_of, IsTable};
 
 use crate::inboxes::Inbox;
@@ -15,11 +16,11 @@ use std::marker::Model;
 
 /// The messages to one process, as they are gathered.
 #[derive(Drop)]
-struct Row {
+struct ChannelRow {
     messages: Vec<MsgName>,
 }
 
-impl Model for Row {
+impl Model for ChannelRow {
     ghost use Rattle.std.specs.Prelude.{List};
     ghost use Rattle.line_names.specs.declared.messages.MsgName.{MsgName};
 
@@ -29,12 +30,12 @@ impl Model for Row {
 }
 
 /// `n` rows with nothing in them.
-fn empty_rows(alloc: Global, n: u32) -> Result<Vec<Row>, AllocError>
+fn empty_rows(alloc: Global, n: u32) -> Result<Vec<ChannelRow>, AllocError>
     ensures { IfOk result (λ rows. rows.items ≡ replicate n []) }
 {
     let mut rows = Vec::with_capacity(alloc, n as usize)?;
     for _q in 0..n {
-        rows.push(Row {
+        rows.push(ChannelRow {
             messages: Vec::new(alloc),
         })?;
     }
@@ -42,8 +43,12 @@ fn empty_rows(alloc: Global, n: u32) -> Result<Vec<Row>, AllocError>
 }
 
 /// The messages by the process that the send of each names, in the order that they come in.
-fn gather(alloc: Global, history: &History, messages: &[MsgName]) -> Result<Vec<Row>, AllocError>
-    ensures { IfOk result (λ rows. AreGathered history.now.processes messages.now rows.items) }
+fn gather(
+    alloc: Global,
+    history: &History,
+    messages: &[MsgName],
+) -> Result<Vec<ChannelRow>, AllocError>
+    ensures { IfOk result (λ rows. AreByAddressee history.now.processes messages.now rows.items) }
 {
     let mut rows = empty_rows(alloc, history.n())?;
     for message in messages {
@@ -57,7 +62,7 @@ fn gather(alloc: Global, history: &History, messages: &[MsgName]) -> Result<Vec<
 /// What process `from` sent of what is in the inbox of process `to`.
 fn held(inboxes: &[Inbox], from: ProcId, to: ProcId) -> &[MsgName]
     requires { AllPairs (λ (a b : InboxView). a.to < b.to) inboxes.now }
-    ensures { result.now ≡ sent_by from (held_for inboxes.now to) }
+    ensures { result.now ≡ messages_from from (held_for inboxes.now to) }
 {
     let place = inboxes.partition_point(|inbox| inbox.to().get() < to.get());
     match inboxes.get(place) {
@@ -114,12 +119,12 @@ impl Model for Channels {
 impl Channels {
     /// The channels between `n` processes that these messages are on, in one row for each process
     /// that they go to.
-    fn keep(alloc: Global, n: u32, rows: &[Row]) -> Result<Channels, AllocError>
+    fn keep(alloc: Global, n: u32, rows: &[ChannelRow]) -> Result<Channels, AllocError>
         requires n { n ≤ MOST_PROCESSES }
         requires rows { length rows.now ≡ n }
         requires from { All (AreFrom n) rows.now }
         ensures { IfOk result (λ channels. channels
-            ≡ table_of n (λ p q. sent_by p (slice_index_or rows.now q []))) }
+            ≡ table_of n (λ p q. messages_from p (slice_index_or rows.now q []))) }
     {
         let mut inboxes = Vec::new(alloc);
         for q in 0..n {

@@ -7,9 +7,9 @@ ghost use Rattle.line_tape.specs.declared.events.Event.TheVariants.{Check};
 ghost use Rattle.line_tape.specs.Colours.{colour, message_colour, AreColoured};
 ghost use Rattle.line_tape.specs.Event as Events;
 ghost use Rattle.line_tape.specs.History.{Process, fresh, tape_at, with_event};
-ghost use Rattle.line_tape.specs.Restart.{restarted};
+ghost use Rattle.line_tape.specs.Restart.{restarted_history};
 ghost use Rattle.line_tape.specs.Turns as Turns;
-ghost use Rattle.line_turns.specs.Kept.{turned_at, unturned, AreTurned};
+ghost use Rattle.line_turns.specs.Kept.{turns_at, no_turns, AreTurned};
 
 use line_colour::Colour;
 use line_names::{MsgName, ProcId};
@@ -41,9 +41,9 @@ struct ProcessColour {
 }
 
 impl Model for ProcessColour {
-    ghost use Rattle.line_turns.specs.Kept.{Turned};
+    ghost use Rattle.line_turns.specs.Kept.{ProcessTurns};
 
-    ghost Value = { Turned };
+    ghost Value = { ProcessTurns };
 
     ghost view = { λ p. record { colour = p.colour; turns = p.turns.items } };
 }
@@ -84,7 +84,7 @@ impl ProcessColour {
 
     /// None of its checks is of a round any longer.
     fn clear(&mut self)
-        ensures { self.new ≡ unturned }
+        ensures { self.new ≡ no_turns }
     {
         self.colour = Colour::new();
         self.turns.clear();
@@ -102,9 +102,9 @@ pub struct Colours {
 
 impl Model for Colours {
     ghost use Rattle.std.specs.Prelude.{List};
-    ghost use Rattle.line_turns.specs.Kept.{Turned};
+    ghost use Rattle.line_turns.specs.Kept.{ProcessTurns};
 
-    ghost Value = { List Turned };
+    ghost Value = { List ProcessTurns };
 
     ghost view = { λ c. c.processes.items };
 }
@@ -113,7 +113,7 @@ impl Colours {
     /// The colours of `n` processes that have done nothing yet. It takes memory for each, and fails
     /// if memory runs out.
     pub fn new(alloc: Global, n: u32) -> Result<Colours, AllocError>
-        ensures value { IfOk result (λ colours. colours ≡ replicate n unturned) }
+        ensures value { IfOk result (λ colours. colours ≡ replicate n no_turns) }
         ensures turned { IfOk result (λ colours. AreTurned (replicate n fresh) colours) }
     {
         let mut processes = Vec::with_capacity(alloc, n as usize)?;
@@ -129,7 +129,7 @@ impl Colours {
     /// The colour of a process. It takes constant time.
     pub fn colour(&self, p: ProcId) -> u32
         requires { p < length self.now }
-        ensures value { result ≡ (turned_at self.now p).colour }
+        ensures value { result ≡ (turns_at self.now p).colour }
         ensures colour { (history : List Process) → AreTurned history self.now
             → result ≡ colour (tape_at history p) }
     {
@@ -162,7 +162,7 @@ impl Colours {
     /// changes.
     pub fn turn(&mut self, p: ProcId, round: u32, sends: u32) -> Result<(), AllocError>
         requires p { p < length self.old }
-        requires greater { (turned_at self.old p).colour < round }
+        requires greater { (turns_at self.old p).colour < round }
         ensures ok { OnOk result
             ((history : List Process) (state : List ℕ) → AreTurned history self.old
             → sends ≡ Events.sends (tape_at history p)
@@ -178,7 +178,7 @@ impl Colours {
     pub fn clear(&mut self)
         ensures restart { (history : List Process) (line : List Choice)
             → length line ≡ length history → AreTurned history self.old
-            → AreTurned (restarted history line) self.new }
+            → AreTurned (restarted_history history line) self.new }
         ensures count { length self.new ≡ length self.old }
     {
         for p in 0..self.processes.len() {

@@ -1,6 +1,6 @@
 //! What is in transit to one process.
 ghost use Rattle.std.specs.Prelude.{◌≡◌, ◌↔◌, ℕ, IfOk, IsTrue, length};
-ghost use Rattle.line_turns.specs.Inboxes.{sent_by, AreFrom, ComeBySender};
+ghost use Rattle.line_turns.specs.Inboxes.{messages_from, AreFrom, ComeBySender};
 
 use line_names::{MsgName, ProcId};
 use std::alloc::{AllocError, Global};
@@ -31,7 +31,7 @@ impl Inbox {
     pub(crate) fn new(alloc: Global, to: ProcId, messages: &[MsgName]) -> Result<Inbox, AllocError>
         ensures to { IfOk result (λ inbox. inbox.to ≡ to) }
         ensures same { IfOk result (λ inbox. (p : ℕ)
-            → sent_by p inbox.messages ≡ sent_by p messages.now) }
+            → messages_from p inbox.messages ≡ messages_from p messages.now) }
         ensures by_sender { IfOk result (λ inbox. ComeBySender inbox.messages) }
         ensures from { IfOk result (λ inbox. (n : ℕ)
             → AreFrom n messages.now → AreFrom n inbox.messages) }
@@ -51,7 +51,7 @@ impl Inbox {
 
     /// Those of one sender. It searches for them by halves.
     pub(crate) fn from(&self, p: ProcId) -> &[MsgName]
-        ensures { result.now ≡ sent_by p self.now.messages }
+        ensures { result.now ≡ messages_from p self.now.messages }
     {
         let messages = self.messages.as_slice();
         let start = messages.partition_point(|message| message.from.get() < p.get());

@@ -14,7 +14,7 @@ ghost use Rattle.line_tape.specs.Rounds.{is_checked};
 ghost use Rattle.line_tape.specs.Transit.{in_transit_between, received_name};
 ghost use Rattle.line_turns.specs.Channels.{channels_at};
 ghost use Rattle.line_turns.specs.Flags.{AreFlagged};
-ghost use Rattle.line_turns.specs.Kept.{Turned, AreTurned};
+ghost use Rattle.line_turns.specs.Kept.{ProcessTurns, AreTurned};
 ghost use Rattle.line_turns.specs.Tables.{between, IsTable};
 ghost use Rattle.line_turns.specs.Turning.{TurningView, IsLastLine, IsTurning};
 
@@ -24,7 +24,8 @@ ghost use Rattle.line_turns.specs.Turning.{TurningView, IsLastLine, IsTurning};
 ///
 /// The call does nothing: its contract is the law.
 pub fn other_events_keep()
-    ensures colours { (history : List Process) (at : ℕ) (event : Event) (colours : List Turned)
+    ensures colours { (history : List Process) (at : ℕ) (event : Event)
+        (colours : List ProcessTurns)
         → at < length history → checked_round event ≡ None
         → AreTurned history colours → AreTurned (with_event history at event) colours }
     ensures turning { (history : List Process) (at : ℕ) (event : Event) (turning : TurningView)

@@ -7,7 +7,7 @@ ghost use Rattle.line_tape.specs.Event as Events;
 ghost use Rattle.line_tape.specs.Fit.{IsSentTo, IsFitUnordered};
 ghost use Rattle.line_tape.specs.History.{Process, fresh, tape_at, with_event};
 ghost use Rattle.line_tape.specs.Line.{events_before, IsLine};
-ghost use Rattle.line_tape.specs.Restart.{restarted};
+ghost use Rattle.line_tape.specs.Restart.{restarted_history};
 ghost use Rattle.line_tape.specs.Transit.{has_received, in_transit};
 ghost use Rattle.line_turns.specs.Flags.{flag_at, flags_of, names_send, AreFlagged};
 
@@ -183,7 +183,7 @@ impl ReceivedSends {
         requires count { length self.old ≡ length history.now.processes }
         requires transit { messages.now ≡ in_transit history.now.processes line.now }
         ensures restart { AreFlagged history.now.processes self.old
-            → AreFlagged (restarted history.now.processes line.now) self.new }
+            → AreFlagged (restarted_history history.now.processes line.now) self.new }
         ensures count { length self.new ≡ length self.old }
     {
         self.cut(history, line);

@@ -15,14 +15,14 @@ use Rattle.line_tape.specs.declared.events.Event.TheVariants.{Send, Recv, Check,
 use Rattle.line_tape.specs.Front.{front}
 use Rattle.line_tape.specs.History.{Process, tape_at}
 use Rattle.line_tape.specs.Line.{events_before}
-use Rattle.line_tape.specs.Restart.{restarted, restarted_event, is_kept}
+use Rattle.line_tape.specs.Restart.{restarted_history, restarted_event, is_kept}
 use Rattle.line_tape.proofs.CutLemmas.{cons_cases, contains_nothing}
 use Rattle.line_tape.proofs.LinkLemmas.{tape_restarted}
 use Rattle.line_tape.proofs.SpentLemmas.{length_restarted}
 use Rattle.line_tape.proofs.StayLemmas.{front_restarted, front_kept}
 use Rattle.line_vectors.specs.declared.limits.TheConstants.{LAST_NUMBER}
-use Rattle.line_vectors.specs.Reach.{number_past, heard, reach_from, IsReceivedFrom, IsReach, nearest, kept_lane, reach_of, reach_before, sent_count, sents_of}
-use Rattle.line_vectors.specs.Vectors.{noted}
+use Rattle.line_vectors.specs.Reach.{number_past, reach_of_event, reach_from, IsReceivedFrom, IsReach, nearest, kept_lane, reach_of, reach_before, sent_count, sents_of}
+use Rattle.line_vectors.specs.Vectors.{lanes_with_message}
 
 -- what a message says of its own sender
 number-own : (message : MsgName) (p : ℕ) → message.from ≡ p → number_past p message ≡ message.number + 1
@@ -36,7 +36,7 @@ number-other message p apart = ap (λ b. cond b (message.number + 1) 0) (ne_eqb 
 pub reach-above : (events : List Event) (p : ℕ) (message : MsgName) → Contains events (Recv message) → message.from ≡ p → message.number < reach_from events p
 reach-above [] p message among e = absurd (contains_nothing (Recv message) among)
 reach-above (event ∷ rest) p message among e = elim (cons_cases event rest (Recv message) among) [
-  | inl here ↦ omega (arith, ap (heard p) here ∙ number-own message p e)
+  | inl here ↦ omega (arith, ap (reach_of_event p) here ∙ number-own message p e)
   | inr there ↦ omega (arith, reach-above rest p message there e)
 ]
 
@@ -66,7 +66,7 @@ pub reach-append : (xs ys : List Event) (p : ℕ) → reach_from (xs ++ ys) p �
 reach-append [] ys p = omega arith
 reach-append (x ∷ xs) ys p = omega (arith, reach-append xs ys p)
 
-pub reach-push : (tape : List Event) (event : Event) (p : ℕ) → reach_from (tape ++ event ∷ []) p ≡ max (reach_from tape p) (heard p event)
+pub reach-push : (tape : List Event) (event : Event) (p : ℕ) → reach_from (tape ++ event ∷ []) p ≡ max (reach_from tape p) (reach_of_event p event)
 reach-push tape event p = omega (arith, reach-append tape (event ∷ []) p)
 
 -- a restart takes away no receipt
@@ -107,11 +107,11 @@ reach-none n = ext_get_or 0 (reach_of n []) (replicate n 0) (length-reach n [] �
     reach-at n [] p 0 within ∙ omega arith ∙ sym (get_or-replicate n p 0 0 within))
 
 -- an event that receives nothing
-pub reach-deaf : (n : ℕ) (tape : List Event) (event : Event) → ((p : ℕ) → heard p event ≡ 0) → reach_of n (tape ++ event ∷ []) ≡ reach_of n tape
+pub reach-deaf : (n : ℕ) (tape : List Event) (event : Event) → ((p : ℕ) → reach_of_event p event ≡ 0) → reach_of n (tape ++ event ∷ []) ≡ reach_of n tape
 reach-deaf n tape event none = reach-same n (tape ++ event ∷ []) tape (λ p. omega (arith, reach-push tape event p, none p))
 
 -- a receipt is noted
-pub reach-recv : (n : ℕ) (tape : List Event) (message : MsgName) → message.from < n → reach_of n (tape ++ Recv message ∷ []) ≡ noted (reach_of n tape) (nearest message)
+pub reach-recv : (n : ℕ) (tape : List Event) (message : MsgName) → message.from < n → reach_of n (tape ++ Recv message ∷ []) ≡ lanes_with_message (reach_of n tape) (nearest message)
 reach-recv n tape message inside =
     let old : List ℕ = reach_of n tape in
     let new : List ℕ = reach_of n (tape ++ Recv message ∷ []) in
@@ -138,22 +138,22 @@ pub reach_of-left : (n : ℕ) (events : List Event) → reach_of n (filter_map r
 reach_of-left n events = reach-same n (filter_map restarted_event events) events (reach-left events)
 
 module _ (history : List Process) (line : List Choice) (count : length line ≡ length history) (q : ℕ) where
-  many : (events : List Event) → reach_of (length (restarted history line)) events ≡ reach_of (length history) events
+  many : (events : List Event) → reach_of (length (restarted_history history line)) events ≡ reach_of (length history) events
   many events = ap (λ n. reach_of n events) (length_restarted history line count)
 
   -- the vector of a check that is kept
-  pub vector-kept : (c : ℕ) → IsTrue (is_kept (choice_at line q) c) → reach_before (restarted history line) q (AtCheck c) ≡ reach_before history q (AtCheck c)
+  pub vector-kept : (c : ℕ) → IsTrue (is_kept (choice_at line q) c) → reach_before (restarted_history history line) q (AtCheck c) ≡ reach_before history q (AtCheck c)
   vector-kept c kept =
-      many (front (tape_at (restarted history line) q) (AtCheck c))
+      many (front (tape_at (restarted_history history line) q) (AtCheck c))
       ∙ ap (λ (tape : List Event). reach_of (length history) (front tape (AtCheck c))) (tape_restarted history line q count)
       ∙ ap (reach_of (length history)) (front_restarted (events_before history line q) c)
       ∙ reach_of-left (length history) (front (events_before history line q) (AtCheck c))
       ∙ ap (reach_of (length history)) (front_kept (tape_at history q) (choice_at line q) c kept)
 
   -- the vector of where a process goes on from its choice
-  pub vector-now : reach_before (restarted history line) q Now ≡ reach_before history q (choice_at line q)
+  pub vector-now : reach_before (restarted_history history line) q Now ≡ reach_before history q (choice_at line q)
   vector-now =
-      let tape : List Event = tape_at (restarted history line) q in
+      let tape : List Event = tape_at (restarted_history history line) q in
       many (front tape Now)
       ∙ ap (reach_of (length history)) (take_all (length tape) tape (omega arith))
       ∙ ap (reach_of (length history)) (tape_restarted history line q count)

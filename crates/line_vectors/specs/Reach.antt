@@ -19,17 +19,17 @@ number_past p message = if message.from == p then message.number + 1 else 0
 
 -- one more than the number of the message that the event receives from process p; 0 where it
 -- receives none
-abbrev pub heard : ℕ → Event → ℕ
-heard p (Send to inc body) = 0
-heard p (Recv message) = number_past p message
-heard p (Check state round) = 0
-heard p (Mark from round) = 0
+abbrev pub reach_of_event : ℕ → Event → ℕ
+reach_of_event p (Send to inc body) = 0
+reach_of_event p (Recv message) = number_past p message
+reach_of_event p (Check state round) = 0
+reach_of_event p (Mark from round) = 0
 
 -- one more than the greatest number that the events receive from process p; 0 where they receive
 -- none
 abbrev pub reach_from : List Event → ℕ → ℕ
 reach_from [] p = 0
-reach_from (event ∷ rest) p = max (heard p event) (reach_from rest p)
+reach_from (event ∷ rest) p = max (reach_of_event p event) (reach_from rest p)
 
 -- the events receive a message from process p with this number
 pub record IsReceivedFrom (events : List Event) (p number : ℕ) : Type 0 where

@@ -3,8 +3,8 @@ use Rattle.std.specs.Prelude.{ℕ, ◌+◌, ◌<◌, ◌≤◌, max, List, lengt
 use Rattle.line_names.specs.declared.messages.MsgName.{MsgName}
 
 -- the lanes once a message is noted: the lane of its sender is past its number
-abbrev pub noted : List ℕ → MsgName → List ℕ
-noted lanes message =
+abbrev pub lanes_with_message : List ℕ → MsgName → List ℕ
+lanes_with_message lanes message =
     slice_set lanes message.from (max (slice_index lanes message.from) (message.number + 1))
 
 -- no lane is over its process's count

@@ -2,7 +2,7 @@
 ghost use Rattle.std.specs.Prelude.{◌≡◌, ◌<◌, ◌≤◌, ◌↔◌, IsTrue, IfOk, MatchOption, length};
 ghost use Rattle.std.specs.Prelude.{replicate, slice_index};
 ghost use Rattle.line_lanes.specs.Lanes.{greater_of, over_count};
-ghost use Rattle.line_vectors.specs.Vectors.{noted, Fits, FitsBefore, IsFirstBeyond};
+ghost use Rattle.line_vectors.specs.Vectors.{lanes_with_message, Fits, FitsBefore, IsFirstBeyond};
 
 use crate::limits::LAST_NUMBER;
 use crate::sents::Sent;
@@ -102,7 +102,7 @@ impl Reach {
     pub fn note(&mut self, message: &MsgName)
         requires process { message.now.from < length self.old }
         requires number { message.now.number < LAST_NUMBER }
-        ensures { self.new ≡ noted self.old message.now }
+        ensures { self.new ≡ lanes_with_message self.old message.now }
     {
         let p = message.from.get() as usize;
         self.lanes[p] = self.lanes[p].max(message.number + 1);

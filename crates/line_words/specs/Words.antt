@@ -6,7 +6,7 @@ use Rattle.clap.specs.Words.{one_of, subcommand_of, takes, with_rule, with_subco
 use Rattle.clap.specs.Simple.{on_top}
 use Rattle.clap.specs.declared.error.kind.ErrorKind.{ErrorKind}
 use Rattle.clap.specs.declared.error.kind.ErrorKind.TheVariants as errors
-use Rattle.line_words.specs.declared.jobs.TheConstants.{MOST_WORKERS}
+use Rattle.line_words.specs.declared.jobs.TheConstants.{MOST_DRILL_WORKERS}
 use Rattle.line_words.specs.declared.jobs.Job.{Job}
 use Rattle.line_words.specs.declared.jobs.Job.TheVariants.{Check, Drill, Run, Serve}
 use Rattle.line_words.specs.declared.faults.WordsFault.{WordsFault}
@@ -18,8 +18,8 @@ option name default =
     record (new_rule name) { long = Some name; value_names = 1; defaults = default ∷ [] }
 
 -- the subcommand for drills: two workers and one round where the words say nothing else
-abbrev pub drill : App
-drill =
+abbrev pub drill_subcommand : App
+drill_subcommand =
     let workers = with_rule (new_app (codes "drill")) (option (codes "workers") (codes "2")) in
     with_rule workers (option (codes "rounds") (codes "1"))
 
@@ -37,7 +37,7 @@ abbrev pub recline : App
 recline =
     let run = with_bare (as_program (new_app (codes "recline"))) (codes "run") in
     let check = with_bare (with_bare run (codes "serve")) (codes "check") in
-    with_subcommand check drill.top
+    with_subcommand check drill_subcommand.top
 
 -- the text spells the number, in decimal digits that a plus may stand before
 abbrev pub Spells : Text → ℕ → Type 0
@@ -59,14 +59,14 @@ IsAskedBy Serve asked = asked.0 ≡ codes "serve"
 IsAskedBy Check asked = asked.0 ≡ codes "check"
 IsAskedBy (Drill workers rounds) asked =
     (asked.0 ≡ codes "drill")
-    × IsNumberOf (codes "workers") 2 MOST_WORKERS asked.1 workers
+    × IsNumberOf (codes "workers") 2 MOST_DRILL_WORKERS asked.1 workers
     × IsNumberOf (codes "rounds") 1 1000 asked.1 rounds
 
 -- the numbers of a drill lie in their ranges
-abbrev pub IsInRange : Job → Type 0
-IsInRange (Drill workers rounds) =
-    (2 ≤ workers) × (workers ≤ MOST_WORKERS) × (1 ≤ rounds) × (rounds ≤ 1000)
-IsInRange _ = ⊤
+abbrev pub IsJobInRange : Job → Type 0
+IsJobInRange (Drill workers rounds) =
+    (2 ≤ workers) × (workers ≤ MOST_DRILL_WORKERS) × (1 ≤ rounds) × (rounds ≤ 1000)
+IsJobInRange _ = ⊤
 
 -- the words name a subcommand and options that ask for the job
 abbrev pub AsksFor : List Text → Job → Type 0
@@ -91,7 +91,7 @@ abbrev pub IsNoText : ErrorKind → Type 0
 IsNoText kind = (kind ≢ errors.DisplayHelp) × (kind ≢ errors.DisplayVersion)
 
 -- the words are refused, and neither for help nor for the version
-pub record IsRefused (words : List Text) : Type 0 where
+pub record AreWordsRefused (words : List Text) : Type 0 where
   pub kind : ErrorKind
   pub among : IsAmong kind (refusals_of words)
   pub other : IsNoText kind
@@ -101,7 +101,7 @@ pub record IsRefused (words : List Text) : Type 0 where
 abbrev pub HasCause : List Text → WordsFault → Type 0
 HasCause words (faults.Help text) = IsAmong errors.DisplayHelp (refusals_of words)
 HasCause words (faults.Version text) = IsAmong errors.DisplayVersion (refusals_of words)
-HasCause words faults.Bad = AsksForNoJob words ⊎ IsRefused words
+HasCause words faults.Bad = AsksForNoJob words ⊎ AreWordsRefused words
 HasCause words faults.OutOfMemory = ⊤
 
 -- what an error of this kind is told as

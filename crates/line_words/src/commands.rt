@@ -3,7 +3,8 @@ ghost use Rattle.std.specs.Prelude.{◌≡◌, IfOk, IfErr, codes, false, true, 
 ghost use Rattle.clap.specs.Words.{FailsBy, app_of, kind_of, new_app, rule_of, subcommand_of};
 ghost use Rattle.clap.specs.Words.{subcommand_rows_of, takes};
 ghost use Rattle.clap.specs.declared.builder.command.Command.TheViews.{out-Command};
-ghost use Rattle.line_words.specs.Words.{as_program, drill, option, recline, refusals_of};
+ghost use Rattle.line_words.specs.Words.{as_program, drill_subcommand, option, recline};
+ghost use Rattle.line_words.specs.Words.{refusals_of};
 ghost use Rattle.line_words.specs.Words.{with_bare};
 
 use crate::helps;
@@ -64,7 +65,7 @@ fn check_command<'a>(alloc: Global) -> Command<'a>
 
 /// The subcommand for drills, with its options.
 fn drill_command<'a>(alloc: Global) -> Result<Command<'a>, AllocError>
-    ensures shape { IfOk result (λ command. app_of command ≡ drill) }
+    ensures shape { IfOk result (λ command. app_of command ≡ drill_subcommand) }
     ensures local { IfOk result (λ command. (out-Command command).has_globals ≡ false) }
 {
     let help = "How many workers, from 2 to 64";

@@ -6,7 +6,7 @@ ghost use Rattle.line_words.specs.Words.{IsAskedBy, IsNumberOf};
 use clap::ArgMatches;
 
 /// The greatest number of workers of a drill.
-pub const MOST_WORKERS: u32 = 64;
+pub const MOST_DRILL_WORKERS: u32 = 64;
 
 /// What the program is asked to do.
 #[derive(Clone, Copy, Debug, PartialEq, Eq)]
@@ -19,7 +19,7 @@ pub enum Job {
     Check,
     /// Has workers in threads send each other messages.
     Drill {
-        /// How many workers, from 2 to `MOST_WORKERS`.
+        /// How many workers, from 2 to `MOST_DRILL_WORKERS`.
         workers: u32,
         /// How often each of them does its orders, from 1 to 1,000.
         rounds: u32,
@@ -40,7 +40,7 @@ fn drill_of(options: &ArgMatches) -> Option<Job>
     ensures { (job : Job) → (result ≡ Some job)
         ↔ IsAskedBy job (codes "drill", rows_of (found_of options.now)) }
 {
-    let workers = number_of(options, "workers", 2, MOST_WORKERS)?;
+    let workers = number_of(options, "workers", 2, MOST_DRILL_WORKERS)?;
     let rounds = number_of(options, "rounds", 1, 1_000)?;
     Some(Job::Drill { workers, rounds })
 }

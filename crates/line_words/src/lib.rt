@@ -9,6 +9,6 @@ mod readings;
 mod words;
 
 pub use faults::WordsFault;
-pub use jobs::{Job, MOST_WORKERS};
+pub use jobs::{Job, MOST_DRILL_WORKERS};
 pub use readings::fault_of_reading;
-pub use words::{command_of, jobs_are_taken};
+pub use words::{jobs_are_taken, read_job};

@@ -1,7 +1,7 @@
 //! The words of a command line, and the job that they ask for.
 ghost use Rattle.std.specs.Prelude.{◌≡◌, ◌∷◌, [], IfOk, IfErr, codes, true, map};
 ghost use Rattle.clap.specs.Words.{takes};
-ghost use Rattle.line_words.specs.Words.{AsksFor, HasCause, IsInRange, IsTakenAs, recline};
+ghost use Rattle.line_words.specs.Words.{AsksFor, HasCause, IsJobInRange, IsTakenAs, recline};
 
 use crate::commands::matches_of_words;
 use crate::faults::{WordsFault, fault_of};
@@ -9,9 +9,9 @@ use crate::jobs::{Job, job_of};
 use std::alloc::Global;
 
 /// The job that the words ask for, the program's name first.
-pub fn command_of<'a>(alloc: Global, words: &'a [&'a str]) -> Result<Job, WordsFault>
+pub fn read_job<'a>(alloc: Global, words: &'a [&'a str]) -> Result<Job, WordsFault>
     ensures ok { IfOk result (λ job. AsksFor (map (λ w. w.now) words.entry.now) job) }
-    ensures range { IfOk result IsInRange }
+    ensures range { IfOk result IsJobInRange }
 
     // A command line that asks for a job is refused only where memory is out.
     ensures err { IfErr result (λ fault. (job : Job)

@@ -15,7 +15,7 @@ use Rattle.line_moves.specs.declared.modes.Mode.{Mode}
 use Rattle.line_world.specs.declared.steps.Step.TheVariants.{Deliver}
 use Rattle.line_moves.specs.Fates.{events_taken}
 use Rattle.line_world.specs.Steps.{reply_taken}
-use Rattle.line_moves.specs.Listed.{Listed, newly_listed}
+use Rattle.line_moves.specs.Listed.{ListedRound, newly_listed}
 use Rattle.line_moves.specs.declared.modes.Mode.TheVariants.{Fifo, Unordered}
 use Rattle.std.specs.List.{All}
 use Rattle.std.proofs.lemmas.List.Elements.{All-head, All-tail}
@@ -33,20 +33,20 @@ use Rattle.line_moves.proofs.WorldLemmas.{items-world}
 use Rattle.line_world.proofs.SeenLemmas.{seen}
 
 -- a step as callers see it
-pub step_seen : (mode : Mode) (history after : List Process) (marks marks_after : MarksView) (last next : ℕ) (rounds new : List Listed) (queues queues_after : List (List (List Item))) (p : ℕ) (events : List Event)
+pub step_seen : (mode : Mode) (history after : List Process) (marks marks_after : MarksView) (last next : ℕ) (rounds new : List ListedRound) (queues queues_after : List (List (List Item))) (p : ℕ) (events : List Event)
     → after ≡ with_events history p events → marks_after ≡ marks → copies_in mode queues_after ≡ copies_in mode queues → new ≡ newly_listed mode history (with_events history p events) next
     → seen mode after marks_after next (rounds ++ new) queues_after ≡ with_step (seen mode history marks last rounds queues) p events next
 step_seen mode history after marks marks_after last next rounds new queues queues_after p events done marked kept listed =
     ap (λ (h : List Process). seen mode h marks_after next (rounds ++ new) queues_after) done
     ∙ ap (λ (v : MarksView). seen mode (with_events history p events) v next (rounds ++ new) queues_after) marked
     ∙ ap (λ (copies : List (List (List Item))). let m : Machine = record { mode = mode; history = with_events history p events; marks = marks; last_round = next; rounds = rounds ++ new; copies = names_on copies } in m) kept
-    ∙ ap (λ (ls : List Listed). seen mode (with_events history p events) marks next (rounds ++ ls) queues) listed
+    ∙ ap (λ (ls : List ListedRound). seen mode (with_events history p events) marks next (rounds ++ ls) queues) listed
 
 -- a step that adds no event
 idle_step : (machine : Machine) (p : ℕ) → machine ≡ with_step machine p [] machine.last_round
 idle_step machine p =
-    ap (λ (ls : List Listed). let m : Machine = record machine { rounds = ls } in m)
-    (sym (append-nil machine.rounds) ∙ ap (λ (ls : List Listed). machine.rounds ++ ls) (sym (newly_none machine.mode machine.history machine.history machine.last_round (λ t. t))))
+    ap (λ (ls : List ListedRound). let m : Machine = record machine { rounds = ls } in m)
+    (sym (append-nil machine.rounds) ∙ ap (λ (ls : List ListedRound). machine.rounds ++ ls) (sym (newly_none machine.mode machine.history machine.history machine.last_round (λ t. t))))
 
 module _ (machine : Machine) (from to pick : ℕ) (state : List ℕ) (item : Item) (passed : first_cause (link_causes machine from to pick state) ≡ None) (picked : slice_get (items_on machine from to) pick ≡ Some item) where
   -- its events
@@ -76,11 +76,11 @@ module _ (machine : Machine) (from to pick : ℕ) (state : List ℕ) (item : Ite
       (idle_step machine to ∙ ap (λ (es : List Event). with_step machine to es machine.last_round) (sym idle))
 
 -- a step that lists nothing
-pub quiet_seen : (mode : Mode) (history after : List Process) (marks marks_after : MarksView) (last : ℕ) (rounds : List Listed) (queues queues_after : List (List (List Item))) (p : ℕ) (events : List Event)
+pub quiet_seen : (mode : Mode) (history after : List Process) (marks marks_after : MarksView) (last : ℕ) (rounds : List ListedRound) (queues queues_after : List (List (List Item))) (p : ℕ) (events : List Event)
     → after ≡ with_events history p events → marks_after ≡ marks → copies_in mode queues_after ≡ copies_in mode queues → newly_listed mode history (with_events history p events) last ≡ []
     → seen mode after marks_after last rounds queues_after ≡ with_step (seen mode history marks last rounds queues) p events last
 quiet_seen mode history after marks marks_after last rounds queues queues_after p events done marked kept none =
-    ap (λ (ls : List Listed). seen mode after marks_after last ls queues_after) (sym (append-nil rounds))
+    ap (λ (ls : List ListedRound). seen mode after marks_after last ls queues_after) (sym (append-nil rounds))
     ∙ step_seen mode history after marks marks_after last last rounds [] queues queues_after p events done marked kept (sym none)
 
 -- a copy stays, and links in order hold none
@@ -94,7 +94,7 @@ at_place P [] k x all at = absurd (cc)
 at_place P (y ∷ xs) zero x all at = let same : y ≡ x = cc in subst P same (All-head P y xs all)
 at_place P (y ∷ xs) (suc k) x all at = at_place P xs k x (All-tail P y xs all) at
 
-module _ (mode : Mode) (history : List Process) (marks : MarksView) (last : ℕ) (rounds : List Listed) (queues : List (List (List Item))) (machine : Machine) (view : seen mode history marks last rounds queues ≡ machine)
+module _ (mode : Mode) (history : List Process) (marks : MarksView) (last : ℕ) (rounds : List ListedRound) (queues : List (List (List Item))) (machine : Machine) (view : seen mode history marks last rounds queues ≡ machine)
     (world : IsWorld mode history queues) (from to pick : ℕ) (state : List ℕ) (item : Item) (passed : first_cause (link_causes machine from to pick state) ≡ None) (picked : slice_get (items_on machine from to) pick ≡ Some item) where
   -- what a delivery may rely on
   pub may : MayDeliver machine from to pick state

@@ -9,7 +9,7 @@ use Rattle.line_names.specs.declared.choices.Choice.{Choice}
 use Rattle.line_tape.specs.declared.events.Event.{Event}
 use Rattle.line_tape.specs.declared.events.Event.TheVariants.{Check}
 use Rattle.line_tape.specs.History.{Process, tape_at, with_event}
-use Rattle.line_tape.specs.Restart.{restarted}
+use Rattle.line_tape.specs.Restart.{restarted_history}
 use Rattle.line_tape.specs.Rounds.{has_check_of, is_check_of}
 use Rattle.line_tape.proofs.CompletionLemmas.{checked_from, completed_from, no_check_restarted}
 use Rattle.line_tape.proofs.GrowthLemmas.{any_push}
@@ -17,18 +17,18 @@ use Rattle.line_tape.proofs.SnapshotLemmas.{snapshot_event}
 use Rattle.line_tape.proofs.SpentLemmas.{length_restarted}
 use Rattle.line_moves.specs.declared.modes.Mode.{Mode}
 use Rattle.line_moves.specs.declared.modes.Mode.TheVariants.{Fifo, Unordered}
-use Rattle.line_moves.specs.Listed.{Listed, channel_in, is_begun, is_completed, listed, newly_listed, stays, IsSnapshotOf}
+use Rattle.line_moves.specs.Listed.{ListedRound, channel_in, is_begun, is_completed, listed_round, newly_listed, stays, IsSnapshotOf}
 use Rattle.line_moves.specs.Worlds.{AreNumbered}
 use Rattle.line_moves.proofs.LinkLemmas.{length-with_event}
 use Rattle.line_moves.proofs.OpeningLemmas.{any_found, begun_by, completed_has, completed_stays, has_back, snapshots_restarted, AreNumbered-filter, AreNumbered-push, AreNumbered-weaker}
 use Rattle.line_moves.proofs.RecordingLemmas.{or-true}
 
 -- round r is among these
-abbrev pub lists : List Listed → ℕ → Bool
-lists rounds r = list_any (λ (round : Listed). round.number == r) rounds
+abbrev pub lists : List ListedRound → ℕ → Bool
+lists rounds r = list_any (λ (round : ListedRound). round.number == r) rounds
 
 -- the rounds on the tapes are none later than the last one begun, and each other is completed; the completed ones are listed, and the listed ones are snapshots, by number
-pub record AreListed (mode : Mode) (history : List Process) (last : ℕ) (rounds : List Listed) : Type 0 where
+pub record AreListed (mode : Mode) (history : List Process) (last : ℕ) (rounds : List ListedRound) : Type 0 where
   pub numbers : (p r : ℕ) → has_check_of r (tape_at history p) ≡ true → r ≤ last
   pub others : (p r : ℕ) → has_check_of r (tape_at history p) ≡ true → r ≢ last → is_completed mode history r ≡ true
   pub snapshots : All (IsSnapshotOf history) rounds
@@ -42,16 +42,16 @@ pub record Grows (mode : Mode) (old new : List Process) (last next : ℕ) : Type
   pub size : length new ≡ length old
   pub numbers : (p r : ℕ) → has_check_of r (tape_at new p) ≡ true → (has_check_of r (tape_at old p) ≡ true) ⊎ (r ≡ next)
   pub stays : (r : ℕ) → is_completed mode old r ≡ true → is_completed mode new r ≡ true
-  pub snapshots : (round : Listed) → IsSnapshotOf old round → IsSnapshotOf new round
+  pub snapshots : (round : ListedRound) → IsSnapshotOf old round → IsSnapshotOf new round
   pub next_is : ((next ≡ last) × (is_begun new last ≡ true → is_begun old last ≡ true)) ⊎ ((next ≡ suc last) × ((p : ℕ) → has_check_of last (tape_at old p) ≡ true → is_completed mode old last ≡ true))
 
 -- what is listed of a round that a change completes, or of another
-newly_cases : (a b : Bool) (round : Listed) → ((a ≡ true) × (b ≡ false) × (cond (a && not b) (round ∷ []) [] ≡ round ∷ [])) ⊎ ((a ≡ true → b ≡ true) × (cond (a && not b) (round ∷ []) [] ≡ []))
+newly_cases : (a b : Bool) (round : ListedRound) → ((a ≡ true) × (b ≡ false) × (cond (a && not b) (round ∷ []) [] ≡ round ∷ [])) ⊎ ((a ≡ true → b ≡ true) × (cond (a && not b) (round ∷ []) [] ≡ []))
 newly_cases true true round = inr (λ t. refl, refl)
 newly_cases true false round = inl (refl, refl, refl)
 newly_cases false b round = inr (λ t. absurd (cc), refl)
 
-module _ (mode : Mode) (old new : List Process) (last next : ℕ) (rounds : List Listed) (grows : Grows mode old new last next) (are : AreListed mode old last rounds) where
+module _ (mode : Mode) (old new : List Process) (last next : ℕ) (rounds : List ListedRound) (grows : Grows mode old new last next) (are : AreListed mode old last rounds) where
   no_less : last ≤ next
   no_less = elim grows.next_is [
     | inl same ↦ let e = same.0 in omega (arith, e)
@@ -108,21 +108,21 @@ module _ (mode : Mode) (old new : List Process) (last next : ℕ) (rounds : List
   still_told r was = are.told 0 r (completed_has mode old r 0 was grows.some) was
 
   -- what is completed then is listed, and nothing else
-  pub grown_listed : ((r : ℕ) → is_completed mode new r ≡ true → IsSnapshotOf new (listed mode new r)) → AreListed mode new next (rounds ++ newly_listed mode old new next)
-  grown_listed holds = elim (newly_cases (is_completed mode new next) (is_completed mode old next) (listed mode new next)) [
-    | inl found ↦ subst (λ (ls : List Listed). AreListed mode new next (rounds ++ ls)) (sym found.2) (record {
+  pub grown_listed : ((r : ℕ) → is_completed mode new r ≡ true → IsSnapshotOf new (listed_round mode new r)) → AreListed mode new next (rounds ++ newly_listed mode old new next)
+  grown_listed holds = elim (newly_cases (is_completed mode new next) (is_completed mode old next) (listed_round mode new next)) [
+    | inl found ↦ subst (λ (ls : List ListedRound). AreListed mode new next (rounds ++ ls)) (sym found.2) (record {
       numbers = grown_numbers;
       others = grown_others;
-      snapshots = All-append (IsSnapshotOf new) rounds (listed mode new next ∷ []) grown_snapshots (All-cons (IsSnapshotOf new) (listed mode new next) [] (holds next found.0) (All-nil (IsSnapshotOf new)));
-      numbered = AreNumbered-push next rounds (listed mode new next) refl (grown_unlisted (begun_by new next 0 some_new (completed_has mode new next 0 found.0 some_new)) found.1);
+      snapshots = All-append (IsSnapshotOf new) rounds (listed_round mode new next ∷ []) grown_snapshots (All-cons (IsSnapshotOf new) (listed_round mode new next) [] (holds next found.0) (All-nil (IsSnapshotOf new)));
+      numbered = AreNumbered-push next rounds (listed_round mode new next) refl (grown_unlisted (begun_by new next 0 some_new (completed_has mode new next 0 found.0 some_new)) found.1);
       unlisted = λ begun never. absurd (both_ways (is_completed mode new next) never found.0);
-      told = λ p r has is. any_push (λ (round : Listed). round.number == r) rounds (listed mode new next)
+      told = λ p r has is. any_push (λ (round : ListedRound). round.number == r) rounds (listed_round mode new next)
           ∙ elim (is_completed mode old r) as (λ b. is_completed mode old r ≡ b → (lists rounds r || (next == r)) ≡ true) [
             | true ↦ λ was. ap (λ b. b || (next == r)) (still_told r was)
             | false ↦ λ was. ap (λ b. lists rounds r || b) (eq-eqb next r (sym (grown_completes r was is))) ∙ or-true (lists rounds r)
           ] refl;
     })
-    | inr none ↦ subst (λ (ls : List Listed). AreListed mode new next (rounds ++ ls)) (sym none.1) (subst (AreListed mode new next) (sym (append-nil rounds)) (record {
+    | inr none ↦ subst (λ (ls : List ListedRound). AreListed mode new next (rounds ++ ls)) (sym none.1) (subst (AreListed mode new next) (sym (append-nil rounds)) (record {
       numbers = grown_numbers;
       others = grown_others;
       snapshots = grown_snapshots;
@@ -215,16 +215,16 @@ module _ (mode : Mode) (history : List Process) (at : ℕ) (state : List ℕ) (w
 
 -- a restart leaves no round on the tapes
 module _ (mode : Mode) (history : List Process) (line : List Choice) (size : length line ≡ length history) where
-  none_left : (p r : ℕ) → has_check_of r (tape_at (restarted history line) p) ≡ true → ⊥
-  none_left p r has = both_ways (has_check_of r (tape_at (restarted history line) p)) (no_check_restarted history line r p size) has
+  none_left : (p r : ℕ) → has_check_of r (tape_at (restarted_history history line) p) ≡ true → ⊥
+  none_left p r has = both_ways (has_check_of r (tape_at (restarted_history history line) p)) (no_check_restarted history line r p size) has
 
-  pub restart_listed : (last : ℕ) (rounds : List Listed) → AreListed mode history last rounds → AreListed mode (restarted history line) last (filter (stays line) rounds)
+  pub restart_listed : (last : ℕ) (rounds : List ListedRound) → AreListed mode history last rounds → AreListed mode (restarted_history history line) last (filter (stays line) rounds)
   restart_listed last rounds are = record {
     numbers = λ p r has. absurd (none_left p r has);
     others = λ p r has apart. absurd (none_left p r has);
     snapshots = snapshots_restarted history line rounds size are.snapshots;
     numbered = AreNumbered-filter (suc last) (stays line) rounds are.numbered;
-    unlisted = λ begun never. let found = any_found (restarted history line) last 0 (length (restarted history line)) begun in absurd (none_left found.0 last found.1);
+    unlisted = λ begun never. let found = any_found (restarted_history history line) last 0 (length (restarted_history history line)) begun in absurd (none_left found.0 last found.1);
     told = λ p r has is. absurd (none_left p r has);
   }
 
@@ -234,8 +234,8 @@ module _ (mode : Mode) (history : List Process) (line : List Choice) (size : len
   empty_completed Unordered r none = checked_from history r (λ q below. absurd (omega (arith, below, none)))
 
   -- it completes none
-  pub restart_completes : (r : ℕ) → is_completed mode history r ≡ false → is_completed mode (restarted history line) r ≡ true → ⊥
+  pub restart_completes : (r : ℕ) → is_completed mode history r ≡ false → is_completed mode (restarted_history history line) r ≡ true → ⊥
   restart_completes r was is = elim (cases_lt 0 (length history)) [
-    | inl some ↦ none_left 0 r (completed_has mode (restarted history line) r 0 is (omega (arith, some, length_restarted history line size)))
+    | inl some ↦ none_left 0 r (completed_has mode (restarted_history history line) r 0 is (omega (arith, some, length_restarted history line size)))
     | inr none ↦ both_ways (is_completed mode history r) was (empty_completed mode r (omega (arith, none)))
   ]

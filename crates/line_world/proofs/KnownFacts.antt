@@ -11,7 +11,7 @@ use Rattle.line_tape.specs.Rounds.{has_check_of}
 use Rattle.line_tape.specs.Colours.{colour, message_colour, AreColoured}
 use Rattle.std.specs.Option.{SomeIff}
 use Rattle.line_turns.specs.Flags.{AreFlagged}
-use Rattle.line_turns.specs.Kept.{Turned, AreTurned}
+use Rattle.line_turns.specs.Kept.{ProcessTurns, AreTurned}
 use Rattle.line_turns.specs.Tables.{between}
 use Rattle.line_turns.specs.Turning.{TurningView}
 use Rattle.line_moves.specs.declared.fates.Fate.{Fate}
@@ -19,8 +19,8 @@ use Rattle.line_moves.specs.declared.fates.Fate.TheVariants.{Taken}
 use Rattle.line_moves.specs.declared.modes.Mode.{Mode}
 use Rattle.line_moves.specs.declared.modes.Mode.TheVariants.{Fifo, Unordered}
 use Rattle.line_moves.specs.Fates.{fate_of, forced_round}
-use Rattle.line_moves.specs.Listed.{Listed, is_begun, is_completed}
-use Rattle.line_moves.specs.Openings.{OpenView, left_open, newly_closed, opened_by, opened_turning, IsOpenTurning, IsSettled}
+use Rattle.line_moves.specs.Listed.{ListedRound, is_begun, is_completed}
+use Rattle.line_moves.specs.Openings.{OpenView, left_open, newly_closed, opened_by, opened_turning, IsOpenTurning, IsListedOrOpen}
 use Rattle.line_moves.specs.Worlds.{AreRounds, IsItemOf, IsMessage, IsPainted, IsWorld}
 use Rattle.line_moves.proofs.TurnFacts.{may_turn_none, open_is}
 use Rattle.line_moves.proofs.WorldLemmas.{items-world, IsWorld-held}
@@ -28,7 +28,7 @@ use Rattle.line_world.specs.declared.steps.Step.TheVariants.{Begin, Turn}
 use Rattle.line_world.specs.declared.protocols.Protocol.{Protocol}
 use Rattle.line_world.specs.declared.protocols.Protocol.TheVariants.{Markers, Colours}
 use Rattle.line_world.specs.declared.worlds.World.TheInside.{Inside}
-use Rattle.line_world.specs.Protocols.{mode_of, opened, IsFollowing}
+use Rattle.line_world.specs.Protocols.{mode_of, open_round_of, IsFollowing}
 use Rattle.line_world.specs.Machine.{Machine, is_open, items_on}
 use Rattle.line_world.specs.Refusals.{first_cause, link_causes, may_turn, refusal_of}
 use Rattle.line_world.proofs.DeliverLemmas.{first_in_order, from_within, picked_at, picked_message, picked_of, to_within}
@@ -44,7 +44,7 @@ shown w = seen (mode_of w.protocol) w.catalogue.processes w.catalogue.marks w.la
 abbrev pub IsKept : Inside → Type 0
 IsKept w =
     IsWorld (mode_of w.protocol) w.catalogue.processes w.links
-    × AreRounds (mode_of w.protocol) w.catalogue.processes w.last_round (opened w.protocol) w.rounds.items
+    × AreRounds (mode_of w.protocol) w.catalogue.processes w.last_round (open_round_of w.protocol) w.rounds.items
     × IsFollowing w.catalogue.processes w.protocol
 
 -- links that keep their order
@@ -54,7 +54,7 @@ pub record IsInOrder (w : Inside) (running : Option OpenView) : Type 0 where
   pub are : AreRounds Fifo w.catalogue.processes w.last_round running w.rounds.items
 
 -- links that keep none
-pub record IsColoured (w : Inside) (turning : Option TurningView) (colours : List Turned) (received : List (List Bool)) : Type 0 where
+pub record IsColoured (w : Inside) (turning : Option TurningView) (colours : List ProcessTurns) (received : List (List Bool)) : Type 0 where
   pub mode_is : mode_of w.protocol ≡ Unordered
   pub world : IsWorld Unordered w.catalogue.processes w.links
   pub are : AreRounds Unordered w.catalogue.processes w.last_round (opened_turning turning) w.rounds.items
@@ -77,7 +77,7 @@ pub record MayStart (w : Inside) (p : ℕ) : Type 0 where
   pub closed : (mode : Mode) → mode_of w.protocol ≡ mode → (is_begun w.catalogue.processes w.last_round && not (is_completed mode w.catalogue.processes w.last_round)) ≡ false
 
 -- a round of colours is open of which process p has no check yet
-pub record MayCatch (w : Inside) (turning : Option TurningView) (colours : List Turned) (received : List (List Bool)) (p : ℕ) : Type 0 where
+pub record MayCatch (w : Inside) (turning : Option TurningView) (colours : List ProcessTurns) (received : List (List Bool)) (p : ℕ) : Type 0 where
   pub coloured : IsColoured w turning colours received
   pub within : p < length w.catalogue.processes
   pub kept : IsOpenTurning w.catalogue.processes w.last_round turning
@@ -96,7 +96,7 @@ forced_told history to message (Some round) told =
     ∙ ap (λ (r : ℕ). Some r) (sym told.1)
 
 -- a copy that is taken, behind the check that it forces, if it forces one
-pub record IsTakenCopy (w : Inside) (turning : Option TurningView) (colours : List Turned) (received : List (List Bool)) (from to pick : ℕ) (message : MsgName) (forced : Option ℕ) : Type 0 where
+pub record IsTakenCopy (w : Inside) (turning : Option TurningView) (colours : List ProcessTurns) (received : List (List Bool)) (from to pick : ℕ) (message : MsgName) (forced : Option ℕ) : Type 0 where
   pub coloured : IsColoured w turning colours received
   pub picked : IsPicked w from to pick (Message message)
   pub fate : fate_of Unordered w.catalogue.processes to message ≡ Taken
@@ -108,7 +108,7 @@ module _ (w : Inside) (machine : Machine) (view : shown w ≡ machine) (kept : I
   is_in_order running e = record {
     mode_is = ap mode_of e;
     world = subst (λ (p : Protocol). IsWorld (mode_of p) w.catalogue.processes w.links) e kept.0;
-    are = subst (λ (p : Protocol). AreRounds (mode_of p) w.catalogue.processes w.last_round (opened p) w.rounds.items) e kept.1;
+    are = subst (λ (p : Protocol). AreRounds (mode_of p) w.catalogue.processes w.last_round (open_round_of p) w.rounds.items) e kept.1;
   }
 
   -- the machine, in the words of the kind of links
@@ -123,14 +123,14 @@ module _ (w : Inside) (machine : Machine) (view : shown w ≡ machine) (kept : I
         closed = λ mode same. ap is_open (here mode same) ∙ may.closed;
       }
 
-  module _ (turning : Option TurningView) (colours : List Turned) (received : List (List Bool)) (e : w.protocol ≡ Colours turning colours received) where
+  module _ (turning : Option TurningView) (colours : List ProcessTurns) (received : List (List Bool)) (e : w.protocol ≡ Colours turning colours received) where
     pub is_coloured : IsColoured w turning colours received
     is_coloured =
         let following : IsFollowing w.catalogue.processes (Colours turning colours received) = subst (IsFollowing w.catalogue.processes) e kept.2 in
         record {
           mode_is = ap mode_of e;
           world = subst (λ (p : Protocol). IsWorld (mode_of p) w.catalogue.processes w.links) e kept.0;
-          are = subst (λ (p : Protocol). AreRounds (mode_of p) w.catalogue.processes w.last_round (opened p) w.rounds.items) e kept.1;
+          are = subst (λ (p : Protocol). AreRounds (mode_of p) w.catalogue.processes w.last_round (open_round_of p) w.rounds.items) e kept.1;
           painted = following.0;
           flagged = following.1;
         }
@@ -169,7 +169,7 @@ module _ (w : Inside) (machine : Machine) (view : shown w ≡ machine) (kept : I
       first = first_in_order (mode_of w.protocol) w.catalogue.processes w.catalogue.marks w.last_round w.rounds.items w.links machine view kept.0 from to pick state item passed picked;
     }
 
-    pub is_taken_copy : (turning : Option TurningView) (colours : List Turned) (received : List (List Bool)) → w.protocol ≡ Colours turning colours received
+    pub is_taken_copy : (turning : Option TurningView) (colours : List ProcessTurns) (received : List (List Bool)) → w.protocol ≡ Colours turning colours received
         → (message : MsgName) → slice_get (items_on machine from to) pick ≡ Some (Message message)
         → (history : List Process) → history ≡ w.catalogue.processes → (fate : Fate) → fate ≡ fate_of Unordered history to message → fate ≡ Taken
         → (answer : Option ℕ) → ((h : List Process) → AreTurned h colours → AreColoured h → Holds (tape_at h message.from) message.inc message.number
@@ -190,7 +190,7 @@ module _ (w : Inside) (machine : Machine) (view : shown w ≡ machine) (kept : I
         }
 
     -- the same, where its fate is told of the machine
-    pub is_copy : (turning : Option TurningView) (colours : List Turned) (received : List (List Bool)) → w.protocol ≡ Colours turning colours received
+    pub is_copy : (turning : Option TurningView) (colours : List ProcessTurns) (received : List (List Bool)) → w.protocol ≡ Colours turning colours received
         → (message : MsgName) → slice_get (items_on machine from to) pick ≡ Some (Message message) → fate_of Unordered machine.history to message ≡ Taken
         → (forced : Option ℕ) → forced_round Unordered machine.history to message ≡ forced → IsTakenCopy w turning colours received from to pick message forced
     is_copy turning colours received e message picked taken forced forces =
@@ -213,7 +213,7 @@ one_kind Fifo fifo unordered = absurd (cc)
 one_kind Unordered fifo unordered = absurd (cc)
 
 -- one that forces a check has process `to` take its check of the open round first
-pub may_catch : (w : Inside) (turning : Option TurningView) (colours : List Turned) (received : List (List Bool)) (from to pick : ℕ) (message : MsgName) (round : ℕ) → IsTakenCopy w turning colours received from to pick message (Some round)
+pub may_catch : (w : Inside) (turning : Option TurningView) (colours : List ProcessTurns) (received : List (List Bool)) (from to pick : ℕ) (message : MsgName) (round : ℕ) → IsTakenCopy w turning colours received from to pick message (Some round)
     → MayCatch w turning colours received to
 may_catch w turning colours received from to pick message round is =
     let history : List Process = w.catalogue.processes in
@@ -232,26 +232,26 @@ may_catch w turning colours received from to pick message round is =
     }
 
 -- what a world keeps true, said of another protocol for the same links, with a round that is kept as open
-pub kept_with : (mode : Mode) (open_round : Option OpenView) (protocol : Protocol) → mode_of protocol ≡ mode → opened protocol ≡ open_round → (history after : List Process) → history ≡ after → (links : List (List (List Item))) (last : ℕ)
-    (rounds : List Listed) → IsWorld mode after links → AreRounds mode after last open_round rounds → IsFollowing after protocol
-    → IsWorld (mode_of protocol) history links × AreRounds (mode_of protocol) history last (opened protocol) rounds × IsFollowing history protocol
+pub kept_with : (mode : Mode) (open_round : Option OpenView) (protocol : Protocol) → mode_of protocol ≡ mode → open_round_of protocol ≡ open_round → (history after : List Process) → history ≡ after → (links : List (List (List Item))) (last : ℕ)
+    (rounds : List ListedRound) → IsWorld mode after links → AreRounds mode after last open_round rounds → IsFollowing after protocol
+    → IsWorld (mode_of protocol) history links × AreRounds (mode_of protocol) history last (open_round_of protocol) rounds × IsFollowing history protocol
 kept_with mode open_round protocol mode_is opened_is history after same links last rounds world are following = (
   subst (λ (h : List Process). IsWorld (mode_of protocol) h links) (sym same) (subst (λ (m : Mode). IsWorld m after links) (sym mode_is) world),
-  subst (λ (h : List Process). AreRounds (mode_of protocol) h last (opened protocol) rounds) (sym same)
-      (subst (λ (m : Mode). AreRounds m after last (opened protocol) rounds) (sym mode_is)
+  subst (λ (h : List Process). AreRounds (mode_of protocol) h last (open_round_of protocol) rounds) (sym same)
+      (subst (λ (m : Mode). AreRounds m after last (open_round_of protocol) rounds) (sym mode_is)
       (subst (λ (o : Option OpenView). AreRounds mode after last o rounds) (sym opened_is) are)),
   subst (λ (h : List Process). IsFollowing h protocol) (sym same) following,
 )
 
 -- and said for links that keep their order
-pub ordered_kept : (history after : List Process) → history ≡ after → (links : List (List (List Item))) (last : ℕ) (running : Option OpenView) (rounds : List Listed)
+pub ordered_kept : (history after : List Process) → history ≡ after → (links : List (List (List Item))) (last : ℕ) (running : Option OpenView) (rounds : List ListedRound)
     → IsWorld Fifo history links → AreRounds Fifo after last running rounds
     → IsWorld Fifo history links × AreRounds Fifo history last running rounds × Unit {0}
 ordered_kept history after same links last running rounds world are = (world, subst (λ (h : List Process). AreRounds Fifo h last running rounds) (sym same) are, tt)
 
 -- and for others, once a round of colours is settled
-pub coloured_kept : (before : List Listed) (links : List (List (List Item))) (history middle after : List Process) → history ≡ after → (last : ℕ) (colours : List Turned) (turning : Option TurningView) (rounds : List Listed)
-    → (settled : IsSettled middle last before turning rounds)
+pub coloured_kept : (before : List ListedRound) (links : List (List (List Item))) (history middle after : List Process) → history ≡ after → (last : ℕ) (colours : List ProcessTurns) (turning : Option TurningView) (rounds : List ListedRound)
+    → (settled : IsListedOrOpen middle last before turning rounds)
     → IsWorld Unordered after links
     → AreRounds Unordered after last (left_open Unordered middle (Some (opened_by settled.round))) (before ++ newly_closed Unordered middle (Some (opened_by settled.round)))
     → IsPainted after colours
@@ -262,7 +262,7 @@ coloured_kept before links history middle after same last colours turning rounds
       subst (λ (h : List Process). IsWorld Unordered h links) (sym same) world,
       subst (λ (h : List Process). AreRounds Unordered h last (opened_turning turning) rounds) (sym same)
           (subst (λ (o : Option OpenView). AreRounds Unordered after last o rounds) (sym settled.left)
-          (subst (λ (ls : List Listed). AreRounds Unordered after last (left_open Unordered middle (Some new)) ls) (sym settled.listed) are)),
+          (subst (λ (ls : List ListedRound). AreRounds Unordered after last (left_open Unordered middle (Some new)) ls) (sym settled.listed) are)),
       (subst (λ (h : List Process). IsPainted h colours) (sym same) painted, subst (λ (h : List Process). AreFlagged h received) (sym same) flagged),
     )
 

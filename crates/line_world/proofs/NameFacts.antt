@@ -8,7 +8,7 @@ use Rattle.line_tape.specs.declared.events.Event.{Event}
 use Rattle.line_tape.specs.declared.events.Event.TheVariants.{Send as SendEvent, Check as CheckEvent}
 use Rattle.line_tape.specs.Event.{incarnation_of}
 use Rattle.line_tape.specs.History.{Process, incarnation_at, with_event}
-use Rattle.line_tape.specs.Restart.{restarted}
+use Rattle.line_tape.specs.Restart.{restarted_history}
 use Rattle.line_tape.specs.Spent.{next_name, IsSpentName, HasNoLaterSend}
 use Rattle.line_tape.proofs.SpentLemmas.{next_unspent, sent_spent, spent_event, spent_restarted, no_later_event, no_later_restarted}
 use Rattle.line_moves.specs.declared.fates.Fate.{Fate}
@@ -135,7 +135,7 @@ names-done old new (Recover failed) reply sends none does = recovered reply does
   recovered (Recovered plan states incarnations) is =
       let line : List Choice = plan.value.line in
       let size : length line ≡ length old.history = is.plan_is.latest.recoverable.length_is in
-      let after : new.history ≡ restarted old.history line = ap (λ (m : Machine). m.history) is.new_is in (
+      let after : new.history ≡ restarted_history old.history line = ap (λ (m : Machine). m.history) is.new_is in (
         subst (KeepsNames old.history) (sym after) (record {
           sends = no_later_restarted old.history line sends size;
           stays = λ message spent. spent_restarted old.history line message sends size spent;

@@ -9,7 +9,7 @@ use Rattle.line_tape.specs.Fit.{IsFitUnordered, IsNextUnordered}
 use Rattle.line_tape.specs.History.{Process, tape_at, incarnation_at, with_event}
 use Rattle.line_tape.specs.Rounds.{checked_round}
 use Rattle.line_tape.proofs.ColourRounds.{coloured_event}
-use Rattle.line_turns.specs.Kept.{Turned, AreTurned}
+use Rattle.line_turns.specs.Kept.{ProcessTurns, AreTurned}
 use Rattle.line_turns.proofs.TurnedLemmas.{AreTurned-kept}
 use Rattle.line_moves.specs.declared.fates.Fate.TheVariants.{Taken}
 use Rattle.std.specs.List.{slice_get}
@@ -26,7 +26,7 @@ use Rattle.line_world.specs.declared.protocols.Protocol.TheVariants.{Markers, Co
 use Rattle.line_world.specs.Protocols.{mode_of, IsFollowing}
 
 -- an event that is no check of a round
-pub painted_event : (history : List Process) (at : ℕ) (e : Event) (colours : List Turned) → at < length history → IsFitUnordered history → checked_round e ≡ None → IsNextUnordered history at e → IsNextColoured history at e
+pub painted_event : (history : List Process) (at : ℕ) (e : Event) (colours : List ProcessTurns) → at < length history → IsFitUnordered history → checked_round e ≡ None → IsNextUnordered history at e → IsNextColoured history at e
     → IsPainted history colours → IsPainted (with_event history at e) colours
 painted_event history at e colours within fit none next coloured is = record {
   turned = AreTurned-kept history at e colours within none is.turned;
@@ -34,7 +34,7 @@ painted_event history at e colours within fit none next coloured is = record {
 }
 
 -- a check of a greater round
-pub painted_turn : (history : List Process) (at : ℕ) (state : List ℕ) (r : ℕ) (colours : List Turned) → at < length history → IsFitUnordered history → colour (tape_at history at) < r → AreColoured history
+pub painted_turn : (history : List Process) (at : ℕ) (state : List ℕ) (r : ℕ) (colours : List ProcessTurns) → at < length history → IsFitUnordered history → colour (tape_at history at) < r → AreColoured history
     → AreTurned (with_event history at (Check state (Some r))) colours → IsPainted (with_event history at (Check state (Some r))) colours
 painted_turn history at state r colours within fit greater coloured turned = record {
   turned = turned;
@@ -63,12 +63,12 @@ forced_by history p message r e = elim (cases_lt (colour (tape_at history p)) (m
 ]
 
 -- a message is sent
-pub painted_send : (history : List Process) (colours : List Turned) → IsFitUnordered history → IsPainted history colours → (at to : ℕ) (body : List ℕ) → at < length history
+pub painted_send : (history : List Process) (colours : List ProcessTurns) → IsFitUnordered history → IsPainted history colours → (at to : ℕ) (body : List ℕ) → at < length history
     → IsPainted (with_event history at (Send to (incarnation_at history at) body)) colours
 painted_send history colours fit is at to body within = painted_event history at (Send to (incarnation_at history at) body) colours within fit refl refl tt is
 
 -- a message that forces no check is taken
-pub painted_take : (history : List Process) (queues : List (List (List Item))) (colours : List Turned) (from to : ℕ) → from < length history → to < length history → (message : MsgName) → message.from ≡ from
+pub painted_take : (history : List Process) (queues : List (List (List Item))) (colours : List ProcessTurns) (from to : ℕ) → from < length history → to < length history → (message : MsgName) → message.from ≡ from
     → (pick : ℕ) → slice_get (between queues from to) pick ≡ Some (Message message) → IsWorld Unordered history queues → fate_of Unordered history to message ≡ Taken → forced_round Unordered history to message ≡ None
     → IsPainted history colours → IsPainted (with_event history to (Recv message)) colours
 painted_take history queues colours from to from_within to_within message named pick at world taken none is =

@@ -12,7 +12,7 @@ use Rattle.line_names.specs.declared.messages.MsgName.{MsgName}
 use Rattle.line_turns.specs.Tables.{between, with_list}
 use Rattle.line_moves.specs.declared.modes.Mode.{Mode}
 use Rattle.line_moves.specs.declared.modes.Mode.TheVariants.{Fifo, Unordered}
-use Rattle.line_moves.specs.Listed.{newly_listed, Listed}
+use Rattle.line_moves.specs.Listed.{newly_listed, ListedRound}
 use Rattle.line_moves.specs.Modes.{copies_in}
 use Rattle.line_moves.specs.Worlds.{message_of, names_on}
 use Rattle.line_moves.proofs.WorldLemmas.{names-at, names-with}
@@ -22,7 +22,7 @@ use Rattle.line_world.specs.Machine.{Machine}
 use Rattle.line_world.specs.Steps.{Does}
 
 -- the machine that a world shows
-abbrev pub seen : Mode → List Process → MarksView → ℕ → List Listed → List (List (List Item)) → Machine
+abbrev pub seen : Mode → List Process → MarksView → ℕ → List ListedRound → List (List (List Item)) → Machine
 seen mode history marks last rounds queues = record { mode = mode; history = history; marks = marks; last_round = last; rounds = rounds; copies = names_on (copies_in mode queues) }
 
 -- a copy more is seen
@@ -36,7 +36,7 @@ copy_kept Unordered queues p q message =
     (filter_map-append message_of (between queues p q) (Message message ∷ []) ∙ ap (λ (ms : List MsgName). ms ++ message ∷ []) (sym (names-at queues p q)))
 
 -- a message sent, as callers see it
-pub Sends-seen : (mode : Mode) (history : List Process) (marks : MarksView) (last : ℕ) (rounds : List Listed) (queues : List (List (List Item))) (from to : ℕ) (body : List ℕ) (message : MsgName) (after : List Process) (marks_after : MarksView)
+pub Sends-seen : (mode : Mode) (history : List Process) (marks : MarksView) (last : ℕ) (rounds : List ListedRound) (queues : List (List (List Item))) (from to : ℕ) (body : List ℕ) (message : MsgName) (after : List Process) (marks_after : MarksView)
     (queues_after : List (List (List Item)))
     → message ≡ next_name history from
     → after ≡ with_event history from (Send to (incarnation_at history from) body)
@@ -51,7 +51,7 @@ Sends-seen mode history marks last rounds queues from to body message after mark
       ∙ ap (λ (q : List (List (List Item))). seen mode (with_event history from (Send to (incarnation_at history from) body)) marks last rounds q) put
       ∙ ap (λ (copies : List (List (List MsgName))). let m : Machine = record { mode = mode; history = with_event history from (Send to (incarnation_at history from) body); marks = marks; last_round = last; rounds = rounds; copies = copies } in m)
       (copy_kept mode queues from to (next_name history from))
-      ∙ ap (λ (listed : List Listed). let m : Machine = record {
+      ∙ ap (λ (listed : List ListedRound). let m : Machine = record {
         mode = mode;
         history = with_event history from (Send to (incarnation_at history from) body);
         marks = marks;
@@ -59,5 +59,5 @@ Sends-seen mode history marks last rounds queues from to body message after mark
         rounds = listed;
         copies = copies_in mode (with_list (names_on (copies_in mode queues)) from to (between (names_on (copies_in mode queues)) from to ++ next_name history from ∷ []));
       } in m)
-      (sym (append-nil rounds) ∙ ap (λ (new : List Listed). rounds ++ new) (sym none)),
+      (sym (append-nil rounds) ∙ ap (λ (new : List ListedRound). rounds ++ new) (sym none)),
 )

@@ -16,7 +16,7 @@ use Rattle.line_tape.specs.Copies.{IsCopy}
 use Rattle.line_tape.specs.Fit.{IsNextUnordered}
 use Rattle.line_tape.specs.History.{Process, fresh, incarnation_at, tape_at, with_event}
 use Rattle.line_tape.specs.Line.{IsConsistent}
-use Rattle.line_tape.specs.Restart.{restarted}
+use Rattle.line_tape.specs.Restart.{restarted_history}
 use Rattle.line_tape.specs.Rounds.{has_check_of}
 use Rattle.line_tape.specs.Spent.{next_name}
 use Rattle.line_tape.specs.Transit.{in_transit_between}
@@ -33,7 +33,7 @@ use Rattle.line_moves.specs.declared.fates.Fate.TheVariants.{Taken, Stale as IsS
 use Rattle.line_moves.specs.declared.modes.Mode.{Mode}
 use Rattle.line_moves.specs.declared.modes.Mode.TheVariants.{Fifo, Unordered}
 use Rattle.line_moves.specs.Fates.{events_of, events_taken, fate_of, forced_round, is_forced, marker_events}
-use Rattle.line_moves.specs.Listed.{Listed, channel_in, is_begun, is_completed, listed, newly_listed, IsReached, IsSnapshotOf}
+use Rattle.line_moves.specs.Listed.{ListedRound, channel_in, is_begun, is_completed, listed_round, newly_listed, IsReached, IsSnapshotOf}
 use Rattle.line_moves.specs.Modes.{copies_in, items_in}
 use Rattle.line_moves.specs.Moves.{with_events}
 use Rattle.line_moves.specs.Queues.{taken_off, with_on_each}
@@ -124,7 +124,7 @@ round_linked Unordered history copies linked at state r within none less = recor
   coloured = coloured_event history at (CheckEvent state (Some r)) linked.world.linked.fit linked.coloured within tt (less refl);
 }
 
-module _ (mode : Mode) (history : List Process) (last : ℕ) (rounds : List Listed) (copies : List (List (List MsgName))) (are : AreListed mode history last rounds) (linked : HasQueues mode history copies) where
+module _ (mode : Mode) (history : List Process) (last : ℕ) (rounds : List ListedRound) (copies : List (List (List MsgName))) (are : AreListed mode history last rounds) (linked : HasQueues mode history copies) where
   moves_none : 0 < length history → Moves mode history history last last copies
   moves_none some = record { grows = grows_none mode history last some; linked = linked }
 
@@ -178,7 +178,7 @@ taken_coloured Unordered history queues from to from_within to_within message na
     coloured_event history to (Recv message) world.linked.fit is to_within (next_receipt history queues from to from_within to_within message named pick at world taken) (unforced history to message none)
 
 -- or one that does
-moves_caught : (mode : Mode) (history : List Process) (last : ℕ) (rounds : List Listed) (copies : List (List (List MsgName))) → AreListed mode history last rounds → (linked : HasQueues mode history copies)
+moves_caught : (mode : Mode) (history : List Process) (last : ℕ) (rounds : List ListedRound) (copies : List (List (List MsgName))) → AreListed mode history last rounds → (linked : HasQueues mode history copies)
     → (from to pick : ℕ) (state : List ℕ) → from < length history → to < length history → (message : MsgName) → message.from ≡ from → slice_get (between linked.queues from to) pick ≡ Some (Message message)
     → fate_of mode history to message ≡ Taken → (r : ℕ) → forced_round mode history to message ≡ Some r
     → Moves mode history (with_event (with_event history to (CheckEvent state (Some r))) to (Recv message)) last last copies
@@ -212,7 +212,7 @@ moves_caught Unordered history last rounds copies are linked from to pick state 
     })
 
 -- a marker comes
-module _ (history : List Process) (last : ℕ) (rounds : List Listed) (copies : List (List (List MsgName))) (are : AreListed Fifo history last rounds) (linked : HasQueues Fifo history copies)
+module _ (history : List Process) (last : ℕ) (rounds : List ListedRound) (copies : List (List (List MsgName))) (are : AreListed Fifo history last rounds) (linked : HasQueues Fifo history copies)
     (from to : ℕ) (state : List ℕ) (from_within : from < length history) (to_within : to < length history) (apart : from ≢ to) (round : ℕ) (first : slice_get (between linked.queues from to) 0 ≡ Some (Marker round)) where
   moves_marked : (forced : Bool) → forced ≡ is_forced history to round → Moves Fifo history (with_events history to (marker_events forced from state round)) last last copies
   moves_marked true is =
@@ -247,7 +247,7 @@ module _ (history : List Process) (last : ℕ) (rounds : List Listed) (copies : 
   }
 
 -- a process takes or looks at an item
-moves_item : (mode : Mode) (history : List Process) (last : ℕ) (rounds : List Listed) (copies : List (List (List MsgName))) → AreListed mode history last rounds → (linked : HasQueues mode history copies)
+moves_item : (mode : Mode) (history : List Process) (last : ℕ) (rounds : List ListedRound) (copies : List (List (List MsgName))) → AreListed mode history last rounds → (linked : HasQueues mode history copies)
     → (from to pick : ℕ) (state : List ℕ) → from < length history → to < length history → from ≢ to → (mode ≡ Fifo → pick ≡ 0) → (item : Item) → slice_get (between linked.queues from to) pick ≡ Some item → IsItemOf from item
     → Moves mode history (with_events history to (events_taken mode history from to state item)) last last copies
 moves_item mode history last rounds copies are linked from to pick state from_within to_within apart first (Message message) at named = by_fate (fate_of mode history to message) (forced_round mode history to message) refl refl
@@ -280,7 +280,7 @@ pub record Goes (old new : Machine) : Type 0 where
   pub completes : CompletesLast old new
 
 -- a completed round is a snapshot as it is listed
-holds_in : (mode : Mode) (history : List Process) (queues : List (List (List Item))) → IsWorld mode history queues → AreColouredIn mode history → (r : ℕ) → is_completed mode history r ≡ true → IsSnapshotOf history (listed mode history r)
+holds_in : (mode : Mode) (history : List Process) (queues : List (List (List Item))) → IsWorld mode history queues → AreColouredIn mode history → (r : ℕ) → is_completed mode history r ≡ true → IsSnapshotOf history (listed_round mode history r)
 holds_in Fifo history queues world coloured r completed = listed_snapshot history r world.linked.fit completed
 holds_in Unordered history queues world coloured r completed = counted_snapshot history r world.linked.fit coloured completed
 
@@ -338,7 +338,7 @@ module _ (mode : Mode) (history : List Process) (queues : List (List (List Item)
   put_from : (p q : ℕ) → All (IsItemOf p) (put p q)
   put_from p q = All-append (IsItemOf p) (between (copies_in mode queues) p q) (map (λ m. Message m) (in_transit_between history line p q)) (copies_from mode p q)
       (All-map (IsItemOf p) (λ (m : MsgName). Message m) (in_transit_between history line p q)
-      (All-weaker (IsCopy (restarted history line) p q) (λ (m : MsgName). m.from ≡ p) (λ m is. is.from_is) (in_transit_between history line p q) (transit_copies history line consistent size p q)))
+      (All-weaker (IsCopy (restarted_history history line) p q) (λ (m : MsgName). m.from ≡ p) (λ m is. is.from_is) (in_transit_between history line p q) (transit_copies history line consistent size p q)))
 
   after_shape : IsTable (length history) after
   after_shape = IsTable-of (length history) put
@@ -355,13 +355,13 @@ module _ (mode : Mode) (history : List Process) (queues : List (List (List Item)
     ];
   }
 
-  after_world : IsWorld mode (restarted history line) after
+  after_world : IsWorld mode (restarted_history history line) after
   after_world = IsWorld-restart history queues after line size consistent after_queues mode world (λ p q p_within q_within. between-of (length history) put p q p_within q_within)
 
   after_copies : names_on (copies_in mode after) ≡ restarted_copies mode history line (names_on (copies_in mode queues))
   after_copies = seen-restart history queues after line size consistent after_queues mode (λ p q p_within q_within. between-of (length history) put p q p_within q_within)
 
-coloured_back : (mode : Mode) (history : List Process) (line : List Choice) → length line ≡ length history → AreColouredIn mode (restarted history line)
+coloured_back : (mode : Mode) (history : List Process) (line : List Choice) → length line ≡ length history → AreColouredIn mode (restarted_history history line)
 coloured_back Fifo history line size = tt
 coloured_back Unordered history line size = coloured_restarted history line size
 
@@ -473,7 +473,7 @@ Stands-start n mode =
         numbers = λ p r has. absurd (none n p r has);
         others = λ p r has apart. absurd (none n p r has);
         snapshots = All-nil (IsSnapshotOf (replicate n fresh));
-        numbered = record { earlier = All-nil (λ (round : Listed). round.number < 1); ascending = λ i j d near far. absurd (omega (arith, far)) };
+        numbered = record { earlier = All-nil (λ (round : ListedRound). round.number < 1); ascending = λ i j d near far. absurd (omega (arith, far)) };
         unlisted = λ begun unfinished. let found = any_found (replicate n fresh) 0 0 (length (replicate n fresh)) begun in absurd (none n found.0 0 found.1);
         told = λ p r has is. absurd (none n p r has);
       };

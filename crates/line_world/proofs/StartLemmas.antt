@@ -18,7 +18,7 @@ use Rattle.line_moves.specs.Modes.{copies_in}
 use Rattle.line_moves.proofs.WorldLemmas.{names-at, names-shape}
 use Rattle.line_turns.proofs.TableLemmas.{between-none, table_of-all, IsTable-none}
 use Rattle.line_moves.specs.Worlds.{IsItemOf, message_of, messages_at, names_on, AreQueues, AreRounds, HoldMessages, IsOrderedWorld, IsLinked, IsMessage, IsWorld}
-use Rattle.line_moves.specs.Listed.{Listed, IsSnapshotOf}
+use Rattle.line_moves.specs.Listed.{ListedRound, IsSnapshotOf}
 
 get_or-replicate_self : {X : Type 0} (n i : ℕ) (x : X) → get_or (replicate n x) i x ≡ x
 get_or-replicate_self n i x = elim (cases_lt i n) [
@@ -88,5 +88,5 @@ module _ (n : ℕ) where
     opening = λ p r has. absurd (both_ways (has_check_of r (tape_at (replicate n fresh) p)) (ap (has_check_of r) (tape-start p)) has);
     unfinished = tt;
     snapshots = All-nil (IsSnapshotOf (replicate n fresh));
-    numbered = record { earlier = All-nil (λ (round : Listed). round.number < 1); ascending = λ i j d near far. absurd (omega (arith, far)) };
+    numbered = record { earlier = All-nil (λ (round : ListedRound). round.number < 1); ascending = λ i j d near far. absurd (omega (arith, far)) };
   }

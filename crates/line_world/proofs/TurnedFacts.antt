@@ -12,7 +12,7 @@ use Rattle.line_tape.specs.Colours.{colour, message_colour}
 use Rattle.line_tape.specs.Event.{Holds}
 use Rattle.line_tape.specs.Fit.{IsSentTo}
 use Rattle.line_tape.specs.History.{Process, tape_at, with_event}
-use Rattle.line_tape.specs.Rounds.{has_check_of, check_line, check_of, checks_of, is_check_of, is_checked}
+use Rattle.line_tape.specs.Rounds.{has_check_of, check_line, check_index, checks_of, is_check_of, is_checked}
 use Rattle.line_tape.specs.Transit.{in_transit_between}
 use Rattle.line_tape.proofs.ColourRounds.{colour_before, split_at_check}
 use Rattle.line_tape.proofs.CompletionLemmas.{check_of_push, checked_idle}
@@ -21,12 +21,12 @@ use Rattle.line_tape.proofs.ForcedLemmas.{colour_less, colour_most, forced_new, 
 use Rattle.line_tape.proofs.NextLemmas.{tape_same, tape_other}
 use Rattle.line_tape.proofs.RoundLines.{checked_has, round_is_line}
 use Rattle.line_tape.proofs.SnapshotLemmas.{event_transit}
-use Rattle.line_turns.specs.Kept.{Turned, AreTurned}
+use Rattle.line_turns.specs.Kept.{ProcessTurns, AreTurned}
 use Rattle.line_turns.specs.Turning.{TurningView, IsTurning}
 use Rattle.line_moves.specs.declared.fates.Fate.TheVariants.{Taken}
 use Rattle.line_moves.specs.declared.modes.Mode.TheVariants.{Unordered}
 use Rattle.line_moves.specs.Fates.{fate_of, forced_round}
-use Rattle.line_moves.specs.Listed.{Listed, channel_table, is_begun, is_completed, listed, newly_listed}
+use Rattle.line_moves.specs.Listed.{ListedRound, channel_table, is_begun, is_completed, listed_round, newly_listed}
 use Rattle.line_moves.specs.Openings.{OpenView, left_open, newly_closed, opened_by, opened_turning, IsRunning}
 use Rattle.line_turns.specs.Tables.{between}
 use Rattle.line_moves.specs.Worlds.{AreRounds, IsPainted, IsWorld}
@@ -38,17 +38,17 @@ use Rattle.line_world.proofs.PaintLemmas.{forced_by, painted_event, painted_turn
 use Rattle.line_moves.proofs.WorldLemmas.{next_receipt, IsWorld-caught, IsWorld-turn}
 
 -- a round that is on every tape is listed as before, whatever comes that is no check of it
-listed_kept : (history : List Process) (at : ℕ) (e : Event) (r : ℕ) → at < length history → is_check_of r e ≡ false → is_checked history r ≡ true → listed Unordered (with_event history at e) r ≡ listed Unordered history r
+listed_kept : (history : List Process) (at : ℕ) (e : Event) (r : ℕ) → at < length history → is_check_of r e ≡ false → is_checked history r ≡ true → listed_round Unordered (with_event history at e) r ≡ listed_round Unordered history r
 listed_kept history at e r within other checked =
     let n : ℕ = length history in
     let new : List Process = with_event history at e in
     let size : length new ≡ n = length-with_event history at e in
     let indices : List ℕ = checks_of history r in
     let same_checks : checks_of new r ≡ indices =
-    ap (λ (v : ℕ). map (λ q. check_of r (tape_at new q)) (range_with_len 0 v)) size
-    ∙ map_cells (λ q. check_of r (tape_at new q)) (λ q. check_of r (tape_at history q)) 0 n (λ q low high. elim (cases_eq q at) [
-      | inl same ↦ ap (check_of r) (tape_same history at e q within same) ∙ check_of_push (tape_at history q) e r (checked_has history r q checked (omega (arith, high)))
-      | inr apart ↦ ap (check_of r) (tape_other history at e q apart)
+    ap (λ (v : ℕ). map (λ q. check_index r (tape_at new q)) (range_with_len 0 v)) size
+    ∙ map_cells (λ q. check_index r (tape_at new q)) (λ q. check_index r (tape_at history q)) 0 n (λ q low high. elim (cases_eq q at) [
+      | inl same ↦ ap (check_index r) (tape_same history at e q within same) ∙ check_of_push (tape_at history q) e r (checked_has history r q checked (omega (arith, high)))
+      | inr apart ↦ ap (check_index r) (tape_other history at e q apart)
     ]) in
     let before : ℕ → ℕ → List MsgName = λ p q. in_transit_between history (check_line indices) p q in
     let after : ℕ → ℕ → List MsgName = λ p q. in_transit_between new (check_line indices) p q in
@@ -56,35 +56,35 @@ listed_kept history at e r within other checked =
     map_cells (λ p. map (λ q. cond (p == q) [] (after p q)) (range_with_len 0 n)) (λ p. map (λ q. cond (p == q) [] (before p q)) (range_with_len 0 n)) 0 n (λ p p_low p_high.
     map_cells (λ q. cond (p == q) [] (after p q)) (λ q. cond (p == q) [] (before p q)) 0 n (λ q q_low q_high.
     ap (λ (ms : List MsgName). cond (p == q) [] ms) (event_transit history at e indices within (round_is_line history r checked) p q))) in
-    ap (λ (v : List ℕ). let l : Listed = record { number = r; checks = v; channels = channel_table (length new) (λ p q. in_transit_between new (check_line v) p q) } in l) same_checks
-    ∙ ap (λ (v : ℕ). let l : Listed = record { number = r; checks = indices; channels = channel_table v after } in l) size
-    ∙ ap (λ (v : List (List (List MsgName))). let l : Listed = record { number = r; checks = indices; channels = v } in l) same_channels
+    ap (λ (v : List ℕ). let l : ListedRound = record { number = r; checks = v; channels = channel_table (length new) (λ p q. in_transit_between new (check_line v) p q) } in l) same_checks
+    ∙ ap (λ (v : ℕ). let l : ListedRound = record { number = r; checks = indices; channels = channel_table v after } in l) size
+    ∙ ap (λ (v : List (List (List MsgName))). let l : ListedRound = record { number = r; checks = indices; channels = v } in l) same_channels
 
 -- and so is what a change completed before it
 newly_kept : (old history : List Process) (at : ℕ) (e : Event) (last : ℕ) → at < length history → ((r : ℕ) → is_check_of r e ≡ false) → newly_listed Unordered old history last ≡ newly_listed Unordered old (with_event history at e) last
 newly_kept old history at e last within other =
     let new : List Process = with_event history at e in
-    let none : List Listed = [] in
+    let none : List ListedRound = [] in
     elim (is_checked history last) as (λ b. is_checked history last ≡ b → newly_listed Unordered old history last ≡ newly_listed Unordered old new last) [
       | true ↦ λ checked.
-          ap (λ (l : Listed). cond (is_checked history last && not (is_checked old last)) (l ∷ []) none) (sym (listed_kept history at e last within (other last) checked))
-          ∙ ap (λ b. cond (b && not (is_checked old last)) (listed Unordered new last ∷ []) none) (sym (same_checked))
+          ap (λ (l : ListedRound). cond (is_checked history last && not (is_checked old last)) (l ∷ []) none) (sym (listed_kept history at e last within (other last) checked))
+          ∙ ap (λ b. cond (b && not (is_checked old last)) (listed_round Unordered new last ∷ []) none) (sym (same_checked))
       | false ↦ λ lacks.
-          ap (λ b. cond (b && not (is_checked old last)) (listed Unordered history last ∷ []) none) lacks
-          ∙ ap (λ b. cond (b && not (is_checked old last)) (listed Unordered new last ∷ []) none) (sym (same_checked ∙ lacks))
+          ap (λ b. cond (b && not (is_checked old last)) (listed_round Unordered history last ∷ []) none) lacks
+          ∙ ap (λ b. cond (b && not (is_checked old last)) (listed_round Unordered new last ∷ []) none) (sym (same_checked ∙ lacks))
     ] refl
   where
     same_checked : is_checked (with_event history at e) last ≡ is_checked history last
     same_checked = checked_idle history at e last within (other last)
 
 -- a world without an order of links
-module _ (history : List Process) (queues : List (List (List Item))) (colours : List Turned) (last : ℕ) (world : IsWorld Unordered history queues) (painted : IsPainted history colours) where
+module _ (history : List Process) (queues : List (List (List Item))) (colours : List ProcessTurns) (last : ℕ) (world : IsWorld Unordered history queues) (painted : IsPainted history colours) where
   -- a round on a tape has a number from 1
   round_least : (p r : ℕ) → has_check_of r (tape_at history p) ≡ true → 1 ≤ r
   round_least p r has = let less = colour_before (tape_at history p) _ r (painted.coloured.rise p) (split_at_check (tape_at history p) r has) in omega (arith, less)
 
   -- the next round is begun
-  module _ (turning : Option TurningView) (rounds : List Listed) (are : AreRounds Unordered history last (opened_turning turning) rounds) where
+  module _ (turning : Option TurningView) (rounds : List ListedRound) (are : AreRounds Unordered history last (opened_turning turning) rounds) where
     pub no_later : (q : ℕ) → has_check_of (last + 1) (tape_at history q) ≡ false
     no_later q = false_from_ne_true (has_check_of (last + 1) (tape_at history q)) (λ t. let wrong = are.numbers q (last + 1) t in omega (arith, wrong))
 
@@ -101,10 +101,10 @@ module _ (history : List Process) (queues : List (List (List Item))) (colours : 
       pub begun_world : IsWorld Unordered begun queues
       begun_world = IsWorld-turn history queues world at state (last + 1) within
 
-      pub begun_painted : (after : List Turned) → AreTurned begun after → IsPainted begun after
+      pub begun_painted : (after : List ProcessTurns) → AreTurned begun after → IsPainted begun after
       begun_painted after turned = painted_turn history at state (last + 1) after within world.linked.fit (less_than_next at) painted.coloured turned
 
-      pub begun_rounds : (after : List Turned) → AreTurned begun after → IsTurning begun new
+      pub begun_rounds : (after : List ProcessTurns) → AreTurned begun after → IsTurning begun new
           → AreRounds Unordered begun (last + 1) (left_open Unordered begun (Some (opened_by new))) (rounds ++ newly_closed Unordered begun (Some (opened_by new)))
       begun_rounds after turned = begun_settled Unordered history last (opened_turning turning) rounds are closed at state within (opened_by new) number
           (λ r completed. counted_snapshot begun r begun_world.linked.fit (begun_painted after turned).coloured completed)
@@ -113,7 +113,7 @@ module _ (history : List Process) (queues : List (List (List Item))) (colours : 
       begun_newly = begun_listed Unordered history last (opened_turning turning) rounds are closed at state within (opened_by new) number
 
   -- a process turns to the round that is open
-  module _ (turning : TurningView) (rounds : List Listed) (are : AreRounds Unordered history last (Some (opened_by turning)) rounds) (at : ℕ) (within : at < length history) (none : has_check_of last (tape_at history at) ≡ false) where
+  module _ (turning : TurningView) (rounds : List ListedRound) (are : AreRounds Unordered history last (Some (opened_by turning)) rounds) (at : ℕ) (within : at < length history) (none : has_check_of last (tape_at history at) ≡ false) where
     last_least : 1 ≤ last
     last_least = let found = any_found history last 0 (length history) are.unfinished.begun in round_least found.0 last found.1
 
@@ -130,10 +130,10 @@ module _ (history : List Process) (queues : List (List (List Item))) (colours : 
       pub turned_world : IsWorld Unordered turned queues
       turned_world = IsWorld-turn history queues world at state last within
 
-      pub turned_painted : (after : List Turned) → AreTurned turned after → IsPainted turned after
+      pub turned_painted : (after : List ProcessTurns) → AreTurned turned after → IsPainted turned after
       turned_painted after is = painted_turn history at state last after within world.linked.fit less_than_last painted.coloured is
 
-      pub turned_rounds_are : (after : List Turned) → AreTurned turned after → IsTurning turned new
+      pub turned_rounds_are : (after : List ProcessTurns) → AreTurned turned after → IsTurning turned new
           → AreRounds Unordered turned last (left_open Unordered turned (Some (opened_by new))) (rounds ++ newly_closed Unordered turned (Some (opened_by new)))
       turned_rounds_are after is = turned_settled history last (opened_by turning) rounds are at state within
           (λ r completed. counted_snapshot turned r turned_world.linked.fit (turned_painted after is).coloured completed) (opened_by new) number
@@ -148,7 +148,7 @@ module _ (history : List Process) (queues : List (List (List Item))) (colours : 
     greater = let f = forced_by history to message round forced in omega (arith, f.0, f.1)
 
     -- there is such a round
-    pub none_is_open : (rounds : List Listed) → AreRounds Unordered history last None rounds → ⊥
+    pub none_is_open : (rounds : List ListedRound) → AreRounds Unordered history last None rounds → ⊥
     none_is_open rounds are =
         let same : message_colour history message ≡ suc (message_colour history message) = forced_open history to message greater (suc (message_colour history message)) to_within (λ p s has other. are.opening p s has) in
         omega (arith, same)
@@ -156,7 +156,7 @@ module _ (history : List Process) (queues : List (List (List Item))) (colours : 
     pub held_there : Holds (tape_at history message.from) message.inc message.number
     held_there = (next_receipt history queues from to from_within to_within message named pick at world taken).0.held
 
-    module _ (turning : TurningView) (rounds : List Listed) (are : AreRounds Unordered history last (Some (opened_by turning)) rounds) where
+    module _ (turning : TurningView) (rounds : List ListedRound) (are : AreRounds Unordered history last (Some (opened_by turning)) rounds) where
       colour_is : message_colour history message ≡ last
       colour_is = forced_open history to message greater turning.number to_within (λ p s has other. are.opening.others p s has other) ∙ are.unfinished.number_is
 
@@ -166,7 +166,7 @@ module _ (history : List Process) (queues : List (List (List Item))) (colours : 
       pub has_none : has_check_of last (tape_at history to) ≡ false
       has_none = subst (λ (v : ℕ). has_check_of v (tape_at history to) ≡ false) colour_is (forced_new history to message greater)
 
-      module _ (state : List ℕ) (new : TurningView) (number : new.number ≡ last) (after : List Turned) where
+      module _ (state : List ℕ) (new : TurningView) (number : new.number ≡ last) (after : List ProcessTurns) where
         abbrev middle : List Process
         middle = with_event history to (Check state (Some last))
 

@@ -9,7 +9,7 @@ use Rattle.line_tape.specs.declared.items.Item.{Item}
 use Rattle.line_tape.specs.History.{Process, fresh}
 use Rattle.line_tape.specs.Views.{MarksView, no_marks}
 use Rattle.line_moves.specs.declared.modes.Mode.{Mode}
-use Rattle.line_moves.specs.Listed.{Listed, is_begun, is_completed, newly_listed}
+use Rattle.line_moves.specs.Listed.{ListedRound, is_begun, is_completed, newly_listed}
 use Rattle.line_moves.specs.Modes.{copies_in, items_in, IsFitIn}
 use Rattle.line_moves.specs.Moves.{with_events}
 use Rattle.line_turns.specs.Tables.{between, with_list}
@@ -22,7 +22,7 @@ pub record Machine : Type 0 where
   -- the number of the last round begun; 0 where none was
   pub last_round : ℕ
   -- the completed rounds, the oldest first
-  pub rounds : List Listed
+  pub rounds : List ListedRound
   -- of messages, from each process to each, the oldest first; none are kept in `Fifo`
   pub copies : List (List (List MsgName))
 

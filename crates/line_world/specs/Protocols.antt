@@ -16,9 +16,9 @@ mode_of (Markers running) = Fifo
 mode_of (Colours turning colours received) = Unordered
 
 -- the round that it keeps as open
-abbrev pub opened : Protocol → Option OpenView
-opened (Markers running) = running
-opened (Colours turning colours received) = opened_turning turning
+abbrev pub open_round_of : Protocol → Option OpenView
+open_round_of (Markers running) = running
+open_round_of (Colours turning colours received) = opened_turning turning
 
 -- the colours and the flags of sends follow the tapes: links in order need none
 abbrev pub IsFollowing : List Process → Protocol → Type 0

@@ -13,15 +13,15 @@ use Rattle.line_world.specs.declared.steps.StepRef.TheVariants.{Damage as Damage
 use Rattle.line_world.specs.declared.steps.StepRef.TheVariants.{Recover as RecoverRef}
 
 -- the step that is asked for so, its message, state or set lent
-abbrev pub shown : StepRef → Step
-shown (SendRef from to body) = Send from to body.now
-shown (DeliverRef from to pick state) = Deliver from to pick state.now
-shown (CheckRef at state) = Check at state.now
-shown (BeginRef at state) = Begin at state.now
-shown (TurnRef at state) = Turn at state.now
-shown (DamageRef at check) = Damage at check
-shown (BarRef at check) = Bar at check
-shown (RecoverRef failed) = Recover failed.now
+abbrev pub step_of_ref : StepRef → Step
+step_of_ref (SendRef from to body) = Send from to body.now
+step_of_ref (DeliverRef from to pick state) = Deliver from to pick state.now
+step_of_ref (CheckRef at state) = Check at state.now
+step_of_ref (BeginRef at state) = Begin at state.now
+step_of_ref (TurnRef at state) = Turn at state.now
+step_of_ref (DamageRef at check) = Damage at check
+step_of_ref (BarRef at check) = Bar at check
+step_of_ref (RecoverRef failed) = Recover failed.now
 
 -- the bytes lent as the body of a message are no more than a body has
 abbrev pub HasShortBody : StepRef → Type 0

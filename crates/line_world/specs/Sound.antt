@@ -3,7 +3,7 @@ use Rattle.std.specs.Prelude.{◌≡◌, ◌≢◌, ℕ, ◌<◌, ◌≤◌, ◌
 use Rattle.std.specs.List.{list_any}
 use Rattle.line_tape.specs.History.{tape_at}
 use Rattle.line_tape.specs.Rounds.{has_check_of}
-use Rattle.line_moves.specs.Listed.{Listed, is_completed, IsReached, IsSnapshotOf}
+use Rattle.line_moves.specs.Listed.{ListedRound, is_completed, IsReached, IsSnapshotOf}
 use Rattle.line_world.specs.declared.steps.Step.{Step}
 use Rattle.line_world.specs.declared.steps.Step.TheVariants.{Recover}
 use Rattle.line_world.specs.declared.replies.Answer.{Answer}
@@ -13,14 +13,14 @@ use Rattle.line_world.specs.Machine.{Machine, IsFit}
 
 -- round r is listed
 abbrev pub is_listed : Machine → ℕ → Bool
-is_listed machine r = list_any (λ (round : Listed). round.number == r) machine.rounds
+is_listed machine r = list_any (λ (round : ListedRound). round.number == r) machine.rounds
 
 -- the history fits its links, the listed rounds are snapshots of it by number, and of the rounds on
 -- the tapes all are completed and listed but the greatest at most, which is the last one begun
 pub record IsSound (machine : Machine) : Type 0 where
   pub fit : IsFit machine
   pub snapshots : All (IsSnapshotOf machine.history) machine.rounds
-  pub ascending : AllPairs (λ (a b : Listed). a.number < b.number) machine.rounds
+  pub ascending : AllPairs (λ (a b : ListedRound). a.number < b.number) machine.rounds
   pub greatest : (p r : ℕ) → IsTrue (has_check_of r (tape_at machine.history p))
       → r ≤ machine.last_round
   pub others : (p r : ℕ) → IsTrue (has_check_of r (tape_at machine.history p))

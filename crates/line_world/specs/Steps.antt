@@ -10,7 +10,7 @@ use Rattle.line_tape.specs.declared.items.Item.{Item}
 use Rattle.line_tape.specs.declared.items.Item.TheVariants.{Message, Marker}
 use Rattle.line_tape.specs.Chain.{IsChain}
 use Rattle.line_tape.specs.History.{Process, incarnation_at}
-use Rattle.line_tape.specs.Restart.{restarted, restarted_marks, HaveFurther}
+use Rattle.line_tape.specs.Restart.{restarted_history, restarted_marks, HaveFurther}
 use Rattle.line_tape.specs.Spent.{next_name}
 use Rattle.line_tape.specs.Survival.{IsLatest}
 use Rattle.line_tape.specs.Transit.{in_transit}
@@ -66,7 +66,7 @@ pub record IsPlan (machine : Machine) (failed : List Bool) (plan : Plan) : Type 
 -- its checks is cut
 abbrev pub restarted_machine : Machine → List Choice → Machine
 restarted_machine old line = record old {
-  history = restarted old.history line;
+  history = restarted_history old.history line;
   marks = restarted_marks old.marks line;
   rounds = filter (stays line) old.rounds;
   copies = restarted_copies old.mode old.history line old.copies;

@@ -6,12 +6,12 @@ ghost use Rattle.line_tape.specs.declared.events.Event.TheVariants.{Send};
 ghost use Rattle.line_tape.specs.declared.items.Item.TheVariants.{Message};
 ghost use Rattle.line_tape.specs.History.{fresh, incarnation_at, with_event};
 ghost use Rattle.line_tape.specs.Line.{IsLine};
-ghost use Rattle.line_tape.specs.Restart.{restarted};
+ghost use Rattle.line_tape.specs.Restart.{restarted_history};
 ghost use Rattle.line_tape.specs.Transit.{in_transit, in_transit_between};
 ghost use Rattle.line_turns.specs.Tables.{between};
 ghost use Rattle.line_moves.specs.Modes.{copies_in, IsFitIn};
 ghost use Rattle.line_moves.specs.Worlds.{AreQueues};
-ghost use Rattle.line_world.specs.Protocols.{mode_of, opened, IsFollowing};
+ghost use Rattle.line_world.specs.Protocols.{mode_of, open_round_of, IsFollowing};
 
 use line_moves::{Links, Mode, OpenRound, restart_copies, restart_links};
 use line_names::{Line, MsgName, ProcId};
@@ -43,7 +43,7 @@ impl Protocol {
     /// For `n` processes that have done nothing yet.
     pub(crate) fn new(alloc: Global, n: u32, mode: Mode) -> Result<Protocol, AllocError>
         ensures mode { IfOk result (λ protocol. mode_of protocol ≡ mode) }
-        ensures closed { IfOk result (λ protocol. opened protocol ≡ None) }
+        ensures closed { IfOk result (λ protocol. open_round_of protocol ≡ None) }
         ensures following { IfOk result (λ protocol. IsFollowing (replicate n fresh) protocol) }
     {
         match mode {
@@ -68,7 +68,7 @@ impl Protocol {
 
     /// Whether a round is open.
     pub(crate) fn is_open(&self) -> bool
-        ensures { result ≡ is_some (opened self.now) }
+        ensures { result ≡ is_some (open_round_of self.now) }
     {
         match self {
             Protocol::Markers { running } => running.is_some(),
@@ -82,7 +82,7 @@ impl Protocol {
         requires fit { IsFitIn (mode_of self.old) history.now.processes }
         requires following { IsFollowing history.now.processes self.old }
         ensures mode { mode_of self.new ≡ mode_of self.old }
-        ensures opened { opened self.new ≡ opened self.old }
+        ensures opened { open_round_of self.new ≡ open_round_of self.old }
         ensures same { IsFollowing history.now.processes self.new }
         ensures ok { OnOk result ((to : ℕ) (body : List ℕ) → IsFollowing
             (with_event history.now.processes from
@@ -115,9 +115,9 @@ impl Protocol {
             → p < length history.now.processes → q < length history.now.processes
             → between links.new p q ≡ between (copies_in (mode_of self.old) links.old) p q
             ++ map (λ m. Message m) (in_transit_between history.now.processes line.now p q)) }
-        ensures closed { OnOk result (opened self.new ≡ None) }
+        ensures closed { OnOk result (open_round_of self.new ≡ None) }
         ensures following { OnOk result
-            (IsFollowing (restarted history.now.processes line.now) self.new) }
+            (IsFollowing (restarted_history history.now.processes line.now) self.new) }
         ensures err { OnErr result (links.new ≡ links.old) }
         ensures kept { OnErr result (self.new ≡ self.old) }
     {

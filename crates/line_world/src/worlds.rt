@@ -4,11 +4,11 @@ ghost use Rattle.std.specs.Prelude.{take, slice_get, IfOk, IfErr, IsErrOf, IsTru
 ghost use Rattle.line_tape.specs.History.{incarnation_at};
 ghost use Rattle.line_world.specs.declared.replies.Answer.TheVariants.{Done, Refused};
 ghost use Rattle.line_world.specs.declared.steps.Step.TheVariants.{Send, Check, Damage, Bar};
-ghost use Rattle.line_moves.specs.Listed.{Listed, IsReached, IsSnapshotOf};
+ghost use Rattle.line_moves.specs.Listed.{ListedRound, IsReached, IsSnapshotOf};
 ghost use Rattle.line_world.specs.Machine.{start, items_on, IsFit};
 ghost use Rattle.line_world.specs.Refusals.{refusal_of, has_stranger};
 ghost use Rattle.line_world.specs.Runs.{Takes, Run};
-ghost use Rattle.line_world.specs.Shown.{shown, HasShortBody};
+ghost use Rattle.line_world.specs.Shown.{step_of_ref, HasShortBody};
 ghost use Rattle.line_world.specs.Steps.{IsPlan};
 
 mod deliveries;
@@ -51,7 +51,7 @@ impl Model for World {
 
     ghost use Rattle.line_moves.specs.Modes.{copies_in};
     ghost use Rattle.line_moves.specs.Worlds.{names_on, AreRounds, IsWorld};
-    ghost use Rattle.line_world.specs.Protocols.{mode_of, opened, IsFollowing};
+    ghost use Rattle.line_world.specs.Protocols.{mode_of, open_round_of, IsFollowing};
 
     ghost view = { λ w. record {
       mode = mode_of w.protocol;
@@ -63,7 +63,8 @@ impl Model for World {
     } };
 
     ghost invariant = { λ w. IsWorld (mode_of w.protocol) w.catalogue.processes w.links
-        × AreRounds (mode_of w.protocol) w.catalogue.processes w.last_round (opened w.protocol)
+        × AreRounds (mode_of w.protocol) w.catalogue.processes w.last_round
+        (open_round_of w.protocol)
         w.rounds.items
         × IsFollowing w.catalogue.processes w.protocol };
 }
@@ -111,7 +112,7 @@ impl World {
     pub fn rounds(&self) -> &[Round]
         ensures value { result.now ≡ self.now.rounds }
         ensures snapshots { All (IsSnapshotOf self.now.history) self.now.rounds }
-        ensures ascending { AllPairs (λ (a b : Listed). a.number < b.number) self.now.rounds }
+        ensures ascending { AllPairs (λ (a b : ListedRound). a.number < b.number) self.now.rounds }
     {
         self.rounds.as_slice()
     }
@@ -286,13 +287,13 @@ impl World {
     pub fn step_lent(&mut self, alloc: Global, step: &StepRef<'_>) -> Result<Reply, StepError>
         requires short { HasShortBody step.now }
         ensures done { IfOk result
-            (λ reply. Takes self.old (shown step.now) (Done reply) self.new) }
+            (λ reply. Takes self.old (step_of_ref step.now) (Done reply) self.new) }
         ensures refused { IfErr result
             (λ e. e ≢ StepError.OutOfMemory
-            → Takes self.old (shown step.now) (Refused e) self.new) }
+            → Takes self.old (step_of_ref step.now) (Refused e) self.new) }
         ensures memory { IsErrOf result StepError.OutOfMemory → self.new ≡ self.old }
         ensures unrefused { IsErrOf result StepError.OutOfMemory
-            → refusal_of self.old (shown step.now) ≡ None }
+            → refusal_of self.old (step_of_ref step.now) ≡ None }
     {
         match step {
             StepRef::Send { from, to, body } => self.send(*from, *to, body),

@@ -7,7 +7,7 @@ ghost use Rattle.line_tape.specs.declared.events.Event.TheVariants.{Mark as Mark
 ghost use Rattle.line_tape.specs.Event.{HasLongState, NamesBelow};
 ghost use Rattle.line_tape.specs.History.{tape_at, with_event};
 ghost use Rattle.line_catalogue.specs.Agreement.{AgreesNext};
-ghost use Rattle.line_catalogue.specs.Views.{room_at};
+ghost use Rattle.line_catalogue.specs.Views.{catalogue_room_at};
 
 use super::Catalogue;
 use line_names::{MsgName, ProcId};
@@ -23,11 +23,12 @@ impl Catalogue {
         requires short { HasLongState event → ⊥ }
         requires few { length (tape_at self.old.processes p) ≢ MOST_EVENTS }
         requires agrees { AgreesNext self.old.processes p event }
-        requires room { 0 < room_at self.old p }
+        requires room { 0 < catalogue_room_at self.old p }
         ensures processes { self.new.processes ≡ with_event self.old.processes p event }
         ensures marks { self.new.marks ≡ self.old.marks }
-        ensures spent { room_at self.old p ≤ room_at self.new p + 1 }
-        ensures others { (q : ℕ) → q ≢ p → room_at self.new q ≡ room_at self.old q }
+        ensures spent { catalogue_room_at self.old p ≤ catalogue_room_at self.new p + 1 }
+        ensures others { (q : ℕ) → q ≢ p
+            → catalogue_room_at self.new q ≡ catalogue_room_at self.old q }
     {
         self.rows.append(p, &event, self.ledger.history().tape(p));
         self.ledger.append(p, event);
@@ -41,12 +42,13 @@ impl Catalogue {
         requires short { length body.now ≤ MOST_BODY }
         requires few { length (tape_at self.old.processes p) < MOST_EVENTS }
         requires agrees { AgreesNext self.old.processes p (SendEvent to inc body.now) }
-        requires room { 0 < room_at self.old p }
+        requires room { 0 < catalogue_room_at self.old p }
         ensures processes { self.new.processes
             ≡ with_event self.old.processes p (SendEvent to inc body.now) }
         ensures marks { self.new.marks ≡ self.old.marks }
-        ensures spent { room_at self.old p ≤ room_at self.new p + 1 }
-        ensures others { (q : ℕ) → q ≢ p → room_at self.new q ≡ room_at self.old q }
+        ensures spent { catalogue_room_at self.old p ≤ catalogue_room_at self.new p + 1 }
+        ensures others { (q : ℕ) → q ≢ p
+            → catalogue_room_at self.new q ≡ catalogue_room_at self.old q }
     {
         self.ledger.append_send(p, to, inc, body);
     }
@@ -58,12 +60,13 @@ impl Catalogue {
         requires from { message.now.from < length self.old.processes }
         requires few { length (tape_at self.old.processes p) < MOST_EVENTS }
         requires agrees { AgreesNext self.old.processes p (RecvEvent message.now) }
-        requires room { 0 < room_at self.old p }
+        requires room { 0 < catalogue_room_at self.old p }
         ensures processes { self.new.processes
             ≡ with_event self.old.processes p (RecvEvent message.now) }
         ensures marks { self.new.marks ≡ self.old.marks }
-        ensures spent { room_at self.old p ≤ room_at self.new p + 1 }
-        ensures others { (q : ℕ) → q ≢ p → room_at self.new q ≡ room_at self.old q }
+        ensures spent { catalogue_room_at self.old p ≤ catalogue_room_at self.new p + 1 }
+        ensures others { (q : ℕ) → q ≢ p
+            → catalogue_room_at self.new q ≡ catalogue_room_at self.old q }
     {
         let receipt = Event::Recv { message: *message };
         self.rows.append(p, &receipt, self.ledger.history().tape(p));
@@ -77,12 +80,13 @@ impl Catalogue {
         requires from { from < length self.old.processes }
         requires few { length (tape_at self.old.processes p) < MOST_EVENTS }
         requires agrees { AgreesNext self.old.processes p (MarkEvent from round) }
-        requires room { 0 < room_at self.old p }
+        requires room { 0 < catalogue_room_at self.old p }
         ensures processes { self.new.processes
             ≡ with_event self.old.processes p (MarkEvent from round) }
         ensures marks { self.new.marks ≡ self.old.marks }
-        ensures spent { room_at self.old p ≤ room_at self.new p + 1 }
-        ensures others { (q : ℕ) → q ≢ p → room_at self.new q ≡ room_at self.old q }
+        ensures spent { catalogue_room_at self.old p ≤ catalogue_room_at self.new p + 1 }
+        ensures others { (q : ℕ) → q ≢ p
+            → catalogue_room_at self.new q ≡ catalogue_room_at self.old q }
     {
         self.ledger.append_mark(p, from, round);
     }

@@ -26,7 +26,7 @@ fn put_recovered<K: Sink>(
 ) -> Result<(), DeviceFault>
     ensures { Outputs result (K.taken sink.old) (K.taken sink.new) (K.faults sink.old)
         (K.faults sink.new) writer.new
-        (writer.old ++ record_text (spec.recovered sweeps entries replays)) }
+        (writer.old ++ record_text (spec.recovered_record sweeps entries replays)) }
 {
     let numbers = [sweeps as u64, entries as u64, replays as u64];
     put_numbers(sink, writer, b"recovered", &numbers)
@@ -99,7 +99,7 @@ fn put_line<K: Sink>(
     requires { p < length choices.now }
     ensures { Outputs result (K.taken sink.old) (K.taken sink.new) (K.faults sink.old)
         (K.faults sink.new) writer.new
-        (writer.old ++ record_text (spec.line_of choices.now incarnations.now states.now p)) }
+        (writer.old ++ record_text (spec.process_of choices.now incarnations.now states.now p)) }
 {
     let inc = incarnation_at(incarnations, p);
     let state = state_field(states, p);
@@ -122,7 +122,8 @@ fn put_lines<K: Sink>(
 ) -> Result<(), DeviceFault>
     ensures { Outputs result (K.taken sink.old) (K.taken sink.new) (K.faults sink.old)
         (K.faults sink.new) writer.new
-        (writer.old ++ records_text (spec.lines choices.now incarnations.now states.now)) }
+        (writer.old ++ records_text
+        (spec.process_records choices.now incarnations.now states.now)) }
 {
     for p in 0..choices.len() {
         put_line(sink, writer, choices, incarnations, states, p)?;
@@ -137,7 +138,8 @@ fn put_passes<K: Sink>(
     entries: &[Passed],
 ) -> Result<(), DeviceFault>
     ensures { Outputs result (K.taken sink.old) (K.taken sink.new) (K.faults sink.old)
-        (K.faults sink.new) writer.new (writer.old ++ records_text (spec.passes entries.now)) }
+        (K.faults sink.new) writer.new
+        (writer.old ++ records_text (spec.pass_records entries.now)) }
 {
     for entry in entries {
         put_pass(sink, writer, entry)?;
@@ -152,7 +154,7 @@ fn put_replay<K: Sink>(
     message: MsgName,
 ) -> Result<(), DeviceFault>
     ensures { Outputs result (K.taken sink.old) (K.taken sink.new) (K.faults sink.old)
-        (K.faults sink.new) writer.new (writer.old ++ record_text (spec.replay message)) }
+        (K.faults sink.new) writer.new (writer.old ++ record_text (spec.replay_record message)) }
 {
     put_numbers(sink, writer, b"replay", &numbers_of(message))
 }
@@ -164,7 +166,8 @@ fn put_replays<K: Sink>(
     replays: &[MsgName],
 ) -> Result<(), DeviceFault>
     ensures { Outputs result (K.taken sink.old) (K.taken sink.new) (K.faults sink.old)
-        (K.faults sink.new) writer.new (writer.old ++ records_text (spec.replays_of replays.now)) }
+        (K.faults sink.new) writer.new
+        (writer.old ++ records_text (spec.replay_records replays.now)) }
 {
     for i in 0..replays.len() {
         put_replay(sink, writer, replays[i])?;
@@ -181,7 +184,8 @@ fn put_rest<K: Sink>(
 ) -> Result<(), DeviceFault>
     ensures { Outputs result (K.taken sink.old) (K.taken sink.new) (K.faults sink.old)
         (K.faults sink.new) writer.new
-        (writer.old ++ records_text (spec.passes entries.now ++ spec.replays_of replays.now)) }
+        (writer.old ++ records_text
+        (spec.pass_records entries.now ++ spec.replay_records replays.now)) }
 {
     put_passes(sink, writer, entries)?;
     put_replays(sink, writer, replays)
@@ -201,8 +205,8 @@ fn put_line_and_rest<K: Sink>(
         (K.faults sink.new) writer.new
         (writer.old
         ++ records_text
-        (spec.lines choices.now incarnations.now states.now
-        ++ (spec.passes entries.now ++ spec.replays_of replays.now))) }
+        (spec.process_records choices.now incarnations.now states.now
+        ++ (spec.pass_records entries.now ++ spec.replay_records replays.now))) }
 {
     put_lines(sink, writer, choices, incarnations, states)?;
     put_rest(sink, writer, entries, replays)
@@ -220,7 +224,7 @@ pub(super) fn put_recovery<K: Sink>(
         (K.faults sink.new) writer.new
         (writer.old
         ++ records_text
-        (spec.recovery plan.now.sweeps plan.now.certificate.items plan.now.replays.items
+        (spec.recovery_records plan.now.sweeps plan.now.certificate.items plan.now.replays.items
         plan.now.line incarnations.now.items states.now.items)) }
 {
     let entries = plan.certificate.as_slice();

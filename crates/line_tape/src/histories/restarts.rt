@@ -3,8 +3,9 @@ ghost use Rattle.std.specs.Prelude.{◌≡◌, ◌≤◌, ◌↔◌, ℕ, IsTrue
 ghost use Rattle.line_tape.specs.Front.{HasChoice};
 ghost use Rattle.line_tape.specs.History.{Process};
 ghost use Rattle.line_tape.specs.Line.{IsLine};
-ghost use Rattle.line_tape.specs.Plain.{plain, room_of};
-ghost use Rattle.line_tape.specs.Restart.{restarted, restarted_process, HasFurther, HaveFurther};
+ghost use Rattle.line_tape.specs.Plain.{process_kept, tape_room};
+ghost use Rattle.line_tape.specs.Restart.{restarted_history, restarted_process, HasFurther};
+ghost use Rattle.line_tape.specs.Restart.{HaveFurther};
 ghost use Rattle.line_tape.specs.Views.{room_at};
 
 use super::{History, ProcessTape};
@@ -14,9 +15,10 @@ use line_names::{Choice, Line, ProcId};
 /// Has a process go on from a choice.
 fn restart_process(process: &mut ProcessTape, choice: Choice)
     requires choice { HasChoice process.old.tape.events choice }
-    requires further { HasFurther (plain process.old) choice }
-    ensures process { plain process.new ≡ restarted_process (plain process.old) choice }
-    ensures room { room_of process.old ≤ room_of process.new }
+    requires further { HasFurther (process_kept process.old) choice }
+    ensures process { process_kept process.new
+        ≡ restarted_process (process_kept process.old) choice }
+    ensures room { tape_room process.old ≤ tape_room process.new }
 {
     match choice {
         Choice::Check(_) => process.incarnation += 1,
@@ -62,7 +64,7 @@ impl History {
     pub fn restart(&mut self, line: &Line)
         requires line { IsLine self.old.processes line.now }
         requires further { HaveFurther self.old.processes line.now }
-        ensures processes { self.new.processes ≡ restarted self.old.processes line.now }
+        ensures processes { self.new.processes ≡ restarted_history self.old.processes line.now }
         ensures rooms { (p : ℕ) → room_at self.old p ≤ room_at self.new p }
     {
         let choices = line.choices();

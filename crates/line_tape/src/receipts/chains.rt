@@ -2,7 +2,8 @@
 ghost use Rattle.std.specs.Prelude.{◌≡◌, ◌≢◌, ◌<◌, ◌≤◌, ◌-◌, ℕ, suc, false, length, IsTrue};
 ghost use Rattle.line_names.specs.declared.limits.TheConstants.{MOST_PROCESSES};
 ghost use Rattle.line_names.specs.Names.{is_name};
-ghost use Rattle.line_tape.specs.Noted.{AreChained, IsAhead, IsBack, IsLast, key_of, message_of};
+ghost use Rattle.line_tape.specs.Noted.{AreChained, IsAhead, IsBack, IsLastOfSender, key_of};
+ghost use Rattle.line_tape.specs.Noted.{name_of_receipt};
 ghost use Rattle.line_tape.specs.Noted.{name_at};
 
 use line_names::MsgName;
@@ -26,7 +27,7 @@ pub struct Receipt {
 impl Receipt {
     /// A receipt of the message, with no links yet.
     pub fn of(message: &MsgName) -> Receipt
-        ensures message { message_of result ≡ message.now }
+        ensures message { name_of_receipt result ≡ message.now }
         ensures links { (result.near ≡ 0) × (result.far ≡ 0) }
         ensures sender { result.from < MOST_PROCESSES }
     {
@@ -42,7 +43,7 @@ impl Receipt {
 
     /// Whether it is of the same message as another.
     pub fn is_of(&self, other: &Receipt) -> bool
-        ensures { result ≡ is_name (message_of self.now) (message_of other.now) }
+        ensures { result ≡ is_name (name_of_receipt self.now) (name_of_receipt other.now) }
     {
         self.from == other.from && self.inc == other.inc && self.number == other.number
     }
@@ -54,7 +55,7 @@ impl Receipt {
     /// So messages of about one time share most of their way, and what a receipt passes was passed
     /// by those just before it.
     pub fn key(&self) -> u64
-        ensures { result ≡ key_of (message_of self.now) }
+        ensures { result ≡ key_of (name_of_receipt self.now) }
     {
         let number = self.number.rotate_left(12).reverse_bits();
         (u64::from(self.inc) * 256 + u64::from(self.from)) * 4_294_967_296 + u64::from(number)
@@ -88,12 +89,12 @@ fn back_from(receipts: &[Receipt], link: u32, number: u32) -> u32
 /// none is. The steps are logarithmic in the number of these.
 pub fn find_ahead(receipts: &[Receipt], last: u32, wanted: &Receipt) -> u32
     requires chained { AreChained receipts.now }
-    requires last { IsLast receipts.now (length receipts.now) wanted.now.from last }
+    requires last { IsLastOfSender receipts.now (length receipts.now) wanted.now.from last }
     ensures found { (i : ℕ) → result ≡ suc i
         → (i < length receipts.now) × IsAhead receipts.now i
-        × (name_at receipts.now i ≡ message_of wanted.now) }
+        × (name_at receipts.now i ≡ name_of_receipt wanted.now) }
     ensures none { (i : ℕ) → result ≡ 0 → i < length receipts.now → IsAhead receipts.now i
-        → name_at receipts.now i ≢ message_of wanted.now }
+        → name_at receipts.now i ≢ name_of_receipt wanted.now }
 {
     let mut link = last;
     while link != 0 {
@@ -111,7 +112,7 @@ pub fn find_ahead(receipts: &[Receipt], last: u32, wanted: &Receipt) -> u32
 
 /// Whether a receipt that comes next is ahead, by the last one of its sender that is.
 pub fn is_ahead(receipts: &[Receipt], last: u32, receipt: &Receipt) -> bool
-    requires last { IsLast receipts.now (length receipts.now) receipt.now.from last }
+    requires last { IsLastOfSender receipts.now (length receipts.now) receipt.now.from last }
     ensures yes { IsTrue result → (i : ℕ) → i < length receipts.now
         → (name_at receipts.now i).from ≡ receipt.now.from
         → (name_at receipts.now i).number < receipt.now.number }
@@ -128,8 +129,8 @@ pub fn is_ahead(receipts: &[Receipt], last: u32, receipt: &Receipt) -> bool
 /// and otherwise the receipt is a tree of its own.
 pub fn linked_back(receipts: &[Receipt], last: u32, receipt: Receipt) -> Receipt
     requires chained { AreChained receipts.now }
-    requires last { IsLast receipts.now (length receipts.now) receipt.from last }
-    ensures same { message_of result ≡ message_of receipt }
+    requires last { IsLastOfSender receipts.now (length receipts.now) receipt.from last }
+    ensures same { name_of_receipt result ≡ name_of_receipt receipt }
     ensures near { result.near ≡ last }
     ensures far { IsBack receipts.now (length receipts.now) receipt.from result.far }
 {

@@ -1,7 +1,7 @@
 //! The link to the last receipt of each sender that is ahead.
 ghost use Rattle.std.specs.Prelude.{◌≡◌, ◌≢◌, ◌<◌, ◌≤◌, ◌+◌, ◌↔◌, ℕ, IfOk, IsOk, IsTrue, OnOk};
 ghost use Rattle.std.specs.Prelude.{slice_index_or, vec_capacity, vec_len};
-ghost use Rattle.line_tape.specs.Ends.{IsEndPut, block_of, end_of};
+ghost use Rattle.line_tape.specs.Ends.{IsEndPut, block_of, link_of_sender};
 
 use std::alloc::{AllocError, Global};
 use std::marker::Model;
@@ -48,7 +48,7 @@ fn lengthen(links: &mut Vec<u32>)
 impl LastLinks {
     /// No links.
     pub fn new(alloc: Global) -> LastLinks
-        ensures { (sender : ℕ) → end_of result sender ≡ 0 }
+        ensures { (sender : ℕ) → link_of_sender result sender ≡ 0 }
     {
         LastLinks {
             blocks: [0; 16],
@@ -58,7 +58,7 @@ impl LastLinks {
 
     /// The link of a sender; 0 if it has none.
     pub fn at(&self, sender: u8) -> u32
-        ensures { result ≡ end_of self.now sender }
+        ensures { result ≡ link_of_sender self.now sender }
     {
         let block = self.blocks[sender as usize / 16];
         if block == 0 {
@@ -79,7 +79,8 @@ impl LastLinks {
     /// their room.
     #[inline(never)]
     fn grow(&mut self, k: usize) -> Result<(), AllocError>
-        ensures same { (sender : ℕ) → end_of self.new sender ≡ end_of self.old sender }
+        ensures same { (sender : ℕ)
+            → link_of_sender self.new sender ≡ link_of_sender self.old sender }
         ensures ok { OnOk result (k ≤ self.new.room) }
         ensures succeeds { k ≤ self.old.room → IsOk result }
         ensures room { self.old.room ≤ self.new.room }
@@ -90,7 +91,8 @@ impl LastLinks {
 
     /// Makes room for so many further senders.
     pub fn reserve(&mut self, k: usize) -> Result<(), AllocError>
-        ensures same { (sender : ℕ) → end_of self.new sender ≡ end_of self.old sender }
+        ensures same { (sender : ℕ)
+            → link_of_sender self.new sender ≡ link_of_sender self.old sender }
         ensures ok { OnOk result (k ≤ self.new.room) }
         ensures succeeds { k ≤ self.old.room → IsOk result }
         ensures room { self.old.room ≤ self.new.room }
@@ -104,7 +106,7 @@ impl LastLinks {
     /// Sees that a sender has a block, in room that was made for it.
     pub fn add_block(&mut self, sender: u8)
         requires { 0 < self.old.room }
-        ensures same { (other : ℕ) → end_of self.new other ≡ end_of self.old other }
+        ensures same { (other : ℕ) → link_of_sender self.new other ≡ link_of_sender self.old other }
         ensures block { block_of self.new sender ≢ 0 }
         ensures room { self.old.room ≤ self.new.room + 1 }
     {
@@ -129,7 +131,8 @@ impl LastLinks {
 
     /// The same links in memory of their own.
     pub fn copy(&self, alloc: Global) -> Result<LastLinks, AllocError>
-        ensures { IfOk result (λ copy. (sender : ℕ) → end_of copy sender ≡ end_of self.now sender) }
+        ensures { IfOk result
+            (λ copy. (sender : ℕ) → link_of_sender copy sender ≡ link_of_sender self.now sender) }
     {
         let links = Vec::from_slice(alloc, self.links.as_slice())?;
         Ok(LastLinks {

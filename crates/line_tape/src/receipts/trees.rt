@@ -1,22 +1,23 @@
 //! The tree of the receipts that come out of order.
 ghost use Rattle.std.specs.Prelude.{◌≡◌, ◌≢◌, ◌<◌, ◌≤◌, Bool, ℕ, suc, List, length, map, vec_len};
 ghost use Rattle.std.specs.Prelude.{vec_capacity};
-ghost use Rattle.line_tape.specs.Noted.{AreInTree, IsNode, IsPut, IsSeatOf, message_of, seated};
+ghost use Rattle.line_tape.specs.Noted.{AreInTree, IsNode, IsPut, IsSeatOf, name_of_receipt};
+ghost use Rattle.line_tape.specs.Noted.{link_in_seat};
 
 use super::chains::Receipt;
 
 /// A place in the tree for a receipt: below another one at one of its links, or at the root, where
 /// there is none above.
 #[derive(Clone, Copy)]
-pub struct Seat {
+pub struct ReceiptSeat {
     pub above: u32,
     pub far: bool,
 }
 
 /// The link to the receipt that a seat has; 0 if it has none.
-pub fn link_at(receipts: &[Receipt], root: u32, seat: Seat) -> u32
+pub fn link_at(receipts: &[Receipt], root: u32, seat: ReceiptSeat) -> u32
     requires node { IsNode receipts.now seat.above }
-    ensures { result ≡ seated receipts.now root seat.above seat.far }
+    ensures { result ≡ link_in_seat receipts.now root seat.above seat.far }
 {
     if seat.above == 0 {
         root
@@ -32,11 +33,11 @@ pub fn link_at(receipts: &[Receipt], root: u32, seat: Seat) -> u32
 ///
 /// It takes at most one step more than a key has bits, and with one sender's numbers in a row one
 /// more than the twenty bits of a number that a tape can have.
-pub fn seat_of(receipts: &[Receipt], root: u32, wanted: &Receipt) -> Seat
+pub fn seat_of(receipts: &[Receipt], root: u32, wanted: &Receipt) -> ReceiptSeat
     requires tree { AreInTree receipts.now root }
-    ensures { IsSeatOf receipts.now root (message_of wanted.now) result.above result.far }
+    ensures { IsSeatOf receipts.now root (name_of_receipt wanted.now) result.above result.far }
 {
-    let mut seat = Seat {
+    let mut seat = ReceiptSeat {
         above: 0,
         far: false,
     };
@@ -46,7 +47,7 @@ pub fn seat_of(receipts: &[Receipt], root: u32, wanted: &Receipt) -> Seat
         if receipts[link as usize - 1].is_of(wanted) {
             return seat;
         }
-        seat = Seat {
+        seat = ReceiptSeat {
             above: link,
             far: key % 2 == 1,
         };
@@ -57,7 +58,7 @@ pub fn seat_of(receipts: &[Receipt], root: u32, wanted: &Receipt) -> Seat
 }
 
 /// Puts another link into a seat.
-pub fn put(receipts: &mut Vec<Receipt>, root: &mut u32, seat: Seat, link: u32)
+pub fn put_receipt(receipts: &mut Vec<Receipt>, root: &mut u32, seat: ReceiptSeat, link: u32)
     requires node { IsNode receipts.old.items seat.above }
     ensures put { IsPut receipts.old.items root.old receipts.new.items root.new seat.above seat.far
         link }

@@ -6,7 +6,7 @@ ghost use Rattle.line_tape.specs.declared.tapes.CheckRow.{CheckRow};
 ghost use Rattle.line_tape.specs.Event.{checks};
 ghost use Rattle.line_tape.specs.Front.{check_place, front, HasChoice};
 ghost use Rattle.line_tape.specs.History.{IsTape};
-ghost use Rattle.line_tape.specs.Kept.{IsSettled, WithPlaces};
+ghost use Rattle.line_tape.specs.Kept.{IsSettled, HaveCheckPlaces};
 ghost use Rattle.line_tape.specs.Restart.{restarted_event};
 
 use super::{CheckRow, Tape};
@@ -21,7 +21,7 @@ fn place_checks(events: &Events<'_>, settled: usize, rows: &mut Vec<CheckRow>)
     requires count { length rows.old.items ≡ checks events.now }
     requires places { (index : ℕ) (d : CheckRow) → index < checks (take settled events.now)
         → (slice_index_or rows.old.items index d).place ≡ check_place events.now (suc index) }
-    ensures rows { WithPlaces events.now rows.old.items rows.new.items }
+    ensures rows { HaveCheckPlaces events.now rows.old.items rows.new.items }
     ensures len { vec_len rows.new ≡ vec_len rows.old }
     ensures capacity { vec_capacity rows.new ≡ vec_capacity rows.old }
 {

@@ -8,7 +8,7 @@ use Rattle.line_names.specs.declared.choices.Choice.TheVariants.{Now}
 use Rattle.line_tape.specs.declared.events.Event.{Event}
 use Rattle.line_tape.specs.Front.{front}
 use Rattle.line_tape.specs.History.{Process, tape_at}
-use Rattle.line_tape.specs.Shown.{shown}
+use Rattle.line_tape.specs.Shown.{event_of_ref}
 use Rattle.line_catalogue.specs.Agreement.{EventAgrees}
 use Rattle.line_catalogue.proofs.agreement.tape_agrees.Goals as goal
 
@@ -16,7 +16,7 @@ pub loop-i-preserved : goal.loop-i-preserved
 loop-i-preserved c =
     let events : List Event = c.front-events.result in
     let i : ℕ = c.loop-i.i in
-    let item : Event = shown c.at.result in
+    let item : Event = event_of_ref c.at.result in
     let history : List Process = c.args.history.now.processes in
     let here : EventAgrees history item = c.event_agrees.ensures.0 c.if-not-event_agrees.false in
     let within : i < length events = slice_get_within events i item c.at.ensures in

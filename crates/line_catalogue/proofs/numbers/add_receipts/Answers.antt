@@ -4,7 +4,7 @@ use Rattle.std.proofs.lemmas.List.{append_assoc, take_all}
 use Rattle.std.proofs.lemmas.List.Elements.{filter_map-append}
 use Rattle.line_names.specs.declared.messages.MsgName.{MsgName}
 use Rattle.line_tape.specs.declared.events.Event.{Event}
-use Rattle.line_tape.specs.Shown.{shown}
+use Rattle.line_tape.specs.Shown.{event_of_ref}
 use Rattle.line_tape.specs.Transit.{names_received, received_name}
 use Rattle.line_tape.proofs.ShownLemmas.{take_shown}
 use Rattle.line_catalogue.specs.Left.{AreIn}
@@ -20,7 +20,7 @@ pub loop-i-preserved : goal.loop-i-preserved
 loop-i-preserved c =
     let i : ℕ = c.loop-i.i in
     let all : List Event = c.args.events.now in
-    let item : Event = shown c.at.result in
+    let item : Event = event_of_ref c.at.result in
     record {
       count = c.in_ok-add_receipt.ensures.count ∙ c.loop-i.invariant.count;
       added = λ names held.

@@ -4,13 +4,13 @@ use Rattle.std.proofs.lemmas.List.{take_more, length-take}
 use Rattle.std.proofs.lemmas.Option.{get_or_from_slice_get}
 use Rattle.line_tape.specs.declared.events.Event.{Event}
 use Rattle.line_tape.specs.Event.{sends, NamesBelow}
-use Rattle.line_tape.specs.Shown.{shown}
+use Rattle.line_tape.specs.Shown.{event_of_ref}
 use Rattle.line_tape.proofs.RowLemmas.{checks_le, sends_le}
 use Rattle.line_vectors.specs.Reach.{reach_of}
 use Rattle.line_vectors.proofs.ReachLemmas.{length-reach, reach-none}
-use Rattle.line_catalogue.specs.declared.kept_rows.Row.{Row}
+use Rattle.line_catalogue.specs.declared.kept_rows.VectorRow.{VectorRow}
 use Rattle.line_catalogue.specs.Kept.{RowsView}
-use Rattle.line_catalogue.specs.Rows.{AreRows, heard_more, row_added, with_row}
+use Rattle.line_catalogue.specs.Rows.{AreRows, vector_after_event, row_added, with_row}
 use Rattle.line_catalogue.proofs.CheckLemmas.{AreRows-added, AreRows-start, heard-added}
 use Rattle.line_catalogue.proofs.tables.rows_of_tape.Goals as goal
 
@@ -26,7 +26,7 @@ append-requires-clause-few c =
     let events : List Event = c.args.tape.now.events in
     let i : ℕ = c.loop-i.i in
     let within : i < length events = omega (arith, c.loop-i-test.true, c.len-i-end.ensures.value) in
-    omega (arith, within, ap (λ (xs : List Row). length xs) c.reserve.ensures.same.0, c.loop-i.invariant.rows.count, checks_le (take i events), length-take i events, c.len-i-end.ensures.limits.few)
+    omega (arith, within, ap (λ (xs : List VectorRow). length xs) c.reserve.ensures.same.0, c.loop-i.invariant.rows.count, checks_le (take i events), length-take i events, c.len-i-end.ensures.limits.few)
 
 pub append-requires-clause-named : goal.append-requires-clause-named
 append-requires-clause-named c =
@@ -34,7 +34,7 @@ append-requires-clause-named c =
     let events : List Event = c.args.tape.now.events in
     let i : ℕ = c.loop-i.i in
     let es : List Event = take i events in
-    let event : Event = shown c.event-event.result in
+    let event : Event = event_of_ref c.event-event.result in
     let within : i < length events = omega (arith, c.loop-i-test.true, c.len-i-end.ensures.value) in
     let at : get_or events i event ≡ event = get_or_from_slice_get events i event event c.event-event.ensures in
     let named : NamesBelow n event = subst (NamesBelow n) at (c.requires.named i event within) in
@@ -47,7 +47,7 @@ sends_with-sent-requires c =
     let events : List Event = c.args.tape.now.events in
     let i : ℕ = c.loop-i.i in
     let es : List Event = take i events in
-    let event : Event = shown c.event-event.result in
+    let event : Event = event_of_ref c.event-event.result in
     let within : i < length events = omega (arith, c.loop-i-test.true, c.len-i-end.ensures.value) in
     let at : get_or events i event ≡ event = get_or_from_slice_get events i event event c.event-event.ensures in
     let named : NamesBelow n event = subst (NamesBelow n) at (c.requires.named i event within) in
@@ -59,7 +59,7 @@ loop-i-preserved c =
     let events : List Event = c.args.tape.now.events in
     let i : ℕ = c.loop-i.i in
     let es : List Event = take i events in
-    let event : Event = shown c.event-event.result in
+    let event : Event = event_of_ref c.event-event.result in
     let within : i < length events = omega (arith, c.loop-i-test.true, c.len-i-end.ensures.value) in
     let at : get_or events i event ≡ event = get_or_from_slice_get events i event event c.event-event.ensures in
     let named : NamesBelow n event = subst (NamesBelow n) at (c.requires.named i event within) in
@@ -68,13 +68,13 @@ loop-i-preserved c =
     let place : i + 1 ≡ length es + 1 = omega (arith, within, length-take i events) in
     let rows : c.append.new.self.rows ≡ with_row old.rows (row_added (length es + 1) (sends es) old.present event) =
     c.append.ensures.rows
-    ∙ ap (λ (xs : List Row). with_row xs (row_added (i + 1) c.loop-i.sent c.reserve.new.self.present event)) c.reserve.ensures.same.0
+    ∙ ap (λ (xs : List VectorRow). with_row xs (row_added (i + 1) c.loop-i.sent c.reserve.new.self.present event)) c.reserve.ensures.same.0
     ∙ ap (λ (ys : List ℕ). with_row old.rows (row_added (i + 1) c.loop-i.sent ys event)) c.reserve.ensures.same.1
     ∙ ap (λ k. with_row old.rows (row_added k c.loop-i.sent old.present event)) place
     ∙ ap (λ k. with_row old.rows (row_added (length es + 1) k old.present event)) c.loop-i.invariant.sent_is
     in
     record {
       rows = subst (λ (xs : List Event). AreRows n xs [] c.append.new.self.rows) (sym more) (subst (AreRows n (es ++ event ∷ []) []) (sym rows) (AreRows-added n es event [] old.rows old.present (λ k d h. absurd (omega (arith, h))) c.loop-i.invariant.present c.loop-i.invariant.rows));
-      present = c.append.ensures.present ∙ ap (λ (ys : List ℕ). heard_more ys event) c.reserve.ensures.same.1 ∙ heard-added n es event old.present named c.loop-i.invariant.present ∙ ap (reach_of n) (sym more);
+      present = c.append.ensures.present ∙ ap (λ (ys : List ℕ). vector_after_event ys event) c.reserve.ensures.same.1 ∙ heard-added n es event old.present named c.loop-i.invariant.present ∙ ap (reach_of n) (sym more);
       sent_is = c.sends_with-sent.ensures es c.loop-i.invariant.sent_is ∙ ap sends (sym more);
     }

@@ -2,7 +2,7 @@
 use Rattle.std.proofs.Common.{◌≡◌, ◌+◌, List, take, sym, subst, refl, arith}
 use Rattle.std.proofs.lemmas.Option.{slice_get_read}
 use Rattle.line_names.specs.declared.choices.Choice.{Choice}
-use Rattle.line_tape.specs.Chain.{lowered, IsLed}
+use Rattle.line_tape.specs.Chain.{lowered_ceilings, IsLed}
 use Rattle.line_tape.proofs.LedLemmas.{IsLine-led}
 use Rattle.line_check.specs.Verdict.{wrong_entry}
 use Rattle.line_check.proofs.FollowLemmas.{few-led, led-more}
@@ -21,7 +21,7 @@ returns-in-Err-clause-fault c = λ line shape.
     wrong_entry c.loop-k.k c.index-entries-k.result c.loop-k.ceilings c.in-Err.code shape c.loop-k.invariant
     (slice_get_read c.args.entries.now _ c.loop-k.k c.index-entries-k.result refl c.loop-k-test.true c.index-entries-k.is) c.in-Err.ensures.fault
 
-after : (c : goal.After-set) → c.set.new.self ≡ lowered c.args.history.now.processes c.args.marks.now c.args.failed.now c.loop-k.ceilings c.index-entries-k.result.at
+after : (c : goal.After-set) → c.set.new.self ≡ lowered_ceilings c.args.history.now.processes c.args.marks.now c.args.failed.now c.loop-k.ceilings c.index-entries-k.result.at
 after c = cc
 
 pub loop-k-preserved : goal.loop-k-preserved

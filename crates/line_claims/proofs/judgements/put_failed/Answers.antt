@@ -21,4 +21,4 @@ returns-in_err-add_members g c =
 pub returns : goal.returns
 returns g c =
     outputs_on _ (codes "failed" ++ flat_map part (members c.args.n c.args.failed.now)) (10 ∷ []) _ (ap (λ (t : List ℕ). t ++ 10 ∷ []) (join_more decimal (codes "failed") (members c.args.n c.args.failed.now)))
-    (outputs_on _ (codes "failed") (flat_map part (members c.args.n c.args.failed.now)) _ refl c.in_ok-begin_record.ensures c.in_ok-add_members.ensures) c.end_record.ensures
+    (outputs_on _ (codes "failed") (flat_map part (members c.args.n c.args.failed.now)) _ refl c.in_ok-begin_record.ensures c.in_ok-add_members.ensures) c.close_record.ensures

@@ -22,4 +22,4 @@ returns-in_err-add_choices g c =
 pub returns : goal.returns
 returns g c =
     outputs_on _ (codes "line" ++ flat_map part c.args.line.now) (10 ∷ []) _ (ap (λ (t : List ℕ). t ++ 10 ∷ []) (join_more choice_text (codes "line") c.args.line.now))
-    (outputs_on _ (codes "line") (flat_map part c.args.line.now) _ refl c.in_ok-begin_record.ensures (rw c.choices.ensures.value at c.in_ok-add_choices.ensures)) c.end_record.ensures
+    (outputs_on _ (codes "line") (flat_map part c.args.line.now) _ refl c.in_ok-begin_record.ensures (rw c.choices.ensures.value at c.in_ok-add_choices.ensures)) c.close_record.ensures

@@ -3,7 +3,7 @@ use Rattle.std.proofs.lemmas.Option.{get_or_from_slice_get, slice_get_within}
 use Rattle.line_devices.proofs.OutputLemmas.{out_all, out_front, out_more, out_none}
 use Rattle.line_fields.proofs.OutletLemmas.{item_left, no_item_left}
 use Rattle.line_tape.specs.declared.events.Event.{Event}
-use Rattle.line_tape.specs.Shown.{shown}
+use Rattle.line_tape.specs.Shown.{event_of_ref}
 use Rattle.line_claims.specs.Ranges.{FitsWords}
 use Rattle.line_claims.specs.Records.{event_record}
 use Rattle.line_claims.proofs.MemoryLemmas.{front_fits}
@@ -16,7 +16,7 @@ pub loop-i-preserved : goal.loop-i-preserved
 loop-i-preserved g c =
     let events : List Event = c.args.events.now in
     let i : ℕ = c.loop-i.i in
-    let event : Event = shown c.at.result in
+    let event : Event = event_of_ref c.at.result in
     let within : i < length events = slice_get_within events i event c.at.ensures in
     let there : event ≡ get_or events i event = sym (get_or_from_slice_get events i event event c.at.ensures) in
     let next = item_left event_record events i event within there in
@@ -29,7 +29,7 @@ pub returns-in_err-put_event-clause-put : goal.returns-in_err-put_event-clause-p
 returns-in_err-put_event-clause-put g c =
     let events : List Event = c.args.events.now in
     let i : ℕ = c.loop-i.i in
-    let event : Event = shown c.at.result in
+    let event : Event = event_of_ref c.at.result in
     let within : i < length events = slice_get_within events i event c.at.ensures in
     let there : event ≡ get_or events i event = sym (get_or_from_slice_get events i event event c.at.ensures) in
     let next = item_left event_record events i event within there in

@@ -20,4 +20,4 @@ returns-in_err-add_field g c =
 pub returns : goal.returns
 returns g c =
     outputs_on _ (join_with_byte 44 (c.args.name.now ∷ map decimal c.args.numbers.now)) ((44 ∷ field_text c.args.last) ++ 10 ∷ []) _ (ending_is c.args.name.now (map decimal c.args.numbers.now) (field_text c.args.last))
-    c.in_ok-begin_record.ensures (outputs_on _ _ _ _ refl c.in_ok-add_field.ensures c.end_record.ensures)
+    c.in_ok-begin_record.ensures (outputs_on _ _ _ _ refl c.in_ok-add_field.ensures c.close_record.ensures)

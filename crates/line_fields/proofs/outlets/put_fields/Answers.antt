@@ -25,4 +25,4 @@ pub returns : goal.returns
 returns g c =
     outputs_on _ (c.args.name.now ++ parts_of c.args.fields.now) (10 ∷ []) _
     (ap (λ (t : List ℕ). t ++ 10 ∷ []) (join_more field_text c.args.name.now c.args.fields.now))
-    (outputs_on _ c.args.name.now (parts_of c.args.fields.now) _ refl c.in_ok-begin_record.ensures c.in_ok-add_fields.ensures) c.end_record.ensures
+    (outputs_on _ c.args.name.now (parts_of c.args.fields.now) _ refl c.in_ok-begin_record.ensures c.in_ok-add_fields.ensures) c.close_record.ensures

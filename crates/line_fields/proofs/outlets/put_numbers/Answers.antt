@@ -8,4 +8,4 @@ pub returns-in_err-begin_record : goal.returns-in_err-begin_record
 returns-in_err-begin_record g c = outputs_front _ _ _ _ (join_with_byte 44 (c.args.name.now ∷ map decimal c.args.numbers.now)) (10 ∷ []) _ refl c.in_err-begin_record.ensures c.from_residual.ensures.1
 
 pub returns : goal.returns
-returns g c = outputs_on _ (join_with_byte 44 (c.args.name.now ∷ map decimal c.args.numbers.now)) (10 ∷ []) _ refl c.in_ok-begin_record.ensures c.end_record.ensures
+returns g c = outputs_on _ (join_with_byte 44 (c.args.name.now ∷ map decimal c.args.numbers.now)) (10 ∷ []) _ refl c.in_ok-begin_record.ensures c.close_record.ensures

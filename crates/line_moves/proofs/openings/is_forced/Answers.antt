@@ -6,14 +6,14 @@ use Rattle.line_tape.specs.History.{Process, tape_at}
 use Rattle.line_tape.specs.Rounds.{has_check_of}
 use Rattle.line_tape.proofs.RoundLines.{checked_has, completed_checked}
 use Rattle.line_moves.specs.declared.modes.Mode.TheVariants.{Fifo}
-use Rattle.line_moves.specs.Openings.{IsOpening}
+use Rattle.line_moves.specs.Openings.{IsOnlyOpen}
 use Rattle.line_moves.proofs.openings.is_forced.Goals as goal
 
 pub returns-else-number-round : goal.returns-else-number-round
 returns-else-number-round c =
     let history : List Process = c.args.history.now.processes in
     let r : ℕ = c.args.round in
-    let opening = subst (IsOpening Fifo history) c.in-Some.is c.requires.opening in
+    let opening = subst (IsOnlyOpen Fifo history) c.in-Some.is c.requires.opening in
     let apart : r ≢ c.in-Some.running.number = λ same. c.if-number-round.false (c.number.ensures ∙ sym same) in
     let has : has_check_of r (tape_at history c.args.to) ≡ true = checked_has history r c.args.to (completed_checked history r (opening.others c.args.from r c.requires.sent apart)) c.requires.to in
     ne_eqb c.number.result r c.if-number-round.false ∙ sym (ap not has)
@@ -22,6 +22,6 @@ pub returns-in-None : goal.returns-in-None
 returns-in-None c =
     let history : List Process = c.args.history.now.processes in
     let r : ℕ = c.args.round in
-    let opening = subst (IsOpening Fifo history) c.in-None.is c.requires.opening in
+    let opening = subst (IsOnlyOpen Fifo history) c.in-None.is c.requires.opening in
     let has : has_check_of r (tape_at history c.args.to) ≡ true = checked_has history r c.args.to (completed_checked history r (opening c.args.from r c.requires.sent)) c.requires.to in
     sym (ap not has)

@@ -5,7 +5,7 @@ use Rattle.line_tape.specs.declared.events.Event.{Event}
 use Rattle.line_tape.specs.declared.events.Event.TheVariants.{Recv}
 use Rattle.line_tape.specs.History.{Process, with_event}
 use Rattle.line_moves.specs.declared.modes.Mode.TheVariants.{Fifo}
-use Rattle.line_moves.specs.Openings.{IsOpening, IsRunning}
+use Rattle.line_moves.specs.Openings.{IsOnlyOpen, IsRunning}
 use Rattle.line_moves.proofs.OpeningLemmas.{IsOpening-none, IsRunning-kept}
 use Rattle.line_moves.proofs.openings.note.Goals as goal
 
@@ -13,12 +13,12 @@ pub returns-in-Some-clause-ok : goal.returns-in-Some-clause-ok
 returns-in-Some-clause-ok c =
     let history : List Process = c.args.history.now.processes in
     let e : Event = Recv c.args.message.now in
-    let opening : IsRunning Fifo history c.in-Some.running = subst (IsOpening Fifo history) c.in-Some.is c.requires.opening in
+    let opening : IsRunning Fifo history c.in-Some.running = subst (IsOnlyOpen Fifo history) c.in-Some.is c.requires.opening in
     on_ok_weaker c.note.result (λ recording. IsRunning-kept history c.args.to e c.requires.to (λ r. refl) Fifo c.in-Some.running c.note.new.self c.note.ensures.number opening recording) c.note.ensures.ok
 
 pub returns-in-None-clause-ok : goal.returns-in-None-clause-ok
 returns-in-None-clause-ok c =
     let history : List Process = c.args.history.now.processes in
     let e : Event = Recv c.args.message.now in
-    subst (IsOpening Fifo (with_event history c.args.to e)) (sym c.in-None.is)
-    (IsOpening-none history c.args.to e c.requires.to Fifo (λ r. refl) (subst (IsOpening Fifo history) c.in-None.is c.requires.opening))
+    subst (IsOnlyOpen Fifo (with_event history c.args.to e)) (sym c.in-None.is)
+    (IsOpening-none history c.args.to e c.requires.to Fifo (λ r. refl) (subst (IsOnlyOpen Fifo history) c.in-None.is c.requires.opening))

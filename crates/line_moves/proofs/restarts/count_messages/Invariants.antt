@@ -1,9 +1,9 @@
 use Rattle.std.proofs.Common.{◌≡◌, map}
-use Rattle.line_moves.specs.Rooms.{items_of, AreCounted}
+use Rattle.line_moves.specs.Rooms.{items_held, AreCountedOnQueues}
 use Rattle.line_moves.proofs.restarts.count_messages.Given as goal
 
 abbrev pub invariant-loop-message : goal.invariant-loop-message
 invariant-loop-message l = record {
-  same : map items_of l.rows.items ≡ map items_of l.fn.rows.items;
-  counted : AreCounted l.history.processes l.messages l.message-index l.rows.items;
+  same : map items_held l.rows.items ≡ map items_held l.fn.rows.items;
+  counted : AreCountedOnQueues l.history.processes l.messages l.message-index l.rows.items;
 }

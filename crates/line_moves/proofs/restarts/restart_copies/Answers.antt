@@ -8,7 +8,7 @@ use Rattle.line_tape.specs.History.{Process}
 use Rattle.line_tape.specs.Transit.{goes_between}
 use Rattle.line_tape.proofs.LetterLemmas.{open_are, parts}
 use Rattle.line_turns.specs.Tables.{between}
-use Rattle.line_moves.specs.Rooms.{items_of}
+use Rattle.line_moves.specs.Rooms.{items_held}
 use Rattle.line_moves.proofs.restarts.restart_copies.Goals as goal
 
 pub returns-clause-put : goal.returns-clause-put
@@ -18,7 +18,7 @@ returns-clause-put c = λ p q p_within q_within.
     let goes : MsgName → Bool = goes_between history p q in
     let shown : List MsgName → List Item = λ ms. map (λ m. Message m) (filter goes ms) in
     let held : List (List (List Item)) → List Item = λ links. between links p q in
-    let same : map items_of c.count_messages.new.rows.items ≡ c.args.links.now = c.in_ok-count_messages.ensures.same ∙ c.count_none.ensures.same ∙ c.links.view_is in
+    let same : map items_held c.count_messages.new.rows.items ≡ c.args.links.now = c.in_ok-count_messages.ensures.same ∙ c.count_none.ensures.same ∙ c.links.view_is in
     c.put_messages.ensures.put p q p_within q_within
     ∙ ap (λ (items : List Item). items ++ shown c.args.copies.now) (ap held same)
     ∙ ap (λ (ms : List MsgName). held c.args.links.now ++ shown ms) c.requires.transit

@@ -4,12 +4,12 @@ use Rattle.std.specs.List.{range_with_len}
 use Rattle.std.proofs.lemmas.List.FromFn.{map-range_with_len_more}
 use Rattle.line_names.specs.Lines.{choice_at}
 use Rattle.line_tape.specs.History.{tape_at}
-use Rattle.line_moves.specs.Restarts.{restored}
+use Rattle.line_moves.specs.Restarts.{restored_state}
 use Rattle.line_moves.proofs.restores.restored_states.Goals as goal
 
 pub loop-q-preserved : goal.loop-q-preserved
 loop-q-preserved c =
-    let f : ℕ → Option (List ℕ) = λ p. restored (tape_at c.args.history.now.processes p) (choice_at c.args.line.now p) in
+    let f : ℕ → Option (List ℕ) = λ p. restored_state (tape_at c.args.history.now.processes p) (choice_at c.args.line.now p) in
     let at : c.unwrap-p.result ≡ c.loop-q.q = (rw c.unwrap-p.ensures at c.try_new.ensures).1 in
     let here : c.in_ok-state.state ≡ f c.loop-q.q = c.in_ok-state.ensures ∙ ap f at in (
       c.push_reserved.ensures.items

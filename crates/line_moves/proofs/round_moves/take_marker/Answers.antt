@@ -8,7 +8,7 @@ use Rattle.line_tape.specs.Rounds.{has_check_of}
 use Rattle.line_moves.specs.declared.modes.Mode.TheVariants.{Fifo}
 use Rattle.line_moves.specs.Fates.{is_forced, marker_events}
 use Rattle.line_moves.specs.Moves.{with_events}
-use Rattle.line_moves.specs.Openings.{OpenView, IsOpening, IsRecording, IsRunning}
+use Rattle.line_moves.specs.Openings.{OpenView, IsOnlyOpen, IsRecording, IsRunning}
 use Rattle.line_moves.proofs.OpenFacts.{either_way}
 use Rattle.line_moves.proofs.OpeningLemmas.{forced_none, forced_number, forced_open, IsRunning-forced, IsRunning-renewed}
 use Rattle.line_moves.proofs.WorldLemmas.{marker_sent}
@@ -18,7 +18,7 @@ pub force_round-requires-clause-first : goal.force_round-requires-clause-first
 force_round-requires-clause-first c =
     let history : List Process = c.args.catalogue.now.processes in
     let none = forced_none history c.args.to c.args.round (sym c.requires.forced ∙ c.if-forced.true) in
-    let opening : IsRunning Fifo history c.in-Some.kept = subst (IsOpening Fifo history) c.in-Some.is c.requires.opening in
+    let opening : IsRunning Fifo history c.in-Some.kept = subst (IsOnlyOpen Fifo history) c.in-Some.is c.requires.opening in
     let sent = marker_sent history c.args.links.now c.requires.world c.args.from c.args.to c.args.round c.requires.from c.requires.to c.requires.other c.requires.marker in
     ap (λ (v : ℕ). has_check_of v (tape_at history c.args.to)) (forced_number history c.in-Some.kept c.args.from c.args.to c.args.round opening sent none c.requires.to) ∙ none
 
@@ -26,7 +26,7 @@ pub force_round-requires-clause-marker : goal.force_round-requires-clause-marker
 force_round-requires-clause-marker c =
     let history : List Process = c.args.catalogue.now.processes in
     let none = forced_none history c.args.to c.args.round (sym c.requires.forced ∙ c.if-forced.true) in
-    let opening : IsRunning Fifo history c.in-Some.kept = subst (IsOpening Fifo history) c.in-Some.is c.requires.opening in
+    let opening : IsRunning Fifo history c.in-Some.kept = subst (IsOnlyOpen Fifo history) c.in-Some.is c.requires.opening in
     let sent = marker_sent history c.args.links.now c.requires.world c.args.from c.args.to c.args.round c.requires.from c.requires.to c.requires.other c.requires.marker in
     c.requires.marker ∙ ap (λ (v : ℕ). Some (Marker v)) (sym (forced_number history c.in-Some.kept c.args.from c.args.to c.args.round opening sent none c.requires.to))
 
@@ -34,7 +34,7 @@ pub unreachable-requires : goal.unreachable-requires
 unreachable-requires c =
     let history : List Process = c.args.catalogue.now.processes in
     let none = forced_none history c.args.to c.args.round (sym c.requires.forced ∙ c.if-forced.true) in
-    let opening : IsOpening Fifo history None = subst (IsOpening Fifo history) c.in-None.is c.requires.opening in
+    let opening : IsOnlyOpen Fifo history None = subst (IsOnlyOpen Fifo history) c.in-None.is c.requires.opening in
     let sent = marker_sent history c.args.links.now c.requires.world c.args.from c.args.to c.args.round c.requires.from c.requires.to c.requires.other c.requires.marker in
     forced_open history c.args.from c.args.to c.args.round opening sent none c.requires.to
 
@@ -43,7 +43,7 @@ returns-in-Some-clause-taken c =
     let history : List Process = c.args.catalogue.now.processes in
     let forced : is_forced history c.args.to c.args.round ≡ true = sym c.requires.forced ∙ c.if-forced.true in
     let none = forced_none history c.args.to c.args.round forced in
-    let opening : IsRunning Fifo history c.in-Some.kept = subst (IsOpening Fifo history) c.in-Some.is c.requires.opening in
+    let opening : IsRunning Fifo history c.in-Some.kept = subst (IsOnlyOpen Fifo history) c.in-Some.is c.requires.opening in
     let sent = marker_sent history c.args.links.now c.requires.world c.args.from c.args.to c.args.round c.requires.from c.requires.to c.requires.other c.requires.marker in
     let number = forced_number history c.in-Some.kept c.args.from c.args.to c.args.round opening sent none c.requires.to in
     on_ok_weaker c.force_round.result (λ taken. taken
@@ -56,7 +56,7 @@ returns-in-Some-clause-opening c =
     let kept : OpenView = c.in-Some.kept in
     let new : OpenView = c.force_round.new.running in
     let after : List Process = c.force_round.new.catalogue.processes in
-    let opening : IsRunning Fifo history kept = subst (IsOpening Fifo history) c.in-Some.is c.requires.opening in
+    let opening : IsRunning Fifo history kept = subst (IsOnlyOpen Fifo history) c.in-Some.is c.requires.opening in
     either_way c.force_round.result
     (λ taken. subst (λ (h : List Process). IsRunning Fifo h new) (sym taken)
     (IsRunning-forced Fifo history c.args.to c.args.from kept.number c.args.state.now new c.requires.to c.force_round.ensures.number opening.others

@@ -8,7 +8,7 @@ use Rattle.line_tape.specs.History.{Process, tape_at, with_event}
 use Rattle.line_tape.specs.Rounds.{has_check_of}
 use Rattle.line_turns.specs.Turning.{IsTurning}
 use Rattle.line_moves.specs.Listed.{IsSnapshotOf}
-use Rattle.line_moves.specs.Openings.{IsCounted}
+use Rattle.line_moves.specs.Openings.{IsCountedAtRound}
 use Rattle.line_moves.proofs.AgreeLemmas.{AgreesNext-check}
 use Rattle.line_moves.proofs.round_moves.take_turn.Goals as goal
 
@@ -42,6 +42,6 @@ returns-clause-channels c =
     let done : c.add_event.new.catalogue.processes ≡ with_event history at e =
     c.add_event.ensures.processes ∙ ap (λ (h : List Process). with_event h at (Check state (Some c.number-number.result))) kept
     ∙ ap (λ (v : ℕ). with_event history at (Check state (Some v))) c.number-number.ensures in
-    subst (λ (v : ℕ). IsCounted c.add_event.new.catalogue.processes v told) (sym c.check.ensures.number)
-    (subst (λ (h : List Process). IsCounted h r told) (sym done)
-    (subst (λ (h : List Process). IsCounted (with_event h at e) r told) c.in_ok-reserve.ensures.processes (c.in_ok-channels.ensures.channels state)))
+    subst (λ (v : ℕ). IsCountedAtRound c.add_event.new.catalogue.processes v told) (sym c.check.ensures.number)
+    (subst (λ (h : List Process). IsCountedAtRound h r told) (sym done)
+    (subst (λ (h : List Process). IsCountedAtRound (with_event h at e) r told) c.in_ok-reserve.ensures.processes (c.in_ok-channels.ensures.channels state)))

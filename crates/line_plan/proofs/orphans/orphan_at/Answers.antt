@@ -8,7 +8,7 @@ use Rattle.line_tape.specs.History.{Process, tape_at, IsHistory}
 use Rattle.line_tape.specs.Line.{IsOrphanAmong}
 use Rattle.line_vectors.specs.Vectors.{Fits}
 use Rattle.line_vectors.specs.Reach.{reach_from, reach_of, reach_before, sent_count, sents_of}
-use Rattle.line_catalogue.specs.Agreement.{named}
+use Rattle.line_catalogue.specs.Agreement.{name_of_number}
 use Rattle.line_catalogue.proofs.LaneLemmas.{beyond-names, fits-decide}
 use Rattle.line_vectors.proofs.ReachLemmas.{length-reach, reach-at, sents-at}
 use Rattle.line_plan.proofs.orphans.orphan_at.Goals as goal
@@ -37,8 +37,8 @@ returns-then-lane-lt-LAST_NUMBER-clause-found c =
     let over : get_or c.args.sent.now p 0 < c.lane-lane.result = omega (arith, c.in-Some.ensures.beyond, c.lane-lane.ensures) in
     let number : ℕ = c.lane-lane.result - 1 in
     let reached : reach_from events p ≡ number + 1 = omega (arith, lane, reach-at n events p 0 within, c.if-lane-lt-LAST_NUMBER.true, over) in
-    let orphan : IsOrphanAmong history line events (named history p number) = beyond-names history line q choice p number c.history-history.ensures.agrees reached (omega (arith, over, count)) in
-    let name : c.name_of.result ≡ named history p number = c.name_of.ensures ∙ ap (λ (h : List Process). named h p number) c.history-history.ensures.processes in
+    let orphan : IsOrphanAmong history line events (name_of_number history p number) = beyond-names history line q choice p number c.history-history.ensures.agrees reached (omega (arith, over, count)) in
+    let name : c.name_of.result ≡ name_of_number history p number = c.name_of.ensures ∙ ap (λ (h : List Process). name_of_number h p number) c.history-history.ensures.processes in
     subst (IsOrphanAmong history line events) (sym name) orphan
 
 pub returns-in-None-clause-found : goal.returns-in-None-clause-found

@@ -7,7 +7,7 @@ use Rattle.line_names.specs.declared.choices.Choice.TheVariants.{Check as AtChec
 use Rattle.line_names.specs.Lines.{choice_at}
 use Rattle.line_names.specs.Order.{IsNoLater}
 use Rattle.line_tape.specs.declared.events.Event.{Event}
-use Rattle.line_tape.specs.Chain.{first_ceilings, next_lower, lowered, IsLed}
+use Rattle.line_tape.specs.Chain.{first_ceilings, next_lower, lowered_ceilings, IsLed}
 use Rattle.line_tape.specs.Event.{sends}
 use Rattle.line_tape.specs.Front.{front}
 use Rattle.line_tape.specs.History.{Process, tape_at}
@@ -32,11 +32,11 @@ returns-clause-led c =
     let failed : List Bool = c.args.failed.now in
     let line : List Choice = c.args.line.now in
     let lower : c.unwrap-next.result ≡ next_lower history marks failed c.args.at (choice_at line c.args.at) = (rw c.unwrap-next.ensures at c.next_lower.ensures.value).1 ∙ ap (next_lower history marks failed c.args.at) c.at-choice.ensures in
-    let after : c.set.new.self ≡ lowered history marks failed line c.args.at = c.set.ensures ∙ ap (set line c.args.at) lower in
+    let after : c.set.new.self ≡ lowered_ceilings history marks failed line c.args.at = c.set.ensures ∙ ap (set line c.args.at) lower in
     let entries : List Passed = c.args.certificate.now.items in
     let entry : Passed = record { at = c.args.at; choice = c.at-choice.result; message = c.args.message } in
     let top : c.at-choice.result ≡ choice_at line c.args.at = cc in
-    let led : IsLed history marks failed (entries ++ entry ∷ []) (lowered history marks failed line c.args.at) = LeadsTo-push history marks failed (first_ceilings history marks failed) entries line entry c.requires.led (record { top = top; orphan = c.requires.orphan }) in
+    let led : IsLed history marks failed (entries ++ entry ∷ []) (lowered_ceilings history marks failed line c.args.at) = LeadsTo-push history marks failed (first_ceilings history marks failed) entries line entry c.requires.led (record { top = top; orphan = c.requires.orphan }) in
     let items : c.push.new.self.items ≡ entries ++ entry ∷ [] = c.in_ok-push.ensures.items in
     subst (λ (es : List Passed). IsLed history marks failed es c.set.new.self) (sym items) (subst (IsLed history marks failed (entries ++ entry ∷ [])) (sym after) led)
 
@@ -47,7 +47,7 @@ returns-clause-lower c =
     let failed : List Bool = c.args.failed.now in
     let line : List Choice = c.args.line.now in
     let lower : c.unwrap-next.result ≡ next_lower history marks failed c.args.at (choice_at line c.args.at) = (rw c.unwrap-next.ensures at c.next_lower.ensures.value).1 ∙ ap (next_lower history marks failed c.args.at) c.at-choice.ensures in
-    let after : c.set.new.self ≡ lowered history marks failed line c.args.at = c.set.ensures ∙ ap (set line c.args.at) lower in
+    let after : c.set.new.self ≡ lowered_ceilings history marks failed line c.args.at = c.set.ensures ∙ ap (set line c.args.at) lower in
     let is_line : IsLine history line = IsLine-led history marks failed c.args.certificate.now.items line c.requires.led in
     subst (λ (xs : List Choice). height history xs < height history line) (sym after) (height-lowered history marks failed line c.args.at c.args.message c.requires.process is_line.length_is c.requires.orphan)
 

@@ -3,7 +3,7 @@ use Rattle.std.specs.Prelude.{slice_get}
 use Rattle.std.proofs.lemmas.List.{take_all, drop_all}
 use Rattle.line_tape.specs.declared.events.Event.{Event}
 use Rattle.line_tape.specs.Event.{sends}
-use Rattle.line_tape.specs.Shown.{shown}
+use Rattle.line_tape.specs.Shown.{event_of_ref}
 use Rattle.line_posts.specs.Replays.{packets_of, AreOfSender, AreSorted, AreSquare, IsNoted}
 use Rattle.line_posts.proofs.ReplayLemmas.{drop_next, plain_at, sends_push, short_at, take_next}
 use Rattle.line_posts.proofs.SortLemmas.{named_at, of_none, of_then, sorted_before, sorted_done, sorted_start, sorted_whole}
@@ -28,16 +28,16 @@ loop-i-init c =
     }
 
 pub overflow_sub-number : goal.overflow_sub-number
-overflow_sub-number c = (let b = before c.args.tape.now.events c.loop-i.i (shown c.event-event.result) (omega arith) c.event-event.ensures in let n = c.loop-i.invariant.number_is in let v = c.sent_by-number.ensures.value in omega (arith, b, n, v))
+overflow_sub-number c = (let b = before c.args.tape.now.events c.loop-i.i (event_of_ref c.event-event.result) (omega arith) c.event-event.ensures in let n = c.loop-i.invariant.number_is in let v = c.sent_by-number.ensures.value in omega (arith, b, n, v))
 
 pub note_sent-requires-clause-short : goal.note_sent-requires-clause-short
-note_sent-requires-clause-short c = short_at c.args.tape.now.events (c.loop-i.i - 1) (shown c.event-event.result) c.len-i.ensures.limits c.event-event.ensures
+note_sent-requires-clause-short c = short_at c.args.tape.now.events (c.loop-i.i - 1) (event_of_ref c.event-event.result) c.len-i.ensures.limits c.event-event.ensures
 
 pub note_sent-requires-clause-plain : goal.note_sent-requires-clause-plain
-note_sent-requires-clause-plain c = plain_at c.args.tape.now.events (c.loop-i.i - 1) (shown c.event-event.result) c.requires.plain c.event-event.ensures
+note_sent-requires-clause-plain c = plain_at c.args.tape.now.events (c.loop-i.i - 1) (event_of_ref c.event-event.result) c.requires.plain c.event-event.ensures
 
 pub note_sent-requires-clause-named : goal.note_sent-requires-clause-named
-note_sent-requires-clause-named c = named_at (length c.args.counts.now.items) (length c.loop-i.counts.items) c.args.tape.now.events c.args.tape.now.events (c.loop-i.i - 1) (shown c.event-event.result) c.loop-i.invariant.long refl c.requires.named c.event-event.ensures
+note_sent-requires-clause-named c = named_at (length c.args.counts.now.items) (length c.loop-i.counts.items) c.args.tape.now.events c.args.tape.now.events (c.loop-i.i - 1) (event_of_ref c.event-event.result) c.loop-i.invariant.long refl c.requires.named c.event-event.ensures
 
 pub note_sent-requires-clause-from : goal.note_sent-requires-clause-from
 note_sent-requires-clause-from c = (let l = c.loop-i.invariant.long in let f = c.requires.from in omega (arith, l, f))
@@ -53,8 +53,8 @@ loop-i-preserved c =
     let T = c.args.tape.now.events in
     let i = c.loop-i.invariant in
     let j = c.loop-i.i - 1 in
-    let e = shown c.event-event.result in
-    let b = before c.args.tape.now.events c.loop-i.i (shown c.event-event.result) (omega arith) c.event-event.ensures in
+    let e = event_of_ref c.event-event.result in
+    let b = before c.args.tape.now.events c.loop-i.i (event_of_ref c.event-event.result) (omega arith) c.event-event.ensures in
     let n = i.number_is in
     let v = c.sent_by-number.ensures.value in
     let at : c.loop-i.number - c.sent_by-number.result ≡ sends (take j T) = omega (arith, b, n, v) in

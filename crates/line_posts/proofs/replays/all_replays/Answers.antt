@@ -8,7 +8,7 @@ use Rattle.line_tape.specs.declared.events.Event.{Event}
 use Rattle.line_tape.specs.declared.items.Item.TheVariants.{Message as item_message}
 use Rattle.line_tape.specs.Event.{NamesBelow}
 use Rattle.line_tape.specs.History.{Process, fresh, tape_at, IsHistory}
-use Rattle.line_tape.specs.Restart.{restarted}
+use Rattle.line_tape.specs.Restart.{restarted_history}
 use Rattle.line_tape.specs.Rounds.{rounds_checked}
 use Rattle.line_tape.specs.Transit.{goes_between, in_transit, in_transit_between}
 use Rattle.line_tape.proofs.EachLemmas.{restarted-each}
@@ -42,20 +42,20 @@ row_of : {V : Type 0} (f : V → List ℕ) (rows : List V) (n p : ℕ) (v : V) �
 row_of f rows n p v lt long at = (let l = length-map rows f in row_seen f rows p v (omega (arith, lt, long, l)) ∙ ap f (sym at))
 
 -- the tapes of a history that goes on name its processes
-named_on : (history : List Process) (line : List Choice) (p m : ℕ) (tape : List Event) → IsHistory history → length line ≡ length history → p < length history → m ≡ length history → tape ≡ tape_at (restarted history line) p → All (NamesBelow m) tape
+named_on : (history : List Process) (line : List Choice) (p m : ℕ) (tape : List Event) → IsHistory history → length line ≡ length history → p < length history → m ≡ length history → tape ≡ tape_at (restarted_history history line) p → All (NamesBelow m) tape
 named_on history line p m tape is count lt em et =
-    let next : IsHistory (restarted history line) = subst IsHistory (sym (restarted-each history line)) (IsHistory-restarted history line (omega (arith, count)) is) in
+    let next : IsHistory (restarted_history history line) = subst IsHistory (sym (restarted-each history line)) (IsHistory-restarted history line (omega (arith, count)) is) in
     let l = length_restarted history line count in
     let all = (next.processes p fresh (omega (arith, lt, l))).named in
-    subst (λ k. All (NamesBelow k) tape) (l ∙ sym em) (subst (All (NamesBelow (length (restarted history line)))) (sym et) all)
+    subst (λ k. All (NamesBelow k) tape) (l ∙ sym em) (subst (All (NamesBelow (length (restarted_history history line)))) (sym et) all)
 
 -- how many messages a link holds
 held_count : (history : List Process) (line : List Choice) (messages : List MsgName) (p q w : ℕ) → messages ≡ in_transit history line
-    → items_of_parcels p (parcels_left (restarted history line) p q) ≡ map (λ m. item_message m) (in_transit_between history line p q)
-    → w ≡ length (filter (goes_between history p q) messages) → w ≡ length (parcels_left (restarted history line) p q)
+    → items_of_parcels p (parcels_left (restarted_history history line) p q) ≡ map (λ m. item_message m) (in_transit_between history line p q)
+    → w ≡ length (filter (goes_between history p q) messages) → w ≡ length (parcels_left (restarted_history history line) p q)
 held_count history line messages p q w em links ew =
     let ms = in_transit_between history line p q in
-    let left = parcels_left (restarted history line) p q in
+    let left = parcels_left (restarted_history history line) p q in
     ew ∙ (ap (λ t. length (filter (goes_between history p q) t)) em ∙ (ap length (parts history line history (open_are history line) p q)
     ∙ (sym (length-map ms (λ m. item_message m)) ∙ (sym (ap length links) ∙ length-map left (item_of p)))))
 
@@ -126,17 +126,17 @@ loop-p-preserved c =
     let at = there J.items J.items c.loop-p.p c.index.result.now refl (omega (arith, lt, n, l, k)) c.index.ensures in
     let tape = c.tape-tape.ensures ∙ (c.requires.journals.1.each c.loop-p.p c.index.result.now at).tape_is in
     let e = c.in_ok-add_sent.ensures in
-    left_step H (restarted H L) M c.n-n.result c.loop-p.p (counts_of c.loop-p.counts.items) (counts_of (set c.loop-p.counts.items c.loop-p.p c.add_sent.new.counts)) c.add_sent.new.counts.items c.count_messages.new.sums.items (packets_of c.loop-p.packets.items) (packets_of c.add_sent.new.packets.items) lt i
+    left_step H (restarted_history H L) M c.n-n.result c.loop-p.p (counts_of c.loop-p.counts.items) (counts_of (set c.loop-p.counts.items c.loop-p.p c.add_sent.new.counts)) c.add_sent.new.counts.items c.count_messages.new.sums.items (packets_of c.loop-p.packets.items) (packets_of c.add_sent.new.packets.items) lt i
     (map-set (λ v. v.items) c.loop-p.counts.items c.loop-p.p c.add_sent.new.counts)
     (subst (λ m. AreOfSender m c.loop-p.p (packets_of c.loop-p.packets.items) (packets_of c.add_sent.new.packets.items)) long e.sender)
     (λ q lq.
     (let w = sym (ap (λ t. get_or t q 0) row) ∙ i.each c.loop-p.p q (omega arith) lt lq in
-    e.sent q (omega (arith, lq, long)) ∙ left_last (restarted H L) c.loop-p.p q (get_or V.items q 0) c.tape-tape.result.now.events tape (held_count H L M c.loop-p.p q (get_or V.items q 0) c.requires.transit (c.requires.links c.loop-p.p q) w)))
+    e.sent q (omega (arith, lq, long)) ∙ left_last (restarted_history H L) c.loop-p.p q (get_or V.items q 0) c.tape-tape.result.now.events tape (held_count H L M c.loop-p.p q (get_or V.items q 0) c.requires.transit (c.requires.links c.loop-p.p q) w)))
 
 pub returns : goal.returns
 returns c =
     let n = c.n-n.ensures.value in
     let l = length_restarted c.args.gathered.now.processes c.args.plan.now.line c.requires.count in
     let f = c.loop-p-test.false in
-    left_all c.args.gathered.now.processes (restarted c.args.gathered.now.processes c.args.plan.now.line) c.args.plan.now.replays.items c.n-n.result c.loop-p.p (counts_of c.loop-p.counts.items) c.count_messages.new.sums.items (packets_of c.loop-p.packets.items)
+    left_all c.args.gathered.now.processes (restarted_history c.args.gathered.now.processes c.args.plan.now.line) c.args.plan.now.replays.items c.n-n.result c.loop-p.p (counts_of c.loop-p.counts.items) c.count_messages.new.sums.items (packets_of c.loop-p.packets.items)
     (omega (arith, n, l)) (omega (arith, f)) c.loop-p.invariant

@@ -5,7 +5,7 @@ use Rattle.std.proofs.lemmas.Result.{OkIff-at_ok}
 use Rattle.line_names.specs.Lines.{choice_at}
 use Rattle.line_tape.specs.Front.{front, HasChoice}
 use Rattle.line_tape.specs.History.{tape_at}
-use Rattle.line_tape.specs.Restart.{restarted, restarted_event}
+use Rattle.line_tape.specs.Restart.{restarted_history, restarted_event}
 use Rattle.line_tape.specs.Rounds.{rounds_checked}
 use Rattle.line_tape.proofs.LinkLemmas.{no_rounds, tape_restarted}
 use Rattle.line_tape.proofs.SpentLemmas.{length_restarted}
@@ -36,7 +36,7 @@ loop-q-preserved c =
     let me = (OkIff-at_ok c.try_new.result _ _ _ c.try_new.ensures c.unwrap-me.ensures).1 in
     let copied = c.in_ok-tape.ensures ∙ c.tape.ensures.events in
     let cut = c.restart.ensures.events ∙ (ap (λ t. filter_map restarted_event (front t c.at.result)) copied ∙ (ap (λ k. filter_map restarted_event (front (tape_at H c.unwrap-me.result) k)) c.at.ensures ∙ (ap (λ v. filter_map restarted_event (front (tape_at H v) (choice_at L v))) me ∙ sym (tape_restarted H L c.loop-q.q c.requires.length_is)))) in
-    let both = journals_more (restarted H L) c.args.floor c.loop-q.q c.loop-q.journals.items c.push.new.self.items c.in_ok-journal.journal i.count i.each c.in_ok-push.ensures.items
+    let both = journals_more (restarted_history H L) c.args.floor c.loop-q.q c.loop-q.journals.items c.push.new.self.items c.in_ok-journal.journal i.count i.each c.in_ok-push.ensures.items
     (record {
       n_is = e.same.0 ∙ (c.n-n.ensures.value ∙ sym (length_restarted H L c.requires.length_is));
       me_is = e.same.1 ∙ me;

@@ -1,6 +1,6 @@
 use Rattle.std.proofs.Common.{◌≡◌, length}
 use Rattle.std.specs.Prelude.{All}
-use Rattle.line_rings.specs.Ends.{out_ends, in_rows, dealt, AreFresh, HasAllFree}
+use Rattle.line_rings.specs.Ends.{out_ends, in_rows, rows_with_items, AreFresh, HasAllFree}
 use Rattle.line_rings.proofs.links.row.Given as goal
 
 abbrev pub invariant-loop-q : goal.invariant-loop-q
@@ -8,7 +8,7 @@ invariant-loop-q g l = record {
   within : l.n ≡ length l.fn.ins.items;
   long : length l.ins.items ≡ l.n;
   count : length l.outs.items ≡ l.q;
-  dealt_is : in_rows l.ins.items ≡ dealt (in_rows l.fn.ins.items) (out_ends l.outs.items);
+  dealt_is : in_rows l.ins.items ≡ rows_with_items (in_rows l.fn.ins.items) (out_ends l.outs.items);
   fresh : AreFresh (out_ends l.outs.items);
   free : All (HasAllFree l.capacity) l.outs.items;
 }

@@ -15,4 +15,4 @@ pub returns : goal.returns
 returns g c =
     let text = fault_text c.args.error in
     let own = rw (c.as_bytes-name.ensures.value, c.name_of.ensures.name, c.error_code-code.ensures) at c.in_ok-put_ending.ensures in
-    outputs_on _ (record_text (fault_record (error_code c.args.error))) (10 ∷ []) (answer_text (Faulted c.args.error)) text own c.end_record.ensures
+    outputs_on _ (record_text (fault_record (error_code c.args.error))) (10 ∷ []) (answer_text (Faulted c.args.error)) text own c.close_record.ensures

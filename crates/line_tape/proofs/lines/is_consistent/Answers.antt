@@ -20,12 +20,12 @@ some-found history line q (Some message) some f consistent = f.unsent (consisten
 
 pub returns-then-is_some : goal.returns-then-is_some
 returns-then-is_some c =
-    (λ h. absurd (false≢true h), λ consistent. absurd (some-found c.args.history.now.processes c.args.line.now c.unwrap-p.result c.orphan_at.result (sym c.is_some.ensures ∙ c.if-is_some.true) c.orphan_at.ensures consistent))
+    (λ h. absurd (false≢true h), λ consistent. absurd (some-found c.args.history.now.processes c.args.line.now c.unwrap-p.result c.orphan_on_tape.result (sym c.is_some.ensures ∙ c.if-is_some.true) c.orphan_on_tape.ensures consistent))
 
 pub loop-q-preserved : goal.loop-q-preserved
 loop-q-preserved c =
     let at : c.unwrap-p.result ≡ c.loop-q.q = (rw c.unwrap-p.ensures at c.try_new.ensures).1 in
-    let none : AreSentBefore c.args.history.now.processes c.args.line.now (events_before c.args.history.now.processes c.args.line.now c.unwrap-p.result) = none-found c.args.history.now.processes c.args.line.now (events_before c.args.history.now.processes c.args.line.now c.unwrap-p.result) c.orphan_at.result (sym c.is_some.ensures ∙ c.if-is_some.false) c.orphan_at.ensures in
+    let none : AreSentBefore c.args.history.now.processes c.args.line.now (events_before c.args.history.now.processes c.args.line.now c.unwrap-p.result) = none-found c.args.history.now.processes c.args.line.now (events_before c.args.history.now.processes c.args.line.now c.unwrap-p.result) c.orphan_on_tape.result (sym c.is_some.ensures ∙ c.if-is_some.false) c.orphan_on_tape.ensures in
     below_more (λ p. AreSentBefore c.args.history.now.processes c.args.line.now (events_before c.args.history.now.processes c.args.line.now p)) c.loop-q.q c.loop-q.invariant (subst (λ (p : ℕ). AreSentBefore c.args.history.now.processes c.args.line.now (events_before c.args.history.now.processes c.args.line.now p)) at none)
 
 pub returns : goal.returns

@@ -3,7 +3,7 @@ use Rattle.std.proofs.Common.{◌≡◌, ◌+◌, List, ℕ, [], ◌∷◌, ◌+
 use Rattle.std.proofs.lemmas.List.{take_all}
 use Rattle.line_tape.specs.declared.events.Event.{Event}
 use Rattle.line_tape.specs.Line.{IsFoundAmong}
-use Rattle.line_tape.specs.Shown.{shown}
+use Rattle.line_tape.specs.Shown.{event_of_ref}
 use Rattle.line_tape.proofs.ShownLemmas.{take_shown}
 use Rattle.line_tape.proofs.lines.orphan_among.Goals as goal
 
@@ -11,7 +11,7 @@ pub loop-i-preserved : goal.loop-i-preserved
 loop-i-preserved c =
     let events : List Event = c.args.events.now in
     let i : ℕ = c.loop-i.i in
-    let item : Event = shown c.at.result in
+    let item : Event = event_of_ref c.at.result in
     let more : take (i + 1) events ≡ take i events ++ item ∷ [] = take_shown events i item c.at.ensures in
     subst (λ (xs : List Event). IsFoundAmong c.args.history.now.processes c.args.line.now xs c.with_event-best.result) (sym more) (c.with_event-best.ensures (take i events) c.loop-i.invariant)
 

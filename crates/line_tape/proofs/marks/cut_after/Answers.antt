@@ -3,7 +3,7 @@ use Rattle.std.proofs.Common.{◌≡◌, ℕ, ◌-◌, ◌∷◌, ◌++◌, [], 
 use Rattle.std.specs.Prelude.{Some, slice_get}
 use Rattle.std.proofs.lemmas.Bool.{le-leb, lt-leb}
 use Rattle.line_names.specs.declared.choices.Choice.TheVariants.{Check as AtCheck}
-use Rattle.line_tape.specs.Marked.{checks_marked, AreNumbered}
+use Rattle.line_tape.specs.Marked.{checks_marked, AreNumberedBelow}
 use Rattle.line_tape.specs.Restart.{is_kept}
 use Rattle.line_tape.proofs.MarkedLemmas.{marked_all, marked_cut, numbered_front, popped_is}
 use Rattle.line_tape.proofs.marks.cut_after.Goals as goal
@@ -26,7 +26,7 @@ loop-check-preserved c =
           ∙ marked_cut stays new (check, number) goes) ∙ c.loop-check.invariant.kept;
       numbered =
           λ next are. numbered_front next new (check, number)
-          (subst (AreNumbered next) whole (c.loop-check.invariant.numbered next are));
+          (subst (AreNumberedBelow next) whole (c.loop-check.invariant.numbered next are));
     }
 
 pub returns-then-check-last-clause-kept : goal.returns-then-check-last-clause-kept

@@ -19,8 +19,8 @@ returns-then-is_ahead-clause-noted c =
     } in
     added_ahead c.as_slice-before.result.now items c.args.last.now c.args.root.now c.as_slice-before.ensures.value c.requires.noted few c.push_reserved.new.self.items c.set.new.self (c.len.result + 1) c.args.receipt c.linked_back-linked.result pushed link c.linked_back-linked.ensures.same c.requires.sender put (c.is_ahead.ensures.yes c.if-is_ahead.true) (c.linked_back-linked.ensures.near ∙ c.at-end.ensures) c.linked_back-linked.ensures.far
 
-pub put-requires : goal.put-requires
-put-requires c =
+pub put_receipt-requires : goal.put_receipt-requires
+put_receipt-requires c =
     let items : List Receipt = c.args.receipts.now.items in
     let few : length items < MOST_EVENTS = omega (arith, c.args.receipts.now.ok.0) in
     let pushed : c.push_reserved-2.new.self.items ≡ items ++ c.args.receipt ∷ [] = search rules in
@@ -40,6 +40,6 @@ returns-clause-noted c =
     let pushed : c.push_reserved-2.new.self.items ≡ items ++ c.args.receipt ∷ [] = search rules in
     let link : c.len.result + 1 ≡ length items + 1 = omega (arith, c.len.ensures, c.args.receipts.now.ok.0) in
     let more : length c.push_reserved-2.new.self.items ≡ length items + 1 = ap (λ (xs : List Receipt). length xs) pushed ∙ omega (arith, length_push items c.args.receipt) in
-    let long : length c.put.new.receipts.items ≡ suc (length items) = omega (arith, c.put.ensures.len, c.put.new.receipts.ok.0, c.push_reserved-2.new.self.ok.0) in
-    added_aside c.as_slice-before.result.now items c.args.last.now c.args.root.now c.as_slice-before.ensures.value c.requires.noted few c.push_reserved-2.new.self.items c.put.new.receipts.items c.put.new.root c.seat_of-seat.result.above (c.len.result + 1) c.seat_of-seat.result.far c.args.receipt pushed link long c.requires.sender c.requires.links.0 c.requires.links.1 (c.is_ahead.ensures.no c.if-is_ahead.false)
-    (sym c.link_at-known.ensures ∙ c.if-known-ne0.false) c.seat_of-seat.ensures c.put.ensures.put
+    let long : length c.put_receipt.new.receipts.items ≡ suc (length items) = omega (arith, c.put_receipt.ensures.len, c.put_receipt.new.receipts.ok.0, c.push_reserved-2.new.self.ok.0) in
+    added_aside c.as_slice-before.result.now items c.args.last.now c.args.root.now c.as_slice-before.ensures.value c.requires.noted few c.push_reserved-2.new.self.items c.put_receipt.new.receipts.items c.put_receipt.new.root c.seat_of-seat.result.above (c.len.result + 1) c.seat_of-seat.result.far c.args.receipt pushed link long c.requires.sender c.requires.links.0 c.requires.links.1 (c.is_ahead.ensures.no c.if-is_ahead.false)
+    (sym c.link_at-known.ensures ∙ c.if-known-ne0.false) c.seat_of-seat.ensures c.put_receipt.ensures.put

@@ -11,7 +11,7 @@ use Rattle.line_tape.specs.Event.{incarnations_sent, sends}
 use Rattle.line_tape.specs.Front.{place}
 use Rattle.line_tape.specs.History.{Process, tape_at}
 use Rattle.line_tape.specs.Line.{events_before}
-use Rattle.line_tape.specs.Transit.{Letter, letters, is_open, addressees}
+use Rattle.line_tape.specs.Transit.{Letter, letters, is_open_letter, addressees}
 use Rattle.line_tape.proofs.CopyLemmas.{length_addressees}
 use Rattle.line_tape.proofs.CutLemmas.{sends_take}
 use Rattle.line_tape.proofs.ReceivedLemmas.{length-letters, open_first, open-next}
@@ -73,4 +73,4 @@ returns c =
     let all : List Letter = letters p 0 (events_before history line p) in
     let told : length c.received.inside.sends.items ≡ sends (events_before history line p) = ap (λ (xs : List Bool). length xs) c.received.view_is ∙ c.requires.told.count in
     let past : length all ≤ c.loop-number.number = omega (arith, told, length-letters p 0 (events_before history line p), c.received.inside.sends.ok.0, c.len-number-end.ensures) in
-    c.loop-number.invariant ∙ ap (λ (xs : List Letter). c.args.messages.now.items ++ map (λ (letter : Letter). letter.message) (filter (is_open history line) xs)) (take_all c.loop-number.number all past)
+    c.loop-number.invariant ∙ ap (λ (xs : List Letter). c.args.messages.now.items ++ map (λ (letter : Letter). letter.message) (filter (is_open_letter history line) xs)) (take_all c.loop-number.number all past)

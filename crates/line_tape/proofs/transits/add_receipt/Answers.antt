@@ -5,7 +5,7 @@ use Rattle.line_names.specs.declared.messages.MsgName.{MsgName}
 use Rattle.line_tape.specs.declared.events.Event.{Event}
 use Rattle.line_tape.specs.declared.events.Event.TheVariants.{Recv}
 use Rattle.line_tape.specs.Fit.{IsSentTo}
-use Rattle.line_tape.specs.Shown.{shown}
+use Rattle.line_tape.specs.Shown.{event_of_ref}
 use Rattle.line_tape.specs.Received.{with_seen, AreTold}
 use Rattle.line_tape.specs.Transit.{received_name}
 use Rattle.line_tape.proofs.ReceivedLemmas.{sent_within, told-other, told-sent, told-unsent}
@@ -25,18 +25,18 @@ returns-then-is_sent_to-clause-told c = λ line seen told.
     let at : row ≡ get_or rows m.from row = c.index_mut.ensures.value ∙ ap (λ k. get_or rows k row) c.get.ensures.value in
     let more : AreTold c.args.history.now.processes line (with_seen seen c.args.q (seen c.args.q ++ Recv m ∷ [])) (set rows m.from (set row m.number true)) = told-sent c.args.history.now.processes line seen c.args.q m rows row sent (sent_within c.args.history.now.processes c.args.q m sent) at told in
     let placed : AreTold c.args.history.now.processes line (with_seen seen c.args.q (seen c.args.q ++ Recv m ∷ [])) (set rows c.get.result c.add.new.self) = subst (λ k. AreTold c.args.history.now.processes line (with_seen seen c.args.q (seen c.args.q ++ Recv m ∷ [])) (set rows k c.add.new.self)) (sym c.get.ensures.value) (subst (λ (r : List Bool). AreTold c.args.history.now.processes line (with_seen seen c.args.q (seen c.args.q ++ Recv m ∷ [])) (set rows m.from r)) (sym c.add.ensures) more) in
-    subst (λ (e : Event). AreTold c.args.history.now.processes line (with_seen seen c.args.q (seen c.args.q ++ e ∷ [])) (set rows c.get.result c.add.new.self)) (sym (ap shown c.in-Recv.is)) placed
+    subst (λ (e : Event). AreTold c.args.history.now.processes line (with_seen seen c.args.q (seen c.args.q ++ e ∷ [])) (set rows c.get.result c.add.new.self)) (sym (ap event_of_ref c.in-Recv.is)) placed
 
 pub returns-else-is_sent_to-clause-told : goal.returns-else-is_sent_to-clause-told
 returns-else-is_sent_to-clause-told c = λ line seen told.
     let m : MsgName = c.in-Recv.message in
-    subst (λ (e : Event). AreTold c.args.history.now.processes line (with_seen seen c.args.q (seen c.args.q ++ e ∷ [])) c.args.received.now.items) (sym (ap shown c.in-Recv.is)) (told-unsent c.args.history.now.processes line seen c.args.q m c.args.received.now.items (λ sent. false≢true (sym c.if-is_sent_to.false ∙ c.is_sent_to.ensures.1 sent)) told)
+    subst (λ (e : Event). AreTold c.args.history.now.processes line (with_seen seen c.args.q (seen c.args.q ++ e ∷ [])) c.args.received.now.items) (sym (ap event_of_ref c.in-Recv.is)) (told-unsent c.args.history.now.processes line seen c.args.q m c.args.received.now.items (λ sent. false≢true (sym c.if-is_sent_to.false ∙ c.is_sent_to.ensures.1 sent)) told)
 
 pub returns-in-Send-clause-told : goal.returns-in-Send-clause-told
-returns-in-Send-clause-told c = λ line seen told. told-other c.args.history.now.processes line seen c.args.q (shown c.args.event.now) c.args.received.now.items (ap (λ e. received_name (shown e)) c.in-Send.is) told
+returns-in-Send-clause-told c = λ line seen told. told-other c.args.history.now.processes line seen c.args.q (event_of_ref c.args.event.now) c.args.received.now.items (ap (λ e. received_name (event_of_ref e)) c.in-Send.is) told
 
 pub returns-in-Check-clause-told : goal.returns-in-Check-clause-told
-returns-in-Check-clause-told c = λ line seen told. told-other c.args.history.now.processes line seen c.args.q (shown c.args.event.now) c.args.received.now.items (ap (λ e. received_name (shown e)) c.in-Check.is) told
+returns-in-Check-clause-told c = λ line seen told. told-other c.args.history.now.processes line seen c.args.q (event_of_ref c.args.event.now) c.args.received.now.items (ap (λ e. received_name (event_of_ref e)) c.in-Check.is) told
 
 pub returns-in-Mark-clause-told : goal.returns-in-Mark-clause-told
-returns-in-Mark-clause-told c = λ line seen told. told-other c.args.history.now.processes line seen c.args.q (shown c.args.event.now) c.args.received.now.items (ap (λ e. received_name (shown e)) c.in-Mark.is) told
+returns-in-Mark-clause-told c = λ line seen told. told-other c.args.history.now.processes line seen c.args.q (event_of_ref c.args.event.now) c.args.received.now.items (ap (λ e. received_name (event_of_ref e)) c.in-Mark.is) told

@@ -7,7 +7,7 @@ use Rattle.line_tape.specs.Front.{front}
 use Rattle.line_tape.specs.History.{tape_at}
 use Rattle.line_tape.specs.Line.{events_before}
 use Rattle.line_tape.specs.Received.{with_seen, AreTold}
-use Rattle.line_tape.specs.Shown.{shown}
+use Rattle.line_tape.specs.Shown.{event_of_ref}
 use Rattle.line_tape.proofs.ReceivedLemmas.{seen-start, seen-next, told-same}
 use Rattle.line_tape.proofs.transits.add_receipts.Goals as goal
 
@@ -21,7 +21,7 @@ pub loop-i-preserved : goal.loop-i-preserved
 loop-i-preserved c =
     let i : ℕ = c.loop-i.i in
     let events : List Event = c.front-events.result in
-    let item : Event = shown c.at.result in
+    let item : Event = event_of_ref c.at.result in
     let within : i < length events = slice_get_within events i item c.at.ensures in
     let is : item ≡ get_or events i item = sym (get_or_from_slice_get events i item item c.at.ensures) in
     record {

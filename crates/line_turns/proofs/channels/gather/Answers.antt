@@ -3,7 +3,7 @@ use Rattle.std.proofs.Common.{◌≡◌, ℕ, ◌+◌, ◌++◌, [], ◌∷◌, 
 use Rattle.std.proofs.lemmas.List.{get_or_default}
 use Rattle.line_names.specs.declared.messages.MsgName.{MsgName}
 use Rattle.line_tape.specs.History.{Process}
-use Rattle.line_turns.specs.Inboxes.{AreGathered}
+use Rattle.line_turns.specs.Inboxes.{AreByAddressee}
 use Rattle.line_turns.proofs.ChannelLemmas.{addressee_within}
 use Rattle.line_turns.proofs.GatherLemmas.{AreGathered-more, AreGathered-other}
 use Rattle.line_turns.proofs.channels.gather.Goals.{in-Some+in_ok-push, in_default}
@@ -46,12 +46,12 @@ loop-message-preserved c =
           ap (λ v. v.items) w.rows-is
           ∙ ap (λ (k : ℕ). set rows k w.push.new.self.items) w.get.ensures.value
           ∙ ap (λ (ms : List MsgName). set rows to ms) new in
-          subst (λ (v : List (List MsgName)). AreGathered history (take (i + 1) names) v)
+          subst (λ (v : List (List MsgName)). AreByAddressee history (take (i + 1) names) v)
           (sym written)
           (AreGathered-more history names i rows message c.loop-message-test.true c.message-item.is
           c.loop-message.invariant to named to_within)
       | in_default w ↦
-          subst (λ (v : List (List MsgName)). AreGathered history (take (i + 1) names) v)
+          subst (λ (v : List (List MsgName)). AreByAddressee history (take (i + 1) names) v)
           (sym (ap (λ v. v.items) w.rows-is))
           (AreGathered-other history names i rows message c.loop-message-test.true c.message-item.is
           c.loop-message.invariant (sym c.addressee.ensures ∙ w.in_default.is))

@@ -1,7 +1,7 @@
 -- The search finds the inbox of the process, if it has one.
 use Rattle.std.proofs.Common.{◌≡◌, ◌≢◌, ℕ, ltb, List, sym, ap, ◌∙◌, arith, rules}
 use Rattle.std.proofs.lemmas.List.Sorted.{IsPartitionPoint-from_clause, IsPartitionedBy-ltb}
-use Rattle.line_turns.specs.Inboxes.{sent_by, InboxView}
+use Rattle.line_turns.specs.Inboxes.{messages_from, InboxView}
 use Rattle.line_turns.proofs.InboxLemmas.{held_found, held_lost, held_past, inboxes_in_order}
 use Rattle.line_turns.proofs.channels.held.Goals as goal
 
@@ -25,7 +25,7 @@ returns-then-get c =
       c.to.ensures,
     ) in
     c.from.ensures
-    ∙ ap (sent_by c.args.from)
+    ∙ ap (messages_from c.args.from)
     (sym (held_found inboxes to place point inbox found.0 (found.1 inbox) same))
 
 pub returns-else-get : goal.returns-else-get
@@ -43,7 +43,7 @@ returns-else-get c =
     λ e. c.if-get.false
     (omega (arith, e, c.get-in-Some.ensures.value, c.get-in-Some-2.ensures.value, c.to.ensures))
     in
-    ap (sent_by c.args.from)
+    ap (messages_from c.args.from)
     (sym (held_lost inboxes to place point inbox found.0 (found.1 inbox) c.requires other))
 
 pub returns-in-None : goal.returns-in-None
@@ -55,4 +55,4 @@ returns-in-None c =
     c.partition_point-place.ensures.partitioned
     (IsPartitionedBy-ltb (λ (i : InboxView). i.to) inboxes to
     (inboxes_in_order inboxes c.requires)) (λ a r q k. search rules) in
-    ap (sent_by c.args.from) (sym (held_past inboxes to place point c.in-None.ensures.lookup.3))
+    ap (messages_from c.args.from) (sym (held_past inboxes to place point c.in-None.ensures.lookup.3))

@@ -6,11 +6,11 @@ use Rattle.line_tape.specs.Event.{sends, NamesBelow}
 use Rattle.line_tape.proofs.RowLemmas.{checks_le}
 use Rattle.line_tape.specs.Views.{HistoryView, MarksView}
 use Rattle.line_tape.specs.History.{Process, tape_at, with_event}
-use Rattle.line_catalogue.specs.declared.kept_rows.Row.{Row}
+use Rattle.line_catalogue.specs.declared.kept_rows.VectorRow.{VectorRow}
 use Rattle.line_catalogue.specs.Agreement.{AgreesNext}
 use Rattle.line_catalogue.specs.Kept.{present_at, rows_at, IsCatalogue}
-use Rattle.line_catalogue.specs.Rows.{heard_more, row_added, with_row}
-use Rattle.line_catalogue.specs.Views.{CatalogueView, room_at}
+use Rattle.line_catalogue.specs.Rows.{vector_after_event, row_added, with_row}
+use Rattle.line_catalogue.specs.Views.{CatalogueView, catalogue_room_at}
 use Rattle.line_catalogue.proofs.CatalogueLemmas.{IsCatalogue-event, length-present, lesser_at}
 use Rattle.line_catalogue.proofs.catalogues.Catalogue.append_receipt.Goals as goal
 
@@ -25,7 +25,7 @@ append_receipt-requires-clause-few c = omega (arith, c.requires.few, ap (λ (v :
 
 pub append_receipt-requires-clause-room : goal.append_receipt-requires-clause-room
 append_receipt-requires-clause-room c =
-    omega (arith, c.requires.room, ap (λ (v : CatalogueView). room_at v c.args.p) c.self.view_is, lesser_at c.self.inside.ledger.rooms c.self.inside.rows.rooms c.args.p)
+    omega (arith, c.requires.room, ap (λ (v : CatalogueView). catalogue_room_at v c.args.p) c.self.view_is, lesser_at c.self.inside.ledger.rooms c.self.inside.rows.rooms c.args.p)
 
 pub append-requires-clause-short : goal.append-requires-clause-short
 append-requires-clause-short c =
@@ -53,7 +53,7 @@ pub invariant_of-self : goal.invariant_of-self
 invariant_of-self c =
     let history : List Process = c.self.inside.ledger.processes in
     let marks : MarksView = c.self.inside.marks in
-    let rows : List (List Row) = c.self.inside.rows.rows in
+    let rows : List (List VectorRow) = c.self.inside.rows.rows in
     let presents : List (List ℕ) = c.self.inside.rows.presents in
     let p : ℕ = c.args.p in
     let event : Event = Recv c.args.message.now in
@@ -68,9 +68,9 @@ invariant_of-self c =
     let sent_is : sent ≡ sends (tape_at history p) = ap sends tape_is in
     let present : List ℕ = present_at presents p in
     let rows_are : c.append.new.self.rows ≡ set rows p (with_row (rows_at rows p) (row_added place sent present event)) = c.append.ensures.rows in
-    let presents_are : c.append.new.self.presents ≡ set presents p (heard_more present event) = c.append.ensures.presents in
+    let presents_are : c.append.new.self.presents ≡ set presents p (vector_after_event present event) = c.append.ensures.presents in
     let grown : c.append_receipt.new.self.processes ≡ with_event history p event = c.append_receipt.ensures.processes in
     subst (λ (xs : List Process). IsCatalogue xs marks c.append.new.self.rows c.append.new.self.presents) (sym grown)
     (subst (λ (ys : List (List ℕ)). IsCatalogue (with_event history p event) marks c.append.new.self.rows ys) (sym presents_are)
-    (subst (λ (xs : List (List Row)). IsCatalogue (with_event history p event) marks xs (set presents p (heard_more (present_at presents p) event))) (sym rows_are)
+    (subst (λ (xs : List (List VectorRow)). IsCatalogue (with_event history p event) marks xs (set presents p (vector_after_event (present_at presents p) event))) (sym rows_are)
     (IsCatalogue-event history marks rows presents p within event place sent place_is sent_is named next c.self.invariant)))

@@ -5,9 +5,9 @@ use Rattle.line_names.specs.Lines.{choice_at}
 use Rattle.line_tape.specs.Event.{checks}
 use Rattle.line_tape.specs.History.{Process, tape_at}
 use Rattle.line_tape.specs.Line.{IsLine, IsConsistent}
-use Rattle.line_tape.specs.Restart.{restarted}
+use Rattle.line_tape.specs.Restart.{restarted_history}
 use Rattle.line_tape.specs.Views.{HistoryView, MarksView}
-use Rattle.line_catalogue.specs.declared.kept_rows.Row.{Row}
+use Rattle.line_catalogue.specs.declared.kept_rows.VectorRow.{VectorRow}
 use Rattle.line_catalogue.specs.Kept.{rows_at, present_at, IsCatalogue}
 use Rattle.line_catalogue.specs.Rows.{AreInStep, WithPlaces, rows_kept, vector_at}
 use Rattle.line_catalogue.specs.Views.{CatalogueView}
@@ -18,12 +18,12 @@ pub restart-requires-3-clause-count : goal.restart-requires-3-clause-count
 restart-requires-3-clause-count c =
     let history : List Process = c.self.inside.ledger.processes in
     let marks : MarksView = c.self.inside.marks in
-    let rows : List (List Row) = c.self.inside.rows.rows in
+    let rows : List (List VectorRow) = c.self.inside.rows.rows in
     let presents : List (List ℕ) = c.self.inside.rows.presents in
     let line : List Choice = c.args.line.now in
     let seen : history ≡ c.args.self.now.processes = ap (λ (v : CatalogueView). v.processes) c.self.view_is in
     let is_line : IsLine history line = subst (λ (xs : List Process). IsLine xs line) (sym seen) c.requires.line in
-    let left : c.history.result.now.processes ≡ restarted history line = ap (λ (v : HistoryView). v.processes) c.history.ensures ∙ c.restart.ensures.processes in
+    let left : c.history.result.now.processes ≡ restarted_history history line = ap (λ (v : HistoryView). v.processes) c.history.ensures ∙ c.restart.ensures.processes in
     let same : length c.history.result.now.processes ≡ length history = ap (λ (xs : List Process). length xs) left ∙ length-restarted history line is_line in
     c.self.invariant.rows_count ∙ sym same
 
@@ -31,12 +31,12 @@ pub restart-requires-3-clause-there : goal.restart-requires-3-clause-there
 restart-requires-3-clause-there c =
     let history : List Process = c.self.inside.ledger.processes in
     let marks : MarksView = c.self.inside.marks in
-    let rows : List (List Row) = c.self.inside.rows.rows in
+    let rows : List (List VectorRow) = c.self.inside.rows.rows in
     let presents : List (List ℕ) = c.self.inside.rows.presents in
     let line : List Choice = c.args.line.now in
     let seen : history ≡ c.args.self.now.processes = ap (λ (v : CatalogueView). v.processes) c.self.view_is in
     let is_line : IsLine history line = subst (λ (xs : List Process). IsLine xs line) (sym seen) c.requires.line in
-    let left : c.history.result.now.processes ≡ restarted history line = ap (λ (v : HistoryView). v.processes) c.history.ensures ∙ c.restart.ensures.processes in
+    let left : c.history.result.now.processes ≡ restarted_history history line = ap (λ (v : HistoryView). v.processes) c.history.ensures ∙ c.restart.ensures.processes in
     let same : length c.history.result.now.processes ≡ length history = ap (λ (xs : List Process). length xs) left ∙ length-restarted history line is_line in
     λ p k h at. there-restarted history marks rows presents line c.self.invariant is_line p k (omega (arith, h, same)) at
 
@@ -44,12 +44,12 @@ pub restart-requires-3-clause-left : goal.restart-requires-3-clause-left
 restart-requires-3-clause-left c =
     let history : List Process = c.self.inside.ledger.processes in
     let marks : MarksView = c.self.inside.marks in
-    let rows : List (List Row) = c.self.inside.rows.rows in
+    let rows : List (List VectorRow) = c.self.inside.rows.rows in
     let presents : List (List ℕ) = c.self.inside.rows.presents in
     let line : List Choice = c.args.line.now in
     let seen : history ≡ c.args.self.now.processes = ap (λ (v : CatalogueView). v.processes) c.self.view_is in
     let is_line : IsLine history line = subst (λ (xs : List Process). IsLine xs line) (sym seen) c.requires.line in
-    let left : c.history.result.now.processes ≡ restarted history line = ap (λ (v : HistoryView). v.processes) c.history.ensures ∙ c.restart.ensures.processes in
+    let left : c.history.result.now.processes ≡ restarted_history history line = ap (λ (v : HistoryView). v.processes) c.history.ensures ∙ c.restart.ensures.processes in
     let same : length c.history.result.now.processes ≡ length history = ap (λ (xs : List Process). length xs) left ∙ length-restarted history line is_line in
     λ p h. left-restarted history marks rows presents line c.self.invariant is_line p (omega (arith, h, same)) ∙ ap (λ (xs : List Process). checks (tape_at xs p) + 1) (sym left)
 
@@ -57,12 +57,12 @@ pub restart-requires-3-clause-in_step : goal.restart-requires-3-clause-in_step
 restart-requires-3-clause-in_step c =
     let history : List Process = c.self.inside.ledger.processes in
     let marks : MarksView = c.self.inside.marks in
-    let rows : List (List Row) = c.self.inside.rows.rows in
+    let rows : List (List VectorRow) = c.self.inside.rows.rows in
     let presents : List (List ℕ) = c.self.inside.rows.presents in
     let line : List Choice = c.args.line.now in
     let seen : history ≡ c.args.self.now.processes = ap (λ (v : CatalogueView). v.processes) c.self.view_is in
     let is_line : IsLine history line = subst (λ (xs : List Process). IsLine xs line) (sym seen) c.requires.line in
-    let left : c.history.result.now.processes ≡ restarted history line = ap (λ (v : HistoryView). v.processes) c.history.ensures ∙ c.restart.ensures.processes in
+    let left : c.history.result.now.processes ≡ restarted_history history line = ap (λ (v : HistoryView). v.processes) c.history.ensures ∙ c.restart.ensures.processes in
     let same : length c.history.result.now.processes ≡ length history = ap (λ (xs : List Process). length xs) left ∙ length-restarted history line is_line in
     λ p h. subst (λ (xs : List Process). AreInStep (tape_at xs p) (rows_kept (choice_at line p) (rows_at rows p))) (sym left) (step-restarted history marks rows presents line c.self.invariant is_line p (omega (arith, h, same)))
 
@@ -70,23 +70,23 @@ pub invariant_of-self : goal.invariant_of-self
 invariant_of-self c =
     let history : List Process = c.self.inside.ledger.processes in
     let marks : MarksView = c.self.inside.marks in
-    let rows : List (List Row) = c.self.inside.rows.rows in
+    let rows : List (List VectorRow) = c.self.inside.rows.rows in
     let presents : List (List ℕ) = c.self.inside.rows.presents in
     let line : List Choice = c.args.line.now in
     let seen : history ≡ c.args.self.now.processes = ap (λ (v : CatalogueView). v.processes) c.self.view_is in
     let is_line : IsLine history line = subst (λ (xs : List Process). IsLine xs line) (sym seen) c.requires.line in
-    let left : c.restart.new.self.processes ≡ restarted history line = c.restart.ensures.processes in
-    let read : c.history.result.now.processes ≡ restarted history line = ap (λ (v : HistoryView). v.processes) c.history.ensures ∙ left in
+    let left : c.restart.new.self.processes ≡ restarted_history history line = c.restart.ensures.processes in
+    let read : c.history.result.now.processes ≡ restarted_history history line = ap (λ (v : HistoryView). v.processes) c.history.ensures ∙ left in
     let same : length c.history.result.now.processes ≡ length history = ap (λ (xs : List Process). length xs) read ∙ length-restarted history line is_line in
     let consistent : IsConsistent history line = subst (λ (xs : List Process). IsConsistent xs line) (sym seen) c.requires.consistent in
-    let new : List (List Row) = c.restart-3.new.self.rows in
+    let new : List (List VectorRow) = c.restart-3.new.self.rows in
     let news : List (List ℕ) = c.restart-3.new.self.presents in
-    let placed : (p : ℕ) → p < length history → WithPlaces (tape_at (restarted history line) p) (rows_kept (choice_at line p) (rows_at rows p)) (rows_at new p) =
+    let placed : (p : ℕ) → p < length history → WithPlaces (tape_at (restarted_history history line) p) (rows_kept (choice_at line p) (rows_at rows p)) (rows_at new p) =
     λ p h. subst (λ (xs : List Process). WithPlaces (tape_at xs p) (rows_kept (choice_at line p) (rows_at rows p)) (rows_at new p)) read (c.restart-3.ensures.rows p (omega (arith, h, same)))
     in
     let kept : (p : ℕ) → p < length history → present_at news p ≡ vector_at (rows_at rows p) (present_at presents p) (choice_at line p) =
     λ p h. c.restart-3.ensures.presents p (omega (arith, h, same))
     in
     subst (λ (xs : List Process). IsCatalogue xs c.restart-2.new.self new news) (sym left)
-    (subst (λ (m : MarksView). IsCatalogue (restarted history line) m new news) (sym c.restart-2.ensures)
+    (subst (λ (m : MarksView). IsCatalogue (restarted_history history line) m new news) (sym c.restart-2.ensures)
     (IsCatalogue-restarted history marks rows presents line c.self.invariant is_line new news consistent (c.restart-3.ensures.count ∙ c.self.invariant.rows_count) (c.restart-3.ensures.presents_count ∙ c.self.invariant.rows_count) placed kept))

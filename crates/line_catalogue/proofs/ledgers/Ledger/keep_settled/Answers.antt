@@ -3,7 +3,7 @@ use Rattle.std.proofs.Common.{◌≡◌, List, sym, ap, subst}
 use Rattle.line_names.specs.declared.choices.Choice.{Choice}
 use Rattle.line_tape.specs.History.{Process}
 use Rattle.line_tape.specs.Views.{HistoryView}
-use Rattle.line_catalogue.specs.Left.{AreSettled}
+use Rattle.line_catalogue.specs.Left.{AreSettledUpTo}
 use Rattle.line_catalogue.proofs.LeftLemmas.{AreLeft-settled}
 use Rattle.line_catalogue.proofs.ledgers.Ledger.keep_settled.Goals as goal
 
@@ -12,5 +12,5 @@ invariant_of-self c =
     let history : List Process = c.self.inside.history.processes in
     let line : List Choice = c.args.line.now in
     let seen : history ≡ c.args.self.now.processes = ap (λ (v : HistoryView). v.processes) c.self.view_is in
-    let settled : AreSettled history line c.args.settled.starts.items c.args.settled.left.items = subst (λ (h : List Process). AreSettled h line c.args.settled.starts.items c.args.settled.left.items) (sym seen) c.requires.settled in
+    let settled : AreSettledUpTo history line c.args.settled.starts.items c.args.settled.left.items = subst (λ (h : List Process). AreSettledUpTo h line c.args.settled.starts.items c.args.settled.left.items) (sym seen) c.requires.settled in
     AreLeft-settled history line c.args.settled.starts.items c.move_places.new.places.items c.args.settled.left.items settled c.move_places.ensures.count c.move_places.ensures.places

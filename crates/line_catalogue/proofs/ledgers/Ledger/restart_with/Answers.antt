@@ -3,7 +3,7 @@ use Rattle.std.proofs.Common.{◌≡◌, ℕ, List, length, sym, ap, ◌∙◌, 
 use Rattle.line_names.specs.declared.choices.Choice.{Choice}
 use Rattle.line_names.specs.declared.messages.MsgName.{MsgName}
 use Rattle.line_tape.specs.History.{Process, tape_at}
-use Rattle.line_tape.specs.Restart.{restarted}
+use Rattle.line_tape.specs.Restart.{restarted_history}
 use Rattle.line_tape.specs.Transit.{in_transit}
 use Rattle.line_tape.specs.Views.{HistoryView}
 use Rattle.line_catalogue.specs.Left.{AreLeft}
@@ -19,10 +19,10 @@ invariant_of-self c =
     let places : List ℕ = c.set_places.new.places.items in
     let seen : old ≡ c.args.self.now.processes = ap (λ (v : HistoryView). v.processes) c.self.view_is in
     let enough : length line ≡ length old = c.requires.line.length_is ∙ sym (ap (λ (h : List Process). length h) seen) in
-    let new : c.restart.new.self.processes ≡ restarted old line = c.restart.ensures.processes in
+    let new : c.restart.new.self.processes ≡ restarted_history old line = c.restart.ensures.processes in
     let told : c.args.left.items ≡ in_transit old line = c.requires.left ∙ ap (λ (h : List Process). in_transit h line) (sym seen) in
-    let are : AreLeft (restarted old line) starts places (in_transit old line) = AreLeft-restarted old line starts places enough c.move_starts.ensures.count (c.set_places.ensures.count ∙ ap (λ (h : List Process). length h) new) c.move_starts.ensures.starts (λ p. c.set_places.ensures.places p ∙ ap (λ (h : List Process). length (tape_at h p)) new) in
-    subst (λ (h : List Process). AreLeft h starts places c.args.left.items) (sym new) (subst (λ (left : List MsgName). AreLeft (restarted old line) starts places left) (sym told) are)
+    let are : AreLeft (restarted_history old line) starts places (in_transit old line) = AreLeft-restarted old line starts places enough c.move_starts.ensures.count (c.set_places.ensures.count ∙ ap (λ (h : List Process). length h) new) c.move_starts.ensures.starts (λ p. c.set_places.ensures.places p ∙ ap (λ (h : List Process). length (tape_at h p)) new) in
+    subst (λ (h : List Process). AreLeft h starts places c.args.left.items) (sym new) (subst (λ (left : List MsgName). AreLeft (restarted_history old line) starts places left) (sym told) are)
 
 pub events_to_wait-self-inside-requires : goal.events_to_wait-self-inside-requires
 events_to_wait-self-inside-requires c =

@@ -3,10 +3,10 @@ use Rattle.std.proofs.Common.{◌≡◌, ◌+◌, ◌<◌, length, map, get_or, 
 use Rattle.std.proofs.lemmas.List.{length-map}
 use Rattle.line_tape.specs.declared.events.Event.{Event}
 use Rattle.line_tape.specs.Event.{sends}
-use Rattle.line_catalogue.specs.declared.kept_rows.Row.{Row}
+use Rattle.line_catalogue.specs.declared.kept_rows.VectorRow.{VectorRow}
 use Rattle.line_catalogue.specs.Kept.{RowsView, TableView, rows_at, present_at}
-use Rattle.line_catalogue.specs.Plain.{plain, present_of, room_of}
-use Rattle.line_catalogue.specs.Rows.{heard_more, row_added, with_row}
+use Rattle.line_catalogue.specs.Plain.{check_rows_of, present_of, rows_room}
+use Rattle.line_catalogue.specs.Rows.{vector_after_event, row_added, with_row}
 use Rattle.line_catalogue.proofs.TableLemmas.{seen-old, seen-new, seen-written, seen-other}
 use Rattle.line_catalogue.proofs.tables.RowTable.append.Goals as goal
 
@@ -16,22 +16,22 @@ returns-clause-rows c =
     let p : ℕ = c.args.p in
     let k : ℕ = c.get.result in
     let at : k ≡ p = c.get.ensures.value in
-    let rows : map plain items ≡ c.args.self.now.rows = ap (λ (t : TableView). t.rows) c.self.view_is in
+    let rows : map check_rows_of items ≡ c.args.self.now.rows = ap (λ (t : TableView). t.rows) c.self.view_is in
     let presents : map present_of items ≡ c.args.self.now.presents = ap (λ (t : TableView). t.presents) c.self.view_is in
-    let rooms : map room_of items ≡ c.args.self.now.rooms = ap (λ (t : TableView). t.rooms) c.self.view_is in
-    let within : k < length items = omega (arith, c.requires.process, ap (λ (xs : List (List Row)). length xs) rows, length-map items plain) in
+    let rooms : map rows_room items ≡ c.args.self.now.rooms = ap (λ (t : TableView). t.rooms) c.self.view_is in
+    let within : k < length items = omega (arith, c.requires.process, ap (λ (xs : List (List VectorRow)). length xs) rows, length-map items check_rows_of) in
     let old : RowsView = c.index_mut.result.now in
     let new : RowsView = c.append_next.new.self in
     let is : old ≡ get_or items k old = c.index_mut.ensures.value in
     let event : Event = c.args.event.now in
-    let with : List (List Row) → List (List ℕ) → ℕ → List Row = λ xs ys j. with_row (rows_at xs j) (row_added (length c.args.tape.now.events + 1) (sends c.args.tape.now.events) (present_at ys j) event) in
-    let there : plain new ≡ with (map plain items) (map present_of items) k =
+    let with : List (List VectorRow) → List (List ℕ) → ℕ → List VectorRow = λ xs ys j. with_row (rows_at xs j) (row_added (length c.args.tape.now.events + 1) (sends c.args.tape.now.events) (present_at ys j) event) in
+    let there : check_rows_of new ≡ with (map check_rows_of items) (map present_of items) k =
     c.append_next.ensures.rows
-    ∙ ap (λ (xs : List Row). with_row xs (row_added (length c.args.tape.now.events + 1) (sends c.args.tape.now.events) old.present event)) (sym (seen-old plain [] items k old new within is))
-    ∙ ap (λ (ys : List ℕ). with_row (rows_at (map plain items) k) (row_added (length c.args.tape.now.events + 1) (sends c.args.tape.now.events) ys event)) (sym (seen-old present_of [] items k old new within is))
+    ∙ ap (λ (xs : List VectorRow). with_row xs (row_added (length c.args.tape.now.events + 1) (sends c.args.tape.now.events) old.present event)) (sym (seen-old check_rows_of [] items k old new within is))
+    ∙ ap (λ (ys : List ℕ). with_row (rows_at (map check_rows_of items) k) (row_added (length c.args.tape.now.events + 1) (sends c.args.tape.now.events) ys event)) (sym (seen-old present_of [] items k old new within is))
     in
-    seen-written plain [] items k old new within is ∙ ap (set (map plain items) k) there ∙ ap (λ j. set (map plain items) j (with (map plain items) (map present_of items) j)) at
-    ∙ ap (λ (xs : List (List Row)). set xs p (with xs (map present_of items) p)) rows ∙ ap (λ (ys : List (List ℕ)). set c.args.self.now.rows p (with c.args.self.now.rows ys p)) presents
+    seen-written check_rows_of [] items k old new within is ∙ ap (set (map check_rows_of items) k) there ∙ ap (λ j. set (map check_rows_of items) j (with (map check_rows_of items) (map present_of items) j)) at
+    ∙ ap (λ (xs : List (List VectorRow)). set xs p (with xs (map present_of items) p)) rows ∙ ap (λ (ys : List (List ℕ)). set c.args.self.now.rows p (with c.args.self.now.rows ys p)) presents
 
 pub returns-clause-presents : goal.returns-clause-presents
 returns-clause-presents c =
@@ -39,17 +39,17 @@ returns-clause-presents c =
     let p : ℕ = c.args.p in
     let k : ℕ = c.get.result in
     let at : k ≡ p = c.get.ensures.value in
-    let rows : map plain items ≡ c.args.self.now.rows = ap (λ (t : TableView). t.rows) c.self.view_is in
+    let rows : map check_rows_of items ≡ c.args.self.now.rows = ap (λ (t : TableView). t.rows) c.self.view_is in
     let presents : map present_of items ≡ c.args.self.now.presents = ap (λ (t : TableView). t.presents) c.self.view_is in
-    let rooms : map room_of items ≡ c.args.self.now.rooms = ap (λ (t : TableView). t.rooms) c.self.view_is in
-    let within : k < length items = omega (arith, c.requires.process, ap (λ (xs : List (List Row)). length xs) rows, length-map items plain) in
+    let rooms : map rows_room items ≡ c.args.self.now.rooms = ap (λ (t : TableView). t.rooms) c.self.view_is in
+    let within : k < length items = omega (arith, c.requires.process, ap (λ (xs : List (List VectorRow)). length xs) rows, length-map items check_rows_of) in
     let old : RowsView = c.index_mut.result.now in
     let new : RowsView = c.append_next.new.self in
     let is : old ≡ get_or items k old = c.index_mut.ensures.value in
     let event : Event = c.args.event.now in
-    let there : present_of new ≡ heard_more (present_at (map present_of items) k) event = c.append_next.ensures.present ∙ ap (λ (ys : List ℕ). heard_more ys event) (sym (seen-old present_of [] items k old new within is)) in
-    seen-written present_of [] items k old new within is ∙ ap (set (map present_of items) k) there ∙ ap (λ j. set (map present_of items) j (heard_more (present_at (map present_of items) j) event)) at
-    ∙ ap (λ (ys : List (List ℕ)). set ys p (heard_more (present_at ys p) event)) presents
+    let there : present_of new ≡ vector_after_event (present_at (map present_of items) k) event = c.append_next.ensures.present ∙ ap (λ (ys : List ℕ). vector_after_event ys event) (sym (seen-old present_of [] items k old new within is)) in
+    seen-written present_of [] items k old new within is ∙ ap (set (map present_of items) k) there ∙ ap (λ j. set (map present_of items) j (vector_after_event (present_at (map present_of items) j) event)) at
+    ∙ ap (λ (ys : List (List ℕ)). set ys p (vector_after_event (present_at ys p) event)) presents
 
 pub returns-clause-room : goal.returns-clause-room
 returns-clause-room c =
@@ -57,15 +57,15 @@ returns-clause-room c =
     let p : ℕ = c.args.p in
     let k : ℕ = c.get.result in
     let at : k ≡ p = c.get.ensures.value in
-    let rows : map plain items ≡ c.args.self.now.rows = ap (λ (t : TableView). t.rows) c.self.view_is in
+    let rows : map check_rows_of items ≡ c.args.self.now.rows = ap (λ (t : TableView). t.rows) c.self.view_is in
     let presents : map present_of items ≡ c.args.self.now.presents = ap (λ (t : TableView). t.presents) c.self.view_is in
-    let rooms : map room_of items ≡ c.args.self.now.rooms = ap (λ (t : TableView). t.rooms) c.self.view_is in
-    let within : k < length items = omega (arith, c.requires.process, ap (λ (xs : List (List Row)). length xs) rows, length-map items plain) in
+    let rooms : map rows_room items ≡ c.args.self.now.rooms = ap (λ (t : TableView). t.rooms) c.self.view_is in
+    let within : k < length items = omega (arith, c.requires.process, ap (λ (xs : List (List VectorRow)). length xs) rows, length-map items check_rows_of) in
     let old : RowsView = c.index_mut.result.now in
     let new : RowsView = c.append_next.new.self in
     let is : old ≡ get_or items k old = c.index_mut.ensures.value in
-    let here : get_or c.args.self.now.rooms p 0 ≡ old.room = ap (λ (xs : List ℕ). get_or xs p 0) (sym rooms) ∙ ap (λ j. get_or (map room_of items) j 0) (sym at) ∙ seen-old room_of 0 items k old new within is in
-    let there : get_or (map room_of (set items k new)) p 0 ≡ new.room = ap (λ j. get_or (map room_of (set items k new)) j 0) (sym at) ∙ seen-new room_of 0 items k old new within is in
+    let here : get_or c.args.self.now.rooms p 0 ≡ old.room = ap (λ (xs : List ℕ). get_or xs p 0) (sym rooms) ∙ ap (λ j. get_or (map rows_room items) j 0) (sym at) ∙ seen-old rows_room 0 items k old new within is in
+    let there : get_or (map rows_room (set items k new)) p 0 ≡ new.room = ap (λ j. get_or (map rows_room (set items k new)) j 0) (sym at) ∙ seen-new rows_room 0 items k old new within is in
     omega (arith, c.append_next.ensures.room, here, there)
 
 pub returns-clause-others : goal.returns-clause-others
@@ -74,11 +74,11 @@ returns-clause-others c =
     let p : ℕ = c.args.p in
     let k : ℕ = c.get.result in
     let at : k ≡ p = c.get.ensures.value in
-    let rows : map plain items ≡ c.args.self.now.rows = ap (λ (t : TableView). t.rows) c.self.view_is in
+    let rows : map check_rows_of items ≡ c.args.self.now.rows = ap (λ (t : TableView). t.rows) c.self.view_is in
     let presents : map present_of items ≡ c.args.self.now.presents = ap (λ (t : TableView). t.presents) c.self.view_is in
-    let rooms : map room_of items ≡ c.args.self.now.rooms = ap (λ (t : TableView). t.rooms) c.self.view_is in
-    let within : k < length items = omega (arith, c.requires.process, ap (λ (xs : List (List Row)). length xs) rows, length-map items plain) in
+    let rooms : map rows_room items ≡ c.args.self.now.rooms = ap (λ (t : TableView). t.rooms) c.self.view_is in
+    let within : k < length items = omega (arith, c.requires.process, ap (λ (xs : List (List VectorRow)). length xs) rows, length-map items check_rows_of) in
     let old : RowsView = c.index_mut.result.now in
     let new : RowsView = c.append_next.new.self in
     let is : old ≡ get_or items k old = c.index_mut.ensures.value in
-    λ q apart. seen-other room_of 0 items k old new within is q (λ e. apart (e ∙ at)) ∙ ap (λ (xs : List ℕ). get_or xs q 0) rooms
+    λ q apart. seen-other rows_room 0 items k old new within is q (λ e. apart (e ∙ at)) ∙ ap (λ (xs : List ℕ). get_or xs q 0) rooms

@@ -2,9 +2,9 @@
 use Rattle.std.proofs.Common.{◌≡◌, ◌<◌, ◌≤◌, length, map, get_or, set, [], List, ℕ, sym, ap, ◌∙◌, subst, arith}
 use Rattle.std.proofs.lemmas.List.{length-map}
 use Rattle.std.specs.Prelude.{OnOk}
-use Rattle.line_catalogue.specs.declared.kept_rows.Row.{Row}
+use Rattle.line_catalogue.specs.declared.kept_rows.VectorRow.{VectorRow}
 use Rattle.line_catalogue.specs.Kept.{RowsView, TableView}
-use Rattle.line_catalogue.specs.Plain.{plain, present_of, room_of}
+use Rattle.line_catalogue.specs.Plain.{check_rows_of, present_of, rows_room}
 use Rattle.line_catalogue.proofs.TableLemmas.{seen-old, seen-new, seen-other, seen-same}
 use Rattle.line_catalogue.proofs.tables.RowTable.reserve.Goals as goal
 
@@ -14,14 +14,14 @@ returns-clause-same c =
     let p : ℕ = c.args.p in
     let k : ℕ = c.get.result in
     let at : k ≡ p = c.get.ensures.value in
-    let rows : map plain items ≡ c.args.self.now.rows = ap (λ (t : TableView). t.rows) c.self.view_is in
+    let rows : map check_rows_of items ≡ c.args.self.now.rows = ap (λ (t : TableView). t.rows) c.self.view_is in
     let presents : map present_of items ≡ c.args.self.now.presents = ap (λ (t : TableView). t.presents) c.self.view_is in
-    let rooms : map room_of items ≡ c.args.self.now.rooms = ap (λ (t : TableView). t.rooms) c.self.view_is in
-    let within : k < length items = omega (arith, c.requires, ap (λ (xs : List (List Row)). length xs) rows, length-map items plain) in
+    let rooms : map rows_room items ≡ c.args.self.now.rooms = ap (λ (t : TableView). t.rooms) c.self.view_is in
+    let within : k < length items = omega (arith, c.requires, ap (λ (xs : List (List VectorRow)). length xs) rows, length-map items check_rows_of) in
     let old : RowsView = c.index_mut.result.now in
     let new : RowsView = c.reserve.new.self in
     let is : old ≡ get_or items k old = c.index_mut.ensures.value in
-    seen-same plain [] items k old new within is c.reserve.ensures.same.0 ∙ rows
+    seen-same check_rows_of [] items k old new within is c.reserve.ensures.same.0 ∙ rows
 
 pub returns-clause-presents : goal.returns-clause-presents
 returns-clause-presents c =
@@ -29,10 +29,10 @@ returns-clause-presents c =
     let p : ℕ = c.args.p in
     let k : ℕ = c.get.result in
     let at : k ≡ p = c.get.ensures.value in
-    let rows : map plain items ≡ c.args.self.now.rows = ap (λ (t : TableView). t.rows) c.self.view_is in
+    let rows : map check_rows_of items ≡ c.args.self.now.rows = ap (λ (t : TableView). t.rows) c.self.view_is in
     let presents : map present_of items ≡ c.args.self.now.presents = ap (λ (t : TableView). t.presents) c.self.view_is in
-    let rooms : map room_of items ≡ c.args.self.now.rooms = ap (λ (t : TableView). t.rooms) c.self.view_is in
-    let within : k < length items = omega (arith, c.requires, ap (λ (xs : List (List Row)). length xs) rows, length-map items plain) in
+    let rooms : map rows_room items ≡ c.args.self.now.rooms = ap (λ (t : TableView). t.rooms) c.self.view_is in
+    let within : k < length items = omega (arith, c.requires, ap (λ (xs : List (List VectorRow)). length xs) rows, length-map items check_rows_of) in
     let old : RowsView = c.index_mut.result.now in
     let new : RowsView = c.reserve.new.self in
     let is : old ≡ get_or items k old = c.index_mut.ensures.value in
@@ -44,14 +44,14 @@ returns-clause-ok c =
     let p : ℕ = c.args.p in
     let k : ℕ = c.get.result in
     let at : k ≡ p = c.get.ensures.value in
-    let rows : map plain items ≡ c.args.self.now.rows = ap (λ (t : TableView). t.rows) c.self.view_is in
+    let rows : map check_rows_of items ≡ c.args.self.now.rows = ap (λ (t : TableView). t.rows) c.self.view_is in
     let presents : map present_of items ≡ c.args.self.now.presents = ap (λ (t : TableView). t.presents) c.self.view_is in
-    let rooms : map room_of items ≡ c.args.self.now.rooms = ap (λ (t : TableView). t.rooms) c.self.view_is in
-    let within : k < length items = omega (arith, c.requires, ap (λ (xs : List (List Row)). length xs) rows, length-map items plain) in
+    let rooms : map rows_room items ≡ c.args.self.now.rooms = ap (λ (t : TableView). t.rooms) c.self.view_is in
+    let within : k < length items = omega (arith, c.requires, ap (λ (xs : List (List VectorRow)). length xs) rows, length-map items check_rows_of) in
     let old : RowsView = c.index_mut.result.now in
     let new : RowsView = c.reserve.new.self in
     let is : old ≡ get_or items k old = c.index_mut.ensures.value in
-    let there : get_or (map room_of (set items k new)) p 0 ≡ new.room = ap (λ j. get_or (map room_of (set items k new)) j 0) (sym at) ∙ seen-new room_of 0 items k old new within is in
+    let there : get_or (map rows_room (set items k new)) p 0 ≡ new.room = ap (λ j. get_or (map rows_room (set items k new)) j 0) (sym at) ∙ seen-new rows_room 0 items k old new within is in
     subst (λ (n : ℕ). OnOk c.reserve.result (c.args.k ≤ n)) (sym there) c.reserve.ensures.ok
 
 pub returns-clause-room : goal.returns-clause-room
@@ -60,15 +60,15 @@ returns-clause-room c =
     let p : ℕ = c.args.p in
     let k : ℕ = c.get.result in
     let at : k ≡ p = c.get.ensures.value in
-    let rows : map plain items ≡ c.args.self.now.rows = ap (λ (t : TableView). t.rows) c.self.view_is in
+    let rows : map check_rows_of items ≡ c.args.self.now.rows = ap (λ (t : TableView). t.rows) c.self.view_is in
     let presents : map present_of items ≡ c.args.self.now.presents = ap (λ (t : TableView). t.presents) c.self.view_is in
-    let rooms : map room_of items ≡ c.args.self.now.rooms = ap (λ (t : TableView). t.rooms) c.self.view_is in
-    let within : k < length items = omega (arith, c.requires, ap (λ (xs : List (List Row)). length xs) rows, length-map items plain) in
+    let rooms : map rows_room items ≡ c.args.self.now.rooms = ap (λ (t : TableView). t.rooms) c.self.view_is in
+    let within : k < length items = omega (arith, c.requires, ap (λ (xs : List (List VectorRow)). length xs) rows, length-map items check_rows_of) in
     let old : RowsView = c.index_mut.result.now in
     let new : RowsView = c.reserve.new.self in
     let is : old ≡ get_or items k old = c.index_mut.ensures.value in
-    let here : get_or c.args.self.now.rooms p 0 ≡ old.room = ap (λ (xs : List ℕ). get_or xs p 0) (sym rooms) ∙ ap (λ j. get_or (map room_of items) j 0) (sym at) ∙ seen-old room_of 0 items k old new within is in
-    let there : get_or (map room_of (set items k new)) p 0 ≡ new.room = ap (λ j. get_or (map room_of (set items k new)) j 0) (sym at) ∙ seen-new room_of 0 items k old new within is in
+    let here : get_or c.args.self.now.rooms p 0 ≡ old.room = ap (λ (xs : List ℕ). get_or xs p 0) (sym rooms) ∙ ap (λ j. get_or (map rows_room items) j 0) (sym at) ∙ seen-old rows_room 0 items k old new within is in
+    let there : get_or (map rows_room (set items k new)) p 0 ≡ new.room = ap (λ j. get_or (map rows_room (set items k new)) j 0) (sym at) ∙ seen-new rows_room 0 items k old new within is in
     omega (arith, c.reserve.ensures.room, here, there)
 
 pub returns-clause-others : goal.returns-clause-others
@@ -77,11 +77,11 @@ returns-clause-others c =
     let p : ℕ = c.args.p in
     let k : ℕ = c.get.result in
     let at : k ≡ p = c.get.ensures.value in
-    let rows : map plain items ≡ c.args.self.now.rows = ap (λ (t : TableView). t.rows) c.self.view_is in
+    let rows : map check_rows_of items ≡ c.args.self.now.rows = ap (λ (t : TableView). t.rows) c.self.view_is in
     let presents : map present_of items ≡ c.args.self.now.presents = ap (λ (t : TableView). t.presents) c.self.view_is in
-    let rooms : map room_of items ≡ c.args.self.now.rooms = ap (λ (t : TableView). t.rooms) c.self.view_is in
-    let within : k < length items = omega (arith, c.requires, ap (λ (xs : List (List Row)). length xs) rows, length-map items plain) in
+    let rooms : map rows_room items ≡ c.args.self.now.rooms = ap (λ (t : TableView). t.rooms) c.self.view_is in
+    let within : k < length items = omega (arith, c.requires, ap (λ (xs : List (List VectorRow)). length xs) rows, length-map items check_rows_of) in
     let old : RowsView = c.index_mut.result.now in
     let new : RowsView = c.reserve.new.self in
     let is : old ≡ get_or items k old = c.index_mut.ensures.value in
-    λ q apart. seen-other room_of 0 items k old new within is q (λ e. apart (e ∙ at)) ∙ ap (λ (xs : List ℕ). get_or xs q 0) rooms
+    λ q apart. seen-other rows_room 0 items k old new within is q (λ e. apart (e ∙ at)) ∙ ap (λ (xs : List ℕ). get_or xs q 0) rooms

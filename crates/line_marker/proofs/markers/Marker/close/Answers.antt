@@ -3,8 +3,8 @@ use Rattle.std.proofs.Common.{◌≡◌, ℕ, ◌<◌, [], List, length, map, ge
 use Rattle.std.proofs.lemmas.List.{length-map, get_or-map, get_or_default}
 use Rattle.line_names.specs.declared.messages.MsgName.{MsgName}
 use Rattle.line_marker.specs.declared.spans.Span.{Span}
-use Rattle.line_marker.specs.Recording.{MarkerView, Recorded, with_marker}
-use Rattle.line_marker.specs.Spans.{LogView, RoundView, names_of, recorded_of, closed, AreWithin, AreKept, AreOver}
+use Rattle.line_marker.specs.Recording.{MarkerView, RecordedRound, with_marker}
+use Rattle.line_marker.specs.Spans.{SenderLogView, RoundView, names_of, recorded_of, closed_span, AreWithin, AreRoundsKept, AreOver}
 use Rattle.line_marker.proofs.SpanLemmas.{AreWithin-length}
 use Rattle.line_marker.proofs.KeptLemmas.{within-at, AreKept-close, rounds-close}
 use Rattle.line_marker.proofs.PassedLemmas.{ArePassed-close, AreOver-set}
@@ -19,8 +19,8 @@ index-requires c =
     let at : p ≡ c.args.from = c.get-p.ensures.value in
     let n : length c.self.inside.logs ≡ c.args.self.now.n = ap (λ (m : MarkerView). m.n) c.self.view_is in
     let seen : map (recorded_of logs) rounds ≡ c.args.self.now.rounds = ap (λ (m : MarkerView). m.rounds) c.self.view_is in
-    let within : c.args.i < length rounds = omega (arith, c.requires.round, ap (λ (rs : List Recorded). length rs) seen, length-map rounds (recorded_of logs)) in
-    let below : p < length logs = omega (arith, c.requires.process, length-map c.self.inside.logs (λ (log : LogView). log.names)) in
+    let within : c.args.i < length rounds = omega (arith, c.requires.round, ap (λ (rs : List RecordedRound). length rs) seen, length-map rounds (recorded_of logs)) in
+    let below : p < length logs = omega (arith, c.requires.process, length-map c.self.inside.logs (λ (log : SenderLogView). log.names)) in
     let spans : c.round.inside.spans.items ≡ old.spans = ap (λ (r : RoundView). r.spans) c.round.view_is in
     let before : AreWithin logs old.spans = subst (λ (r : RoundView). AreWithin logs r.spans) (sym c.index_mut-round.ensures.value) (within-at logs rounds c.args.i old c.self.invariant.1.within within) in
     omega (arith, AreWithin-length logs old.spans before, ap (λ (ss : List Span). length ss) spans, c.round.inside.spans.ok.0)
@@ -34,8 +34,8 @@ index_mut-requires c =
     let at : p ≡ c.args.from = c.get-p.ensures.value in
     let n : length c.self.inside.logs ≡ c.args.self.now.n = ap (λ (m : MarkerView). m.n) c.self.view_is in
     let seen : map (recorded_of logs) rounds ≡ c.args.self.now.rounds = ap (λ (m : MarkerView). m.rounds) c.self.view_is in
-    let within : c.args.i < length rounds = omega (arith, c.requires.round, ap (λ (rs : List Recorded). length rs) seen, length-map rounds (recorded_of logs)) in
-    let below : p < length logs = omega (arith, c.requires.process, length-map c.self.inside.logs (λ (log : LogView). log.names)) in
+    let within : c.args.i < length rounds = omega (arith, c.requires.round, ap (λ (rs : List RecordedRound). length rs) seen, length-map rounds (recorded_of logs)) in
+    let below : p < length logs = omega (arith, c.requires.process, length-map c.self.inside.logs (λ (log : SenderLogView). log.names)) in
     let spans : c.round.inside.spans.items ≡ old.spans = ap (λ (r : RoundView). r.spans) c.round.view_is in
     let before : AreWithin logs old.spans = subst (λ (r : RoundView). AreWithin logs r.spans) (sym c.index_mut-round.ensures.value) (within-at logs rounds c.args.i old c.self.invariant.1.within within) in
     omega (arith, AreWithin-length logs old.spans before, ap (λ (ss : List Span). length ss) spans, c.round.inside.spans.ok.0)
@@ -49,8 +49,8 @@ invariant_of-self c =
     let at : p ≡ c.args.from = c.get-p.ensures.value in
     let n : length c.self.inside.logs ≡ c.args.self.now.n = ap (λ (m : MarkerView). m.n) c.self.view_is in
     let seen : map (recorded_of logs) rounds ≡ c.args.self.now.rounds = ap (λ (m : MarkerView). m.rounds) c.self.view_is in
-    let within : c.args.i < length rounds = omega (arith, c.requires.round, ap (λ (rs : List Recorded). length rs) seen, length-map rounds (recorded_of logs)) in
-    let below : p < length logs = omega (arith, c.requires.process, length-map c.self.inside.logs (λ (log : LogView). log.names)) in
+    let within : c.args.i < length rounds = omega (arith, c.requires.round, ap (λ (rs : List RecordedRound). length rs) seen, length-map rounds (recorded_of logs)) in
+    let below : p < length logs = omega (arith, c.requires.process, length-map c.self.inside.logs (λ (log : SenderLogView). log.names)) in
     let spans : c.round.inside.spans.items ≡ old.spans = ap (λ (r : RoundView). r.spans) c.round.view_is in
     let span : Span = c.index.result.now in
     let end : ℕ = length c.names-end.result.now in
@@ -58,7 +58,7 @@ invariant_of-self c =
     let here : span ≡ get_or old.spans p span = subst (λ (ss : List Span). span ≡ get_or ss p span) spans c.index.ensures in
     let len : end ≡ length (get_or logs p []) = ap (λ (names : List MsgName). length names) c.names-end.ensures ∙ ap (λ (k : ℕ). length (get_or logs k [])) (sym at) in
     let number : new.number ≡ old.number = ap (λ (r : RoundView). r.number) c.round.view_is in
-    let written : new.spans ≡ set old.spans p (closed end span) = ap (λ (ss : List Span). set ss p c.closed.result) spans ∙ ap (λ (s : Span). set old.spans p s) c.closed.ensures in
+    let written : new.spans ≡ set old.spans p (closed_span end span) = ap (λ (ss : List Span). set ss p c.closed.result) spans ∙ ap (λ (s : Span). set old.spans p s) c.closed.ensures in
     let passed : List ℕ = c.self.inside.passed.items in
     let n' : ℕ = length c.self.inside.logs in
     let held : c.deref.result.now ≡ set rounds c.args.i new = c.deref.ensures.value in
@@ -74,8 +74,8 @@ returns-clause-rounds c = λ k named.
     let at : p ≡ c.args.from = c.get-p.ensures.value in
     let n : length c.self.inside.logs ≡ c.args.self.now.n = ap (λ (m : MarkerView). m.n) c.self.view_is in
     let seen : map (recorded_of logs) rounds ≡ c.args.self.now.rounds = ap (λ (m : MarkerView). m.rounds) c.self.view_is in
-    let within : c.args.i < length rounds = omega (arith, c.requires.round, ap (λ (rs : List Recorded). length rs) seen, length-map rounds (recorded_of logs)) in
-    let below : p < length logs = omega (arith, c.requires.process, length-map c.self.inside.logs (λ (log : LogView). log.names)) in
+    let within : c.args.i < length rounds = omega (arith, c.requires.round, ap (λ (rs : List RecordedRound). length rs) seen, length-map rounds (recorded_of logs)) in
+    let below : p < length logs = omega (arith, c.requires.process, length-map c.self.inside.logs (λ (log : SenderLogView). log.names)) in
     let spans : c.round.inside.spans.items ≡ old.spans = ap (λ (r : RoundView). r.spans) c.round.view_is in
     let span : Span = c.index.result.now in
     let end : ℕ = length c.names-end.result.now in
@@ -83,15 +83,15 @@ returns-clause-rounds c = λ k named.
     let here : span ≡ get_or old.spans p span = subst (λ (ss : List Span). span ≡ get_or ss p span) spans c.index.ensures in
     let len : end ≡ length (get_or logs p []) = ap (λ (names : List MsgName). length names) c.names-end.ensures ∙ ap (λ (k : ℕ). length (get_or logs k [])) (sym at) in
     let number : new.number ≡ old.number = ap (λ (r : RoundView). r.number) c.round.view_is in
-    let written : new.spans ≡ set old.spans p (closed end span) = ap (λ (ss : List Span). set ss p c.closed.result) spans ∙ ap (λ (s : Span). set old.spans p s) c.closed.ensures in
+    let written : new.spans ≡ set old.spans p (closed_span end span) = ap (λ (ss : List Span). set ss p c.closed.result) spans ∙ ap (λ (s : Span). set old.spans p s) c.closed.ensures in
     let is : old.number ≡ k =
     ap (λ (r : RoundView). r.number) c.index_mut-round.ensures.value
-    ∙ ap (λ (r : Recorded). r.number) (sym (get_or-map (recorded_of logs) rounds c.args.i old (recorded_of logs old) within))
-    ∙ ap (λ (rs : List Recorded). (get_or rs c.args.i (recorded_of logs old)).number) seen
+    ∙ ap (λ (r : RecordedRound). r.number) (sym (get_or-map (recorded_of logs) rounds c.args.i old (recorded_of logs old) within))
+    ∙ ap (λ (rs : List RecordedRound). (get_or rs c.args.i (recorded_of logs old)).number) seen
     ∙ named (recorded_of logs old) in
     rounds-close logs c.self.inside.floor rounds c.args.i p end k old new span c.self.invariant.1 within below c.index_mut-round.ensures.value here len number written is
     ∙ ap (λ (q : ℕ). with_marker (map (recorded_of logs) rounds) q k) at
-    ∙ ap (λ (rs : List Recorded). with_marker rs c.args.from k) seen
+    ∙ ap (λ (rs : List RecordedRound). with_marker rs c.args.from k) seen
 
 pub further-over-requires-clause-over : goal.further-over-requires-clause-over
 further-over-requires-clause-over c =
@@ -102,8 +102,8 @@ further-over-requires-clause-over c =
     let at : p ≡ c.args.from = c.get-p.ensures.value in
     let n : length c.self.inside.logs ≡ c.args.self.now.n = ap (λ (m : MarkerView). m.n) c.self.view_is in
     let seen : map (recorded_of logs) rounds ≡ c.args.self.now.rounds = ap (λ (m : MarkerView). m.rounds) c.self.view_is in
-    let within : c.args.i < length rounds = omega (arith, c.requires.round, ap (λ (rs : List Recorded). length rs) seen, length-map rounds (recorded_of logs)) in
-    let below : p < length logs = omega (arith, c.requires.process, length-map c.self.inside.logs (λ (log : LogView). log.names)) in
+    let within : c.args.i < length rounds = omega (arith, c.requires.round, ap (λ (rs : List RecordedRound). length rs) seen, length-map rounds (recorded_of logs)) in
+    let below : p < length logs = omega (arith, c.requires.process, length-map c.self.inside.logs (λ (log : SenderLogView). log.names)) in
     let spans : c.round.inside.spans.items ≡ old.spans = ap (λ (r : RoundView). r.spans) c.round.view_is in
     let span : Span = c.index.result.now in
     let end : ℕ = length c.names-end.result.now in
@@ -111,7 +111,7 @@ further-over-requires-clause-over c =
     let here : span ≡ get_or old.spans p span = subst (λ (ss : List Span). span ≡ get_or ss p span) spans c.index.ensures in
     let len : end ≡ length (get_or logs p []) = ap (λ (names : List MsgName). length names) c.names-end.ensures ∙ ap (λ (k : ℕ). length (get_or logs k [])) (sym at) in
     let number : new.number ≡ old.number = ap (λ (r : RoundView). r.number) c.round.view_is in
-    let written : new.spans ≡ set old.spans p (closed end span) = ap (λ (ss : List Span). set ss p c.closed.result) spans ∙ ap (λ (s : Span). set old.spans p s) c.closed.ensures in
+    let written : new.spans ≡ set old.spans p (closed_span end span) = ap (λ (ss : List Span). set ss p c.closed.result) spans ∙ ap (λ (s : Span). set old.spans p s) c.closed.ensures in
     let passed : List ℕ = c.self.inside.passed.items in
     let known : ℕ = c.index-known.result.now in
     let held : c.deref.result.now ≡ set rounds c.args.i new = c.deref.ensures.value in
@@ -130,8 +130,8 @@ further-over-requires-clause-spans c = λ j d h.
     let at : p ≡ c.args.from = c.get-p.ensures.value in
     let n : length c.self.inside.logs ≡ c.args.self.now.n = ap (λ (m : MarkerView). m.n) c.self.view_is in
     let seen : map (recorded_of logs) rounds ≡ c.args.self.now.rounds = ap (λ (m : MarkerView). m.rounds) c.self.view_is in
-    let within : c.args.i < length rounds = omega (arith, c.requires.round, ap (λ (rs : List Recorded). length rs) seen, length-map rounds (recorded_of logs)) in
-    let below : p < length logs = omega (arith, c.requires.process, length-map c.self.inside.logs (λ (log : LogView). log.names)) in
+    let within : c.args.i < length rounds = omega (arith, c.requires.round, ap (λ (rs : List RecordedRound). length rs) seen, length-map rounds (recorded_of logs)) in
+    let below : p < length logs = omega (arith, c.requires.process, length-map c.self.inside.logs (λ (log : SenderLogView). log.names)) in
     let spans : c.round.inside.spans.items ≡ old.spans = ap (λ (r : RoundView). r.spans) c.round.view_is in
     let span : Span = c.index.result.now in
     let end : ℕ = length c.names-end.result.now in
@@ -139,9 +139,9 @@ further-over-requires-clause-spans c = λ j d h.
     let here : span ≡ get_or old.spans p span = subst (λ (ss : List Span). span ≡ get_or ss p span) spans c.index.ensures in
     let len : end ≡ length (get_or logs p []) = ap (λ (names : List MsgName). length names) c.names-end.ensures ∙ ap (λ (k : ℕ). length (get_or logs k [])) (sym at) in
     let number : new.number ≡ old.number = ap (λ (r : RoundView). r.number) c.round.view_is in
-    let written : new.spans ≡ set old.spans p (closed end span) = ap (λ (ss : List Span). set ss p c.closed.result) spans ∙ ap (λ (s : Span). set old.spans p s) c.closed.ensures in
+    let written : new.spans ≡ set old.spans p (closed_span end span) = ap (λ (ss : List Span). set ss p c.closed.result) spans ∙ ap (λ (s : Span). set old.spans p s) c.closed.ensures in
     let held : c.deref.result.now ≡ set rounds c.args.i new = c.deref.ensures.value in
-    let kept : AreKept logs c.self.inside.floor (set rounds c.args.i new) = AreKept-close logs c.self.inside.floor rounds c.args.i p end old new span c.self.invariant.1 within below c.index_mut-round.ensures.value here len number written in
+    let kept : AreRoundsKept logs c.self.inside.floor (set rounds c.args.i new) = AreKept-close logs c.self.inside.floor rounds c.args.i p end old new span c.self.invariant.1 within below c.index_mut-round.ensures.value here len number written in
     let shown : j < length (set rounds c.args.i new) = subst (λ (rs : List RoundView). j < length rs) held h in
     let each : AreWithin logs (get_or (set rounds c.args.i new) j d).spans = within-at logs (set rounds c.args.i new) j d kept.within shown in
     let long : p < length (get_or (set rounds c.args.i new) j d).spans = omega (arith, AreWithin-length logs (get_or (set rounds c.args.i new) j d).spans each) in

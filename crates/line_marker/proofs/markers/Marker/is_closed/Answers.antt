@@ -5,8 +5,8 @@ use Rattle.std.proofs.lemmas.List.{length-map}
 use Rattle.line_names.specs.declared.messages.MsgName.{MsgName}
 use Rattle.line_marker.specs.declared.spans.Span.{Span}
 use Rattle.line_marker.specs.declared.spans.Span.TheVariants.{Open}
-use Rattle.line_marker.specs.Recording.{MarkerView, Recorded, Channel, channel_at}
-use Rattle.line_marker.specs.Spans.{LogView, RoundView, names_of, recorded_of, is_over, AreWithin}
+use Rattle.line_marker.specs.Recording.{MarkerView, RecordedRound, Channel, channel_at}
+use Rattle.line_marker.specs.Spans.{SenderLogView, RoundView, names_of, recorded_of, is_over, AreWithin}
 use Rattle.line_marker.proofs.SpanLemmas.{AreWithin-length}
 use Rattle.line_marker.proofs.KeptLemmas.{within-at, channel-at, is_over-closed}
 use Rattle.line_marker.proofs.markers.Marker.is_closed.Goals as goal
@@ -18,12 +18,12 @@ returns-in-Some c =
     let i : ℕ = c.in-Some.i in
     let old : RoundView = c.index-recorded.result.now in
     let n : length c.self.inside.logs ≡ c.args.self.now.n = ap (λ (m : MarkerView). m.n) c.self.view_is in
-    let count : length logs ≡ length c.self.inside.logs = length-map c.self.inside.logs (λ (log : LogView). log.names) in
+    let count : length logs ≡ length c.self.inside.logs = length-map c.self.inside.logs (λ (log : SenderLogView). log.names) in
     let seen : map (recorded_of logs) rounds ≡ c.args.self.now.rounds = ap (λ (m : MarkerView). m.rounds) c.self.view_is in
-    let within : i < length rounds = omega (arith, c.in-Some.ensures.0, ap (λ (rs : List Recorded). length rs) seen, length-map rounds (recorded_of logs)) in
+    let within : i < length rounds = omega (arith, c.in-Some.ensures.0, ap (λ (rs : List RecordedRound). length rs) seen, length-map rounds (recorded_of logs)) in
     let spans : c.recorded.inside.spans.items ≡ old.spans = ap (λ (r : RoundView). r.spans) c.recorded.view_is in
     let before : AreWithin logs old.spans = subst (λ (r : RoundView). AreWithin logs r.spans) (sym c.index-recorded.ensures) (within-at logs rounds i old c.self.invariant.1.within within) in
-    let d : Recorded = recorded_of logs old in
+    let d : RecordedRound = recorded_of logs old in
     let me : c.self.inside.me ≡ c.args.self.now.me = ap (λ (m : MarkerView). m.me) c.self.view_is in
     let slice : c.deref.result.now ≡ old.spans = c.deref.ensures.value ∙ spans in
     let long : length c.deref.result.now ≡ length logs = ap (λ (ss : List Span). length ss) slice ∙ AreWithin-length logs old.spans before in
@@ -31,8 +31,8 @@ returns-in-Some c =
     ap (λ (ss : List Span). is_over (get_or ss q s)) slice
     ∙ sym (is_over-closed (get_or logs q []) (get_or old.spans q s))
     ∙ ap (λ (ch : Channel). ch.is_closed) (sym (channel-at logs rounds i q old d s c.self.invariant.1.within within (omega arith) c.index-recorded.ensures))
-    ∙ ap (λ (rs : List Recorded). (channel_at (get_or rs i d) q).is_closed) seen in
-    let Over : Option Recorded → Type 0 = λ o. MatchOption o ⊥ (λ (round : Recorded). (q : ℕ) → q < c.args.self.now.n → q ≢ c.args.self.now.me → IsTrue (channel_at round q).is_closed) in (
+    ∙ ap (λ (rs : List RecordedRound). (channel_at (get_or rs i d) q).is_closed) seen in
+    let Over : Option RecordedRound → Type 0 = λ o. MatchOption o ⊥ (λ (round : RecordedRound). (q : ℕ) → q < c.args.self.now.n → q ≢ c.args.self.now.me → IsTrue (channel_at round q).is_closed) in (
       λ all. subst Over (sym (c.in-Some.ensures.1 d)) (λ q h other.
           subst IsTrue (over q (Open 0) h) (c.are_closed.ensures.0 all q (Open 0) (omega arith) (λ e. other (e ∙ me)))),
       λ all. c.are_closed.ensures.1 (λ q s h other.

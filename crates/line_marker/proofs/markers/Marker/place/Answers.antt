@@ -2,7 +2,7 @@
 use Rattle.std.proofs.Common.{◌≡◌, ℕ, ◌-◌, ◌<◌, List, length, map, get_or, Some, sym, ap, ◌∙◌, arith}
 use Rattle.std.proofs.lemmas.List.{length-map, get_or_default}
 use Rattle.line_names.specs.declared.messages.MsgName.{MsgName}
-use Rattle.line_marker.specs.Recording.{MarkerView, Recorded, round_of}
+use Rattle.line_marker.specs.Recording.{MarkerView, RecordedRound, round_of}
 use Rattle.line_marker.specs.Spans.{RoundView, names_of, recorded_of}
 use Rattle.line_marker.proofs.RoundLemmas.{round_of-at, round_of-none, newest-below}
 use Rattle.line_marker.proofs.markers.Marker.place.Goals as goal
@@ -16,10 +16,10 @@ returns-then-recorded-round c =
     let seen : map (recorded_of logs) rounds ≡ c.args.self.now.rounds = ap (λ (m : MarkerView). m.rounds) c.self.view_is in
     let within : i < length rounds = omega (arith, c.newest.invariant.0, c.newest-test.true) in
     let number : (get_or rounds i old).number ≡ c.args.round = ap (λ (r : RoundView). r.number) (sym (c.recorded.view_is ∙ c.index-recorded.ensures)) ∙ c.if-recorded-round.true in (
-      omega (arith, within, length-map rounds (recorded_of logs), ap (λ (rs : List Recorded). length rs) seen),
-      λ d. ap (λ (rs : List Recorded). round_of rs c.args.round) (sym seen)
+      omega (arith, within, length-map rounds (recorded_of logs), ap (λ (rs : List RecordedRound). length rs) seen),
+      λ d. ap (λ (rs : List RecordedRound). round_of rs c.args.round) (sym seen)
           ∙ round_of-at c.self.inside.floor logs rounds i c.args.round old d c.self.invariant.1.ascending within number
-          ∙ ap (λ (rs : List Recorded). Some (get_or rs i d)) seen,
+          ∙ ap (λ (rs : List RecordedRound). Some (get_or rs i d)) seen,
     )
 
 pub returns-then-recorded-round-2 : goal.returns-then-recorded-round-2

@@ -2,7 +2,7 @@
 use Rattle.std.proofs.Common.{sym, subst, ap, ◌∙◌}
 use Rattle.line_tape.specs.Rounds.{is_completed_fifo}
 use Rattle.line_moves.specs.declared.modes.Mode.TheVariants.{Fifo}
-use Rattle.line_moves.specs.Listed.{listed}
+use Rattle.line_moves.specs.Listed.{listed_round}
 use Rattle.line_moves.specs.Openings.{OpenView, IsRecording}
 use Rattle.line_moves.proofs.openings.OpenRound.completed.Goals as goal
 
@@ -13,4 +13,4 @@ pub of_markers-requires-clause-completed : goal.of_markers-requires-clause-compl
 of_markers-requires-clause-completed c = ap (is_completed_fifo c.args.history.now.processes) (ap (λ (v : OpenView). v.number) c.self.view_is) ∙ c.requires.completed
 
 pub returns : goal.returns
-returns c = c.of_markers.ensures ∙ ap (listed Fifo c.args.history.now.processes) (ap (λ (v : OpenView). v.number) c.self.view_is)
+returns c = c.of_markers.ensures ∙ ap (listed_round Fifo c.args.history.now.processes) (ap (λ (v : OpenView). v.number) c.self.view_is)

@@ -2,7 +2,7 @@
 use Rattle.std.proofs.Common.{◌≡◌, ℕ, true, false, List, Option, Some, length, get_or, set, sym, ap, ◌∙◌, subst}
 use Rattle.std.specs.Prelude.{IsTrue, MatchOption}
 use Rattle.std.proofs.lemmas.Bool.{both_ways, true_from_ne_false}
-use Rattle.line_marker.specs.Recording.{MarkerView, Recorded, channel_at, round_of, with_marker}
+use Rattle.line_marker.specs.Recording.{MarkerView, RecordedRound, channel_at, round_of, with_marker}
 use Rattle.line_tape.specs.declared.events.Event.TheVariants.{Mark}
 use Rattle.line_tape.specs.History.{Process, tape_at, with_event}
 use Rattle.line_tape.specs.Rounds.{has_check_of}
@@ -58,8 +58,8 @@ returns-else-close_channel-clause-recording c =
     let found : round_of old.rounds c.number-number.result ≡ Some round.round =
     ap (λ (m : MarkerView). round_of m.rounds c.number-number.result) own ∙ ap (λ (v : ℕ). round_of (marker_at markers p).rounds v) told ∙ recorded_there (length history) p r (tape_at history p) (marker_at markers p).rounds round in
     let closed : (channel_at round.round from).is_closed ≡ true = true_from_ne_false (channel_at round.round from).is_closed (λ unshut.
-    both_ways c.close_channel.result c.if-close_channel.false (c.close_channel.ensures.first.1 (subst (λ (o : Option Recorded). MatchOption o ⊥ (λ v. (channel_at v from).is_closed ≡ false)) (sym found) unshut))) in
+    both_ways c.close_channel.result c.if-close_channel.false (c.close_channel.ensures.first.1 (subst (λ (o : Option RecordedRound). MatchOption o ⊥ (λ v. (channel_at v from).is_closed ≡ false)) (sym found) unshut))) in
     subst (λ (v : ℕ). IsRecording (with_event history p (Mark from v)) after) number
     (IsRecording-repeated history p turning markers c.requires.p are is from c.requires.from c.requires.other begun c.get.result new c.get.ensures.value floor
     (rounds ∙ ap (λ (m : MarkerView). m.rounds) own)
-    (subst (λ (o : Option Recorded). MatchOption o ⊥ (λ v. IsTrue (channel_at v from).is_closed)) (sym (recorded_there (length history) p r (tape_at history p) (marker_at markers p).rounds round)) closed))
+    (subst (λ (o : Option RecordedRound). MatchOption o ⊥ (λ v. IsTrue (channel_at v from).is_closed)) (sym (recorded_there (length history) p r (tape_at history p) (marker_at markers p).rounds round)) closed))

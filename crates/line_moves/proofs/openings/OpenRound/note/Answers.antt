@@ -5,7 +5,7 @@ use Rattle.line_marker.specs.Recording.{MarkerView}
 use Rattle.line_tape.specs.History.{Process}
 use Rattle.line_turns.specs.Turning.{TurningView}
 use Rattle.line_moves.specs.Openings.{OpenView, marker_at, AreMarkers, IsRecording}
-use Rattle.line_marker.specs.Recording.{noted}
+use Rattle.line_marker.specs.Recording.{rounds_with_message}
 use Rattle.line_moves.proofs.OpenFacts.{IsRecording-noted, IsRecording-same, either_way, own_marker}
 use Rattle.line_moves.proofs.ToComeLemmas.{AreMarkers-set, AreToCome-noted, AreToCome-same}
 use Rattle.line_moves.proofs.openings.OpenRound.note.Goals as goal
@@ -24,7 +24,7 @@ returns-clause-ok c =
     let new : MarkerView = c.note.new.self in
     let own : old ≡ marker_at markers p = own_marker history p turning markers c.requires.p are is old (c.index_mut.ensures.value ∙ ap (λ (i : ℕ). get_or markers i old) c.get.ensures.value) in
     on_ok_weaker c.note.result (λ rounds. IsRecording-noted history p turning markers c.requires.p are is c.args.message.now c.get.result new c.requires.from c.requires.other c.get.ensures.value
-    (c.note.ensures.same.floor_is ∙ ap (λ (m : MarkerView). m.floor) own) (rounds ∙ ap (λ (m : MarkerView). noted m.rounds c.args.message.now) own)) c.note.ensures.ok
+    (c.note.ensures.same.floor_is ∙ ap (λ (m : MarkerView). m.floor) own) (rounds ∙ ap (λ (m : MarkerView). rounds_with_message m.rounds c.args.message.now) own)) c.note.ensures.ok
 
 pub returns-clause-err : goal.returns-clause-err
 returns-clause-err c =

@@ -2,7 +2,7 @@
 use Rattle.std.proofs.Common.{◌≡◌, ◌<◌, ℕ, List, length, sym, subst, ap, ◌∙◌, arith}
 use Rattle.line_marker.specs.Recording.{MarkerView}
 use Rattle.line_tape.specs.History.{Process}
-use Rattle.line_moves.specs.Listed.{Listed}
+use Rattle.line_moves.specs.Listed.{ListedRound}
 use Rattle.line_moves.specs.Openings.{kept_channel, recorded_channel, recorded_table, AreMarkers}
 use Rattle.line_moves.proofs.OpenFacts.{completed_is}
 use Rattle.line_moves.proofs.rounds.Round.of_markers.Goals as goal
@@ -18,10 +18,10 @@ returns c =
     let kept : List MarkerView = c.without_silence-markers.result.items in
     let r : ℕ = c.args.turning.number in
     let indices : List ℕ = c.args.turning.checks in
-    let told : (let it : Listed = record { number = c.number-number.result; checks = c.into_checks.result.items; channels = recorded_table (length c.into_checks.result.items) kept c.number-number.result } in it)
-    ≡ (let it : Listed = record { number = r; checks = indices; channels = recorded_table (length indices) kept r } in it) =
-    ap (λ (v : ℕ). let it : Listed = record { number = v; checks = c.into_checks.result.items; channels = recorded_table (length c.into_checks.result.items) kept v } in it) c.number-number.ensures
-    ∙ ap (λ (v : List ℕ). let it : Listed = record { number = r; checks = v; channels = recorded_table (length v) kept r } in it) c.into_checks.ensures in
+    let told : (let it : ListedRound = record { number = c.number-number.result; checks = c.into_checks.result.items; channels = recorded_table (length c.into_checks.result.items) kept c.number-number.result } in it)
+    ≡ (let it : ListedRound = record { number = r; checks = indices; channels = recorded_table (length indices) kept r } in it) =
+    ap (λ (v : ℕ). let it : ListedRound = record { number = v; checks = c.into_checks.result.items; channels = recorded_table (length c.into_checks.result.items) kept v } in it) c.number-number.ensures
+    ∙ ap (λ (v : List ℕ). let it : ListedRound = record { number = r; checks = v; channels = recorded_table (length v) kept r } in it) c.into_checks.ensures in
     let same : (p q : ℕ) → p < length history → q < length history → kept_channel kept r p q ≡ recorded_channel markers r p q = λ p q p_within q_within.
     subst (λ (v : ℕ). kept_channel kept v p q ≡ recorded_channel markers v p q) c.number-number.ensures
     (c.without_silence-markers.ensures.same p q (omega (arith, p_within, c.n-n.ensures.value)) (omega (arith, q_within, c.n-n.ensures.value))) in

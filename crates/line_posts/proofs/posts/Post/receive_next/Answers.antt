@@ -293,9 +293,9 @@ invariant_of-self-then-is_checked c =
     let kept = c.reserve.ensures.same in
     let marked = c.mark.ensures.same in
     let looked = c.look_at.ensures.ends in
-    let taken = c.take_marker.ensures.ends in
+    let taken = c.take_known_marker.ensures.ends in
     let p = c.get-p.ensures.value in
-    (seen_free _ (known_rows c.of-then-is_checked.result.value.items) (mark_keeps _ c.args.from c.in-Some.round _ _ _ _ h w o b (sym c.is_checked.ensures ∙ c.if-is_checked.true) (cc (pushed, same)) (cc (taken, looked, p))), inc, told, marked.n_is ∙ (kept.n_is ∙ n), marked.me_is ∙ (kept.me_is ∙ me_is), know_shown c.of-then-is_checked.result.value c.take_marker.new.ins c.of-then-is_checked.ensures)
+    (seen_free _ (known_rows c.of-then-is_checked.result.value.items) (mark_keeps _ c.args.from c.in-Some.round _ _ _ _ h w o b (sym c.is_checked.ensures ∙ c.if-is_checked.true) (cc (pushed, same)) (cc (taken, looked, p))), inc, told, marked.n_is ∙ (kept.n_is ∙ n), marked.me_is ∙ (kept.me_is ∙ me_is), know_shown c.of-then-is_checked.result.value c.take_known_marker.new.ins c.of-then-is_checked.ensures)
 
 pub invariant_of-self-2 : goal.invariant_of-self-2
 invariant_of-self-2 c =
@@ -309,12 +309,12 @@ invariant_of-self-2 c =
     let kept = c.reserve-2.ensures.same in
     let forced = c.force.ensures.same in
     let looked = c.look_at.ensures.ends in
-    let taken = c.take_marker-2.ensures.ends in
+    let taken = c.take_known_marker-2.ensures.ends in
     let p = c.get-p.ensures.value in
     let put = c.push_markers.ensures in
     let ends = c.has_room.ensures.ends in
     let me = c.get.ensures.value in
-    (seen_free _ (known_rows c.of-2.result.value.items) (force_keeps _ c.args.from c.in-Some.round c.args.state _ _ _ _ _ h w o b (sym c.is_checked.ensures ∙ c.if-is_checked.false) (cc (pushed, same)) (cc (put, ends, me)) (cc (taken, looked, p))), inc, told, forced.n_is ∙ (kept.n_is ∙ n), forced.me_is ∙ (kept.me_is ∙ me_is), know_shown c.of-2.result.value c.take_marker-2.new.ins c.of-2.ensures)
+    (seen_free _ (known_rows c.of-2.result.value.items) (force_keeps _ c.args.from c.in-Some.round c.args.state _ _ _ _ _ h w o b (sym c.is_checked.ensures ∙ c.if-is_checked.false) (cc (pushed, same)) (cc (put, ends, me)) (cc (taken, looked, p))), inc, told, forced.n_is ∙ (kept.n_is ∙ n), forced.me_is ∙ (kept.me_is ∙ me_is), know_shown c.of-2.result.value c.take_known_marker-2.new.ins c.of-2.ensures)
 
 pub returns-in_default-clause-seen : goal.returns-in_default-clause-seen
 returns-in_default-clause-seen c =
@@ -342,9 +342,9 @@ returns-then-is_checked-clause-seen c =
     let count = h.in_count in
     let long = length-map I.ins.items consumer_end in
     let p = c.get-p.ensures.value in
-    let t = c.take_marker.ensures in
-    sees_via _ c.args.self.now (in_ends c.take_marker.new.ins.items) (known_rows c.of-then-is_checked.result.value.items) c.self.view_is
-    (sees_popped c.of-then-is_checked.result.value c.take_marker.new.ins c.of-then-is_checked.ensures rows I.ins.items V.items c.get-p.result (Marker c.in-Some.round) know (omega (arith, w, count, long, p)) l.seen l.others t.first t.others t.ends l.ends)
+    let t = c.take_known_marker.ensures in
+    sees_via _ c.args.self.now (in_ends c.take_known_marker.new.ins.items) (known_rows c.of-then-is_checked.result.value.items) c.self.view_is
+    (sees_popped c.of-then-is_checked.result.value c.take_known_marker.new.ins c.of-then-is_checked.ensures rows I.ins.items V.items c.get-p.result (Marker c.in-Some.round) know (omega (arith, w, count, long, p)) l.seen l.others t.first t.others t.ends l.ends)
 
 pub returns-clause-seen : goal.returns-clause-seen
 returns-clause-seen c =
@@ -357,6 +357,6 @@ returns-clause-seen c =
     let count = h.in_count in
     let long = length-map I.ins.items consumer_end in
     let p = c.get-p.ensures.value in
-    let t = c.take_marker-2.ensures in
-    sees_via _ c.args.self.now (in_ends c.take_marker-2.new.ins.items) (known_rows c.of-2.result.value.items) c.self.view_is
-    (sees_popped c.of-2.result.value c.take_marker-2.new.ins c.of-2.ensures rows I.ins.items V.items c.get-p.result (Marker c.in-Some.round) know (omega (arith, w, count, long, p)) l.seen l.others t.first t.others t.ends l.ends)
+    let t = c.take_known_marker-2.ensures in
+    sees_via _ c.args.self.now (in_ends c.take_known_marker-2.new.ins.items) (known_rows c.of-2.result.value.items) c.self.view_is
+    (sees_popped c.of-2.result.value c.take_known_marker-2.new.ins c.of-2.ensures rows I.ins.items V.items c.get-p.result (Marker c.in-Some.round) know (omega (arith, w, count, long, p)) l.seen l.others t.first t.others t.ends l.ends)

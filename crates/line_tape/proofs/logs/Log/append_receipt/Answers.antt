@@ -2,7 +2,7 @@
 use Rattle.std.proofs.Common.{◌≡◌, ℕ, List, [], ◌∷◌, ◌++◌, map, sym, ap}
 use Rattle.line_tape.specs.declared.events.Event.TheVariants.{Recv}
 use Rattle.line_tape.specs.declared.logs.KeptEvent.{KeptEvent}
-use Rattle.line_tape.specs.Laid.{event_of}
+use Rattle.line_tape.specs.Laid.{event_from_kept}
 use Rattle.line_tape.specs.Views.{LogView}
 use Rattle.line_tape.proofs.LaidLemmas.{IsLog, recv-added}
 use Rattle.line_tape.proofs.logs.Log.append_receipt.Goals as goal
@@ -12,7 +12,7 @@ whole c =
     let events : List KeptEvent = c.self.inside.events.items in
     let bodies : List ℕ = c.self.inside.bodies.items in
     let states : List (List ℕ) = c.self.inside.states.items in
-    let seen : c.args.self.now.events ≡ map (event_of bodies states) events = sym (ap (λ (l : LogView). l.events) c.self.view_is) in
+    let seen : c.args.self.now.events ≡ map (event_from_kept bodies states) events = sym (ap (λ (l : LogView). l.events) c.self.view_is) in
     rw (c.push_reserved.ensures.items, seen) (recv-added events bodies states c.self.invariant c.args.message.now)
 
 pub invariant_of-self : goal.invariant_of-self

@@ -4,7 +4,7 @@ use Rattle.std.specs.List.{All, filter_map}
 use Rattle.line_tape.specs.declared.events.Event.{Event}
 use Rattle.line_tape.specs.declared.logs.KeptEvent.{KeptEvent}
 use Rattle.line_tape.specs.Kept.{IsSettled}
-use Rattle.line_tape.specs.Laid.{IsLaid, event_of}
+use Rattle.line_tape.specs.Laid.{IsLaid, event_from_kept}
 use Rattle.line_tape.specs.Restart.{restarted_event}
 use Rattle.line_tape.specs.Views.{LogView}
 use Rattle.line_tape.proofs.LaidLemmas.{events-restarted, laid-restarted, settled-kept}
@@ -20,6 +20,6 @@ invariant_of-self c =
 
 pub returns-clause-events : goal.returns-clause-events
 returns-clause-events c =
-    ap (λ (es : List KeptEvent). map (event_of c.self.inside.bodies.items c.self.inside.states.items) es) c.restart_events.ensures.items
+    ap (λ (es : List KeptEvent). map (event_from_kept c.self.inside.bodies.items c.self.inside.states.items) es) c.restart_events.ensures.items
     ∙ events-restarted c.self.inside.bodies.items c.self.inside.states.items c.self.inside.events.items
     ∙ ap (λ (l : LogView). filter_map restarted_event l.events) c.self.view_is

@@ -3,12 +3,12 @@ use Rattle.std.proofs.Common.{◌≡◌, ◌-◌, ℕ, List, length, map, take, 
 use Rattle.std.proofs.lemmas.List.{take-append-drop, take_rest}
 use Rattle.line_tape.specs.declared.events.Event.{Event}
 use Rattle.line_tape.specs.declared.logs.KeptEvent.{KeptEvent}
-use Rattle.line_tape.specs.Laid.{event_of, first_byte, first_state}
+use Rattle.line_tape.specs.Laid.{event_from_kept, first_byte, first_state}
 use Rattle.line_tape.specs.Views.{LogView}
 use Rattle.line_tape.proofs.LaidLemmas.{IsLog, events_of_first, more-gone}
 use Rattle.line_tape.proofs.logs.Log.truncate.Goals as goal
 
-left : (c : goal.After-truncate-3) → IsLog c.truncate-3.new.self.items c.truncate.new.self.items c.truncate-2.new.self.items (map (event_of c.self.inside.bodies.items c.self.inside.states.items) (take c.args.end c.self.inside.events.items))
+left : (c : goal.After-truncate-3) → IsLog c.truncate-3.new.self.items c.truncate.new.self.items c.truncate-2.new.self.items (map (event_from_kept c.self.inside.bodies.items c.self.inside.states.items) (take c.args.end c.self.inside.events.items))
 left c =
     let events : List KeptEvent = c.self.inside.events.items in
     let bodies : List ℕ = c.self.inside.bodies.items in
@@ -27,5 +27,5 @@ invariant_of-self c = (left c).laid
 
 pub returns-clause-events : goal.returns-clause-events
 returns-clause-events c =
-    let seen : map (event_of c.self.inside.bodies.items c.self.inside.states.items) c.self.inside.events.items ≡ c.args.self.now.events = ap (λ (l : LogView). l.events) c.self.view_is in
+    let seen : map (event_from_kept c.self.inside.bodies.items c.self.inside.states.items) c.self.inside.events.items ≡ c.args.self.now.events = ap (λ (l : LogView). l.events) c.self.view_is in
     (left c).shows ∙ events_of_first c.self.inside.bodies.items c.self.inside.states.items c.self.inside.events.items c.args.end ∙ ap (λ (es : List Event). take c.args.end es) seen

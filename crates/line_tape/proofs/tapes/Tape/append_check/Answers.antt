@@ -5,7 +5,7 @@ use Rattle.line_tape.specs.declared.events.Event.TheVariants.{Check}
 use Rattle.line_tape.specs.declared.limits.TheConstants.{MOST_EVENTS}
 use Rattle.line_tape.specs.declared.tapes.CheckRow.{CheckRow}
 use Rattle.line_tape.specs.History.{IsTape}
-use Rattle.line_tape.specs.Kept.{AreRows, AreSettled}
+use Rattle.line_tape.specs.Kept.{AreCheckRows, AreSettled}
 use Rattle.line_tape.specs.Transit.{names_received, received_name}
 use Rattle.line_tape.specs.Views.{TapeView}
 use Rattle.line_tape.proofs.IndexLemmas.{AreSettled-push, IsTape-push, counted-push, lower}
@@ -21,10 +21,10 @@ invariant_of-self c =
     let pushed : c.append_check.new.self.events ≡ items ++ event ∷ [] = c.append_check.ensures.events in
     let row : CheckRow = record { place = c.len.result + 1; sends = c.len-2.result; receipts = c.count.result } in
     let rows : c.push_reserved.new.self.items ≡ c.self.inside.checks.items ++ row ∷ [] = c.push_reserved.ensures.items in
-    let checked : AreRows (items ++ event ∷ []) c.push_reserved.new.self.items c.self.inside.incarnations.items c.self.inside.addressees.items = rw rows (AreRows-check items event c.self.inside.checks.items c.self.inside.incarnations.items c.self.inside.addressees.items row refl refl refl refl (ap (λ n. n + 1) c.len.ensures) (omega (arith, c.len-2.ensures, c.self.inside.incarnations.ok.0)) (c.count.ensures ∙ ap (λ xs. length xs) c.self.invariant.received) c.self.invariant.checked) in
+    let checked : AreCheckRows (items ++ event ∷ []) c.push_reserved.new.self.items c.self.inside.incarnations.items c.self.inside.addressees.items = rw rows (AreRows-check items event c.self.inside.checks.items c.self.inside.incarnations.items c.self.inside.addressees.items row refl refl refl refl (ap (λ n. n + 1) c.len.ensures) (omega (arith, c.len-2.ensures, c.self.inside.incarnations.ok.0)) (c.count.ensures ∙ ap (λ xs. length xs) c.self.invariant.received) c.self.invariant.checked) in
     record {
       tape = subst IsTape (sym pushed) (IsTape-push items event few c.requires.short c.self.invariant.tape);
-      checked = subst (λ (xs : List Event). AreRows xs c.push_reserved.new.self.items c.self.inside.incarnations.items c.self.inside.addressees.items) (sym pushed) (checked);
+      checked = subst (λ (xs : List Event). AreCheckRows xs c.push_reserved.new.self.items c.self.inside.incarnations.items c.self.inside.addressees.items) (sym pushed) (checked);
       received = c.self.invariant.received ∙ sym (told-none received_name items event refl) ∙ ap names_received (sym pushed);
       unchanged = subst (λ (xs : List Event). AreSettled xs c.self.inside.settled) (sym pushed) (AreSettled-push items event c.self.inside.settled c.self.invariant.unchanged);
       counted = lower _ _ _ c.count_behind_check-self-inside.ensures.less (counted-push _ _ _ _ _ _ _ _ _ c.self.invariant.counted c.append_check.ensures.room (omega arith) (omega arith) (omega arith));

@@ -5,7 +5,7 @@ use Rattle.line_tape.specs.declared.events.Event.TheVariants.{Recv}
 use Rattle.line_tape.specs.declared.limits.TheConstants.{MOST_EVENTS}
 use Rattle.line_names.specs.declared.messages.MsgName.{MsgName}
 use Rattle.line_tape.specs.History.{IsTape}
-use Rattle.line_tape.specs.Kept.{AreRows, AreSettled}
+use Rattle.line_tape.specs.Kept.{AreCheckRows, AreSettled}
 use Rattle.line_tape.specs.Transit.{names_received, received_name}
 use Rattle.line_tape.specs.Views.{TapeView}
 use Rattle.line_tape.proofs.IndexLemmas.{AreSettled-push, IsTape-push, counted-push, lower}
@@ -26,7 +26,7 @@ invariant_of-self c =
     let pushed : c.append_receipt.new.self.events ≡ items ++ event ∷ [] = c.append_receipt.ensures.events in
     record {
       tape = subst IsTape (sym pushed) (IsTape-push items event few tt c.self.invariant.tape);
-      checked = subst (λ (xs : List Event). AreRows xs c.self.inside.checks.items c.self.inside.incarnations.items c.self.inside.addressees.items) (sym pushed) (AreRows-other items event c.self.inside.checks.items c.self.inside.incarnations.items c.self.inside.addressees.items refl refl refl c.self.invariant.checked);
+      checked = subst (λ (xs : List Event). AreCheckRows xs c.self.inside.checks.items c.self.inside.incarnations.items c.self.inside.addressees.items) (sym pushed) (AreRows-other items event c.self.inside.checks.items c.self.inside.incarnations.items c.self.inside.addressees.items refl refl refl c.self.invariant.checked);
       received = c.note.ensures.names ∙ ap (λ (names : List MsgName). names ++ c.args.message.now ∷ []) c.self.invariant.received ∙ sym (told-some received_name items event c.args.message.now refl) ∙ ap names_received (sym pushed);
       unchanged = subst (λ (xs : List Event). AreSettled xs c.self.inside.settled) (sym pushed) (AreSettled-push items event c.self.inside.settled c.self.invariant.unchanged);
       counted = lower _ _ _ c.count_behind_receipt-self-inside.ensures.less (counted-push _ _ _ _ _ _ _ _ _ c.self.invariant.counted c.append_receipt.ensures.room c.note.ensures.room (omega arith) (omega arith));

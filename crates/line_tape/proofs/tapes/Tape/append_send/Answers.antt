@@ -4,7 +4,7 @@ use Rattle.line_tape.specs.declared.events.Event.{Event}
 use Rattle.line_tape.specs.declared.events.Event.TheVariants.{Send}
 use Rattle.line_tape.specs.declared.limits.TheConstants.{MOST_EVENTS}
 use Rattle.line_tape.specs.History.{IsTape}
-use Rattle.line_tape.specs.Kept.{AreRows, AreSettled}
+use Rattle.line_tape.specs.Kept.{AreCheckRows, AreSettled}
 use Rattle.line_tape.specs.Transit.{names_received, received_name}
 use Rattle.line_tape.specs.Views.{TapeView}
 use Rattle.line_tape.proofs.IndexLemmas.{AreSettled-push, IsTape-push, counted-push, lower, room_left}
@@ -20,10 +20,10 @@ invariant_of-self c =
     let pushed : c.append_send.new.self.events ≡ items ++ event ∷ [] = c.append_send.ensures.events in
     let sent : c.push_reserved.new.self.items ≡ c.self.inside.incarnations.items ++ c.args.inc ∷ [] = c.push_reserved.ensures.items in
     let named : c.push_reserved-2.new.self.items ≡ c.self.inside.addressees.items ++ c.args.to ∷ [] = c.push_reserved-2.ensures.items in
-    let checked : AreRows (items ++ event ∷ []) c.self.inside.checks.items c.push_reserved.new.self.items c.push_reserved-2.new.self.items = rw (sent, named) (AreRows-send items event c.self.inside.checks.items c.self.inside.incarnations.items c.self.inside.addressees.items c.args.inc c.args.to refl refl refl c.self.invariant.checked) in
+    let checked : AreCheckRows (items ++ event ∷ []) c.self.inside.checks.items c.push_reserved.new.self.items c.push_reserved-2.new.self.items = rw (sent, named) (AreRows-send items event c.self.inside.checks.items c.self.inside.incarnations.items c.self.inside.addressees.items c.args.inc c.args.to refl refl refl c.self.invariant.checked) in
     record {
       tape = subst IsTape (sym pushed) (IsTape-push items event few c.requires.short c.self.invariant.tape);
-      checked = subst (λ (xs : List Event). AreRows xs c.self.inside.checks.items c.push_reserved.new.self.items c.push_reserved-2.new.self.items) (sym pushed) (checked);
+      checked = subst (λ (xs : List Event). AreCheckRows xs c.self.inside.checks.items c.push_reserved.new.self.items c.push_reserved-2.new.self.items) (sym pushed) (checked);
       received = c.self.invariant.received ∙ sym (told-none received_name items event refl) ∙ ap names_received (sym pushed);
       unchanged = subst (λ (xs : List Event). AreSettled xs c.self.inside.settled) (sym pushed) (AreSettled-push items event c.self.inside.settled c.self.invariant.unchanged);
       counted = lower _ _ _ c.count_behind_send-self-inside.ensures.less (counted-push _ _ _ _ _ _ _ _ _ c.self.invariant.counted c.append_send.ensures.room (omega arith) (room_left _ _ _ _ (omega arith, omega (arith, c.push_reserved.ensures.len))) (room_left _ _ _ _ (omega arith, omega (arith, c.push_reserved-2.ensures.len))));

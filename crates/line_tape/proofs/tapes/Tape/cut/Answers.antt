@@ -5,7 +5,7 @@ use Rattle.line_tape.specs.declared.tapes.CheckRow.{CheckRow}
 use Rattle.line_tape.specs.Event.{checks, sends}
 use Rattle.line_tape.specs.Front.{front}
 use Rattle.line_tape.specs.History.{IsTape}
-use Rattle.line_tape.specs.Kept.{AreRows, AreSettled}
+use Rattle.line_tape.specs.Kept.{AreCheckRows, AreSettled}
 use Rattle.line_tape.specs.Transit.{names_received, received_name}
 use Rattle.line_tape.specs.Views.{TapeView}
 use Rattle.line_tape.proofs.CutLemmas.{IsTape-take}
@@ -27,12 +27,12 @@ invariant_of-self c =
     let sent : c.row-kept.result.sends ≡ sends kept = c.row-kept.ensures.sends ∙ ap (λ (xs : List Event). sends xs) fronts in
     let incs : c.truncate-3.new.self.items ≡ take (sends kept) c.self.inside.incarnations.items = c.truncate-3.ensures.items ∙ ap (λ k. take k c.self.inside.incarnations.items) sent in
     let tos : c.truncate-4.new.self.items ≡ take (sends kept) c.self.inside.addressees.items = c.truncate-4.ensures.items ∙ ap (λ k. take k c.self.inside.addressees.items) sent in
-    let checked : AreRows kept c.truncate-2.new.self.items c.truncate-3.new.self.items c.truncate-4.new.self.items =
-    subst (λ (xs : List CheckRow). AreRows kept xs c.truncate-3.new.self.items c.truncate-4.new.self.items) (sym rows) (subst (λ xs. AreRows kept (take (checks kept) c.self.inside.checks.items) xs c.truncate-4.new.self.items) (sym incs) (subst (λ xs. AreRows kept (take (checks kept) c.self.inside.checks.items) (take (sends kept) c.self.inside.incarnations.items) xs) (sym tos) (AreRows-take items c.self.inside.checks.items c.self.inside.incarnations.items c.self.inside.addressees.items n c.self.invariant.checked))) in
+    let checked : AreCheckRows kept c.truncate-2.new.self.items c.truncate-3.new.self.items c.truncate-4.new.self.items =
+    subst (λ (xs : List CheckRow). AreCheckRows kept xs c.truncate-3.new.self.items c.truncate-4.new.self.items) (sym rows) (subst (λ xs. AreCheckRows kept (take (checks kept) c.self.inside.checks.items) xs c.truncate-4.new.self.items) (sym incs) (subst (λ xs. AreCheckRows kept (take (checks kept) c.self.inside.checks.items) (take (sends kept) c.self.inside.incarnations.items) xs) (sym tos) (AreRows-take items c.self.inside.checks.items c.self.inside.incarnations.items c.self.inside.addressees.items n c.self.invariant.checked))) in
     let noted : c.cut.new.self.names ≡ names_received kept = c.cut.ensures.names ∙ ap (take c.row-kept.result.receipts) c.self.invariant.received ∙ ap (λ k. take k (names_received items)) (c.row-kept.ensures.receipts ∙ ap (λ (xs : List Event). length (names_received xs)) fronts) ∙ sym (told_front received_name items n) in
     record {
       tape = subst IsTape (sym cut) (IsTape-take items n c.self.invariant.tape);
-      checked = subst (λ (xs : List Event). AreRows xs c.truncate-2.new.self.items c.truncate-3.new.self.items c.truncate-4.new.self.items) (sym cut) checked;
+      checked = subst (λ (xs : List Event). AreCheckRows xs c.truncate-2.new.self.items c.truncate-3.new.self.items c.truncate-4.new.self.items) (sym cut) checked;
       received = noted ∙ ap names_received (sym cut);
       unchanged = subst (λ (xs : List Event). AreSettled xs c.min-self-inside.result) (sym cut) (subst (AreSettled kept) (sym c.min-self-inside.ensures) (AreSettled-take items c.self.inside.settled n few c.self.invariant.unchanged));
       counted = omega (arith, c.self.invariant.counted, c.cut.ensures.room, c.truncate.ensures.room);

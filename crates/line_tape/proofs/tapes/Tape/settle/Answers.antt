@@ -5,7 +5,7 @@ use Rattle.line_tape.specs.declared.events.Event.{Event}
 use Rattle.line_tape.specs.Event.{checks}
 use Rattle.line_tape.specs.Front.{check_place}
 use Rattle.line_tape.specs.History.{IsTape}
-use Rattle.line_tape.specs.Kept.{AreRows, AreSettled, WithPlaces}
+use Rattle.line_tape.specs.Kept.{AreCheckRows, AreSettled, HaveCheckPlaces}
 use Rattle.line_tape.specs.Restart.{restarted_event}
 use Rattle.line_tape.specs.Transit.{names_received}
 use Rattle.line_tape.proofs.CutLemmas.{IsTape-restarted, checks_left}
@@ -34,10 +34,10 @@ invariant_of-self c =
     let items : List Event = c.self.inside.log.events in
     let left : c.settle.new.self.events ≡ filter_map restarted_event items = c.settle.ensures.events in
     let many : c.len.result ≡ length c.settle.new.self.events = omega (arith, c.len.ensures) in
-    let placed : WithPlaces (filter_map restarted_event items) c.self.inside.checks.items c.place_checks.new.rows.items = subst (λ (xs : List Event). WithPlaces xs c.self.inside.checks.items c.place_checks.new.rows.items) (c.events.ensures ∙ left) c.place_checks.ensures.rows in
+    let placed : HaveCheckPlaces (filter_map restarted_event items) c.self.inside.checks.items c.place_checks.new.rows.items = subst (λ (xs : List Event). HaveCheckPlaces xs c.self.inside.checks.items c.place_checks.new.rows.items) (c.events.ensures ∙ left) c.place_checks.ensures.rows in
     record {
       tape = subst IsTape (sym left) (IsTape-restarted items c.self.invariant.tape);
-      checked = subst (λ (xs : List Event). AreRows xs c.place_checks.new.rows.items c.self.inside.incarnations.items c.self.inside.addressees.items) (sym left) (AreRows-restarted items c.self.inside.checks.items c.self.inside.incarnations.items c.self.inside.addressees.items c.self.invariant.checked c.place_checks.new.rows.items placed);
+      checked = subst (λ (xs : List Event). AreCheckRows xs c.place_checks.new.rows.items c.self.inside.incarnations.items c.self.inside.addressees.items) (sym left) (AreRows-restarted items c.self.inside.checks.items c.self.inside.incarnations.items c.self.inside.addressees.items c.self.invariant.checked c.place_checks.new.rows.items placed);
       received = c.self.invariant.received ∙ sym (names_restarted items) ∙ ap names_received (sym left);
       unchanged = subst (λ (n : ℕ). AreSettled c.settle.new.self.events n) (sym many) (subst (λ (xs : List Event). AreSettled xs (length xs)) (sym left) (settled_left items));
       counted = omega (arith, c.self.invariant.counted, c.settle.ensures.room);

@@ -3,7 +3,7 @@ use Rattle.std.proofs.Common.{◌≡◌, ◌≢◌, ℕ, ◌+◌, [], List, leng
 use Rattle.std.proofs.lemmas.Bool.{eq-eqb, eqb-true, false≢true}
 use Rattle.std.proofs.lemmas.List.{get_or_default}
 use Rattle.line_names.specs.declared.messages.MsgName.{MsgName}
-use Rattle.line_turns.specs.Inboxes.{sent_by, AreFrom, InboxView}
+use Rattle.line_turns.specs.Inboxes.{messages_from, AreFrom, InboxView}
 use Rattle.line_turns.proofs.GatherLemmas.{kept_table, none_of, AreKept, AreKept-more, AreKept-skip}
 use Rattle.line_turns.proofs.channels.Channels.keep.Goals.{then-not-is_empty+in_ok-new+in_ok-push, else-not-is_empty}
 use Rattle.line_turns.proofs.channels.Channels.keep.Goals as goal
@@ -51,7 +51,7 @@ loop-q-preserved c =
                 from;
             by_sender = w.in_ok-new.ensures.by_sender;
           })
-          (λ p. w.in_ok-new.ensures.same p ∙ ap (sent_by p) given))
+          (λ p. w.in_ok-new.ensures.same p ∙ ap (messages_from p) given))
       | else-not-is_empty w ↦
           let none : messages ≡ [] =
           none_of messages

@@ -5,7 +5,7 @@ use Rattle.std.proofs.lemmas.Result.{IfOk-weaker}
 use Rattle.line_names.specs.declared.messages.MsgName.{MsgName}
 use Rattle.line_tape.specs.History.{Process}
 use Rattle.line_turns.specs.Channels.{channels_at}
-use Rattle.line_turns.specs.Inboxes.{sent_by, AreFrom, AreGathered}
+use Rattle.line_turns.specs.Inboxes.{messages_from, AreFrom, AreByAddressee}
 use Rattle.line_turns.specs.Tables.{table_of, IsTable}
 use Rattle.line_turns.proofs.GatherLemmas.{gathered_channels, gathered_from}
 use Rattle.line_turns.proofs.TableLemmas.{IsTable-of}
@@ -15,8 +15,8 @@ pub keep-requires-clause-from : goal.keep-requires-clause-from
 keep-requires-clause-from c =
     let history : List Process = c.args.history.now.processes in
     let rows : List (List MsgName) = c.deref.result.now in
-    let gathered : AreGathered history c.args.messages.now rows =
-    subst (λ (v : List (List MsgName)). AreGathered history c.args.messages.now v)
+    let gathered : AreByAddressee history c.args.messages.now rows =
+    subst (λ (v : List (List MsgName)). AreByAddressee history c.args.messages.now v)
     (sym c.deref.ensures.value) c.in_ok-rows.ensures in
     subst (λ (v : ℕ). All (AreFrom v) rows) (sym c.n.ensures.value)
     (gathered_from history c.args.messages.now rows gathered)
@@ -25,10 +25,10 @@ pub returns-clause-transit : goal.returns-clause-transit
 returns-clause-transit c = λ line found.
     let history : List Process = c.args.history.now.processes in
     let rows : List (List MsgName) = c.deref.result.now in
-    let gathered : AreGathered history c.args.messages.now rows =
-    subst (λ (v : List (List MsgName)). AreGathered history c.args.messages.now v)
+    let gathered : AreByAddressee history c.args.messages.now rows =
+    subst (λ (v : List (List MsgName)). AreByAddressee history c.args.messages.now v)
     (sym c.deref.ensures.value) c.in_ok-rows.ensures in
-    let lists : ℕ → ℕ → List MsgName = λ p q. sent_by p (get_or rows q []) in
+    let lists : ℕ → ℕ → List MsgName = λ p q. messages_from p (get_or rows q []) in
     IfOk-weaker c.keep.result (λ (t : List (List (List MsgName))). t ≡ table_of c.n.result lists)
     (λ (t : List (List (List MsgName))). t ≡ channels_at history line) (λ channels is. is
     ∙ gathered_channels history c.args.messages.now line rows c.n.result c.n.ensures.value found
@@ -38,7 +38,7 @@ pub returns-clause-table : goal.returns-clause-table
 returns-clause-table c =
     let history : List Process = c.args.history.now.processes in
     let rows : List (List MsgName) = c.deref.result.now in
-    let lists : ℕ → ℕ → List MsgName = λ p q. sent_by p (get_or rows q []) in
+    let lists : ℕ → ℕ → List MsgName = λ p q. messages_from p (get_or rows q []) in
     IfOk-weaker c.keep.result (λ (t : List (List (List MsgName))). t ≡ table_of c.n.result lists)
     (IsTable (length history))
     (λ channels is. subst (IsTable (length history))

@@ -2,7 +2,7 @@
 use Rattle.std.proofs.Common.{ℕ, leb, ltb, List, sym, ap, ◌∙◌, subst, rules}
 use Rattle.std.proofs.lemmas.List.Sorted.{IsPartitionPoint-from_clause, IsPartitionedBy-leb, IsPartitionedBy-ltb}
 use Rattle.line_names.specs.declared.messages.MsgName.{MsgName}
-use Rattle.line_turns.specs.Inboxes.{sent_by, ComeBySender, InboxView}
+use Rattle.line_turns.specs.Inboxes.{messages_from, ComeBySender, InboxView}
 use Rattle.line_turns.proofs.InboxLemmas.{part_ascends, part_sent}
 use Rattle.line_turns.proofs.inboxes.Inbox.from.Goals as goal
 
@@ -56,5 +56,5 @@ returns c =
     (λ a r q k. search rules) in
     part_sent messages p c.partition_point-start.result c.partition_point-end.result first last
     c.partition_point-start.ensures.bound c.partition_point-end.ensures.bound
-    ∙ ap (sent_by p) (c.as_slice-messages.ensures.value
+    ∙ ap (messages_from p) (c.as_slice-messages.ensures.value
     ∙ ap (λ (i : InboxView). i.messages) c.self.view_is)

@@ -2,7 +2,7 @@
 use Rattle.std.proofs.Common.{◌<◌, ◌∙◌, sym, ap, subst, rules}
 use Rattle.std.proofs.lemmas.List.Sorted.{All-permutation, IsNonDecreasingBy-from_sort_by_key}
 use Rattle.line_names.specs.declared.messages.MsgName.{MsgName}
-use Rattle.line_turns.specs.Inboxes.{sent_by, AreFrom}
+use Rattle.line_turns.specs.Inboxes.{messages_from, AreFrom}
 use Rattle.line_turns.proofs.InboxLemmas.{stable_sent}
 use Rattle.line_turns.proofs.inboxes.Inbox.new.Goals as goal
 
@@ -14,7 +14,7 @@ pub returns-clause-same : goal.returns-clause-same
 returns-clause-same c = λ p.
     stable_sent c.in_ok-messages.messages.items c.sort_by_key.new.self.items
     c.in_ok-sort_by_key.ensures.stable (λ a r q k. search rules) p
-    ∙ ap (sent_by p) c.in_ok-messages.ensures.items
+    ∙ ap (messages_from p) c.in_ok-messages.ensures.items
 
 pub returns-clause-by_sender : goal.returns-clause-by_sender
 returns-clause-by_sender c = IsNonDecreasingBy-from_sort_by_key (λ (m : MsgName). m.from) _

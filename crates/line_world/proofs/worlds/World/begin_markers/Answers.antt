@@ -6,7 +6,7 @@ use Rattle.line_tape.specs.declared.events.Event.TheVariants.{Check as CheckEven
 use Rattle.line_tape.specs.History.{Process, tape_at, with_event}
 use Rattle.line_tape.specs.Rounds.{has_check_of}
 use Rattle.line_moves.specs.declared.modes.Mode.TheVariants.{Fifo}
-use Rattle.line_moves.specs.Listed.{Listed, newly_listed}
+use Rattle.line_moves.specs.Listed.{ListedRound, newly_listed}
 use Rattle.line_moves.specs.Openings.{OpenView, left_open, newly_closed, IsRecording, IsRunning}
 use Rattle.line_moves.specs.Worlds.{AreRounds, IsWorld}
 use Rattle.line_moves.proofs.OpeningLemmas.{listed_snapshot}
@@ -58,13 +58,13 @@ invariant_of-self-in-Markers c =
     let recording : IsRecording after round = subst (λ (h : List Process). IsRecording h round) done c.in_ok-begun-in-Markers.ensures.recording in
     let told : c.history-history.result.now.processes ≡ after = c.history-history.ensures.processes ∙ done in
     let listed : c.list_completed.new.rounds.items ≡ w.rounds.items ++ newly_closed Fifo after (Some round) =
-    c.list_completed.ensures.listed ∙ ap (λ (ls : List Listed). ls ++ newly_closed Fifo c.history-history.result.now.processes (Some round)) c.reserve.ensures.items
+    c.list_completed.ensures.listed ∙ ap (λ (ls : List ListedRound). ls ++ newly_closed Fifo c.history-history.result.now.processes (Some round)) c.reserve.ensures.items
     ∙ ap (λ (h : List Process). w.rounds.items ++ newly_closed Fifo h (Some round)) told in
     let world_after : IsWorld Fifo after c.begin_round.new.links = subst (λ (h : List Process). IsWorld Fifo h c.begin_round.new.links) done c.in_ok-begun-in-Markers.ensures.world in
     let left : c.list_completed.new.running ≡ left_open Fifo after (Some round) = c.list_completed.ensures.left ∙ ap (λ (h : List Process). left_open Fifo h (Some round)) told in
     ordered_kept c.begin_round.new.catalogue.processes after done c.begin_round.new.links (last + 1) c.list_completed.new.running c.list_completed.new.rounds.items c.in_ok-begun-in-Markers.ensures.world
     (subst (λ (o : Option OpenView). AreRounds Fifo after (last + 1) o c.list_completed.new.rounds.items) (sym left)
-    (subst (λ (ls : List Listed). AreRounds Fifo after (last + 1) (left_open Fifo after (Some round)) ls) (sym listed)
+    (subst (λ (ls : List ListedRound). AreRounds Fifo after (last + 1) (left_open Fifo after (Some round)) ls) (sym listed)
     (begun_settled Fifo history last running w.rounds.items is.are (may.closed Fifo is.mode_is) at state may.within round c.in_ok-begun-in-Markers.ensures.number (λ r completed. listed_snapshot after r world_after.linked.fit completed) recording)))
 
 pub returns-clause-done : goal.returns-clause-done
@@ -83,9 +83,9 @@ returns-clause-done c =
     let after : List Process = with_event history at e in
     let done : c.begin_round.new.catalogue.processes ≡ after = c.in_ok-begun-in-Markers.ensures.checked in
     let told : c.history-history.result.now.processes ≡ after = c.history-history.ensures.processes ∙ done in
-    let fresh : List Listed = newly_closed Fifo after (Some round) in
+    let fresh : List ListedRound = newly_closed Fifo after (Some round) in
     let listed : c.list_completed.new.rounds.items ≡ w.rounds.items ++ fresh =
-    c.list_completed.ensures.listed ∙ ap (λ (ls : List Listed). ls ++ newly_closed Fifo c.history-history.result.now.processes (Some round)) c.reserve.ensures.items
+    c.list_completed.ensures.listed ∙ ap (λ (ls : List ListedRound). ls ++ newly_closed Fifo c.history-history.result.now.processes (Some round)) c.reserve.ensures.items
     ∙ ap (λ (h : List Process). w.rounds.items ++ newly_closed Fifo h (Some round)) told in
     let new : Machine = seen Fifo c.begin_round.new.catalogue.processes c.begin_round.new.catalogue.marks (last + 1) c.list_completed.new.rounds.items c.begin_round.new.links in
     let newly : fresh ≡ newly_listed Fifo history after (last + 1) =
@@ -93,7 +93,7 @@ returns-clause-done c =
       none,
       subst (λ (v : Machine). Does v (Begin at state) (Begun at c.in_ok-begun-in-Markers.check (last + 1)) new) (here w c.args.self.now c.self.view_is c.self.invariant Fifo is.mode_is) (
         ap (λ (k : ℕ). Begun at k (last + 1)) c.in_ok-begun-in-Markers.ensures.check,
-        ap (λ (ls : List Listed). seen Fifo c.begin_round.new.catalogue.processes c.begin_round.new.catalogue.marks (last + 1) ls c.begin_round.new.links) listed
+        ap (λ (ls : List ListedRound). seen Fifo c.begin_round.new.catalogue.processes c.begin_round.new.catalogue.marks (last + 1) ls c.begin_round.new.links) listed
             ∙ step_seen Fifo history c.begin_round.new.catalogue.processes w.catalogue.marks c.begin_round.new.catalogue.marks last (last + 1) w.rounds.items fresh w.links c.begin_round.new.links at (e ∷ []) done
             c.in_ok-begun-in-Markers.ensures.marks refl newly,
       ),

@@ -6,7 +6,7 @@ use Rattle.line_tape.specs.History.{Process, with_event}
 use Rattle.line_world.specs.declared.replies.Reply.TheVariants.{Checked}
 use Rattle.line_moves.specs.declared.modes.Mode.{Mode}
 use Rattle.line_world.specs.declared.steps.Step.TheVariants.{Check}
-use Rattle.line_moves.specs.Listed.{Listed}
+use Rattle.line_moves.specs.Listed.{ListedRound}
 use Rattle.line_world.specs.Machine.{Machine}
 use Rattle.line_world.specs.Refusals.{refusal_of}
 use Rattle.line_world.specs.Steps.{Does}
@@ -14,7 +14,7 @@ use Rattle.line_moves.specs.Openings.{OpenView}
 use Rattle.line_world.proofs.DeliverLemmas.{quiet_seen}
 use Rattle.line_moves.proofs.OpeningLemmas.{AreRounds-kept, IsOpening-kept, none_listed}
 use Rattle.line_world.specs.declared.worlds.World.TheInside.{Inside}
-use Rattle.line_world.specs.Protocols.{mode_of, opened}
+use Rattle.line_world.specs.Protocols.{mode_of, open_round_of}
 use Rattle.line_world.proofs.KnownFacts.{kept_with}
 use Rattle.line_world.proofs.PaintLemmas.{IsFollowing-check}
 use Rattle.line_world.proofs.StepLemmas.{may_check}
@@ -25,7 +25,7 @@ use Rattle.line_world.proofs.worlds.World.check.Goals as goal
 pub invariant_of-self-2 : goal.invariant_of-self-2
 invariant_of-self-2 c =
     let w : Inside = c.self.inside in
-    let running : Option OpenView = opened w.protocol in
+    let running : Option OpenView = open_round_of w.protocol in
     let may = may_check c.args.self.now c.args.at c.args.state.now (sym c.check_refusal.ensures ∙ c.in_default.is) in
     let history : List Process = w.catalogue.processes in
     let mode : Mode = mode_of w.protocol in
@@ -44,7 +44,7 @@ returns-clause-done c =
     let history : List Process = c.self.inside.catalogue.processes in
     let mode : Mode = mode_of c.self.inside.protocol in
     let last : ℕ = c.self.inside.last_round in
-    let rounds : List Listed = c.self.inside.rounds.items in
+    let rounds : List ListedRound = c.self.inside.rounds.items in
     let e : Event = CheckEvent c.args.state.now None in
     let within : c.args.at < length history = omega (arith, may.within, ap (λ (m : Machine). length m.history) c.self.view_is) in
     let after : Machine = seen mode c.add_check.new.catalogue.processes c.add_check.new.catalogue.marks last rounds c.self.inside.links in

@@ -9,9 +9,9 @@ use Rattle.line_tape.specs.History.{Process, tape_at}
 use Rattle.line_tape.specs.Rounds.{has_check_of}
 use Rattle.line_moves.specs.declared.modes.Mode.TheVariants.{Fifo}
 use Rattle.line_moves.specs.Fates.{is_forced, marker_events}
-use Rattle.line_moves.specs.Listed.{Listed, newly_listed}
+use Rattle.line_moves.specs.Listed.{ListedRound, newly_listed}
 use Rattle.line_moves.specs.Moves.{with_events}
-use Rattle.line_moves.specs.Openings.{OpenView, left_open, newly_closed, IsOpening}
+use Rattle.line_moves.specs.Openings.{OpenView, left_open, newly_closed, IsOnlyOpen}
 use Rattle.line_moves.specs.Worlds.{AreRounds, IsWorld}
 use Rattle.line_moves.proofs.OpeningLemmas.{AreRounds-renewed}
 use Rattle.line_moves.proofs.WorldLemmas.{marker_sent}
@@ -48,9 +48,9 @@ invariant_of-self-in_err-take_marker-in-Markers c =
     let last : ℕ = w.last_round in
     let is : IsInOrder w c.in-Markers.running = is_in_order w c.args.self.now c.self.view_is c.self.invariant c.in-Markers.running c.in-Markers.is in
     let same : c.take_marker.new.catalogue.processes ≡ history = c.in_err-take_marker-in-Markers.ensures.err in
-    let opening : IsOpening Fifo history c.take_marker.new.running = subst (λ (h : List Process). IsOpening Fifo h c.take_marker.new.running) same c.in_err-take_marker-in-Markers.ensures.opening in
+    let opening : IsOnlyOpen Fifo history c.take_marker.new.running = subst (λ (h : List Process). IsOnlyOpen Fifo h c.take_marker.new.running) same c.in_err-take_marker-in-Markers.ensures.opening in
     ordered_kept c.take_marker.new.catalogue.processes history same c.take_marker.new.links last c.take_marker.new.running c.reserve.new.self.items c.in_err-take_marker-in-Markers.ensures.world
-    (subst (λ (ls : List Listed). AreRounds Fifo history last c.take_marker.new.running ls) (sym c.reserve.ensures.items)
+    (subst (λ (ls : List ListedRound). AreRounds Fifo history last c.take_marker.new.running ls) (sym c.reserve.ensures.items)
     (AreRounds-renewed Fifo history last c.in-Markers.running c.take_marker.new.running w.rounds.items c.in_err-take_marker-in-Markers.ensures.number opening is.are))
 
 pub invariant_of-self-in-Markers : goal.invariant_of-self-in-Markers
@@ -58,7 +58,7 @@ invariant_of-self-in-Markers c =
     let w : Inside = c.self.inside in
     let history : List Process = w.catalogue.processes in
     let last : ℕ = w.last_round in
-    let rounds : List Listed = w.rounds.items in
+    let rounds : List ListedRound = w.rounds.items in
     let from : ℕ = c.args.from in
     let to : ℕ = c.args.to in
     let round : ℕ = c.args.round in
@@ -74,15 +74,15 @@ invariant_of-self-in-Markers c =
     c.in_ok-take_marker-in-Markers.ensures.taken ∙ ap (λ b. with_events history to (marker_events b from state round)) (sym forced_is) in
     let told : c.history-history.result.now.processes ≡ after = c.history-history.ensures.processes ∙ taken in
     let listed : c.list_completed.new.rounds.items ≡ rounds ++ newly_closed Fifo after running =
-    c.list_completed.ensures.listed ∙ ap (λ (ls : List Listed). ls ++ newly_closed Fifo c.history-history.result.now.processes running) c.reserve.ensures.items
+    c.list_completed.ensures.listed ∙ ap (λ (ls : List ListedRound). ls ++ newly_closed Fifo c.history-history.result.now.processes running) c.reserve.ensures.items
     ∙ ap (λ (h : List Process). rounds ++ newly_closed Fifo h running) told in
     let world_after : IsWorld Fifo after c.take_marker.new.links = subst (λ (h : List Process). IsWorld Fifo h c.take_marker.new.links) taken c.in_ok-take_marker-in-Markers.ensures.world in
-    let opening : IsOpening Fifo after running = subst (λ (h : List Process). IsOpening Fifo h running) taken c.in_ok-take_marker-in-Markers.ensures.opening in
+    let opening : IsOnlyOpen Fifo after running = subst (λ (h : List Process). IsOnlyOpen Fifo h running) taken c.in_ok-take_marker-in-Markers.ensures.opening in
     let left : c.list_completed.new.running ≡ left_open Fifo after running =
     c.list_completed.ensures.left ∙ ap (λ (h : List Process). left_open Fifo h running) told in
     ordered_kept c.take_marker.new.catalogue.processes after taken c.take_marker.new.links last c.list_completed.new.running c.list_completed.new.rounds.items c.in_ok-take_marker-in-Markers.ensures.world
     (subst (λ (o : Option OpenView). AreRounds Fifo after last o c.list_completed.new.rounds.items) (sym left)
-    (subst (λ (ls : List Listed). AreRounds Fifo after last (left_open Fifo after running) ls) (sym listed)
+    (subst (λ (ls : List ListedRound). AreRounds Fifo after last (left_open Fifo after running) ls) (sym listed)
     (marker_settled history last c.in-Markers.running rounds is.are from to round state p.to_in sent forced running world_after.linked.fit c.in_ok-take_marker-in-Markers.ensures.number opening)))
 
 pub returns-clause-done : goal.returns-clause-done
@@ -90,7 +90,7 @@ returns-clause-done c =
     let w : Inside = c.self.inside in
     let history : List Process = w.catalogue.processes in
     let last : ℕ = w.last_round in
-    let rounds : List Listed = w.rounds.items in
+    let rounds : List ListedRound = w.rounds.items in
     let from : ℕ = c.args.from in
     let to : ℕ = c.args.to in
     let round : ℕ = c.args.round in
@@ -107,7 +107,7 @@ returns-clause-done c =
     c.in_ok-take_marker-in-Markers.ensures.taken ∙ ap (λ b. with_events history to (marker_events b from state round)) (sym forced_is) in
     let told : c.history-history.result.now.processes ≡ after = c.history-history.ensures.processes ∙ taken in
     let listed : c.list_completed.new.rounds.items ≡ rounds ++ newly_closed Fifo after running =
-    c.list_completed.ensures.listed ∙ ap (λ (ls : List Listed). ls ++ newly_closed Fifo c.history-history.result.now.processes running) c.reserve.ensures.items
+    c.list_completed.ensures.listed ∙ ap (λ (ls : List ListedRound). ls ++ newly_closed Fifo c.history-history.result.now.processes running) c.reserve.ensures.items
     ∙ ap (λ (h : List Process). rounds ++ newly_closed Fifo h running) told in
     let old : Machine = seen Fifo history w.catalogue.marks last rounds w.links in
     let new : Machine = seen Fifo c.take_marker.new.catalogue.processes c.take_marker.new.catalogue.marks last c.list_completed.new.rounds.items c.take_marker.new.links in
@@ -120,7 +120,7 @@ returns-clause-done c =
     let newly : newly_closed Fifo after running ≡ newly_listed Fifo history after last =
     marker_listed history last c.in-Markers.running rounds is.are from to round state p.to_in sent forced forced_is running c.in_ok-take_marker-in-Markers.ensures.number in
     let steps : new ≡ with_step old to (marker_events (is_forced history to round) from state round) last =
-    ap (λ (ls : List Listed). seen Fifo c.take_marker.new.catalogue.processes c.take_marker.new.catalogue.marks last ls c.take_marker.new.links) listed
+    ap (λ (ls : List ListedRound). seen Fifo c.take_marker.new.catalogue.processes c.take_marker.new.catalogue.marks last ls c.take_marker.new.links) listed
     ∙ step_seen Fifo history c.take_marker.new.catalogue.processes w.catalogue.marks c.take_marker.new.catalogue.marks last last rounds (newly_closed Fifo after running) w.links c.take_marker.new.links to
     (marker_events forced from state round) taken c.in_ok-take_marker-in-Markers.ensures.marks refl newly
     ∙ ap (λ (es : List Event). with_step old to es last) (sym events) in

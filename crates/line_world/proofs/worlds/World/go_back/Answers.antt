@@ -7,7 +7,7 @@ use Rattle.line_tape.specs.declared.items.Item.{Item}
 use Rattle.line_tape.specs.declared.items.Item.TheVariants.{Message}
 use Rattle.line_tape.specs.History.{Process}
 use Rattle.line_tape.specs.Line.{IsLine, IsConsistent}
-use Rattle.line_tape.specs.Restart.{HaveFurther, restarted, restarted_marks}
+use Rattle.line_tape.specs.Restart.{HaveFurther, restarted_history, restarted_marks}
 use Rattle.line_tape.specs.Transit.{in_transit, in_transit_between}
 use Rattle.line_tape.specs.Views.{MarksView}
 use Rattle.line_world.specs.declared.replies.StepError.TheVariants.{NoMoreIncarnations}
@@ -17,14 +17,14 @@ use Rattle.line_world.specs.Machine.{Machine}
 use Rattle.line_moves.specs.Modes.{copies_in}
 use Rattle.line_turns.specs.Tables.{between}
 use Rattle.line_world.specs.declared.worlds.World.TheInside.{Inside}
-use Rattle.line_world.specs.Protocols.{mode_of, opened, IsFollowing}
+use Rattle.line_world.specs.Protocols.{mode_of, open_round_of, IsFollowing}
 use Rattle.line_world.proofs.KnownFacts.{kept_with}
 use Rattle.line_world.specs.Refusals.{refusal_of, IsRefused}
 use Rattle.line_moves.specs.Restarts.{restored_states}
 use Rattle.line_world.specs.Steps.{restarted_machine}
 use Rattle.line_moves.specs.Worlds.{AreRounds, IsWorld, AreQueues}
 use Rattle.std.specs.List.{filter}
-use Rattle.line_moves.specs.Listed.{Listed, stays}
+use Rattle.line_moves.specs.Listed.{ListedRound, stays}
 use Rattle.line_moves.proofs.OpeningLemmas.{AreRounds-restarted}
 use Rattle.line_moves.proofs.LineFacts.{IsLine-latest}
 use Rattle.line_world.proofs.StepLemmas.{may_recover}
@@ -105,19 +105,19 @@ invariant_of-self-2 c =
     let size : length line ≡ length old = c.requires.plan.latest.recoverable.length_is ∙ ap (λ (m : Machine). length m.history) (sym c.self.view_is) in
     let consistent : IsConsistent old line = subst (λ (m : Machine). IsConsistent m.history line) (sym c.self.view_is) c.requires.plan.latest.recoverable.consistent in
     let queued : AreQueues old new = subst (λ (h : List Process). AreQueues h new) c.history-history.ensures.processes c.in_ok-restart.ensures.queued in
-    kept_with mode None c.restart.new.self c.restart.ensures.mode c.in_ok-restart.ensures.closed c.restart_with.new.self.processes (restarted old line) c.restart_with.ensures.processes new w.last_round c.keep.new.self.items
+    kept_with mode None c.restart.new.self c.restart.ensures.mode c.in_ok-restart.ensures.closed c.restart_with.new.self.processes (restarted_history old line) c.restart_with.ensures.processes new w.last_round c.keep.new.self.items
     (IsWorld-restart old w.links new line size consistent queued mode c.self.invariant.0
     (subst (λ (h : List Process). (p q : ℕ) → p < length h → q < length h → between new p q ≡ between (copies_in mode w.links) p q ++ map (λ m. Message m) (in_transit_between h line p q)) c.history-history.ensures.processes c.in_ok-restart.ensures.put))
-    (subst (λ (rounds : List Listed). AreRounds mode (restarted old line) w.last_round None rounds) (sym c.keep.ensures)
-    (AreRounds-restarted mode old line w.last_round (opened w.protocol) w.rounds.items size c.self.invariant.1))
-    (subst (λ (h : List Process). IsFollowing (restarted h line) c.restart.new.self) c.history-history.ensures.processes c.in_ok-restart.ensures.following)
+    (subst (λ (rounds : List ListedRound). AreRounds mode (restarted_history old line) w.last_round None rounds) (sym c.keep.ensures)
+    (AreRounds-restarted mode old line w.last_round (open_round_of w.protocol) w.rounds.items size c.self.invariant.1))
+    (subst (λ (h : List Process). IsFollowing (restarted_history h line) c.restart.new.self) c.history-history.ensures.processes c.in_ok-restart.ensures.following)
 
 pub invariant_of-self : goal.invariant_of-self
 invariant_of-self c =
     let w : Inside = c.self.inside in
     let old : List Process = w.catalogue.processes in
     let kept : c.restart.new.self ≡ w.protocol = c.in_err-restart.ensures.kept in
-    kept_with (mode_of w.protocol) (opened w.protocol) c.restart.new.self (ap mode_of kept) (ap opened kept) old old refl c.restart.new.links w.last_round w.rounds.items
+    kept_with (mode_of w.protocol) (open_round_of w.protocol) c.restart.new.self (ap mode_of kept) (ap open_round_of kept) old old refl c.restart.new.links w.last_round w.rounds.items
     (subst (λ (queues : List (List (List Item))). IsWorld (mode_of w.protocol) old queues) (sym c.in_err-restart.ensures.err) c.self.invariant.0) c.self.invariant.1
     (subst (IsFollowing old) (sym kept) c.self.invariant.2)
 
@@ -145,13 +145,13 @@ returns-clause-done c =
       plan_is = c.requires.plan;
       further = subst (λ (h : List Process). HaveFurther h line) same (c.has_further.ensures.0 c.if-not-has_further.false);
       states_are = c.in_ok-states.ensures ∙ ap (λ (h : List Process). restored_states h line) same;
-      incarnations_are = c.in_ok-incarnations.ensures ∙ ap (λ (h : List Process). map (λ (process : Process). process.incarnation) (restarted h line)) c.history-history.ensures.processes
+      incarnations_are = c.in_ok-incarnations.ensures ∙ ap (λ (h : List Process). map (λ (process : Process). process.incarnation) (restarted_history h line)) c.history-history.ensures.processes
           ∙ ap (λ (h : List Process). map (λ (process : Process). process.incarnation) h) (sym c.restart_with.ensures.processes);
       new_is = ap (λ (m : Mode). seen m c.restart_with.new.self.processes c.restart_with.new.self.marks last c.keep.new.self.items new) c.restart.ensures.mode
           ∙ ap (λ (h : List Process). seen mode h c.restart_with.new.self.marks last c.keep.new.self.items new) c.restart_with.ensures.processes
-          ∙ ap (λ (v : MarksView). seen mode (restarted old line) v last c.keep.new.self.items new) c.restart_with.ensures.marks
-          ∙ ap (λ (rounds : List Listed). seen mode (restarted old line) (restarted_marks marks line) last rounds new) c.keep.ensures
-          ∙ ap (λ (copies : List (List (List MsgName))). let m : Machine = record { mode = mode; history = restarted old line; marks = restarted_marks marks line; last_round = last; rounds = filter (stays line) c.self.inside.rounds.items; copies = copies } in m)
+          ∙ ap (λ (v : MarksView). seen mode (restarted_history old line) v last c.keep.new.self.items new) c.restart_with.ensures.marks
+          ∙ ap (λ (rounds : List ListedRound). seen mode (restarted_history old line) (restarted_marks marks line) last rounds new) c.keep.ensures
+          ∙ ap (λ (copies : List (List (List MsgName))). let m : Machine = record { mode = mode; history = restarted_history old line; marks = restarted_marks marks line; last_round = last; rounds = filter (stays line) c.self.inside.rounds.items; copies = copies } in m)
           (seen-restart old links new line size consistent queued mode
           (subst (λ (h : List Process). (p q : ℕ) → p < length h → q < length h → between new p q ≡ between (copies_in mode links) p q ++ map (λ m. Message m) (in_transit_between h line p q)) c.history-history.ensures.processes c.in_ok-restart.ensures.put))
           ∙ ap (λ (m : Machine). restarted_machine m line) c.self.view_is;

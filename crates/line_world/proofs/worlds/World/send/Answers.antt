@@ -11,7 +11,7 @@ use Rattle.line_world.specs.Refusals.{refusal_of}
 use Rattle.line_world.specs.Steps.{Does}
 use Rattle.line_moves.specs.Openings.{OpenView}
 use Rattle.line_moves.specs.Worlds.{IsWorld}
-use Rattle.line_moves.specs.Listed.{Listed}
+use Rattle.line_moves.specs.Listed.{ListedRound}
 use Rattle.line_moves.specs.declared.modes.Mode.{Mode}
 use Rattle.line_tape.specs.declared.events.Event.{Event}
 use Rattle.line_moves.proofs.OpeningLemmas.{AreRounds-kept, IsOpening-kept, none_listed}
@@ -19,7 +19,7 @@ use Rattle.line_moves.specs.Modes.{IsFitIn}
 use Rattle.line_tape.specs.Views.{MarksView}
 use Rattle.line_world.specs.declared.protocols.Protocol.{Protocol}
 use Rattle.line_world.specs.declared.worlds.World.TheInside.{Inside}
-use Rattle.line_world.specs.Protocols.{mode_of, opened, IsFollowing}
+use Rattle.line_world.specs.Protocols.{mode_of, open_round_of, IsFollowing}
 use Rattle.line_world.proofs.KnownFacts.{kept_with}
 use Rattle.line_world.proofs.StepLemmas.{Takes-refused, may_send, send_memory}
 use Rattle.line_moves.proofs.WorldLemmas.{IsFit-world, IsWorld-send}
@@ -88,7 +88,7 @@ invariant_of-self c =
     let w : Inside = c.self.inside in
     let history : List Process = w.catalogue.processes in
     let protocol : Protocol = c.reserve_flag.new.self in
-    kept_with (mode_of w.protocol) (opened w.protocol) protocol c.reserve_flag.ensures.mode c.reserve_flag.ensures.opened history history refl w.links w.last_round w.rounds.items c.self.invariant.0 c.self.invariant.1
+    kept_with (mode_of w.protocol) (open_round_of w.protocol) protocol c.reserve_flag.ensures.mode c.reserve_flag.ensures.opened history history refl w.links w.last_round w.rounds.items c.self.invariant.0 c.self.invariant.1
     (subst (λ (h : List Process). IsFollowing h protocol) c.history-history.ensures.processes c.reserve_flag.ensures.same)
 
 pub invariant_of-self-in_err-message : goal.invariant_of-self-in_err-message
@@ -96,7 +96,7 @@ invariant_of-self-in_err-message c =
     let w : Inside = c.self.inside in
     let history : List Process = w.catalogue.processes in
     let protocol : Protocol = c.reserve_flag.new.self in
-    kept_with (mode_of w.protocol) (opened w.protocol) protocol c.reserve_flag.ensures.mode c.reserve_flag.ensures.opened c.put_message.new.catalogue.processes history c.in_err-message.ensures.err c.put_message.new.links w.last_round w.rounds.items
+    kept_with (mode_of w.protocol) (open_round_of w.protocol) protocol c.reserve_flag.ensures.mode c.reserve_flag.ensures.opened c.put_message.new.catalogue.processes history c.in_err-message.ensures.err c.put_message.new.links w.last_round w.rounds.items
     (subst (λ (q : List (List (List Item))). IsWorld (mode_of w.protocol) history q) (sym c.in_err-message.ensures.kept) c.self.invariant.0) c.self.invariant.1
     (subst (λ (h : List Process). IsFollowing h protocol) c.history-history.ensures.processes c.reserve_flag.ensures.same)
 
@@ -106,7 +106,7 @@ invariant_of-self-2 c =
     let may = may_send c.args.self.now c.args.from c.args.to [] (sym (c.send_refusal.ensures []) ∙ c.in_default.is) in
     let history : List Process = w.catalogue.processes in
     let mode : Mode = mode_of w.protocol in
-    let running : Option OpenView = opened w.protocol in
+    let running : Option OpenView = open_round_of w.protocol in
     let protocol : Protocol = c.reserve_flag.new.self in
     let e : Event = SendEvent c.args.to (incarnation_at history c.args.from) c.args.body.now in
     let from_within : c.args.from < length history = omega (arith, may.named.from_within, ap (λ (m : Machine). length m.history) c.self.view_is) in
@@ -127,7 +127,7 @@ returns-clause-done c =
     let history : List Process = w.catalogue.processes in
     let mode : Mode = mode_of w.protocol in
     let last : ℕ = w.last_round in
-    let rounds : List Listed = w.rounds.items in
+    let rounds : List ListedRound = w.rounds.items in
     let e : Event = SendEvent c.args.to (incarnation_at history c.args.from) c.args.body.now in
     let from_within : c.args.from < length history = omega (arith, may.named.from_within, ap (λ (m : Machine). length m.history) c.self.view_is) in
     let after : Mode → Machine = λ m. seen m c.put_message.new.catalogue.processes c.put_message.new.catalogue.marks last rounds c.put_message.new.links in (

@@ -9,7 +9,7 @@ use Rattle.line_tape.specs.declared.items.Item.TheVariants.{Message}
 use Rattle.line_tape.specs.declared.limits.TheConstants.{MOST_EVENTS}
 use Rattle.line_tape.specs.History.{Process, tape_at, with_event}
 use Rattle.line_moves.specs.declared.modes.Mode.TheVariants.{Fifo}
-use Rattle.line_moves.specs.Openings.{OpenView, IsOpening}
+use Rattle.line_moves.specs.Openings.{OpenView, IsOnlyOpen}
 use Rattle.line_moves.specs.Worlds.{IsWorld}
 use Rattle.line_moves.proofs.OpeningLemmas.{none_listed, AreRounds-kept, AreRounds-renewed}
 use Rattle.line_moves.proofs.WorldLemmas.{IsWorld-held, IsWorld-take}
@@ -48,7 +48,7 @@ invariant_of-self-in_err-take_message-in-Markers c =
     let new : Option OpenView = c.take_message.new.running in
     let is : IsInOrder w running = is_in_order w c.args.self.now c.self.view_is c.self.invariant running c.in-Markers.is in
     let same : c.take_message.new.catalogue.processes ≡ history = c.in_err-take_message-in-Markers.ensures.err in
-    let opening : IsOpening Fifo history new = subst (λ (h : List Process). IsOpening Fifo h new) same c.in_err-take_message-in-Markers.ensures.opening in
+    let opening : IsOnlyOpen Fifo history new = subst (λ (h : List Process). IsOnlyOpen Fifo h new) same c.in_err-take_message-in-Markers.ensures.opening in
     ordered_kept c.take_message.new.catalogue.processes history same c.take_message.new.links w.last_round new w.rounds.items
     (subst (λ (h : List Process). IsWorld Fifo h c.take_message.new.links) (sym same)
     (subst (λ (q : List (List (List Item))). IsWorld Fifo history q) (sym c.in_err-take_message-in-Markers.ensures.kept) is.world))
@@ -67,7 +67,7 @@ invariant_of-self-in-Markers c =
     let p : IsPicked w from to c.args._pick (Message m) = is_picked w c.args.self.now c.self.view_is c.self.invariant from to c.args._pick c.args._state.now c.requires.passed (Message m) c.requires.picked in
     let is : IsInOrder w running = is_in_order w c.args.self.now c.self.view_is c.self.invariant running c.in-Markers.is in
     let taken : c.take_message.new.catalogue.processes ≡ with_event history to e = c.in_ok-take_message-in-Markers.ensures.taken in
-    let opening : IsOpening Fifo (with_event history to e) new = subst (λ (h : List Process). IsOpening Fifo h new) taken c.in_ok-take_message-in-Markers.ensures.opening in
+    let opening : IsOnlyOpen Fifo (with_event history to e) new = subst (λ (h : List Process). IsOnlyOpen Fifo h new) taken c.in_ok-take_message-in-Markers.ensures.opening in
     ordered_kept c.take_message.new.catalogue.processes (with_event history to e) taken c.take_message.new.links w.last_round new w.rounds.items
     (subst (λ (h : List Process). IsWorld Fifo h c.take_message.new.links) (sym taken)
     (subst (λ (q : List (List (List Item))). IsWorld Fifo (with_event history to e) q) (sym c.in_ok-take_message-in-Markers.ensures.off)

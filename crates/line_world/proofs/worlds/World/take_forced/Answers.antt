@@ -8,15 +8,15 @@ use Rattle.line_tape.specs.declared.items.Item.TheVariants.{Message}
 use Rattle.line_tape.specs.declared.limits.TheConstants.{MOST_EVENTS}
 use Rattle.line_tape.specs.Event.{Holds}
 use Rattle.line_tape.specs.History.{Process, tape_at, with_event}
-use Rattle.line_turns.specs.Kept.{Turned, AreTurned}
+use Rattle.line_turns.specs.Kept.{ProcessTurns, AreTurned}
 use Rattle.line_turns.specs.Turning.{TurningView}
 use Rattle.line_turns.proofs.FlagLemmas.{AreFlagged-other}
 use Rattle.line_moves.specs.declared.fates.Fate.{Fate}
 use Rattle.line_moves.specs.declared.fates.Fate.TheVariants.{Taken as IsTaken}
 use Rattle.line_moves.specs.declared.modes.Mode.TheVariants.{Unordered}
 use Rattle.line_moves.specs.Fates.{events_of, fate_of, forced_round}
-use Rattle.line_moves.specs.Listed.{Listed, newly_listed}
-use Rattle.line_moves.specs.Openings.{newly_closed, opened_by, IsSettled}
+use Rattle.line_moves.specs.Listed.{ListedRound, newly_listed}
+use Rattle.line_moves.specs.Openings.{newly_closed, opened_by, IsListedOrOpen}
 use Rattle.line_world.specs.declared.replies.Answer.TheVariants.{Done}
 use Rattle.line_world.specs.declared.replies.Reply.{Reply}
 use Rattle.line_world.specs.declared.replies.Reply.TheVariants.{Took}
@@ -43,7 +43,7 @@ turn_round-requires-clause-first c =
     let state : List ℕ = c.args.state.now in
     let round : ℕ = c.args.round in
     let turning : Option TurningView = c.in-Colours.turning in
-    let colours : List Turned = c.in-Colours.colours in
+    let colours : List ProcessTurns = c.in-Colours.colours in
     let received : List (List Bool) = c.in-Colours.received in
     let copy : IsTakenCopy w turning colours received from to pick m (Some round) =
     is_copy w c.args.self.now c.self.view_is c.self.invariant from to pick state c.requires.passed turning colours received c.in-Colours.is m c.requires.picked c.requires.taken (Some round) c.requires.forced in
@@ -62,7 +62,7 @@ turn_round-requires-clause-greater c =
     let state : List ℕ = c.args.state.now in
     let round : ℕ = c.args.round in
     let turning : Option TurningView = c.in-Colours.turning in
-    let colours : List Turned = c.in-Colours.colours in
+    let colours : List ProcessTurns = c.in-Colours.colours in
     let received : List (List Bool) = c.in-Colours.received in
     let copy : IsTakenCopy w turning colours received from to pick m (Some round) =
     is_copy w c.args.self.now c.self.view_is c.self.invariant from to pick state c.requires.passed turning colours received c.in-Colours.is m c.requires.picked c.requires.taken (Some round) c.requires.forced in
@@ -79,7 +79,7 @@ turn_round-requires-clause-kept c =
     let state : List ℕ = c.args.state.now in
     let round : ℕ = c.args.round in
     let turning : Option TurningView = c.in-Colours.turning in
-    let colours : List Turned = c.in-Colours.colours in
+    let colours : List ProcessTurns = c.in-Colours.colours in
     let received : List (List Bool) = c.in-Colours.received in
     let copy : IsTakenCopy w turning colours received from to pick m (Some round) =
     is_copy w c.args.self.now c.self.view_is c.self.invariant from to pick state c.requires.passed turning colours received c.in-Colours.is m c.requires.picked c.requires.taken (Some round) c.requires.forced in
@@ -98,7 +98,7 @@ add_receipt-requires-clause-held c =
     let state : List ℕ = c.args.state.now in
     let round : ℕ = c.args.round in
     let turning : Option TurningView = c.in-Colours.turning in
-    let colours : List Turned = c.in-Colours.colours in
+    let colours : List ProcessTurns = c.in-Colours.colours in
     let received : List (List Bool) = c.in-Colours.received in
     let copy : IsTakenCopy w turning colours received from to pick m (Some round) =
     is_copy w c.args.self.now c.self.view_is c.self.invariant from to pick state c.requires.passed turning colours received c.in-Colours.is m c.requires.picked c.requires.taken (Some round) c.requires.forced in
@@ -121,7 +121,7 @@ invariant_of-self-in-Colours c =
     let state : List ℕ = c.args.state.now in
     let round : ℕ = c.args.round in
     let turning : Option TurningView = c.in-Colours.turning in
-    let colours : List Turned = c.in-Colours.colours in
+    let colours : List ProcessTurns = c.in-Colours.colours in
     let received : List (List Bool) = c.in-Colours.received in
     let copy : IsTakenCopy w turning colours received from to pick m (Some round) =
     is_copy w c.args.self.now c.self.view_is c.self.invariant from to pick state c.requires.passed turning colours received c.in-Colours.is m c.requires.picked c.requires.taken (Some round) c.requires.forced in
@@ -130,8 +130,8 @@ invariant_of-self-in-Colours c =
     let after : List Process = with_event history to (CheckEvent state (Some last)) in
     let done : c.turn_round.new.catalogue.processes ≡ after = c.in_ok-turn_round-in-Colours.ensures.checked in
     let turned : AreTurned after c.turn_round.new.colours = subst (λ (h : List Process). AreTurned h c.turn_round.new.colours) done c.in_ok-turn_round-in-Colours.ensures.turned in
-    let settled : IsSettled after last w.rounds.items c.turn_round.new.turning c.turn_round.new.rounds.items =
-    subst (λ (h : List Process). IsSettled h last w.rounds.items c.turn_round.new.turning c.turn_round.new.rounds.items) done c.in_ok-turn_round-in-Colours.ensures.settled in
+    let settled : IsListedOrOpen after last w.rounds.items c.turn_round.new.turning c.turn_round.new.rounds.items =
+    subst (λ (h : List Process). IsListedOrOpen h last w.rounds.items c.turn_round.new.turning c.turn_round.new.rounds.items) done c.in_ok-turn_round-in-Colours.ensures.settled in
     let final : List Process = with_event after to (Recv m) in
     let ended : c.add_receipt.new.catalogue.processes ≡ final = c.add_receipt.ensures.taken ∙ ap (λ (h : List Process). with_event h to (Recv m)) done in
     coloured_kept w.rounds.items w.links c.add_receipt.new.catalogue.processes after final ended last c.turn_round.new.colours c.turn_round.new.turning c.turn_round.new.rounds.items settled
@@ -160,7 +160,7 @@ returns-clause-done c =
     let state : List ℕ = c.args.state.now in
     let round : ℕ = c.args.round in
     let turning : Option TurningView = c.in-Colours.turning in
-    let colours : List Turned = c.in-Colours.colours in
+    let colours : List ProcessTurns = c.in-Colours.colours in
     let received : List (List Bool) = c.in-Colours.received in
     let copy : IsTakenCopy w turning colours received from to pick m (Some round) =
     is_copy w c.args.self.now c.self.view_is c.self.invariant from to pick state c.requires.passed turning colours received c.in-Colours.is m c.requires.picked c.requires.taken (Some round) c.requires.forced in
@@ -170,11 +170,11 @@ returns-clause-done c =
     let f : Event = Recv m in
     let after : List Process = with_event history to e in
     let done : c.turn_round.new.catalogue.processes ≡ after = c.in_ok-turn_round-in-Colours.ensures.checked in
-    let settled : IsSettled after last w.rounds.items c.turn_round.new.turning c.turn_round.new.rounds.items =
-    subst (λ (h : List Process). IsSettled h last w.rounds.items c.turn_round.new.turning c.turn_round.new.rounds.items) done c.in_ok-turn_round-in-Colours.ensures.settled in
+    let settled : IsListedOrOpen after last w.rounds.items c.turn_round.new.turning c.turn_round.new.rounds.items =
+    subst (λ (h : List Process). IsListedOrOpen h last w.rounds.items c.turn_round.new.turning c.turn_round.new.rounds.items) done c.in_ok-turn_round-in-Colours.ensures.settled in
     let final : List Process = with_event after to f in
     let ended : c.add_receipt.new.catalogue.processes ≡ final = c.add_receipt.ensures.taken ∙ ap (λ (h : List Process). with_event h to f) done in
-    let fresh : List Listed = newly_closed Unordered after (Some (opened_by settled.round)) in
+    let fresh : List ListedRound = newly_closed Unordered after (Some (opened_by settled.round)) in
     let newly : fresh ≡ newly_listed Unordered history final last =
     caught_newly history w.links colours last may.coloured.world may.coloured.painted from to p.from_in p.to_in m p.of_sender pick p.at copy.fate round copy.forces may.kept.round w.rounds.items may.are
     state settled.round settled.number_is c.turn_round.new.colours in
@@ -187,7 +187,7 @@ returns-clause-done c =
     let next : Machine = seen Unordered c.add_receipt.new.catalogue.processes c.add_receipt.new.catalogue.marks last c.turn_round.new.rounds.items w.links in
     let same : old ≡ c.args.self.now = here w c.args.self.now c.self.view_is c.self.invariant Unordered copy.coloured.mode_is in
     let steps : next ≡ with_step old to (events_of fate_now forced_now state m) last =
-    ap (λ (ls : List Listed). seen Unordered c.add_receipt.new.catalogue.processes c.add_receipt.new.catalogue.marks last ls w.links) settled.listed
+    ap (λ (ls : List ListedRound). seen Unordered c.add_receipt.new.catalogue.processes c.add_receipt.new.catalogue.marks last ls w.links) settled.listed
     ∙ step_seen Unordered history c.add_receipt.new.catalogue.processes w.catalogue.marks c.add_receipt.new.catalogue.marks last last w.rounds.items fresh w.links w.links to (e ∷ f ∷ []) ended
     (c.add_receipt.ensures.marks ∙ c.in_ok-turn_round-in-Colours.ensures.marks) refl newly
     ∙ ap (λ (es : List Event). with_step old to es last) (sym events) in

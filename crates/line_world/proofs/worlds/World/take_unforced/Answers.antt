@@ -7,7 +7,7 @@ use Rattle.line_tape.specs.declared.events.Event.TheVariants.{Recv}
 use Rattle.line_tape.specs.declared.items.Item.TheVariants.{Message}
 use Rattle.line_tape.specs.declared.limits.TheConstants.{MOST_EVENTS}
 use Rattle.line_tape.specs.History.{Process, tape_at, with_event}
-use Rattle.line_turns.specs.Kept.{Turned}
+use Rattle.line_turns.specs.Kept.{ProcessTurns}
 use Rattle.line_turns.specs.Flags.{AreFlagged}
 use Rattle.line_turns.specs.Turning.{TurningView}
 use Rattle.line_moves.specs.declared.fates.Fate.{Fate}
@@ -46,7 +46,7 @@ invariant_of-self-in-Colours c =
     let m : MsgName = c.args.message.now in
     let e : Event = Recv m in
     let turning : Option TurningView = c.in-Colours.turning in
-    let colours : List Turned = c.in-Colours.colours in
+    let colours : List ProcessTurns = c.in-Colours.colours in
     let received : List (List Bool) = c.in-Colours.received in
     let copy : IsTakenCopy w turning colours received from to pick m None =
     is_copy w c.args.self.now c.self.view_is c.self.invariant from to pick c.args._state.now c.requires.passed turning colours received c.in-Colours.is m c.requires.picked c.requires.taken None c.requires.unforced in
@@ -77,7 +77,7 @@ returns-clause-done c =
     let state : List ℕ = c.args._state.now in
     let e : Event = Recv m in
     let turning : Option TurningView = c.in-Colours.turning in
-    let colours : List Turned = c.in-Colours.colours in
+    let colours : List ProcessTurns = c.in-Colours.colours in
     let received : List (List Bool) = c.in-Colours.received in
     let copy : IsTakenCopy w turning colours received from to pick m None =
     is_copy w c.args.self.now c.self.view_is c.self.invariant from to pick state c.requires.passed turning colours received c.in-Colours.is m c.requires.picked c.requires.taken None c.requires.unforced in

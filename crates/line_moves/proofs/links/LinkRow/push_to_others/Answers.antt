@@ -2,10 +2,10 @@
 use Rattle.std.proofs.Common.{◌<◌, List, ℕ, length, sym, ap, ◌∙◌, arith}
 use Rattle.line_tape.specs.declared.items.Item.{Item}
 use Rattle.line_moves.specs.Queues.{with_on_others}
-use Rattle.line_moves.specs.Rooms.{QueueView, items_of}
+use Rattle.line_moves.specs.Rooms.{QueueView, items_held}
 use Rattle.line_moves.proofs.RoomLemmas.{AreSent, AreSent-end, AreSent-own, AreSent-put}
-use Rattle.line_moves.proofs.links.Row.push_to_others.Goals.{then-q-get, else-q-get}
-use Rattle.line_moves.proofs.links.Row.push_to_others.Goals as goal
+use Rattle.line_moves.proofs.links.LinkRow.push_to_others.Goals.{then-q-get, else-q-get}
+use Rattle.line_moves.proofs.links.LinkRow.push_to_others.Goals as goal
 
 pub loop-q-preserved : goal.loop-q-preserved
 loop-q-preserved c =
@@ -27,4 +27,4 @@ loop-q-preserved c =
 pub returns : goal.returns
 returns c =
     AreSent-end c.args.own c.args.item c.loop-q.q c.self.inside.queues.items c.loop-q.self-inside.queues.items c.loop-q.invariant (omega (arith, c.loop-q-test.false, c.loop-q.invariant.count))
-    ∙ ap (λ (xs : List QueueView). with_on_others (items_of xs) c.args.own c.args.item) c.self.view_is
+    ∙ ap (λ (xs : List QueueView). with_on_others (items_held xs) c.args.own c.args.item) c.self.view_is

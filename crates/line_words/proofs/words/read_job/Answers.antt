@@ -8,8 +8,8 @@ use Rattle.line_words.specs.declared.jobs.Job.{Job}
 use Rattle.line_words.specs.declared.jobs.Job.TheVariants.{Check, Drill, Run, Serve}
 use Rattle.line_words.specs.declared.faults.WordsFault.{WordsFault}
 use Rattle.line_words.specs.declared.faults.WordsFault.TheVariants as faults
-use Rattle.line_words.specs.Words.{HasCause, IsAskedBy, IsInRange, IsToldAs, refusals_of}
-use Rattle.line_words.proofs.words.command_of.Goals as goal
+use Rattle.line_words.specs.Words.{HasCause, IsAskedBy, IsJobInRange, IsToldAs, refusals_of}
+use Rattle.line_words.proofs.words.read_job.Goals as goal
 
 no_help : errors.OutOfMemory ≡ errors.DisplayHelp → ⊥
 no_help same = cc same
@@ -26,14 +26,14 @@ told_for_cause words kind faults.Bad (inl memory) told = absurd (told.1 memory)
 told_for_cause words kind faults.Bad (inr among) told = inr (record { kind = kind; among = among; other = told.0 })
 told_for_cause words kind faults.OutOfMemory either told = tt
 
-asked_in_range : (asked : Option (Text × List Row)) (job : Job) → IsSomeAnd asked (IsAskedBy job) → IsInRange job
+asked_in_range : (asked : Option (Text × List Row)) (job : Job) → IsSomeAnd asked (IsAskedBy job) → IsJobInRange job
 asked_in_range None job is = absurd is
 asked_in_range (Some asked) Run is = tt
 asked_in_range (Some asked) Serve is = tt
 asked_in_range (Some asked) Check is = tt
 asked_in_range (Some asked) (Drill workers rounds) is = (is.1.no_less, is.1.no_more, is.2.no_less, is.2.no_more)
 
-found_in_range : (r : Result Job WordsFault) (o : Option Job) → o ≡ result_ok r → ((job : Job) → o ≡ Some job → IsInRange job) → IfOk r IsInRange
+found_in_range : (r : Result Job WordsFault) (o : Option Job) → o ≡ result_ok r → ((job : Job) → o ≡ Some job → IsJobInRange job) → IfOk r IsJobInRange
 found_in_range (Ok job) o same each = each job same
 found_in_range (Err fault) o same each = tt
 

@@ -3,9 +3,9 @@ use Rattle.std.proofs.Common.{◌≡◌, ◌+◌, ◌<◌, List, ℕ, length, ap
 use Rattle.std.proofs.lemmas.Result.{on_ok_weaker}
 use Rattle.std.proofs.Math.Seq.{map-set_same}
 use Rattle.line_tape.specs.declared.items.Item.{Item}
-use Rattle.line_moves.specs.Rooms.{items_of, QueueView}
+use Rattle.line_moves.specs.Rooms.{items_held, QueueView}
 use Rattle.line_moves.proofs.CountLemmas.{queue-read, queue-written, queue-other}
-use Rattle.line_moves.proofs.links.Row.count.Goals as goal
+use Rattle.line_moves.proofs.links.LinkRow.count.Goals as goal
 
 pub count-requires : goal.count-requires
 count-requires c =
@@ -20,7 +20,7 @@ returns-clause-same c =
     let row : List QueueView = c.self.inside.queues.items in
     let held : QueueView → List Item = λ queue. queue.held in
     map-set_same held row c.get.result c.count.new.self c.index_mut-queue.result.now (c.count.ensures.held ∙ ap held c.index_mut-queue.ensures.value)
-    ∙ ap (λ (xs : List QueueView). items_of xs) c.self.view_is
+    ∙ ap (λ (xs : List QueueView). items_held xs) c.self.view_is
 
 pub returns-clause-ok : goal.returns-clause-ok
 returns-clause-ok c =

@@ -1,9 +1,9 @@
 -- One queue loses its first item.
 use Rattle.std.proofs.Common.{◌≡◌, ◌<◌, [], List, ℕ, length, get_or, set, drop, ap, ◌∙◌, arith}
 use Rattle.line_tape.specs.declared.items.Item.{Item}
-use Rattle.line_moves.specs.Rooms.{QueueView, items_of}
+use Rattle.line_moves.specs.Rooms.{QueueView, items_held}
 use Rattle.line_moves.proofs.RoomLemmas.{map-changed, AreEmpty-off}
-use Rattle.line_moves.proofs.links.Row.drop_first.Goals as goal
+use Rattle.line_moves.proofs.links.LinkRow.drop_first.Goals as goal
 
 pub returns : goal.returns
 returns c =
@@ -13,8 +13,8 @@ returns c =
     let seen : row ≡ c.args.self.now = c.self.view_is in
     let within : c.get.result < length row = omega (arith, c.requires, ap (λ (xs : List QueueView). length xs) seen) in
     map-changed held row c.get.result [] c.index_mut-queue.result.now c.drop_first.new.self (λ (xs : List Item). drop 1 xs) within c.index_mut-queue.ensures.value c.drop_first.ensures
-    ∙ ap (λ (k : ℕ). set (items_of row) k (drop 1 (get_or (items_of row) k []))) at
-    ∙ ap (λ (xs : List QueueView). set (items_of xs) c.args.to (drop 1 (get_or (items_of xs) c.args.to []))) seen
+    ∙ ap (λ (k : ℕ). set (items_held row) k (drop 1 (get_or (items_held row) k []))) at
+    ∙ ap (λ (xs : List QueueView). set (items_held xs) c.args.to (drop 1 (get_or (items_held xs) c.args.to []))) seen
 
 pub invariant_of-self : goal.invariant_of-self
 invariant_of-self c = λ unused.

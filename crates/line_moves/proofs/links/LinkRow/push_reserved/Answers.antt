@@ -1,10 +1,10 @@
 -- One queue takes the item, in room made for it.
 use Rattle.std.proofs.Common.{◌≡◌, ◌<◌, ◌++◌, ◌∷◌, [], List, ℕ, length, get_or, set, ap, ◌∙◌, arith}
 use Rattle.line_tape.specs.declared.items.Item.{Item}
-use Rattle.line_moves.specs.Rooms.{items_of, QueueView}
+use Rattle.line_moves.specs.Rooms.{items_held, QueueView}
 use Rattle.line_moves.proofs.CountLemmas.{queue-read, queue-written, queue-other}
 use Rattle.line_moves.proofs.RoomLemmas.{map-changed}
-use Rattle.line_moves.proofs.links.Row.push_reserved.Goals as goal
+use Rattle.line_moves.proofs.links.LinkRow.push_reserved.Goals as goal
 
 pub push_reserved-requires : goal.push_reserved-requires
 push_reserved-requires c =
@@ -24,8 +24,8 @@ returns-clause-items c =
     let within : c.get.result < length row = omega (arith, at, c.requires.to, ap (λ (xs : List QueueView). length xs) seen) in
     map-changed held row c.get.result [] old c.push_reserved.new.self (λ (xs : List Item). xs ++ c.args.item ∷ []) within c.index_mut-queue.ensures.value
     (c.push_reserved.ensures.held ∙ ap (λ (kept : Item). old.held ++ kept ∷ []) c.of.ensures)
-    ∙ ap (λ (k : ℕ). set (items_of row) k (get_or (items_of row) k [] ++ c.args.item ∷ [])) at
-    ∙ ap (λ (xs : List QueueView). set (items_of xs) c.args.to (get_or (items_of xs) c.args.to [] ++ c.args.item ∷ [])) seen
+    ∙ ap (λ (k : ℕ). set (items_held row) k (get_or (items_held row) k [] ++ c.args.item ∷ [])) at
+    ∙ ap (λ (xs : List QueueView). set (items_held xs) c.args.to (get_or (items_held xs) c.args.to [] ++ c.args.item ∷ [])) seen
 
 pub returns-clause-others : goal.returns-clause-others
 returns-clause-others c = queue-other c.self.inside.queues.items c.args.self.now c.get.result c.args.to c.self.view_is c.get.ensures.value c.push_reserved.new.self

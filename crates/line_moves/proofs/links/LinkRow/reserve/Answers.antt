@@ -3,9 +3,9 @@ use Rattle.std.proofs.Common.{◌<◌, List, ℕ, length, ap, ◌∙◌, arith}
 use Rattle.std.proofs.lemmas.List.{length-set}
 use Rattle.std.proofs.Math.Seq.{map-set_same}
 use Rattle.line_tape.specs.declared.items.Item.{Item}
-use Rattle.line_moves.specs.Rooms.{QueueView, items_of}
+use Rattle.line_moves.specs.Rooms.{QueueView, items_held}
 use Rattle.line_moves.proofs.RoomLemmas.{rooms-more}
-use Rattle.line_moves.proofs.links.Row.reserve.Goals as goal
+use Rattle.line_moves.proofs.links.LinkRow.reserve.Goals as goal
 
 pub loop-q-preserved : goal.loop-q-preserved
 loop-q-preserved c =
@@ -27,7 +27,7 @@ returns-in_err-reserve-clause-same c =
     let held : QueueView → List Item = λ queue. queue.held in
     map-set_same held row c.loop-q.q c.reserve.new.self c.index_mut-queue.result.now (c.in_err-reserve.ensures.held ∙ ap held c.index_mut-queue.ensures.value)
     ∙ c.loop-q.invariant.0
-    ∙ ap (λ (xs : List QueueView). items_of xs) c.self.view_is
+    ∙ ap (λ (xs : List QueueView). items_held xs) c.self.view_is
 
 pub invariant_of-self : goal.invariant_of-self
 invariant_of-self c = λ unused. let used = c.loop-q.invariant.3 in absurd (cc)

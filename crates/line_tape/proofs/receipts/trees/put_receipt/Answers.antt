@@ -2,7 +2,7 @@
 use Rattle.std.proofs.Common.{◌≤◌, true, false, length, refl, arith}
 use Rattle.line_tape.proofs.NotedLemmas.{put_seat}
 use Rattle.line_tape.proofs.SeatLemmas.{node_le}
-use Rattle.line_tape.proofs.receipts.trees.put.Goals as goal
+use Rattle.line_tape.proofs.receipts.trees.put_receipt.Goals as goal
 
 pub index_mut-requires : goal.index_mut-requires
 index_mut-requires c =

@@ -2,7 +2,7 @@
 use Rattle.std.proofs.Common.{◌<◌, List, ℕ, length, arith}
 use Rattle.line_moves.specs.Rooms.{QueueView}
 use Rattle.line_moves.proofs.CountLemmas.{AreCleared-end, AreCleared-more}
-use Rattle.line_moves.proofs.links.Row.clear.Goals as goal
+use Rattle.line_moves.proofs.links.LinkRow.clear.Goals as goal
 
 pub loop-q-preserved : goal.loop-q-preserved
 loop-q-preserved c =

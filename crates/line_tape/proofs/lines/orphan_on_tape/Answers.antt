@@ -4,7 +4,7 @@ use Rattle.line_tape.specs.declared.events.Event.{Event}
 use Rattle.line_tape.specs.Front.{front}
 use Rattle.line_tape.specs.History.{tape_at}
 use Rattle.line_tape.specs.Line.{IsFoundAmong, events_before}
-use Rattle.line_tape.proofs.lines.orphan_at.Goals as goal
+use Rattle.line_tape.proofs.lines.orphan_on_tape.Goals as goal
 
 pub returns : goal.returns
 returns c =
