@@ -13,7 +13,7 @@ ghost use Rattle.line_statuses.specs.Status.{status_of};
 use line_check::CertFault;
 use line_devices::{Sink, put_all};
 use line_drill_texts::drill_text;
-use line_posts::MOST_DRILL_WORKERS;
+use line_posts::MOST_WORKERS;
 use line_service::{Outcome, ServeError};
 use line_statuses::{status_of_drill, status_of_fault};
 use line_streams::{ReadSource, WriteSink};
@@ -26,7 +26,7 @@ use std::thread::Threads;
 use std::{env, io};
 
 // The words ask for no more workers than a drill can have.
-const _: () = prove!(line_words::MOST_DRILL_WORKERS as usize == MOST_DRILL_WORKERS);
+const _: () = prove!(line_words::MOST_DRILL_WORKERS as usize == MOST_WORKERS);
 
 // Each fault is told by a line on standard error, and by the status. Where standard error fails,
 // the status is all that tells it, and stays as it is.
@@ -109,7 +109,7 @@ fn drill(
     workers: u32,
     rounds: u32,
 ) -> u8
-    requires { workers ≤ MOST_DRILL_WORKERS }
+    requires { workers ≤ MOST_WORKERS }
 {
     match drill_text(rt, alloc, workers, rounds) {
         Ok(text) => {
