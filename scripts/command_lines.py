@@ -1,0 +1,35 @@
+"""The command lines of scripts: their help is the docstring of the script."""
+
+import argparse
+from collections.abc import Iterable
+
+
+def parser(doc: str | None) -> argparse.ArgumentParser:
+    """A parser of words, whose help is this docstring."""
+    form = argparse.RawDescriptionHelpFormatter
+    return argparse.ArgumentParser(description=doc, formatter_class=form)
+
+
+def option(doc: str | None, *options: str) -> str | None:
+    """Which of these options the words give, one at most, or none where there is no word."""
+    words = parser(doc)
+    one = words.add_mutually_exclusive_group()
+    for name in options:
+        one.add_argument(f"--{name}", dest="option", action="store_const", const=name)
+    given: str | None = words.parse_args().option
+    return given
+
+
+def report(found: Iterable[str]) -> int:
+    """Prints what was found, a line each, and answers the status: 1 where there is something."""
+    lines = list(found)
+    print("\n".join(lines), end="\n" if lines else "")
+    return 1 if lines else 0
+
+
+def program(doc: str | None) -> str | None:
+    """The program that the only word names, or none where there is no word."""
+    words = parser(doc)
+    words.add_argument("program", nargs="?", metavar="PROGRAM", help="the program that is run")
+    named: str | None = words.parse_args().program
+    return named
