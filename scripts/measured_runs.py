@@ -1,0 +1,74 @@
+"""Runs of a program that are measured, from a file to nowhere, and the tables of what they took."""
+
+import argparse
+import os
+import pathlib
+import subprocess
+import sys
+import time
+from collections.abc import Callable, Collection, Iterable
+from typing import NamedTuple
+
+MB = 1_000_000
+# Runs a program alone and tells its greatest memory in KiB, in a process that itself has little.
+MEMORY_OF = """
+import os, sys
+nowhere = [(os.POSIX_SPAWN_OPEN, told, os.devnull, os.O_WRONLY, 0) for told in (1, 2)]
+child = os.posix_spawn(sys.argv[1], sys.argv[1:], os.environ, file_actions=nowhere)
+print(os.wait4(child, 0)[2].ru_maxrss)
+"""
+# A program, or the text of its path.
+Program = str | os.PathLike[str]
+
+
+class Took(NamedTuple):
+    """What a run took: the seconds from start to end, those of the processor, and its status."""
+
+    seconds: float
+    processor: float
+    status: int
+
+
+def timed(program: Program, command: str, path: pathlib.Path) -> Took:
+    """Runs a command of the program on a text, and tells what that took."""
+    with open(path, "rb") as source, open(os.devnull, "wb") as sink:
+        start = time.perf_counter()
+        child = subprocess.Popen([program, command], stdin=source, stdout=sink, stderr=sink)
+        _, status, used = os.wait4(child.pid, 0)
+        took = time.perf_counter() - start
+        child.returncode = os.waitstatus_to_exitcode(status)
+    return Took(took, used.ru_utime + used.ru_stime, child.returncode)
+
+
+def memory(program: Program, command: str, path: pathlib.Path) -> float:
+    """The greatest memory of a run, in MB; no less than a small Python process has."""
+    with open(path, "rb") as source:
+        words = [sys.executable, "-I", "-S", "-c", MEMORY_OF, str(program), command]
+        told = subprocess.run(words, stdin=source, capture_output=True, check=True)
+    return int(told.stdout) * 1024 / MB
+
+
+def row(cells: Iterable[str]) -> None:
+    """Prints a row of a table."""
+    print("| " + " | ".join(cells) + " |", flush=True)
+
+
+def head(first: str, *others: str) -> None:
+    """Prints the head of a table."""
+    row([first, *others])
+    row(["---", *["--:"] * len(others)])
+
+
+def some_of(known: Collection[str]) -> Callable[[str], list[str]]:
+    """How a word of the command line is read that names some of these, with commas between them."""
+
+    def read(field: str) -> list[str]:
+        """The names."""
+        words = field.split(",")
+        if not set(words) <= set(known):
+            raise argparse.ArgumentTypeError(
+                f"wanted are some of {', '.join(known)}, with commas between them"
+            )
+        return words
+
+    return read
