@@ -74,7 +74,7 @@ class Conversation:
             if not readable and not writable:
                 raise Difference(
                     f"nothing for {patience:g} seconds: {len(left):,} bytes were not taken, and"
-                    f" behind byte {self.read:,} of the output {shown(bytes(awaited))} is wanted"
+                    f" after byte {self.read:,} of the output {shown(bytes(awaited))} is wanted"
                 )
             if writable:
                 left = left[self.given(left):]
@@ -102,7 +102,7 @@ class Conversation:
             raise Difference(f"it does not read any more; {self.ending()}") from None
 
     def compared(self, awaited: memoryview) -> memoryview:
-        """Reads some output, and answers what is awaited behind it."""
+        """Reads some output, and answers what is awaited after it."""
         some = os.read(self.output, PIECE)
         if not some:
             raise Difference(

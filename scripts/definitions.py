@@ -97,7 +97,7 @@ def definitions() -> dict[Name, Definition]:
 
 
 def imports(text: str) -> Scope:
-    """What the imports of a text bring in: a name, or a module's whole names behind its alias."""
+    """What the imports of a text bring in: a name, or a module's whole names after its alias."""
     scope: Scope = {}
     for crate, module, names, alias in IMPORT.findall(text):
         for item in names.split(","):

@@ -277,7 +277,7 @@ def lines_of(size: int) -> Iterator[Trial]:
         ("NUL bytes", b"", b"\x00", b""),
         ("returns", b"", b"\r", b"\r"),
         ("records without an end", b"check,0,\r", b"check,0,\r", b"check,0,"),
-        ("a record behind its most bytes", b"x" * MOST_LINE, b"check,0,", b"check,0,"),
+        ("a record after the most bytes", b"x" * MOST_LINE, b"check,0,", b"check,0,"),
     ]
     length = max(size, LEAST_LINE)
     for name, begin, filler, end in lines:

@@ -145,10 +145,10 @@ class Judge:
         self.counts["live"] += planned
 
     def judge_rounds(self, own: rules.History) -> None:
-        """Rounds are numbered on behind the last one that the lead began."""
+        """Rounds are numbered on after the last one that the lead began."""
         lead = list(own.tapes[0].round_checks)
         if lead != list(range(self.floor + 1, self.floor + 1 + len(lead))):
-            raise Difference(f"rounds {lead} behind round {self.floor}")
+            raise Difference(f"rounds {lead} after round {self.floor}")
         self.floor += len(lead)
 
     def judge_live(self, now: Generation, own: rules.History) -> None:
@@ -182,12 +182,12 @@ class Judge:
         self.last = own, now.plan
 
     def judge_round(self, own: rules.History, number: int, front: list[int]) -> None:
-        """A completed round is a snapshot, and no line goes behind it where its checks survive."""
+        """A completed round is a snapshot, and no line is earlier where its checks survive."""
         rules.must_be_snapshot(own, number)
         places = [tape.round_checks[number] + 1 for tape in own.tapes]
         checks = [(p, tape.fronts.index(places[p])) for p, tape in enumerate(own.tapes)]
         if not self.damaged.intersection(checks) and any(a < b for a, b in zip(front, places)):
-            raise Difference(f"the line goes behind round {number}")
+            raise Difference(f"the line is earlier than round {number}")
         self.counts["rounds"] += 1
 
     def judge_damage(self, now: Generation, own: rules.History) -> None:

@@ -99,7 +99,7 @@ class Reader:
         self.is_done = False
 
     def fields(self) -> list[str] | None:
-        """The fields of the next record, or None behind the last one."""
+        """The fields of the next record, or None after the last one."""
         line = next(self.lines, None)
         if line is None:
             return None

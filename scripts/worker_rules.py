@@ -2,7 +2,7 @@
 
 They are written anew from the definitions, and know nothing of the code that they judge: an orphan
 is looked for among the events, and a recovery line is what is left where each receiver of an orphan
-falls behind it.
+falls below the choice that has received it.
 """
 
 import bisect
@@ -132,7 +132,7 @@ def surviving(
 
 
 def latest(history: History, choices: Choices) -> tuple[list[Choice], list[int]]:
-    """The recovery line: from the latest choices each receiver of an orphan falls behind it."""
+    """The recovery line: from the latest choices on, each receiver of an orphan falls below it."""
     at = [len(it) - 1 for it in choices]
     front = [it[-1][0] for it in choices]
     fallen = list(range(history.n))
@@ -190,7 +190,7 @@ def must_lead(
         if history.sent_at(*name) < choices[name[0]][at[name[0]]][0]:
             raise Difference(f"the message of entry {k} is sent before the ceiling of its sender")
         if at[q] == 0:
-            raise Difference(f"entry {k} goes behind the initial state")
+            raise Difference(f"entry {k} goes below the initial state")
         at[q] -= 1
     if [choices[p][at[p]][1] for p in range(history.n)] != line:
         raise Difference("the entries do not lead to the line")
@@ -218,7 +218,7 @@ def must_be_planned(
 
 
 def is_completed(history: History, lengths: list[int], number: int) -> bool:
-    """Whether each tape has its check of a round, and behind it a mark from each other process."""
+    """Whether each tape has its check of a round, and after it a mark from each other process."""
     for q, tape in enumerate(history.tapes):
         check = tape.round_checks.get(number, NOT_SENT)
         if check >= lengths[q]:
@@ -230,7 +230,7 @@ def is_completed(history: History, lengths: list[int], number: int) -> bool:
 
 
 def channel(tape: Tape, sender: int, number: int) -> list[Name]:
-    """What is received of a sender behind the check of a round and before the sender's mark."""
+    """What is received of a sender after the check of a round and before the sender's mark."""
     check = tape.round_checks[number]
     mark = tape.marks.get((sender, number), NOT_SENT)
     receipts = tape.receipts.items()
@@ -252,7 +252,7 @@ def must_be_snapshot(history: History, number: int) -> None:
 
 
 def cut(history: History, lengths: list[int], line: list[Choice]) -> list[list[str]]:
-    """The tapes behind a restart: cut at the line, without marks and rounds."""
+    """The tapes after a restart: cut at the line, without marks and rounds."""
     front = front_of(history, lengths, line)
     tapes = []
     for p, tape in enumerate(history.tapes):

@@ -52,7 +52,7 @@ class DoesFaulty(Service):
 
 
 class EndsNoRefusal(Service):
-    """No empty line stands behind a refusal."""
+    """No empty line stands after a refusal."""
 
     def answer_to(self, line: bytes, may_end: bytes) -> bytes:
         answer = super().answer_to(line, may_end)
@@ -97,7 +97,7 @@ class BeginsAnew(Service):
 
 
 class LosesTheLast(Service):
-    """What stands behind the last line feed is not answered."""
+    """What stands after the last line feed is not answered."""
 
     def end(self) -> bytes:
         return b""
@@ -161,7 +161,7 @@ class AnswersEmptyLines(Service):
 
 
 class Starved(Service):
-    """Each record asks for memory twice, before its step and behind it, and may be refused it."""
+    """Each record asks for memory twice, before its step and after it, and may be refused it."""
 
     growths = 0
 

@@ -36,7 +36,7 @@ class Service:
         return line
 
     def end(self) -> bytes:
-        """Answers what stands behind the last line feed, at the end of the input."""
+        """Answers what stands after the last line feed, at the end of the input."""
         return self.answer_to(self.line_with(b""), b"")
 
     def answer_to(self, line: bytes, may_end: bytes) -> bytes:

@@ -316,7 +316,7 @@ class TestFaults(ServiceCase):
         self.assertEqual(self.journal.read_bytes(), WORLD + b"check,0,31\n\ncheck,0,\n")
 
     def test_only_a_rest(self) -> None:
-        """What its owner wrote wrong behind an empty line is not taken for such a rest."""
+        """What its owner wrote wrong after an empty line is not taken for such a rest."""
         for wrong in (b"sned,0,1,61", b"check,0,6", b"# steps", b"ab,1", b"sent,0,0,0", b"check"):
             text = WORLD + b"check,0,31\n\n" + wrong + b"\ncheck,0,32\n"
             self.journal.write_bytes(text)

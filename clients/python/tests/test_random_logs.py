@@ -110,11 +110,11 @@ class TestRandom(unittest.TestCase):
                 self.assertEqual(answers.split("\n\n")[-2].lstrip("\n") + "\n", it.history())
 
     def written(self, chance: random.Random, folder: str, logs: list[list[str]]) -> list[Log]:
-        """The logs as files of a process each, or as one, mixed or one behind the other."""
-        kind = chance.choice(["each", "mixed", "behind"])
+        """The logs as files of a process each, or as one, mixed or one after the other."""
+        kind = chance.choice(["each", "mixed", "after"])
         chance.shuffle(logs)
         texts = ["".join(lines) for lines in logs]
-        if kind == "behind":
+        if kind == "after":
             texts = ["".join(texts)]
         elif kind == "mixed":
             rest = [lines[:] for lines in logs if lines]

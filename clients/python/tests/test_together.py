@@ -78,7 +78,7 @@ class TestTogether(ServiceCase):
         self.assertEqual((checked.value, service.check(0)), (1, 2))
 
     def test_calls_between(self) -> None:
-        """A call within the block comes behind what was sent ahead of it, and has all answered."""
+        """A call within the block comes after what was sent ahead of it, and has all answered."""
         service = self.opened()
         with service.together() as ahead, service.together() as other:
             first, second = ahead.check(0), other.check(0)
