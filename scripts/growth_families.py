@@ -111,7 +111,7 @@ def work_of_many(n: int, mode: str, events: int) -> Iterator[str]:
 
 
 def idle(n: int, mode: str, events: int) -> Callable[[int], Iterator[str]]:
-    """Recoveries of nobody among n processes, behind so many events."""
+    """Recoveries of nobody among n processes, after so many events."""
 
     def records(m: int) -> Iterator[str]:
         yield from work_of_many(n, mode, events)
@@ -226,7 +226,7 @@ def received_low_bits(m: int) -> Iterator[str]:
 
 
 def work(mode: str) -> Callable[[int], Iterator[str]]:
-    """Messages and checks in a ring of 8, with a recovery behind each fifty records."""
+    """Messages and checks in a ring of 8, with a recovery after each fifty records."""
 
     def records(m: int) -> Iterator[str]:
         n, sends, place = 8, 16, [0] * 8
