@@ -52,30 +52,29 @@ def rounds_of_many(m: int) -> Iterator[str]:
             yield f"turn,{p},"
 
 
-def markers_of_many(m: int) -> Iterator[str]:
-    """Rounds of markers among 64 processes, without a message."""
-    yield f"world,1,{MANY},fifo"
-    for _ in range(m):
+def rounds_of_markers(n: int, rounds: int, is_by_receiver: bool = False) -> Iterator[str]:
+    """Rounds of markers among n processes, without a message.
+
+    Those of one sender come together, or else those of one receiver.
+    """
+    channels = [(p, q) for p in range(1, n) for q in range(n) if p != q]
+    if is_by_receiver:
+        channels.sort(key=lambda it: it[1])
+    yield first_of(n, "fifo")
+    for _ in range(rounds):
         yield "begin,0,"
-        for p in range(1, MANY):
-            yield f"deliver,0,{p},0,"
-        for p in range(1, MANY):
-            for q in range(MANY):
-                if p != q:
-                    yield f"deliver,{p},{q},0,"
+        yield from (f"deliver,0,{p},0," for p in range(1, n))
+        yield from (f"deliver,{p},{q},0," for p, q in channels)
+
+
+def markers_of_many(m: int) -> Iterator[str]:
+    """Rounds of markers among 64 processes."""
+    yield from rounds_of_markers(MANY, m)
 
 
 def markers_by_receiver(m: int) -> Iterator[str]:
     """The same, but each process takes all its markers in turn."""
-    yield f"world,1,{MANY},fifo"
-    for _ in range(m):
-        yield "begin,0,"
-        for p in range(1, MANY):
-            yield f"deliver,0,{p},0,"
-        for q in range(MANY):
-            for p in range(1, MANY):
-                if p != q:
-                    yield f"deliver,{p},{q},0,"
+    yield from rounds_of_markers(MANY, m, is_by_receiver=True)
 
 
 def lost(m: int) -> Iterator[str]:
@@ -133,11 +132,7 @@ def recoveries_of(m: int) -> Iterator[str]:
 
 def markers_of(m: int) -> Iterator[str]:
     """Rounds of markers among m processes: a round has a marker for each two of them."""
-    yield first_of(m, "fifo")
-    for _ in range(4):
-        yield "begin,0,"
-        yield from (f"deliver,0,{p},0," for p in range(1, m))
-        yield from (f"deliver,{p},{q},0," for p in range(1, m) for q in range(m) if p != q)
+    yield from rounds_of_markers(m, 4)
 
 
 def claims_of(m: int) -> Iterator[str]:

@@ -21,9 +21,16 @@ use line_tape::{Event, History, MOST_EVENTS};
 use std::alloc::{AllocError, Global};
 use std::marker::Model;
 
-// How many events come at least between two times that the ledger settles, so that what a settling
-// takes but for the events is little beside them.
-const EVENTS_BETWEEN: usize = 4096;
+// How many events for each process come at least between two times that the ledger settles, so that
+// what a settling takes for each process is little beside them.
+const EVENTS_FOR_A_PROCESS: usize = 128;
+
+// No more events than these need come, however many processes there are.
+const EVENTS_FOR_ALL: usize = 4096;
+
+// A ledger settles so many events later where events are added and no room is made. So who makes
+// room for each few events settles as room is made, and takes no memory as events are added.
+const EVENTS_LATER: usize = 16;
 
 /// The line of where each process stands.
 fn present_line(history: &History) -> Line
@@ -55,13 +62,18 @@ fn count_sends(history: &History) -> usize {
     sends
 }
 
+/// How many events come at least between two times that a ledger of `n` processes settles.
+fn events_between(n: u32) -> usize {
+    (n as usize * EVENTS_FOR_A_PROCESS).min(EVENTS_FOR_ALL)
+}
+
 /// After how many further events a ledger settles where it keeps a line: after as many as it would
 /// look at now, which so have paid for it, and some more.
 fn events_to_wait(history: &History, starts: &[u32], left: &[MsgName]) -> usize
     requires { length starts.now ≡ length history.now.processes }
 {
     let n = history.n();
-    let mut events = left.len().saturating_add(EVENTS_BETWEEN);
+    let mut events = left.len().saturating_add(events_between(n));
     for q in 0..n {
         let p = ProcId::try_new(q, n).unwrap();
         let since = history.tape(p).sends().saturating_sub(starts[q as usize]);
@@ -140,7 +152,7 @@ pub struct Ledger {
     places: Vec<u32>,
     left: Vec<MsgName>,
     alloc: Global,
-    // How many further events come before the ledger settles.
+    // How many further events come before the ledger settles, though no room is made for them.
     due: usize,
     // How many sends it may look at then: by then as many events have paid for that.
     credit: usize,
@@ -166,14 +178,15 @@ impl Ledger {
     {
         let starts = no_starts(alloc, history.n())?;
         let places = no_starts(alloc, history.n())?;
-        let credit = count_sends(&history).saturating_add(EVENTS_BETWEEN);
+        let wait = events_between(history.n());
+        let credit = count_sends(&history).saturating_add(wait);
         Ok(Ledger {
             history,
             starts,
             places,
             left: Vec::new(alloc),
             alloc,
-            due: EVENTS_BETWEEN,
+            due: wait.saturating_add(EVENTS_LATER),
             credit,
         })
     }
@@ -196,16 +209,21 @@ impl Ledger {
         move_places(&self.history, line, &mut self.places);
         self.starts = starts;
         self.left = kept;
-        self.due = self.left.len().saturating_add(EVENTS_BETWEEN);
-        self.credit = credit.saturating_add(self.due);
+        let wait = self
+            .left
+            .len()
+            .saturating_add(events_between(self.history.n()));
+        self.due = wait.saturating_add(EVENTS_LATER);
+        self.credit = credit.saturating_add(wait);
     }
 
-    /// Has the ledger settle later.
-    fn put_off(&mut self)
+    /// Has the ledger settle once as many events came as it would look at now.
+    fn wait(&mut self)
         ensures { self.new ≡ self.old }
     {
-        self.due = events_to_wait(&self.history, self.starts.as_slice(), self.left.as_slice());
-        self.credit = self.due;
+        let wait = events_to_wait(&self.history, self.starts.as_slice(), self.left.as_slice());
+        self.due = wait.saturating_add(EVENTS_LATER);
+        self.credit = wait;
     }
 
     /// Keeps the messages that are in transit now, so that no send before the present line is
@@ -231,7 +249,7 @@ impl Ledger {
         );
         match found {
             Ok(settled) => self.keep_settled(&line, settled, credit),
-            Err(AllocError) => self.put_off(),
+            Err(AllocError) => self.wait(),
         }
     }
 
@@ -249,10 +267,23 @@ impl Ledger {
         ensures room { room_at self.old p ≤ room_at self.new p }
         ensures others { (q : ℕ) → q ≢ p → room_at self.new q ≡ room_at self.old q }
     {
-        if self.due == 0 {
+        if self.due <= EVENTS_LATER {
             self.settle();
         }
         self.history.reserve(p, k)
+    }
+
+    /// Counts an event that was added. The ledger settles where enough came since it did, though no
+    /// room was made meanwhile.
+    #[inline(always)]
+    fn count_event(&mut self)
+        ensures { self.new ≡ self.old }
+    {
+        if self.due > 0 {
+            self.due -= 1;
+            return;
+        }
+        self.settle();
     }
 
     /// Adds an event that may come next, in room that was made for it.
@@ -268,7 +299,7 @@ impl Ledger {
     {
         let _count = self.starts.len();
         self.history.append(p, event);
-        self.due = self.due.saturating_sub(1);
+        self.count_event();
     }
 
     /// The messages in transit at a line, by sender, then number.
@@ -313,8 +344,7 @@ impl Ledger {
         move_starts(&self.history, line, &mut self.starts);
         move_places(&self.history, line, &mut self.places);
         self.left = messages;
-        self.due = events_to_wait(&self.history, self.starts.as_slice(), self.left.as_slice());
-        self.credit = self.due;
+        self.wait();
     }
 
     /// Goes on from a line, with each send still to be looked at.
@@ -328,8 +358,7 @@ impl Ledger {
         clear_starts(&mut self.starts);
         clear_starts(&mut self.places);
         self.left = Vec::new(self.alloc);
-        self.due = events_to_wait(&self.history, self.starts.as_slice(), self.left.as_slice());
-        self.credit = self.due;
+        self.wait();
     }
 
     /// Goes on from a line, with what is in transit there and what is sent from now on to be looked
@@ -345,8 +374,7 @@ impl Ledger {
         self.history.restart(line);
         set_places(&self.history, &mut self.places);
         self.left = left;
-        self.due = events_to_wait(&self.history, self.starts.as_slice(), self.left.as_slice());
-        self.credit = self.due;
+        self.wait();
     }
 
     /// Has each process go on from its choice of the line. It takes no memory and cannot fail.

@@ -26,7 +26,7 @@ impl Ledger {
     {
         let _count = self.starts.len();
         self.history.append_send(p, to, inc, body);
-        self.due = self.due.saturating_sub(1);
+        self.count_event();
     }
 
     /// Adds the receipt of a message, as `append` does.
@@ -42,7 +42,7 @@ impl Ledger {
     {
         let _count = self.starts.len();
         self.history.append_receipt(p, message);
-        self.due = self.due.saturating_sub(1);
+        self.count_event();
     }
 
     /// Adds the receipt of a marker, as `append` does.
@@ -58,6 +58,6 @@ impl Ledger {
     {
         let _count = self.starts.len();
         self.history.append_mark(p, from, round);
-        self.due = self.due.saturating_sub(1);
+        self.count_event();
     }
 }

@@ -1,5 +1,5 @@
 -- Each send is to be looked at.
-use Rattle.std.proofs.Common.{◌≡◌, ℕ, List, length, sym, ap, ◌∙◌}
+use Rattle.std.proofs.Common.{◌≡◌, List, length, sym, ap, ◌∙◌}
 use Rattle.line_names.specs.declared.choices.Choice.{Choice}
 use Rattle.line_tape.specs.History.{Process}
 use Rattle.line_tape.specs.Views.{HistoryView}
@@ -15,12 +15,3 @@ invariant_of-self c =
     let enough : length line ≡ length old = c.requires.line.length_is ∙ sym (ap (λ (h : List Process). length h) seen) in
     let same : length c.restart.new.self.processes ≡ length old = ap (λ (h : List Process). length h) c.restart.ensures.processes ∙ length_restarted old line enough in
     AreLeft-anew c.restart.new.self.processes c.clear_starts.new.starts.items c.clear_starts-2.new.starts.items c.new.result.items (c.clear_starts.ensures.count ∙ c.self.invariant.count ∙ sym same) (c.clear_starts-2.ensures.count ∙ c.self.invariant.places_count ∙ sym same) c.clear_starts.ensures.starts c.clear_starts-2.ensures.starts
-
-pub events_to_wait-self-inside-requires : goal.events_to_wait-self-inside-requires
-events_to_wait-self-inside-requires c =
-    let old : List Process = c.self.inside.history.processes in
-    let line : List Choice = c.args.line.now in
-    let seen : old ≡ c.args.self.now.processes = ap (λ (v : HistoryView). v.processes) c.self.view_is in
-    let enough : length line ≡ length old = c.requires.line.length_is ∙ sym (ap (λ (h : List Process). length h) seen) in
-    let same : length c.restart.new.self.processes ≡ length old = ap (λ (h : List Process). length h) c.restart.ensures.processes ∙ length_restarted old line enough in
-    ap (λ (xs : List ℕ). length xs) c.as_slice.ensures.value ∙ c.clear_starts.ensures.count ∙ c.self.invariant.count ∙ sym same

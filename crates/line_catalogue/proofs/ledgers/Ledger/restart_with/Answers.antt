@@ -24,15 +24,6 @@ invariant_of-self c =
     let are : AreLeft (restarted_history old line) starts places (in_transit old line) = AreLeft-restarted old line starts places enough c.move_starts.ensures.count (c.set_places.ensures.count ∙ ap (λ (h : List Process). length h) new) c.move_starts.ensures.starts (λ p. c.set_places.ensures.places p ∙ ap (λ (h : List Process). length (tape_at h p)) new) in
     subst (λ (h : List Process). AreLeft h starts places c.args.left.items) (sym new) (subst (λ (left : List MsgName). AreLeft (restarted_history old line) starts places left) (sym told) are)
 
-pub events_to_wait-self-inside-requires : goal.events_to_wait-self-inside-requires
-events_to_wait-self-inside-requires c =
-    let old : List Process = c.self.inside.history.processes in
-    let line : List Choice = c.args.line.now in
-    let seen : old ≡ c.args.self.now.processes = ap (λ (v : HistoryView). v.processes) c.self.view_is in
-    let enough : length line ≡ length old = c.requires.line.length_is ∙ sym (ap (λ (h : List Process). length h) seen) in
-    let same : length c.restart.new.self.processes ≡ length old = ap (λ (h : List Process). length h) c.restart.ensures.processes ∙ length_restarted old line enough in
-    ap (λ (xs : List ℕ). length xs) c.as_slice.ensures.value ∙ c.move_starts.ensures.count ∙ sym same
-
 pub set_places-requires : goal.set_places-requires
 set_places-requires c =
     let old : List Process = c.self.inside.history.processes in
