@@ -306,4 +306,6 @@ PLANS: dict[str, int] = {
     "waiting": 400_000,
     # Processes that never take a check, and all fail.
     "unchecked": 400_000,
+    # Room is made for all events at first, and then they are added alone.
+    "ahead": 400_000,
 }

@@ -24,7 +24,7 @@ pub fn ends_before(
     for q in 0..n {
         let p = ProcId::try_new(q, n).unwrap();
         let sends = history.tape(p).sends_before(line.at(p));
-        ends.push(starts[q as usize].min(sends))?;
+        ends.push_reserved(starts[q as usize].min(sends));
     }
     Ok(ends)
 }

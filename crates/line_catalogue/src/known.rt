@@ -25,8 +25,8 @@ const SENDS_FOR_AN_EVENT: u64 = 8;
 #[derive(Drop)]
 pub struct Known {
     // Where the marks of each process begin, and after the last one where they end.
-    starts: Vec<usize>,
-    marks: Vec<bool>,
+    pub starts: Vec<usize>,
+    pub marks: Vec<bool>,
 }
 
 impl Known {
@@ -78,13 +78,13 @@ fn find_starts(
     let mut starts = Vec::with_capacity(alloc, n as usize + 1)?;
     let mut start = 0usize;
     for q in 0..n {
-        starts.push(start)?;
+        starts.push_reserved(start);
         let p = ProcId::try_new(q, n).unwrap();
         let sends = history.tape(p).sends_before(line.at(p));
         // No history has so many sends that this ends at the greatest number.
         start = start.saturating_add(sends.saturating_sub(ends[q as usize]) as usize);
     }
-    starts.push(start)?;
+    starts.push_reserved(start);
     Ok(starts)
 }
 

@@ -66,7 +66,7 @@ pub fn empty_rows(alloc: Global, n: u32) -> Result<Vec<Numbers>, AllocError>
 {
     let mut rows = Vec::with_capacity(alloc, n as usize)?;
     for _p in 0..n {
-        rows.push(Numbers::new(alloc))?;
+        rows.push_reserved(Numbers::new(alloc));
     }
     Ok(rows)
 }

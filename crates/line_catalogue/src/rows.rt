@@ -212,14 +212,13 @@ fn first_rows(alloc: Global) -> Result<Vec<KeptRow>, AllocError>
     ensures { IfOk result (λ rows.
         rows.items ≡ record { place = 0; sends = 0; start = 0; damaged = false } ∷ []) }
 {
-    let mut rows = Vec::with_capacity(alloc, 1)?;
-    rows.push(KeptRow {
+    let row = KeptRow {
         place: 0,
         sends: 0,
         start: 0,
         damaged: false,
-    })?;
-    Ok(rows)
+    };
+    vec![in alloc; row; 1]
 }
 
 impl ProcessRows {

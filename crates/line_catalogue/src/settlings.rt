@@ -190,7 +190,7 @@ pub fn find_settled(
             credit,
             &mut messages,
         )?;
-        moved.push(start)?;
+        moved.push_reserved(start);
     }
     Ok(Settled {
         starts: moved,

@@ -134,7 +134,7 @@ impl RowTable {
         for q in 0..n {
             let p = ProcId::try_new(q, n).unwrap();
             let process = rows_of(alloc, n, history.tape(p), marks, p)?;
-            table.push(process)?;
+            table.push_reserved(process);
         }
         Ok(RowTable { table })
     }

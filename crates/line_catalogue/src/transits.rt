@@ -6,12 +6,13 @@ ghost use Rattle.line_names.specs.declared.messages.MsgName.{MsgName};
 ghost use Rattle.line_tape.specs.Event.{sends};
 ghost use Rattle.line_tape.specs.Line.{events_before, IsLine};
 ghost use Rattle.line_tape.specs.Transit.{has_received, in_transit};
-ghost use Rattle.line_catalogue.specs.Known.{AreReceived};
-ghost use Rattle.line_catalogue.specs.Left.{open_first, AreLeft, AreStrangers, HasOpen};
+ghost use Rattle.line_catalogue.specs.Known.{AreKnown, AreReceived};
+ghost use Rattle.line_catalogue.specs.Left.{numbers_at, open_first, start_at};
+ghost use Rattle.line_catalogue.specs.Left.{AreLeft, AreStrangers, HasOpen};
 
 use crate::candidates::candidates;
 use crate::ends::ends_before;
-use crate::known::{find_known, is_marked};
+use crate::known::{Known, find_known, is_marked};
 use crate::numbers::Numbers;
 use line_names::{Line, MsgName, ProcId, ProcSet};
 use line_tape::History;
@@ -135,6 +136,47 @@ pub fn add_open(
     Ok(sends)
 }
 
+/// Adds the messages in transit at a line, process by process, where each row has the numbers of
+/// those among as many first ones as the process's end tells.
+fn add_all_open(
+    history: &History,
+    line: &Line,
+    ends: &[u32],
+    rows: &mut Vec<Numbers>,
+    received: &Known,
+    messages: &mut Vec<MsgName>,
+) -> Result<(), AllocError>
+    requires line { IsLine history.now.processes line.now }
+    requires ends { (p : ℕ)
+        → start_at ends.now p ≤ sends (events_before history.now.processes line.now p) }
+    requires count { length ends.now ≡ length history.now.processes }
+    requires rows { length rows.old.items ≡ length history.now.processes }
+    requires held { (p : ℕ) → p < length history.now.processes
+        → HasOpen history.now.processes line.now p (start_at ends.now p)
+        (numbers_at rows.old.items p) }
+    requires known { AreKnown history.now.processes line.now ends.now
+        received.now.starts.items received.now.marks.items }
+    ensures { OnOk result (messages.new.items
+        ≡ messages.old.items ++ in_transit history.now.processes line.now) }
+{
+    let n = history.n();
+    for sender in 0..n {
+        let p = ProcId::try_new(sender, n).unwrap();
+        let end = ends[sender as usize];
+        add_open(
+            history,
+            line,
+            p,
+            end,
+            &mut rows[sender as usize],
+            received.row(sender),
+            None,
+            messages,
+        )?;
+    }
+    Ok(())
+}
+
 /// The messages in transit at a line, by sender, then number. No message of a process that sent one
 /// before the line was received by the strangers.
 pub fn find_transit(
@@ -151,25 +193,11 @@ pub fn find_transit(
     requires strangers { AreStrangers history.now.processes line.now strangers.now }
     ensures { IfOk result (λ messages. messages.items ≡ in_transit history.now.processes line.now) }
 {
-    let n = history.n();
     let bounds = ends_before(history, starts, alloc, line)?;
     let ends = bounds.as_slice();
     let mut rows = candidates(history, ends, places, left, strangers, alloc, line)?;
     let received = find_known(history, ends, places, alloc, line);
     let mut messages = Vec::new(alloc);
-    for sender in 0..n {
-        let p = ProcId::try_new(sender, n).unwrap();
-        let end = ends[sender as usize];
-        add_open(
-            history,
-            line,
-            p,
-            end,
-            &mut rows[sender as usize],
-            received.row(sender),
-            None,
-            &mut messages,
-        )?;
-    }
+    add_all_open(history, line, ends, &mut rows, &received, &mut messages)?;
     Ok(messages)
 }

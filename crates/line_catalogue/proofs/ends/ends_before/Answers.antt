@@ -27,9 +27,11 @@ loop-q-preserved c =
     let starts : List ℕ = c.args.starts.now in
     let started : end ≤ start_at starts (length ends) = subst (λ (k : ℕ). end ≤ start_at starts k) (sym next) (omega (arith, c.min.ensures)) in
     let before : end ≤ sends (events_before history line (length ends)) = subst (λ (k : ℕ). end ≤ sends (events_before history line k)) (sym next) (omega (arith, c.min.ensures, sent)) in
-    let new : c.push.new.self.items ≡ ends ++ end ∷ [] = c.in_ok-push.ensures.items in
+    let new : c.push_reserved.new.self.items ≡ ends ++ end ∷ [] = c.push_reserved.ensures.items in
     record {
       count = ap (λ (xs : List ℕ). length xs) new ∙ length-append ends (end ∷ []) ∙ ap (λ (k : ℕ). k + 1) next;
+      len = omega (arith, c.push_reserved.ensures.len, c.loop-q.invariant.len);
+      room = omega (arith, c.push_reserved.ensures.capacity, c.loop-q.invariant.room);
       started = λ p. subst (λ (xs : List ℕ). start_at xs p ≤ start_at starts p) (sym new) (ends-more (start_at starts) ends end c.loop-q.invariant.started started p);
       before = λ p. subst (λ (xs : List ℕ). start_at xs p ≤ sends (events_before history line p)) (sym new) (ends-more (λ (k : ℕ). sends (events_before history line k)) ends end c.loop-q.invariant.before before p);
     }

@@ -13,6 +13,8 @@ use Rattle.line_catalogue.proofs.settlings.find_settled.Goals as goal
 
 pub loop-sender-init : goal.loop-sender-init
 loop-sender-init c = record {
+  len = c.in_ok-moved.ensures.len;
+  room = omega (arith, c.in_ok-moved.ensures.capacity);
   moved = ap (λ (xs : List ℕ). length xs) c.in_ok-moved.ensures.items;
   before = λ p. omega (arith, ap (λ (xs : List ℕ). start_at xs p) c.in_ok-moved.ensures.items);
   held = λ p l. absurd (omega (arith, l));
@@ -45,10 +47,12 @@ loop-sender-preserved c =
     let start : ℕ = c.in_ok-start.start in
     let messages : List MsgName = c.settle_sender.new.messages.items in
     let at : c.unwrap-p.result ≡ s = (rw c.unwrap-p.ensures at c.try_new.ensures).1 in
-    let new : c.push.new.self.items ≡ moved ++ start ∷ [] = c.in_ok-push.ensures.items in
+    let new : c.push_reserved.new.self.items ≡ moved ++ start ∷ [] = c.push_reserved.ensures.items in
     let before : start ≤ sends (events_before history line (length moved)) = subst (λ k. start ≤ sends (events_before history line k)) (at ∙ sym c.loop-sender.invariant.moved) c.in_ok-start.ensures.before in
     record {
       moved = ap (λ (xs : List ℕ). length xs) new ∙ length_push moved start ∙ ap (λ (k : ℕ). k + 1) c.loop-sender.invariant.moved;
+      len = omega (arith, c.push_reserved.ensures.len, c.loop-sender.invariant.len);
+      room = omega (arith, c.push_reserved.ensures.capacity, c.loop-sender.invariant.room);
       before = λ p. subst (λ (xs : List ℕ). start_at xs p ≤ sends (events_before history line p)) (sym new) (ends-more (λ (k : ℕ). sends (events_before history line k)) moved start c.loop-sender.invariant.before before p);
       held = λ p l. subst (λ (xs : List ℕ). HaveLeft history line p (start_at xs p) messages) (sym new) (elim (cases_lt p s) [
         | inl earlier ↦

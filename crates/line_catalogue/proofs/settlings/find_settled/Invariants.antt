@@ -1,4 +1,5 @@
 use Rattle.std.proofs.Common.{◌≡◌, ◌<◌, ◌≤◌, ℕ, length}
+use Rattle.std.specs.Prelude.{vec_len, vec_capacity}
 use Rattle.line_tape.specs.Event.{sends}
 use Rattle.line_tape.specs.Line.{events_before}
 use Rattle.line_catalogue.specs.Left.{numbers_at, start_at, HaveLeft}
@@ -7,6 +8,8 @@ use Rattle.line_catalogue.proofs.settlings.find_settled.Given as goal
 abbrev pub invariant-loop-sender : goal.invariant-loop-sender
 invariant-loop-sender l = record {
   moved : length l.moved.items ≡ l.sender;
+  len : vec_len l.moved ≡ l.sender;
+  room : l.n ≤ vec_capacity l.moved;
   before : (p : ℕ) → start_at l.moved.items p ≤ sends (events_before l.history.processes l.line p);
   held : (p : ℕ) → p < l.sender → HaveLeft l.history.processes l.line p (start_at l.moved.items p) l.messages.items;
   count : length l.rows.items ≡ length l.history.processes;

@@ -1,60 +1,20 @@
--- One sender more.
-use Rattle.std.proofs.Common.{◌≡◌, ◌<◌, ◌+◌, ◌++◌, ◌∷◌, [], List, ℕ, suc, length, map, refl, sym, ap, ◌∙◌, subst, arith}
-use Rattle.std.specs.List.{flat_map, range_with_len}
-use Rattle.std.proofs.lemmas.List.{flat_map_more, get_or_default, length-set, get_or-set_other}
+-- What is to be looked at has all that is in transit.
+use Rattle.std.proofs.Common.{◌++◌, List, ℕ, sym, ap, ◌∙◌, subst}
 use Rattle.line_names.specs.declared.choices.Choice.{Choice}
 use Rattle.line_names.specs.declared.messages.MsgName.{MsgName}
 use Rattle.line_tape.specs.History.{Process}
-use Rattle.line_tape.specs.Transit.{Letter, open_letters}
-use Rattle.line_tape.proofs.TransitLemmas.{range-push}
-use Rattle.line_catalogue.specs.Left.{numbers_at, open_first, start_at, AreEnds, HasOpen}
+use Rattle.line_tape.specs.Transit.{in_transit}
+use Rattle.line_catalogue.specs.Left.{AreEnds}
 use Rattle.line_catalogue.proofs.LeftLemmas.{has-open}
-use Rattle.line_catalogue.proofs.OpenLemmas.{open-all}
 use Rattle.line_catalogue.proofs.transits.find_transit.Goals as goal
 
-pub loop-sender-init : goal.loop-sender-init
-loop-sender-init c = record {
-  found = c.new-messages.ensures.items;
-  count = c.in_ok-rows.ensures.count;
-  kept = λ p l. refl;
-}
-
-pub add_open-requires-clause-held : goal.add_open-requires-clause-held
-add_open-requires-clause-held c =
+pub add_all_open-requires-clause-held : goal.add_all_open-requires-clause-held
+add_all_open-requires-clause-held c = λ p inside.
     let history : List Process = c.args.history.now.processes in
     let line : List Choice = c.args.line.now in
-    let s : ℕ = c.loop-sender.sender in
-    let row : List ℕ = c.index_mut.result.now in
     let ends : List ℕ = c.as_slice-ends.result.now in
-    let end : ℕ = start_at ends s in
-    let at : c.unwrap-p.result ≡ s = (rw c.unwrap-p.ensures at c.try_new.ensures).1 in
-    let inside : s < length history = omega (arith, c.n-n.ensures.value) in
-    let is : numbers_at c.in_ok-rows.rows.items s ≡ row = sym (c.loop-sender.invariant.kept s (omega arith)) ∙ get_or_default c.loop-sender.rows.items s [] row (omega (arith, inside, c.loop-sender.invariant.count)) ∙ sym c.index_mut.ensures.value in
     let are : AreEnds history c.args.starts.now line ends = subst (AreEnds history c.args.starts.now line) (sym c.as_slice-ends.ensures.value) c.in_ok-bounds.ensures in
-    let open' : HasOpen history line s end (numbers_at c.in_ok-rows.rows.items s) = has-open history line c.args.starts.now ends c.args.places.now c.args.left.now c.in_ok-rows.rows.items s c.requires.left are c.in_ok-rows.ensures inside in
-    subst (λ (k : ℕ). HasOpen history line k end row) (sym at) (subst (HasOpen history line s end) is open')
-
-pub loop-sender-preserved : goal.loop-sender-preserved
-loop-sender-preserved c =
-    let of : ℕ → List MsgName = λ p. map (λ (letter : Letter). letter.message) (open_letters c.args.history.now.processes c.args.line.now p) in
-    let s : ℕ = c.loop-sender.sender in
-    let rows : List (List ℕ) = c.loop-sender.rows.items in
-    let at : c.unwrap-p.result ≡ s = (rw c.unwrap-p.ensures at c.try_new.ensures).1 in
-    let history : List Process = c.args.history.now.processes in
-    let line : List Choice = c.args.line.now in
-    let p : ℕ = c.unwrap-p.result in
-    let whole : open_first history line p c.in_ok-add_open.field-0 ≡ of p = ap (open_first history line p) (c.in_ok-add_open.ensures.all refl) ∙ open-all history line p in
-    let more : s + 1 ≡ suc s = omega arith in
-    let last : 0 + s ≡ s = omega arith in
-    let next : range_with_len 0 (s + 1) ≡ range_with_len 0 s ++ s ∷ [] = ap (range_with_len 0) more ∙ range-push s 0 ∙ ap (λ x. range_with_len 0 s ++ x ∷ []) last in
-    record {
-      found = c.in_ok-add_open.ensures.found ∙ ap (λ xs. c.loop-sender.messages.items ++ xs) whole ∙ ap (λ k. c.loop-sender.messages.items ++ of k) at ∙ ap (λ xs. xs ++ of s) c.loop-sender.invariant.found ∙ flat_map_more of [] (range_with_len 0 s) s ∙ ap (flat_map of) (sym next);
-      count = length-set rows s c.add_open.new.row ∙ c.loop-sender.invariant.count;
-      kept = λ p l. get_or-set_other rows s p c.add_open.new.row [] (omega (arith, l)) ∙ c.loop-sender.invariant.kept p (omega (arith, l));
-    }
+    has-open history line c.args.starts.now ends c.args.places.now c.args.left.now c.in_ok-rows.rows.items p c.requires.left are c.in_ok-rows.ensures inside
 
 pub returns : goal.returns
-returns c =
-    let of : ℕ → List MsgName = λ p. map (λ (letter : Letter). letter.message) (open_letters c.args.history.now.processes c.args.line.now p) in
-    let all : c.loop-sender.sender ≡ length c.args.history.now.processes = omega (arith, c.n-n.ensures.value) in
-    c.loop-sender.invariant.found ∙ ap (λ k. flat_map of (range_with_len 0 k)) all
+returns c = c.in_ok-add_all_open.ensures ∙ ap (λ (xs : List MsgName). xs ++ in_transit c.args.history.now.processes c.args.line.now) c.new-messages.ensures.items

@@ -21,9 +21,9 @@ loop-q-preserved c =
     let made : RowsView = c.in_ok-process.process in
     let q : ℕ = c.loop-q.q in
     let at : c.unwrap-p.result ≡ q = (rw c.unwrap-p.ensures at c.try_new.ensures).1 in
-    let pushed : c.push.new.self.items ≡ items ++ made ∷ [] = c.in_ok-push.ensures.items in
-    let seen : map check_rows_of c.push.new.self.items ≡ map check_rows_of items ++ made.rows ∷ [] = ap (map check_rows_of) pushed ∙ map-append check_rows_of items (made ∷ []) in
-    let told : map present_of c.push.new.self.items ≡ map present_of items ++ made.present ∷ [] = ap (map present_of) pushed ∙ map-append present_of items (made ∷ []) in
+    let pushed : c.push_reserved.new.self.items ≡ items ++ made ∷ [] = c.push_reserved.ensures.items in
+    let seen : map check_rows_of c.push_reserved.new.self.items ≡ map check_rows_of items ++ made.rows ∷ [] = ap (map check_rows_of) pushed ∙ map-append check_rows_of items (made ∷ []) in
+    let told : map present_of c.push_reserved.new.self.items ≡ map present_of items ++ made.present ∷ [] = ap (map present_of) pushed ∙ map-append present_of items (made ∷ []) in
     let tape : c.tape.result.now.events ≡ tape_at history q = c.tape.ensures.events ∙ ap (tape_at history) at in
     let damaged : damaged_at marks c.unwrap-p.result ≡ damaged_at marks q = ap (damaged_at marks) at in
     let rows : AreRows n (tape_at history q) (damaged_at marks q) made.rows = subst (λ (t : List Event). AreRows n t (damaged_at marks q) made.rows) tape (subst (λ (xs : List ℕ). AreRows n c.tape.result.now.events xs made.rows) damaged c.in_ok-process.ensures.rows) in
@@ -32,6 +32,8 @@ loop-q-preserved c =
     let counted : length (map present_of items) ≡ q = length-map items present_of ∙ c.loop-q.invariant.count in
     record {
       count = omega (arith, ap (λ (xs : List RowsView). length xs) pushed, length_push items made, c.loop-q.invariant.count);
+      len = omega (arith, c.push_reserved.ensures.len, c.loop-q.invariant.len);
+      room = omega (arith, c.push_reserved.ensures.capacity, c.loop-q.invariant.room);
       shown = λ p h. subst (λ (xs : List (List VectorRow)). AreRows n (tape_at history p) (damaged_at marks p) (rows_at xs p)) (sym seen) (elim (cases_lt p q) [
         | inl before ↦ subst (AreRows n (tape_at history p) (damaged_at marks p)) (sym (get_or_append_left (map check_rows_of items) (made.rows ∷ []) [] p (omega arith))) (c.loop-q.invariant.shown p before)
         | inr behind ↦
