@@ -13,6 +13,7 @@ ghost use Rattle.line_posts.specs.Collected.{HasCollectedMore};
 ghost use Rattle.line_posts.specs.Collected.{HasLeft, HasOnlyLooked, HaveAllFailed, IsCollector};
 ghost use Rattle.line_posts.specs.Collected.{IsNotTaken, ShowsNone};
 
+use crate::keeping::keep_planned;
 use line_catalogue::{AddError, Catalogue};
 use line_names::{MOST_PROCESSES, ProcId, ProcSet};
 use line_plan::{Plan, PlanError};
@@ -22,6 +23,10 @@ use rtrb::Consumer;
 use std::alloc::Global;
 use std::marker::Model;
 use std::snapshot::Snapshot;
+
+// How many reports come at least between two times that a collector keeps what is in transit, so
+// that what a plan takes but for what it finds is little beside them.
+const REPORTS_BETWEEN: usize = 4096;
 
 /// The history that was collected so far, as a catalogue, and the other ends of the report lines.
 ///
@@ -33,6 +38,8 @@ pub struct Collector {
     pub(crate) catalogue: Catalogue,
     pub(crate) lines: Vec<Consumer<Event>>,
     pub(crate) capacity: usize,
+    // How many further reports come before `take` keeps what is in transit.
+    due: usize,
 }
 
 impl Model for Collector {
@@ -68,6 +75,7 @@ pub(crate) fn open_collector(
         catalogue,
         lines,
         capacity,
+        due: REPORTS_BETWEEN,
     }
 }
 
@@ -102,7 +110,9 @@ impl Collector {
 
     /// Plans the recovery line of what was collected so far, as if every process failed now.
     ///
-    /// The line stays consistent in each later history, so that what lies before it can be kept.
+    /// The line stays consistent in each later history, so that what lies before it can be kept. It
+    /// looks at what was in transit at a line that is kept, at each send after that one and before
+    /// the planned one, and at the receipts between the two; and at what each plan looks at.
     pub fn plan_live(&self) -> Result<Plan, PlanError>
         ensures latest { IfOk result (λ plan. (failed : List Bool)
             × HaveAllFailed (length self.now.processes) failed
@@ -117,6 +127,19 @@ impl Collector {
     {
         let failed = everyone(self.catalogue.n());
         line_plan::plan(self.alloc, &self.catalogue, &failed)
+    }
+
+    /// Keeps what is in transit at the line that is planned now, if as many reports were taken as
+    /// pay for it. Where memory for it is refused, it is put off.
+    fn keep_due(&mut self)
+        ensures { self.new ≡ self.old }
+    {
+        if self.due > 0 {
+            return;
+        }
+        let failed = everyone(self.catalogue.n());
+        let looked = keep_planned(self.alloc, &mut self.catalogue, &failed);
+        self.due = looked.saturating_add(REPORTS_BETWEEN);
     }
 
     /// Takes the next report of a process, if its line shows one; a refused one stays in front. It
@@ -144,6 +167,7 @@ impl Collector {
         }
         let event = take_at(&mut self.lines, at);
         self.catalogue.append(p, event);
+        self.due = self.due.saturating_sub(1);
         Ok(true)
     }
 
@@ -174,7 +198,9 @@ impl Collector {
     ///
     /// A refused report stays in front of its line, and those taken before it stay taken. It is
     /// refused for what it is and for its tape before memory is asked for. It costs a look at each
-    /// line, and for each report what `Catalogue::add` costs.
+    /// line, and for each report what `Catalogue::add` costs. Now and then it plans and keeps what
+    /// is in transit at that line, for `plan_live`, at a cost that the reports since have paid for;
+    /// where memory for it is refused, nothing else differs.
     pub fn take(&mut self, limit: u32) -> Result<u32, AddError>
         ensures more { HasCollectedMore self.old self.new }
         ensures limit { IfOk result (λ k. k ≤ limit) }
@@ -191,6 +217,7 @@ impl Collector {
         ensures why { IfErr result (λ why. (p : ℕ) × (p < length self.old.opening)
             × IsNotTaken self.new p why × ((q : ℕ) → q < p → ShowsNone self.new q)) }
     {
+        self.keep_due();
         let n = self.catalogue.n();
         let mut taken = 0;
         for p in 0..n {

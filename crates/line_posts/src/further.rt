@@ -10,6 +10,7 @@ ghost use Rattle.line_posts.specs.Posts.{opening_tape};
 ghost use Rattle.line_posts.specs.Gathered.{gathered_tape};
 ghost use Rattle.line_posts.specs.Gathering.{rows_of, AreFurtherBelow, AreReady, IsOnWay, IsReady};
 
+use crate::keeping::keep_planned;
 use crate::posts::Post;
 use crate::queues::{keeps, take_kept};
 use line_catalogue::Catalogue;
@@ -160,7 +161,7 @@ fn add_events(catalogue: &mut Catalogue, further: &mut Vec<VecDeque<Event>>, p: 
 }
 
 /// Adds the further events of each process, in room that was made for them.
-pub(crate) fn add_all(catalogue: &mut Catalogue, further: &mut Vec<VecDeque<Event>>)
+fn add_all(catalogue: &mut Catalogue, further: &mut Vec<VecDeque<Event>>)
     requires way { IsOnWay catalogue.old.processes (rows_of further.old.items)
         catalogue.old.processes catalogue.old.rooms (rows_of further.old.items) }
     ensures marks { catalogue.new.marks ≡ catalogue.old.marks }
@@ -176,4 +177,26 @@ pub(crate) fn add_all(catalogue: &mut Catalogue, further: &mut Vec<VecDeque<Even
         let p = ProcId::try_new(r, n).unwrap();
         add_events(catalogue, further, p);
     }
+}
+
+/// Adds the further events of each process, and keeps what is in transit at the line that is
+/// planned where these failed, so that later plans look at little.
+pub(crate) fn add_and_keep(
+    alloc: Global,
+    catalogue: &mut Catalogue,
+    further: &mut Vec<VecDeque<Event>>,
+    failed: &ProcSet,
+)
+    requires way { IsOnWay catalogue.old.processes (rows_of further.old.items)
+        catalogue.old.processes catalogue.old.rooms (rows_of further.old.items) }
+    ensures marks { catalogue.new.marks ≡ catalogue.old.marks }
+    ensures count { length catalogue.new.processes ≡ length catalogue.old.processes }
+    ensures each { (p : ℕ) → process_at catalogue.new.processes p
+        ≡ record {
+          incarnation = incarnation_at catalogue.old.processes p;
+          tape = tape_at catalogue.old.processes p ++ row_at (rows_of further.old.items) p;
+        } }
+{
+    add_all(catalogue, further);
+    let _ = keep_planned(alloc, catalogue, failed);
 }

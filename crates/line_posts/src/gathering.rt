@@ -24,7 +24,7 @@ ghost use Rattle.line_posts.specs.Gathered.{ArePrefixes};
 
 use crate::accounts::account;
 use crate::collectors::Collector;
-use crate::further::{add_all, further_of_all};
+use crate::further::{add_and_keep, further_of_all};
 use crate::posts::Post;
 use crate::refusals::GatherWhy;
 use line_catalogue::{Catalogue, DamageError};
@@ -150,8 +150,10 @@ fn last_round(posts: &Vec<Post>) -> u32
 /// Gathers what the workers of a generation did: of those that did not fail all, of the failed ones
 /// what they reported. A refusal hands collector and posts back as they were.
 ///
-/// It compares the two ends of each ring, n² of them, and copies and adds each event that the
-/// collector has not taken. What still lies on the rings is not taken from them.
+/// It compares the two ends of each ring, n² of them, copies and adds each event that the collector
+/// has not taken, and plans once, to keep what is in transit at that line for `plan` and `restart`;
+/// where memory for that plan is refused, nothing else differs. What still lies on the rings is not
+/// taken from them.
 pub fn gather(
     mut collector: Collector,
     mut posts: Vec<Post>,
@@ -206,7 +208,7 @@ pub fn gather(
             let floor = last_round(&posts);
             let capacity = collector.capacity;
             let mut catalogue = collector.catalogue;
-            add_all(&mut catalogue, &mut further);
+            add_and_keep(alloc, &mut catalogue, &mut further, &failed);
             Ok(Gathered {
                 alloc,
                 catalogue,

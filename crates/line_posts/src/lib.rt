@@ -6,6 +6,7 @@ mod collectors;
 mod fleets;
 mod further;
 mod gathering;
+mod keeping;
 mod laws;
 mod limits;
 mod markers;

@@ -28,8 +28,8 @@ further_of_all-requires-clause-ready c =
     subst (λ (xs : List PostView). AreReady c.collector.inside.catalogue.processes (in_ends c.collector.inside.lines.items) xs)
     (sym c.account.ensures.same) (ready_of _ P back)
 
-pub add_all-requires : goal.add_all-requires
-add_all-requires c =
+pub add_and_keep-requires : goal.add_and_keep-requires
+add_and_keep-requires c =
     let P = c.args.posts.items in
     let t = c.if-not-account.false in
     let a = c.len.ensures in
@@ -59,10 +59,10 @@ invariant_of-result c =
     let F = rows_of c.in-Ok.further.items in
     let R = c.further_of_all.new.catalogue.rooms in
     let more = subst (λ (xs : List PostView). AreFurtherBelow (length xs) c.args.failed H R xs F) c.account.ensures.same c.in-Ok.ensures.further in
-    let G = c.add_all.new.catalogue.processes in
-    let long = c.add_all.ensures.count ∙ ap length c.in-Ok.ensures.processes in
+    let G = c.add_and_keep.new.catalogue.processes in
+    let long = c.add_and_keep.ensures.count ∙ ap length c.in-Ok.ensures.processes in
     let each : (p : ℕ) → process_at G p ≡ added_process H p F =
-    λ p. c.add_all.ensures.each p ∙ ap (λ (h : List Process). added_process h p F) c.in-Ok.ensures.processes in
+    λ p. c.add_and_keep.ensures.each p ∙ ap (λ (h : List Process). added_process h p F) c.in-Ok.ensures.processes in
     (own_history P, c.account.ensures.fit t, prefixes_of _ P back c.args.failed R F more G long each)
 
 pub returns-in-Ok-clause-gathered : goal.returns-in-Ok-clause-gathered
@@ -80,10 +80,10 @@ returns-in-Ok-clause-gathered c =
     let F = rows_of c.in-Ok.further.items in
     let R = c.further_of_all.new.catalogue.rooms in
     let more = subst (λ (xs : List PostView). AreFurtherBelow (length xs) c.args.failed H R xs F) c.account.ensures.same c.in-Ok.ensures.further in
-    let G = c.add_all.new.catalogue.processes in
-    let long = c.add_all.ensures.count ∙ ap length c.in-Ok.ensures.processes in
+    let G = c.add_and_keep.new.catalogue.processes in
+    let long = c.add_and_keep.ensures.count ∙ ap length c.in-Ok.ensures.processes in
     let each : (p : ℕ) → process_at G p ≡ added_process H p F =
-    λ p. c.add_all.ensures.each p ∙ ap (λ (h : List Process). added_process h p F) c.in-Ok.ensures.processes in
+    λ p. c.add_and_keep.ensures.each p ∙ ap (λ (h : List Process). added_process h p F) c.in-Ok.ensures.processes in
     gathered_of _ P back c.args.failed R F more G long each
 
 pub returns-in-Ok-clause-prefix : goal.returns-in-Ok-clause-prefix
@@ -101,10 +101,10 @@ returns-in-Ok-clause-prefix c =
     let F = rows_of c.in-Ok.further.items in
     let R = c.further_of_all.new.catalogue.rooms in
     let more = subst (λ (xs : List PostView). AreFurtherBelow (length xs) c.args.failed H R xs F) c.account.ensures.same c.in-Ok.ensures.further in
-    let G = c.add_all.new.catalogue.processes in
-    let long = c.add_all.ensures.count ∙ ap length c.in-Ok.ensures.processes in
+    let G = c.add_and_keep.new.catalogue.processes in
+    let long = c.add_and_keep.ensures.count ∙ ap length c.in-Ok.ensures.processes in
     let each : (p : ℕ) → process_at G p ≡ added_process H p F =
-    λ p. c.add_all.ensures.each p ∙ ap (λ (h : List Process). added_process h p F) c.in-Ok.ensures.processes in
+    λ p. c.add_and_keep.ensures.each p ∙ ap (λ (h : List Process). added_process h p F) c.in-Ok.ensures.processes in
     prefixes_of _ P back c.args.failed R F more G long each
 
 pub returns-in-Ok-clause-onward : goal.returns-in-Ok-clause-onward
@@ -122,10 +122,10 @@ returns-in-Ok-clause-onward c =
     let F = rows_of c.in-Ok.further.items in
     let R = c.further_of_all.new.catalogue.rooms in
     let more = subst (λ (xs : List PostView). AreFurtherBelow (length xs) c.args.failed H R xs F) c.account.ensures.same c.in-Ok.ensures.further in
-    let G = c.add_all.new.catalogue.processes in
-    let long = c.add_all.ensures.count ∙ ap length c.in-Ok.ensures.processes in
+    let G = c.add_and_keep.new.catalogue.processes in
+    let long = c.add_and_keep.ensures.count ∙ ap length c.in-Ok.ensures.processes in
     let each : (p : ℕ) → process_at G p ≡ added_process H p F =
-    λ p. c.add_all.ensures.each p ∙ ap (λ (h : List Process). added_process h p F) c.in-Ok.ensures.processes in
+    λ p. c.add_and_keep.ensures.each p ∙ ap (λ (h : List Process). added_process h p F) c.in-Ok.ensures.processes in
     subst (λ (v : CollectorView). Extends G v.processes) c.collector.view_is
     (extends_of _ P back c.args.failed R F more G long each)
 

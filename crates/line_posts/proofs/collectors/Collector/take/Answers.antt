@@ -1,6 +1,7 @@
-use Rattle.std.proofs.Common.{arith}
+use Rattle.std.proofs.Common.{ap, arith, subst, sym}
 use Rattle.std.proofs.lemmas.Result.{OkIff-at_ok}
-use Rattle.line_posts.proofs.ReportLemmas.{more_self, more_then, turn_more_at, turn_none, turn_start, turn_step_at}
+use Rattle.line_posts.specs.Collected.{passed_count, CollectorView, HasCollectedMore}
+use Rattle.line_posts.proofs.ReportLemmas.{more_self, more_then, InTurn, turn_more_at, turn_none, turn_start, turn_step_at}
 use Rattle.line_posts.proofs.collectors.Collector.take.Goals as goal
 
 pub returns-in_err-taken-clause-more : goal.returns-in_err-taken-clause-more
@@ -20,12 +21,15 @@ loop-p-preserved c =
     }
 
 pub loop-p-init : goal.loop-p-init
-loop-p-init c = record {
-  more = more_self _;
-  count = omega arith;
-  turn = turn_start _ _;
-  limit = omega arith;
-}
+loop-p-init c =
+    let same = c.keep_due.ensures in
+    let passed = ap (λ (v : CollectorView). passed_count v.lines) same in
+    record {
+      more = subst (HasCollectedMore c.args.self.now) (sym same) (more_self _);
+      count = omega (arith, passed);
+      turn = subst (λ (v : CollectorView). InTurn c.args.self.now v 0 0 c.args.limit) (sym same) (turn_start _ _);
+      limit = omega arith;
+    }
 
 pub returns-in_err-taken-clause-turns : goal.returns-in_err-taken-clause-turns
 returns-in_err-taken-clause-turns c =
