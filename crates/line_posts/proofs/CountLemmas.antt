@@ -1,5 +1,5 @@
 -- How many messages are in transit, from whom to whom; and one sender after another.
-use Rattle.std.proofs.Common.{cond, zero, suc, true, false, Bool, ◌≡◌, ◌≢◌, ◌∙◌, ◌+◌, ◌<◌, ◌≤◌, ◌++◌, ◌∷◌, [], ℕ, List, Option, Some, None, length, get_or, set, replicate, refl, sym, ap, subst, inl, inr, arith}
+use Rattle.std.proofs.Common.{cond, zero, suc, true, false, Bool, ◌≡◌, ◌∙◌, ◌+◌, ◌<◌, ◌≤◌, ◌++◌, ◌∷◌, [], ℕ, List, Option, Some, None, length, get_or, set, replicate, refl, sym, ap, subst, inl, inr, arith}
 use Rattle.std.specs.Prelude.{slice_get, All, ◌==◌, ◌&&◌}
 use Rattle.std.specs.List.{filter}
 use Rattle.std.specs.Option.{option_eq}

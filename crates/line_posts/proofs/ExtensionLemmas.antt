@@ -1,7 +1,7 @@
 -- A line of checks is as consistent in each later history.
-use Rattle.std.proofs.Common.{◌≡◌, ◌∙◌, ◌++◌, ◌<◌, ◌&&◌, [], ℕ, true, false, Bool, List, length, not, refl, sym, ap, inl, inr, arith}
+use Rattle.std.proofs.Common.{◌≡◌, ◌∙◌, ◌<◌, ◌&&◌, ℕ, true, false, Bool, List, length, not, refl, sym, ap, inl, inr, arith}
 use Rattle.std.proofs.lemmas.Bool.{cases_lt, false≢true}
-use Rattle.std.proofs.lemmas.List.{append_assoc, append-nil, get_or_past}
+use Rattle.std.proofs.lemmas.List.{get_or_past}
 use Rattle.line_names.specs.declared.choices.Choice.{Choice}
 use Rattle.line_names.specs.declared.choices.Choice.TheVariants.{Check as AtCheck, Now}
 use Rattle.line_names.specs.Lines.{choice_at}

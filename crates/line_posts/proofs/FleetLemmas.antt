@@ -6,7 +6,6 @@ use Rattle.std.proofs.lemmas.Option.{slice_get_within}
 use Rattle.line_marker.specs.Recording.{RecordedRound}
 use Rattle.line_tape.specs.declared.events.Event.{Event}
 use Rattle.line_tape.specs.History.{Process, fresh, tape_at}
-use Rattle.line_tape.specs.Rounds.{rounds_checked}
 use Rattle.line_tape.proofs.SpentLemmas.{tape_start}
 use Rattle.line_tape.proofs.NextLemmas.{slice_get_push}
 use Rattle.line_rings.specs.Ends.{End, items_at, items_of, ring_at, row_at, slots_at, AreFresh, AreLinked, HaveSlots}
@@ -15,16 +14,16 @@ use Rattle.line_posts.specs.declared.parcels.Parcel.{Parcel}
 use Rattle.line_posts.specs.Posts.{post_of, PostView}
 use Rattle.line_posts.specs.Collected.{collector_of, CollectorView}
 use Rattle.line_posts.specs.Generations.{AreLined, HasRing}
-use Rattle.line_posts.specs.Openings.{ArePlain, IsOpening}
+use Rattle.line_posts.specs.Openings.{IsOpening}
 use Rattle.line_posts.specs.Fleets.{AreReplays}
 use Rattle.line_posts.specs.Parcels.{parcels_of, parcels_sent}
 use Rattle.line_posts.proofs.ReplayLemmas.{drop_none}
 use Rattle.line_tape.specs.Fit.{received_from}
 use Rattle.line_tape.specs.Views.{MarksView}
 use Rattle.line_posts.specs.Generations.{IsGeneration}
-use Rattle.line_posts.specs.Openings.{parcels_left, AreOpened}
-use Rattle.line_posts.specs.Preparations.{AreJournals, IsJournalAt, IsPrepared}
-use Rattle.line_posts.specs.Replays.{packets_of, AreAllReplays}
+use Rattle.line_posts.specs.Openings.{AreOpened}
+use Rattle.line_posts.specs.Preparations.{IsJournalAt}
+use Rattle.line_posts.specs.Replays.{AreAllReplays}
 use Rattle.line_journals.specs.Journals.{JournalView}
 use Rattle.line_posts.specs.Fleets.{AreAllMade, AreMade, IsMade}
 

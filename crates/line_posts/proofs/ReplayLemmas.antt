@@ -1,7 +1,7 @@
 -- What links hold where a generation begins, read off the tapes.
-use Rattle.std.proofs.Common.{add-one, cond, zero, suc, ◌≡◌, ◌∙◌, ◌+◌, ◌-◌, ◌++◌, ◌∷◌, [], ℕ, List, Option, Some, None, length, take, drop, refl, sym, ap, subst, inl, inr, arith}
+use Rattle.std.proofs.Common.{add-one, cond, zero, suc, ◌≡◌, ◌∙◌, ◌+◌, ◌++◌, ◌∷◌, [], ℕ, List, Option, Some, None, length, take, drop, refl, sym, ap, subst, inl, inr, arith}
 use Rattle.std.specs.Prelude.{slice_get}
-use Rattle.std.specs.List.{filter_map, cons_option}
+use Rattle.std.specs.List.{cons_option}
 use Rattle.std.proofs.lemmas.Bool.{cases_lt, eq-eqb, ne_eqb}
 use Rattle.std.proofs.lemmas.List.{length-append, get_or_past}
 use Rattle.std.proofs.lemmas.List.Elements.{filter_map-append}
@@ -9,7 +9,7 @@ use Rattle.std.proofs.lemmas.Option.{get_or_from_slice_get, slice_get_within}
 use Rattle.line_tape.specs.declared.events.Event.{Event}
 use Rattle.line_tape.specs.declared.events.Event.TheVariants.{Send, Check}
 use Rattle.line_tape.specs.Event.{sends, incarnation_of, incarnations_sent, IsShort}
-use Rattle.line_tape.specs.Fit.{item_received, received_from}
+use Rattle.line_tape.specs.Fit.{received_from}
 use Rattle.line_tape.specs.History.{Process, IsTape}
 use Rattle.line_tape.specs.Rounds.{checked_round, rounds_checked}
 use Rattle.line_tape.proofs.LineLemmas.{tape_at-past}
@@ -17,7 +17,6 @@ use Rattle.line_posts.specs.declared.parcels.Packet.{Packet}
 use Rattle.line_posts.specs.declared.parcels.Parcel.TheVariants.{Message}
 use Rattle.line_posts.specs.Parcels.{parcels_of, parcels_sent}
 use Rattle.line_posts.specs.Fleets.{AreReplays, AreReplaysBelow}
-use Rattle.line_posts.proofs.ParcelLemmas.{parcels_append}
 
 pub take_next : {X : Type 0} (xs : List X) (i : ℕ) (x : X) → slice_get xs i ≡ Some x → take (i + 1) xs ≡ take i xs ++ x ∷ []
 take_next xs i x e = rw (add-one i) (go xs i x e)

@@ -1,28 +1,21 @@
 -- What links hold, told off the tapes that go on, each looked at from its end back.
-use Rattle.std.proofs.Common.{cond, zero, suc, true, false, Bool, ◌≡◌, ◌≢◌, ◌∙◌, ◌+◌, ◌-◌, ◌<◌, ◌≤◌, ◌++◌, ◌∷◌, [], ℕ, List, Option, Some, None, length, map, get_or, set, take, drop, replicate, refl, sym, ap, subst, inl, inr, arith}
-use Rattle.std.specs.Prelude.{slice_get, All, ◌==◌, ◌&&◌}
-use Rattle.std.specs.List.{filter}
-use Rattle.std.specs.Option.{option_eq}
-use Rattle.std.proofs.lemmas.Bool.{cases_eq, cases_lt, eq-eqb, ne_eqb}
-use Rattle.std.proofs.lemmas.List.{append-nil, drop_all, length-append, length-drop, length-set, map-append, map-set, get_or-set_same, get_or-set_other, get_or_past, take-append-drop}
-use Rattle.std.proofs.lemmas.List.Elements.{filter-append, All-head, All-tail}
-use Rattle.std.proofs.lemmas.Option.{get_or_from_slice_get, slice_get_within, same_Some}
-use Rattle.line_names.specs.declared.messages.MsgName.{MsgName}
+use Rattle.std.proofs.Common.{cond, zero, suc, true, false, ◌≡◌, ◌≢◌, ◌∙◌, ◌+◌, ◌-◌, ◌<◌, ◌≤◌, ◌++◌, ◌∷◌, [], ℕ, List, Some, None, length, map, get_or, set, take, drop, replicate, refl, sym, ap, subst, inl, inr, arith}
+use Rattle.std.specs.Prelude.{slice_get, All, ◌==◌}
+use Rattle.std.proofs.lemmas.Bool.{cases_eq, cases_lt}
+use Rattle.std.proofs.lemmas.List.{length-append, length-drop, length-set, map-set, get_or-set_same, get_or-set_other, get_or_past, take-append-drop}
+use Rattle.std.proofs.lemmas.Option.{get_or_from_slice_get, slice_get_within}
 use Rattle.line_tape.specs.declared.events.Event.{Event}
 use Rattle.line_tape.specs.declared.events.Event.TheVariants.{Send, Recv, Check, Mark}
 use Rattle.line_tape.specs.Event.{sends, NamesBelow}
 use Rattle.line_tape.specs.Fit.{received_from}
-use Rattle.line_tape.specs.History.{Process, fresh, process_at, tape_at, IsHistory, IsProcess}
-use Rattle.line_tape.specs.Transit.{addressee, addressees, goes_between}
-use Rattle.line_tape.proofs.LineLemmas.{tape_at-past}
+use Rattle.line_tape.specs.History.{Process, tape_at}
 use Rattle.line_rings.specs.Ends.{row_at}
 use Rattle.line_rings.proofs.RowLemmas.{row_seen}
 use Rattle.line_posts.specs.declared.parcels.Packet.{Packet}
-use Rattle.line_posts.specs.declared.parcels.Parcel.{Parcel}
 use Rattle.line_posts.specs.declared.parcels.Parcel.TheVariants.{Message}
 use Rattle.line_posts.specs.Openings.{parcels_left}
 use Rattle.line_posts.specs.Parcels.{parcels_of, parcels_sent}
-use Rattle.line_posts.specs.Replays.{cell_at, take_last, total, with_cell, AreAllReplays, AreCounted, AreOfSender, AreSorted, AreSquare, IsNoted}
+use Rattle.line_posts.specs.Replays.{cell_at, take_last, total, with_cell, AreOfSender, AreSorted, AreSquare, IsNoted}
 use Rattle.line_posts.proofs.ParcelLemmas.{parcels_append}
 use Rattle.line_posts.proofs.ReplayLemmas.{drop_none, sent_to, sent_past}
 
