@@ -1,11 +1,11 @@
 -- What a process has recorded of a round follows its tape, event by event.
 use Rattle.std.proofs.Common.{◌≡◌, ◌≢◌, ℕ, ◌<◌, Bool, true, false, cond, List, [], ◌∷◌, ◌++◌, replicate, Option, Some, None, refl, sym, ap, ◌∙◌, subst, arith, inl, inr}
-use Rattle.std.specs.Prelude.{◌==◌, ◌||◌, IsTrue, MatchOption, nat_lt}
+use Rattle.std.specs.Prelude.{◌==◌, ◌||◌, IsTrue, MatchOption}
 use Rattle.std.specs.Cmp.Derive.{both_true}
-use Rattle.std.proofs.lemmas.Bool.{cases_eq, eq-eqb, ne_eqb, lt-ltb, and_left}
+use Rattle.std.proofs.lemmas.Bool.{cases_eq, eq-eqb, ne_eqb, and_left}
 use Rattle.std.proofs.lemmas.List.{append-nil, length-set, length-replicate, get_or-set_same, get_or-set_other, get_or-replicate}
 use Rattle.line_names.specs.declared.messages.MsgName.{MsgName}
-use Rattle.line_marker.specs.Recording.{Channel, MarkerView, RecordedRound, open_channel, channel_at, with_channel, with_marker, with_round, with_message, rounds_with_message, round_of, latest, effect_by, effect_of, rounds_after, IsOver, IsRepeated}
+use Rattle.line_marker.specs.Recording.{Channel, MarkerView, RecordedRound, open_channel, channel_at, with_channel, with_marker, with_round, with_message, rounds_with_message, round_of, IsOver, IsRepeated}
 use Rattle.line_tape.specs.declared.events.Event.{Event}
 use Rattle.line_tape.specs.declared.events.Event.TheVariants.{Recv, Check, Mark}
 use Rattle.line_tape.specs.Rounds.{has_check_of, has_mark_of, channel_on, is_check_of, is_mark_of, names_from}
@@ -192,26 +192,11 @@ module _ (n q r : ℕ) (tape : List Event) (marker : MarkerView) (is : IsMarkerO
             (has_mark_push tape e from r begun ∙ or-false (has_mark_of from r tape))
             ∙ heard_by (channel_on from r tape) (has_mark_of from r tape)
 
--- what a marker does where nothing is recorded yet
-pub forced_rounds : (marker : MarkerView) (from r : ℕ) → marker.rounds ≡ [] → marker.floor < r
-    → rounds_after (effect_of marker r) marker from r ≡ with_marker (with_round marker.rounds marker.n r) from r
-forced_rounds marker from r none floor =
-    let nothing : round_of marker.rounds r ≡ None = ap (λ (rs : List RecordedRound). round_of rs r) none in
-    let new : nat_lt (latest marker.floor marker.rounds) r ≡ true = ap (λ (rs : List RecordedRound). nat_lt (latest marker.floor rs) r) none ∙ lt-ltb marker.floor r floor in
-    ap (λ (o : Option RecordedRound). rounds_after (effect_by o (nat_lt (latest marker.floor marker.rounds) r)) marker from r) nothing
-    ∙ ap (λ b. rounds_after (effect_by None b) marker from r) new
-
 -- the round that is recorded
 pub recorded_there : (n q r : ℕ) (tape : List Event) (rounds : List RecordedRound) (is : IsRecordedRound n q r tape rounds) → round_of rounds r ≡ Some is.round
 recorded_there n q r tape rounds is =
     let none : Option RecordedRound = None in
     ap (λ (rs : List RecordedRound). round_of rs r) is.alone ∙ ap (λ b. cond b (Some is.round) none) (eq-eqb is.round.number r is.number_is)
-
--- and where the round is recorded
-pub heard_rounds : (n q r : ℕ) (tape : List Event) (marker : MarkerView) (from : ℕ) → IsRecordedRound n q r tape marker.rounds → rounds_after (effect_of marker r) marker from r ≡ with_marker marker.rounds from r
-heard_rounds n q r tape marker from is =
-    let found = recorded_there n q r tape marker.rounds is in
-    ap (λ (o : Option RecordedRound). rounds_after (effect_by o (nat_lt (latest marker.floor marker.rounds) r)) marker from r) found
 
 -- the channels of a process are closed just where its tape has the markers
 pub over_closed : (n q r : ℕ) (tape : List Event) (marker : MarkerView) → marker.n ≡ n → marker.me ≡ q → IsMarkerOf n q r tape marker → IsOver marker r

@@ -4,6 +4,7 @@ pub mod Rooms
 pub mod Queues
 pub mod Listed
 pub mod Listings
+pub mod Recorders
 pub mod Openings
 pub mod Moves
 pub mod Fates

@@ -20,6 +20,7 @@ mod listings;
 mod modes;
 mod moves;
 mod openings;
+mod recorders;
 mod restarts;
 mod restores;
 mod round_moves;

@@ -5,7 +5,7 @@ ghost use Rattle.std.specs.Prelude.{IfOk, OnOk, OnErr, Some, None, MatchOption};
 ghost use Rattle.line_tape.specs.declared.events.Event.TheVariants.{Recv as RecvEvent};
 ghost use Rattle.line_tape.specs.declared.events.Event.TheVariants.{Check as CheckEvent};
 ghost use Rattle.line_tape.specs.declared.events.Event.TheVariants.{Mark as MarkEvent};
-ghost use Rattle.line_tape.specs.History.{Process, tape_at, with_event};
+ghost use Rattle.line_tape.specs.History.{tape_at, with_event};
 ghost use Rattle.line_tape.specs.Rounds.{has_check_of, is_completed_fifo};
 ghost use Rattle.line_turns.specs.Turning.{IsTurning};
 ghost use Rattle.line_moves.specs.declared.modes.Mode.TheVariants.{Fifo, Unordered};
@@ -17,8 +17,8 @@ ghost use Rattle.line_moves.specs.Openings.{IsFresh, IsOnlyOpen, IsRecording, Op
 ghost use Rattle.line_moves.specs.Fates.{is_forced};
 
 use crate::listings::Listing;
+use crate::recorders::Recorder;
 use crate::rounds::Round;
-use line_marker::Marker;
 use line_names::{MOST_PROCESSES, MsgName, ProcId};
 use line_tape::{History, LAST_ROUND};
 use line_turns::{SharedChannels, Turning};
@@ -30,7 +30,7 @@ use std::marker::Model;
 #[derive(Drop)]
 pub struct OpenRound {
     turning: Turning,
-    markers: Vec<Marker>,
+    markers: Vec<Recorder>,
     /// At most as many markers of the round as have not come yet. While it is not 0, the round is
     /// not completed.
     to_come: u32,
@@ -52,18 +52,17 @@ impl Model for OpenRound {
         × AreToCome r.to_come (length r.turning.checks) r.turning.number r.markers.items };
 }
 
-/// What each of `n` processes has recorded before it has done anything. Rounds up to `floor` are
-/// old.
-fn fresh_markers(alloc: Global, n: u32, floor: u32) -> Result<Vec<Marker>, AllocError>
+/// What each of `n` processes has recorded before it has done anything.
+fn fresh_markers(alloc: Global, n: u32) -> Result<Vec<Recorder>, AllocError>
     requires { n ≤ MOST_PROCESSES }
     ensures markers { IfOk result (λ markers. AreMarkers n markers.items) }
     ensures fresh { IfOk result
-        (λ markers. (q : ℕ) → q < n → IsFresh floor (marker_at markers.items q)) }
+        (λ markers. (q : ℕ) → q < n → IsFresh 0 (marker_at markers.items q)) }
 {
     let mut markers = Vec::with_capacity(alloc, n as usize)?;
     for q in 0..n {
         let me = ProcId::try_new(q, n).unwrap();
-        markers.push(Marker::new(alloc, n, me, floor)?)?;
+        markers.push(Recorder::new(alloc, n, me))?;
     }
     Ok(markers)
 }
@@ -79,7 +78,7 @@ impl OpenRound {
     {
         let n = history.n();
         let turning = Turning::new(alloc, n, last + 1)?;
-        let markers = fresh_markers(alloc, n, last)?;
+        let markers = fresh_markers(alloc, n)?;
         let to_come = n * (n - 1);
         Ok(OpenRound {
             turning,
@@ -104,23 +103,11 @@ impl OpenRound {
         self.turning.has_check(p)
     }
 
-    /// Makes room, so that what process `p` records next takes no memory.
-    pub(crate) fn reserve(&mut self, p: ProcId) -> Result<(), AllocError>
-        requires { p < length self.old.checks }
-        ensures number { self.new.number ≡ self.old.number }
-        ensures recording { (history : List Process) → IsRecording history self.old
-            → IsRecording history self.new }
-        ensures ok { OnOk result (0 < (marker_at self.new.markers p).round_room) }
-    {
-        self.markers[p.get() as usize].reserve_round()
-    }
-
     /// Process `p` takes its check of the round before any marker has come.
     pub(crate) fn begin(&mut self, history: &History, p: ProcId)
         requires p { p < length history.now.processes }
         requires recording { IsRecording history.now.processes self.old }
         requires first { has_check_of self.old.number (tape_at history.now.processes p) ≡ false }
-        requires room { 0 < (marker_at self.old.markers p).round_room }
         ensures number { self.new.number ≡ self.old.number }
         ensures recording { (state : List ℕ)
             → IsRecording
@@ -129,7 +116,7 @@ impl OpenRound {
     {
         self.turning.check(p, history.tape(p).checks() + 1);
         let number = self.turning.number();
-        self.markers[p.get() as usize].begin(number).unwrap();
+        self.markers[p.get() as usize].begin(number);
     }
 
     /// The marker from process `from` has process `p` take its check of the round.
@@ -139,7 +126,6 @@ impl OpenRound {
         requires other { from ≢ p }
         requires recording { IsRecording history.now.processes self.old }
         requires first { has_check_of self.old.number (tape_at history.now.processes p) ≡ false }
-        requires room { 0 < (marker_at self.old.markers p).round_room }
         ensures number { self.new.number ≡ self.old.number }
         ensures recording { (state : List ℕ)
             → IsRecording
@@ -150,9 +136,7 @@ impl OpenRound {
     {
         self.turning.check(p, history.tape(p).checks() + 1);
         let number = self.turning.number();
-        let _effect = self.markers[p.get() as usize]
-            .on_marker(from, number)
-            .unwrap();
+        self.markers[p.get() as usize].force(from, number);
         self.to_come = self.to_come.saturating_sub(1);
     }
 

@@ -38,7 +38,8 @@ use std::alloc::{AllocError, Global};
 /// check goes on the tape of the process, and a marker on each link from it to another. The round,
 /// which is open now, and the index of the check are returned.
 ///
-/// It takes memory for what each process will record of the round, and for the state.
+/// It takes memory for what each process records of the round, which is of a fixed size before
+/// messages come, and for the state.
 pub fn begin_round(
     alloc: Global,
     catalogue: &mut Catalogue,
@@ -67,7 +68,6 @@ pub fn begin_round(
     let state = State::of(Vec::from_slice(alloc, state)?);
     catalogue.reserve(at, 1)?;
     let mut running = OpenRound::new(alloc, catalogue.history(), last)?;
-    running.reserve(at)?;
     links.push_each(at, Item::Marker(last + 1))?;
     let check = catalogue.history().tape(at).checks() + 1;
     running.begin(catalogue.history(), at);
@@ -109,7 +109,6 @@ fn force_round(
     let number = running.number();
     let state = State::of(Vec::from_slice(alloc, state)?);
     catalogue.reserve(to, 2)?;
-    running.reserve(to)?;
     links.push_each(to, Item::Marker(number))?;
     links.drop_first(from, to);
     running.force(catalogue.history(), from, to);
@@ -155,8 +154,8 @@ fn hear_round(
 /// Takes the marker that is first on a link. If the process has no check of its round yet, it takes
 /// that first: `forced` is what `is_forced` says.
 ///
-/// A forced check puts a marker on each link from the process to another. Else it costs a look at
-/// the channels of the process.
+/// A forced check puts a marker on each link from the process to another. Else it takes constant
+/// time.
 pub fn take_marker(
     alloc: Global,
     catalogue: &mut Catalogue,

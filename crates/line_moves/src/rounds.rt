@@ -15,7 +15,7 @@ ghost use Rattle.std.specs.Option.{unwrap_or};
 ghost use Rattle.line_moves.specs.Openings.{kept_channel, recorded_channel, recording_of};
 ghost use Rattle.line_moves.specs.Openings.{AreFoundAt, AreInTransit, AreMarkers, IsRecording};
 
-use line_marker::Marker;
+use crate::recorders::Recorder;
 use line_names::{Choice, Line, MOST_PROCESSES, MsgName, ProcId};
 use line_tape::History;
 use line_turns::{SharedChannels, Turning};
@@ -30,7 +30,7 @@ pub struct Round {
     checks: Vec<u32>,
     /// What processes recorded until their last marker came, for those that recorded something, by
     /// process; none where links keep no order.
-    markers: Vec<Marker>,
+    markers: Vec<Recorder>,
     /// What was in transit, where links keep no order.
     counted: Option<SharedChannels>,
 }
@@ -89,7 +89,7 @@ impl Round {
     pub(crate) fn of_markers(
         alloc: Global,
         turning: Turning,
-        markers: Vec<Marker>,
+        markers: Vec<Recorder>,
         history: &History,
     ) -> Round
         requires markers { AreMarkers (length turning.checks) markers.items }
@@ -190,7 +190,7 @@ impl Round {
 
 /// What process `to` recorded of the channel from process `from` in a round; nothing if it is not
 /// among these. It looks for it from the first on.
-fn recorded(markers: &[Marker], round: u32, from: ProcId, to: ProcId) -> &[MsgName]
+fn recorded(markers: &[Recorder], round: u32, from: ProcId, to: ProcId) -> &[MsgName]
     requires { All (λ (marker : MarkerView). from < marker.n) markers.now }
     ensures { result.now ≡ kept_channel markers.now round from to }
 {
@@ -198,36 +198,15 @@ fn recorded(markers: &[Marker], round: u32, from: ProcId, to: ProcId) -> &[MsgNa
     'each: for i in 0..count {
         let marker = &markers[i];
         if marker.me().get() == to.get() {
-            return match marker.channel(from, round) {
-                Some(names) => names,
-                None => &[],
-            };
+            return marker.names(from, round);
         }
     }
     &[]
 }
 
-/// Whether nothing is on any channel of the round to a process. It looks at each of them.
-fn is_silent(marker: &Marker, n: u32, round: u32) -> bool
-    requires few { n ≤ MOST_PROCESSES }
-    requires n { marker.now.n ≡ n }
-    ensures { result ≡ true → (p : ℕ) → p < n
-        → unwrap_or (messages_by (round_of marker.now.rounds round) p) [] ≡ [] }
-{
-    'each: for p in 0..n {
-        let from = ProcId::try_new(p, n).unwrap();
-        if let Some(names) = marker.channel(from, round) {
-            if !names.is_empty() {
-                return false;
-            }
-        }
-    }
-    true
-}
-
 /// What was recorded of a round, without the processes that nothing was on a channel to. It takes
 /// no memory, and looks at each channel.
-fn without_silence(alloc: Global, n: u32, markers: Vec<Marker>, round: u32) -> Vec<Marker>
+fn without_silence(alloc: Global, n: u32, markers: Vec<Recorder>, round: u32) -> Vec<Recorder>
     requires few { n ≤ MOST_PROCESSES }
     requires markers { AreMarkers n markers.items }
     ensures n { All (λ (marker : MarkerView). marker.n ≡ n) result.items }
@@ -238,7 +217,7 @@ fn without_silence(alloc: Global, n: u32, markers: Vec<Marker>, round: u32) -> V
     let mut q = kept.len();
     'each: while q > 0 {
         q -= 1;
-        if is_silent(&kept[q], n, round) {
+        if kept[q].is_silent() {
             kept.remove(q);
         }
     }

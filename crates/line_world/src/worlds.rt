@@ -249,9 +249,9 @@ impl World {
     /// - Sending, delivering a message and taking a check cost the same however much was done
     ///   before, except for what `Catalogue::reserve` does now and then. To know whether a message
     ///   forces a check, its sender's checks of rounds are searched by halves.
-    /// - A marker costs a look at its receiver's channels, and the last marker of a round one at
-    ///   all channels of the round. A check that begins a round of markers, or that a marker
-    ///   forces, puts a marker on the link to each other process.
+    /// - A marker costs the same too, but the last marker of a round looks at all channels of the
+    ///   round. A check that begins a round of markers, or that a marker forces, puts a marker on
+    ///   the link to each other process.
     /// - The last check of a round of colours looks at what was in transit when channels were last
     ///   counted, and at each send and receipt since.
     /// - Recovering costs what a plan does, and a look at each event that it cuts or that came

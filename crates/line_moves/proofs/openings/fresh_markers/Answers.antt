@@ -6,8 +6,8 @@ use Rattle.line_moves.proofs.openings.fresh_markers.Goals as goal
 pub loop-q-preserved : goal.loop-q-preserved
 loop-q-preserved c =
     let at : c.unwrap-me.result ≡ c.loop-q.q = (rw c.unwrap-me.ensures at c.try_new.ensures).1 in
-    subst (AreFresh c.args.n c.args.floor (c.loop-q.q + 1)) (sym c.in_ok-push.ensures.items)
-    (AreFresh-more c.args.n c.args.floor c.loop-q.q c.loop-q.markers.items c.in_ok-new.field-0 c.loop-q.invariant c.in_ok-new.ensures.n (c.in_ok-new.ensures.me ∙ at) c.in_ok-new.ensures.floor c.in_ok-new.ensures.rounds)
+    subst (AreFresh c.args.n 0 (c.loop-q.q + 1)) (sym c.in_ok-push.ensures.items)
+    (AreFresh-more c.args.n 0 c.loop-q.q c.loop-q.markers.items c.new.result c.loop-q.invariant c.new.ensures.n (c.new.ensures.me ∙ at) c.new.ensures.floor c.new.ensures.rounds)
 
 pub returns-clause-markers : goal.returns-clause-markers
 returns-clause-markers c =

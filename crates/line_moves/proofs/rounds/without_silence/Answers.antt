@@ -28,6 +28,6 @@ each-preserved-then-is_silent c =
       subst (Ascend 0) (sym removed) (Ascend-removed 0 old q c.each.invariant.2),
       λ p to p_within to_within.
           ap (λ (ms : List MarkerView). kept_channel ms c.args.round p to) removed
-          ∙ kept_removed c.args.round p to 0 old q c.each.invariant.2 within (ap (told c.args.round p to) (sym own) ∙ c.is_silent.ensures c.if-is_silent.true p p_within)
+          ∙ kept_removed c.args.round p to 0 old q c.each.invariant.2 within (ap (told c.args.round p to) (sym own) ∙ c.is_silent.ensures c.if-is_silent.true c.args.round p)
           ∙ c.each.invariant.3 p to p_within to_within,
     )

@@ -8,6 +8,7 @@ use Rattle.line_tape.specs.Rounds.{has_check_of}
 use Rattle.line_turns.specs.Turning.{TurningView, IsTurning}
 use Rattle.line_moves.specs.Openings.{OpenView, marker_at, AreMarkers, IsRecording}
 use Rattle.line_moves.proofs.OpenFacts.{IsRecording-begun, own_marker}
+use Rattle.line_moves.proofs.RecordingLemmas.{recorded_none}
 use Rattle.line_moves.proofs.openings.OpenRound.begin.Goals as goal
 
 pub returns-clause-recording : goal.returns-clause-recording
@@ -31,4 +32,18 @@ returns-clause-recording c = λ state.
     subst (λ (v : ℕ). IsRecording (with_event history p (Check state (Some v))) after) number
     (IsRecording-begun history p turning markers c.requires.p are is state c.check.new.self c.check.ensures.number follows none c.get.result c.get.ensures.value new
     (c.begin.ensures.same.floor_is ∙ ap (λ (m : MarkerView). m.floor) own)
-    ((rw c.unwrap.ensures at c.begin.ensures.ok) ∙ ap (λ (v : ℕ). with_round old.rounds old.n v) told ∙ ap (λ (m : MarkerView). with_round m.rounds m.n r) own))
+    (c.begin.ensures.begun ∙ ap (λ (v : ℕ). with_round old.rounds old.n v) told ∙ ap (λ (m : MarkerView). with_round m.rounds m.n r) own))
+
+pub begin-requires : goal.begin-requires
+begin-requires c =
+    let history : List Process = c.args.history.now.processes in
+    let p : ℕ = c.args.p in
+    let turning : TurningView = c.self.inside.turning in
+    let markers : List MarkerView = c.self.inside.markers.items in
+    let r : ℕ = turning.number in
+    let number : r ≡ c.args.self.now.number = ap (λ (v : OpenView). v.number) c.self.view_is in
+    let is : IsRecording history (record { number = r; checks = turning.checks; markers = markers }) = subst (IsRecording history) (sym c.self.view_is) c.requires.recording in
+    let old : MarkerView = c.index_mut.result.now in
+    let own : old ≡ marker_at markers p = own_marker history p turning markers c.requires.p c.self.invariant.0 is old (c.index_mut.ensures.value ∙ ap (λ (i : ℕ). get_or markers i old) c.get.ensures.value) in
+    let none : has_check_of r (tape_at history p) ≡ false = ap (λ (v : ℕ). has_check_of v (tape_at history p)) number ∙ c.requires.first in
+    ap (λ (m : MarkerView). m.rounds) own ∙ recorded_none (length history) p r (tape_at history p) (marker_at markers p) (is.markers p c.requires.p) none
