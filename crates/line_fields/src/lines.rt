@@ -55,7 +55,7 @@ fn push_pair(out: &mut Vec<u8>, value: u32)
 
 // Writes a number below 100, where there is room for two digits.
 #[inline(always)]
-fn push_small(out: &mut Vec<u8>, value: u32)
+pub(crate) fn push_small(out: &mut Vec<u8>, value: u32)
     requires small { value < 100 }
     requires room { vec_len out.old + 2 ≤ vec_capacity out.old }
     ensures text { out.new.items ≡ out.old.items ++ decimal value }

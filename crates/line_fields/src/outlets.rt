@@ -9,7 +9,9 @@ ghost use Rattle.line_fields.specs.Outlets.{field_text};
 
 use crate::RecordWriter;
 use crate::digits::push_eights;
-use crate::lines::{has_spare_room, pair_of, push_hex, push_number, push_text, push_word};
+use crate::lines::{
+    has_spare_room, pair_of, push_hex, push_number, push_small, push_text, push_word,
+};
 use itoa::Buffer;
 use line_devices::{DeviceFault, Sink, put_all};
 
@@ -187,7 +189,9 @@ fn push_any(text: &mut Vec<u8>, value: u64)
     ensures len { vec_len text.new ≤ vec_len text.old + 40 }
     ensures capacity { vec_capacity text.old ≤ vec_capacity text.new }
 {
-    if value >= SHORT_NUMBER {
+    if value < 100 {
+        push_small(text, value as u32);
+    } else if value >= SHORT_NUMBER {
         push_long(text, value);
     } else {
         push_number(text, value as u32);
@@ -207,11 +211,18 @@ fn push_field(text: &mut Vec<u8>, value: u64)
 }
 
 // Writes a comma before each of some numbers and the number, after a text that has room for all.
+// A message's name has three numbers, which are written without a loop.
 #[inline(always)]
 fn push_numbers(text: &mut Vec<u8>, numbers: &[u64])
     requires { vec_len text.old + 41 * length numbers.now ≤ vec_capacity text.old }
     ensures { text.new.items ≡ text.old.items ++ flat_map (λ n. 44 ∷ decimal n) numbers.now }
 {
+    if let [first, second, third] = numbers {
+        push_field(text, *first);
+        push_field(text, *second);
+        push_field(text, *third);
+        return;
+    }
     for i in 0..numbers.len() {
         push_field(text, numbers[i]);
     }

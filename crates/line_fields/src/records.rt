@@ -164,6 +164,7 @@ impl Row {
     ///
     /// It looks at the bytes sixteen at a time, as far as the text goes, so a line is best read
     /// with what stands after it.
+    #[inline(always)]
     #[tactic(auto, unfolding(crate::specs::Rows::spans_from))]
     pub fn take_line(&mut self, text: &[u8]) -> Result<usize, AllocError>
         ensures line { IfOk result (λ end. IsLineEnd text.now end) }

@@ -30,6 +30,7 @@ fn marks_of_sixteen(text: &[u8], at: usize) -> u64
 // Where the fields of the first line of a text end, and where that line does.
 //
 // The bytes are looked at sixteen at a time, and near the end of the text one by one.
+#[inline(always)]
 pub(crate) fn split(text: &[u8], ends: &mut Vec<usize>) -> Result<usize, AllocError>
     ensures line { IfOk result (λ end. IsLineEnd text.now end) }
     ensures within { IfOk result

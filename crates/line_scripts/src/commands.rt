@@ -108,6 +108,7 @@ fn long_from(bytes: &Vec<u8>, start: usize) -> usize
 }
 
 // Puts the bytes that a field spells after those that a list has, and tells how many these are.
+#[inline(always)]
 #[tactic(auto, using(crate::proofs::BehindLemmas::given_behind))]
 fn spell_behind(bytes: &mut Vec<u8>, text: &[u8]) -> Result<usize, ReadError>
     ensures exact { Gives (λ _. behind bytes.old.items bytes.new.items) result (hex text.now) }
@@ -115,6 +116,9 @@ fn spell_behind(bytes: &mut Vec<u8>, text: &[u8]) -> Result<usize, ReadError>
         (λ long. long ≡ length (behind bytes.old.items bytes.new.items)) }
     ensures kept { take (length bytes.old.items) bytes.new.items ≡ bytes.old.items }
 {
+    if text.is_empty() {
+        return Ok(0);
+    }
     let start = bytes.len();
     match hex_behind(bytes, text) {
         Ok(()) => Ok(long_from(bytes, start)),
