@@ -262,16 +262,6 @@ fn shrink(commands: &mut Commands)
     }
 }
 
-// The same, where those that are gone are as many as those that are left.
-#[inline(always)]
-fn shrink_at_half(commands: &mut Commands)
-    ensures { commands.new ≡ commands.old }
-{
-    if commands.gone >= commands.kept.len() - commands.gone {
-        shrink(commands);
-    }
-}
-
 impl Commands {
     /// Those that were kept, in their order.
     pub(crate) fn of(kept: Vec<Kept>, bytes: Vec<u8>) -> Commands
@@ -298,9 +288,8 @@ impl Commands {
         Some(lent(first, own))
     }
 
-    // Takes the first one out, if there is one.
-    #[inline(always)]
-    fn take_first(&mut self)
+    /// Lets the first one go, if there is one.
+    pub fn drop_first(&mut self)
         ensures { self.new ≡ drop 1 self.old }
     {
         let Some(first) = self.kept.get(self.gone) else {
@@ -308,13 +297,8 @@ impl Commands {
         };
         self.at += long_of(first);
         self.gone += 1;
-    }
-
-    /// Lets the first one go, if there is one.
-    pub fn drop_first(&mut self)
-        ensures { self.new ≡ drop 1 self.old }
-    {
-        self.take_first();
-        shrink_at_half(self);
+        if self.gone >= self.kept.len() - self.gone {
+            shrink(self);
+        }
     }
 }
