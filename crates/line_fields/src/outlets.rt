@@ -181,23 +181,6 @@ fn push_long(text: &mut Vec<u8>, value: u64)
     push_text(text, buffer.format(value).as_bytes());
 }
 
-// Writes a number after a text that has room for it.
-#[inline(always)]
-fn push_any(text: &mut Vec<u8>, value: u64)
-    requires { vec_len text.old + 40 ≤ vec_capacity text.old }
-    ensures text { text.new.items ≡ text.old.items ++ decimal value }
-    ensures len { vec_len text.new ≤ vec_len text.old + 40 }
-    ensures capacity { vec_capacity text.old ≤ vec_capacity text.new }
-{
-    if value < 100 {
-        push_small(text, value as u32);
-    } else if value >= SHORT_NUMBER {
-        push_long(text, value);
-    } else {
-        push_number(text, value as u32);
-    }
-}
-
 // Writes a comma and a number after a text that has room for them.
 #[inline(always)]
 fn push_field(text: &mut Vec<u8>, value: u64)
@@ -207,7 +190,13 @@ fn push_field(text: &mut Vec<u8>, value: u64)
     ensures capacity { vec_capacity text.old ≤ vec_capacity text.new }
 {
     text.push_reserved(b',');
-    push_any(text, value);
+    if value < 100 {
+        push_small(text, value as u32);
+    } else if value >= SHORT_NUMBER {
+        push_long(text, value);
+    } else {
+        push_number(text, value as u32);
+    }
 }
 
 // Writes a comma before each of some numbers and the number, after a text that has room for all.
