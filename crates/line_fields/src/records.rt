@@ -171,12 +171,10 @@ impl Row {
         ensures ok { IfOk result (λ end. self.new ≡ parts 44 (take end text.now)) }
         ensures err { OnErr result (self.new ≡ []) }
     {
-        self.bytes.clear();
         self.by_csv = false;
-        if let Ok(end) = split(text, &mut self.ends) {
-            if self.bytes.extend_from_slice(&text[..end]).is_ok() {
-                return Ok(end);
-            }
+        if let Ok(end) = split(text, &mut self.bytes, &mut self.ends) {
+            self.bytes.truncate(end);
+            return Ok(end);
         }
         self.ends.clear();
         Err(AllocError)
