@@ -1,6 +1,7 @@
 //! The records that are written for what the machine answers.
 
-ghost use Rattle.std.specs.Prelude.{◌≡◌, ◌++◌, [], IfOk, OnOk};
+ghost use Rattle.std.specs.Prelude.{◌≡◌, ◌++◌, ◌∷◌, [], IfOk, OnOk, decimal};
+ghost use Rattle.line_claims.specs.Records.{name_fields};
 ghost use Rattle.line_devices.specs.Devices.{Outputs};
 ghost use Rattle.line_fields.specs.Texts.{record_text, records_text};
 ghost use Rattle.line_replies.specs.Replies as spec;
@@ -10,9 +11,79 @@ mod recoveries;
 use line_claims::{name_of, number_field, numbers_of};
 use line_devices::{DeviceFault, MemSink, Sink, put_all};
 use line_fields::{Field, RecordWriter, put_ending, put_numbers};
+use line_names::{MsgName, ProcId};
 use line_world::Reply;
 use recoveries::put_recovery;
 use std::alloc::{AllocError, Global};
+
+// Writes a record of a name and a message. Like `put_took` it is put into its caller, so that its
+// numbers take no room where another reply is written.
+#[inline(always)]
+fn put_named<K: Sink>(
+    sink: &mut K,
+    writer: &mut RecordWriter,
+    name: &[u8],
+    message: MsgName,
+) -> Result<(), DeviceFault>
+    ensures { Outputs result (K.taken sink.old) (K.taken sink.new) (K.faults sink.old)
+        (K.faults sink.new) writer.new
+        (writer.old ++ record_text (name.now ∷ name_fields message)) }
+{
+    put_numbers(sink, writer, name, &numbers_of(message))
+}
+
+// Writes `took,FROM,INC,NUMBER,ROUND`.
+#[inline(always)]
+fn put_took<K: Sink>(
+    sink: &mut K,
+    writer: &mut RecordWriter,
+    message: MsgName,
+    forced: Option<u32>,
+) -> Result<(), DeviceFault>
+    ensures { Outputs result (K.taken sink.old) (K.taken sink.new) (K.faults sink.old)
+        (K.faults sink.new) writer.new
+        (writer.old ++ record_text (spec.took_record message forced)) }
+{
+    let last = number_field(forced);
+    put_ending(sink, writer, b"took", &numbers_of(message), last)
+}
+
+// Writes a record of a name, a process and one of its checks.
+fn put_at_check<K: Sink>(
+    sink: &mut K,
+    writer: &mut RecordWriter,
+    name: &[u8],
+    at: ProcId,
+    check: u32,
+) -> Result<(), DeviceFault>
+    ensures { Outputs result (K.taken sink.old) (K.taken sink.new) (K.faults sink.old)
+        (K.faults sink.new) writer.new
+        (writer.old ++ record_text (name.now ∷ decimal at ∷ decimal check ∷ [])) }
+{
+    put_numbers(sink, writer, name, &[at.get() as u64, check as u64])
+}
+
+// Writes a record of a name, a process, one of its checks and the round of this check.
+fn put_in_round<K: Sink>(
+    sink: &mut K,
+    writer: &mut RecordWriter,
+    name: &[u8],
+    at: ProcId,
+    check: u32,
+    round: u32,
+) -> Result<(), DeviceFault>
+    ensures { Outputs result (K.taken sink.old) (K.taken sink.new) (K.faults sink.old)
+        (K.faults sink.new) writer.new
+        (writer.old
+        ++ record_text (name.now ∷ decimal at ∷ decimal check ∷ decimal round ∷ [])) }
+{
+    put_numbers(
+        sink,
+        writer,
+        name,
+        &[at.get() as u64, check as u64, round as u64],
+    )
+}
 
 // Writes `marked,ROUND,forced` or `marked,ROUND,closed`.
 fn put_marked<K: Sink>(
@@ -57,33 +128,20 @@ pub fn put_reply<K: Sink>(
         (K.faults sink.new) writer.new (writer.old ++ records_text (spec.reply_records reply.now)) }
 {
     match reply {
-        Reply::Sent { message } => put_numbers(sink, writer, b"sent", &numbers_of(*message)),
-        Reply::Took { message, forced } => {
-            let last = number_field(*forced);
-            put_ending(sink, writer, b"took", &numbers_of(*message), last)
-        }
+        Reply::Sent { message } => put_named(sink, writer, b"sent", *message),
+        Reply::Took { message, forced } => put_took(sink, writer, *message, *forced),
         Reply::Marked { round, forced } => put_marked(sink, writer, *round, *forced),
-        Reply::Stale { message } => put_numbers(sink, writer, b"stale", &numbers_of(*message)),
-        Reply::Repeated { message } => {
-            put_numbers(sink, writer, b"repeated", &numbers_of(*message))
-        }
-        Reply::Checked { at, check } => {
-            put_numbers(sink, writer, b"checked", &[at.get() as u64, *check as u64])
-        }
+        Reply::Stale { message } => put_named(sink, writer, b"stale", *message),
+        Reply::Repeated { message } => put_named(sink, writer, b"repeated", *message),
+        Reply::Checked { at, check } => put_at_check(sink, writer, b"checked", *at, *check),
         Reply::Begun { at, check, round } => {
-            let numbers = [at.get() as u64, *check as u64, *round as u64];
-            put_numbers(sink, writer, b"begun", &numbers)
+            put_in_round(sink, writer, b"begun", *at, *check, *round)
         }
         Reply::Turned { at, check, round } => {
-            let numbers = [at.get() as u64, *check as u64, *round as u64];
-            put_numbers(sink, writer, b"turned", &numbers)
+            put_in_round(sink, writer, b"turned", *at, *check, *round)
         }
-        Reply::Damaged { at, check } => {
-            put_numbers(sink, writer, b"damaged", &[at.get() as u64, *check as u64])
-        }
-        Reply::Barred { at, check } => {
-            put_numbers(sink, writer, b"barred", &[at.get() as u64, *check as u64])
-        }
+        Reply::Damaged { at, check } => put_at_check(sink, writer, b"damaged", *at, *check),
+        Reply::Barred { at, check } => put_at_check(sink, writer, b"barred", *at, *check),
         Reply::Recovered {
             plan,
             states,

@@ -9,7 +9,8 @@ ghost use Rattle.line_fields.specs.Outlets.{field_text};
 ghost use Rattle.line_fields.specs.Texts.{record_text, records_text};
 ghost use Rattle.line_replies.specs.Replies as spec;
 
-use line_claims::{numbers_of, put_pass};
+use super::put_named;
+use line_claims::put_pass;
 use line_devices::{DeviceFault, Sink};
 use line_fields::{Field, RecordWriter, put_ending, put_fields, put_numbers};
 use line_names::{Choice, MsgName, Passed};
@@ -147,18 +148,6 @@ fn put_passes<K: Sink>(
     Ok(())
 }
 
-// Writes `replay,FROM,INC,NUMBER`.
-fn put_replay<K: Sink>(
-    sink: &mut K,
-    writer: &mut RecordWriter,
-    message: MsgName,
-) -> Result<(), DeviceFault>
-    ensures { Outputs result (K.taken sink.old) (K.taken sink.new) (K.faults sink.old)
-        (K.faults sink.new) writer.new (writer.old ++ record_text (spec.replay_record message)) }
-{
-    put_numbers(sink, writer, b"replay", &numbers_of(message))
-}
-
 // Writes the records of the messages that are replayed.
 fn put_replays<K: Sink>(
     sink: &mut K,
@@ -170,7 +159,7 @@ fn put_replays<K: Sink>(
         (writer.old ++ records_text (spec.replay_records replays.now)) }
 {
     for i in 0..replays.len() {
-        put_replay(sink, writer, replays[i])?;
+        put_named(sink, writer, b"replay", replays[i])?;
     }
     Ok(())
 }

@@ -11,13 +11,13 @@ pub loop-i-preserved : goal.loop-i-preserved
 loop-i-preserved g c =
     let lt : c.loop-i.i < length c.args.replays.now = omega arith in
     let next = item_left replay_record c.args.replays.now c.loop-i.i _ lt c.index-replays-i.is in
-    out_more _ _ next c.loop-i.invariant c.in_ok-put_replay.ensures
+    out_more _ _ next c.loop-i.invariant c.in_ok-put_named.ensures
 
-pub returns-in_err-put_replay : goal.returns-in_err-put_replay
-returns-in_err-put_replay g c =
+pub returns-in_err-put_named : goal.returns-in_err-put_named
+returns-in_err-put_named g c =
     let lt : c.loop-i.i < length c.args.replays.now = omega arith in
     let next = item_left replay_record c.args.replays.now c.loop-i.i _ lt c.index-replays-i.is in
-    out_front _ _ _ _ _ next c.loop-i.invariant c.in_err-put_replay.ensures c.from_residual.ensures.1
+    out_front _ _ _ _ _ next c.loop-i.invariant c.in_err-put_named.ensures c.from_residual.ensures.1
 
 pub returns : goal.returns
 returns g c =
