@@ -68,20 +68,20 @@ pub sel_of_maps : (p : ℕ → Bool) (f g : ℕ → ℕ) (vs : List ℕ) (ms : L
 sel_of_maps p f g vs ms xs ys a b c = (λ i. sel_l (a i) (b i) (c i)) ∙ sel_of_map p f g vs
 
 -- lanes below a bound, where the lanes were computed lane by lane
-less_of_map : (f : ℕ → ℕ) (bound : ℕ) (vs xs : List ℕ) → length vs ≡ 16 → xs ≡ map f vs → map (top 7) (zip2 is_less xs (replicate 16 bound)) ≡ map (λ v. nat_lt (f v) bound) vs
-less_of_map f bound vs xs long e = tops_compared w8 nat_lt xs (replicate 16 bound) ∙ zip2_of_maps nat_lt f (λ _. bound) vs e (splat_is_map vs 16 bound long)
+less_of_map : (n : ℕ) (f : ℕ → ℕ) (bound : ℕ) (vs xs : List ℕ) → length vs ≡ n → xs ≡ map f vs → map (top 7) (zip2 is_less xs (replicate n bound)) ≡ map (λ v. nat_lt (f v) bound) vs
+less_of_map n f bound vs xs long e = tops_compared w8 nat_lt xs (replicate n bound) ∙ zip2_of_maps nat_lt f (λ _. bound) vs e (splat_is_map vs n bound long)
 
--- what the lanes of sixteen bytes have
-pub values_are : (bytes : List ℕ) → length bytes ≡ 16 → Each1 (Fits w8) bytes
-    → sel_l (map (top 7) (zip2 is_less (zip2 minus bytes (replicate 16 48)) (replicate 16 10))) (zip2 minus bytes (replicate 16 48)) (sel_l (map (top 7) (zip2 is_less (zip2 minus (zip2 bit_or bytes (replicate 16 32)) (replicate 16 97)) (replicate 16 6))) (zip2 plus (zip2 minus (zip2 bit_or bytes (replicate 16 32)) (replicate 16 97)) (replicate 16 10)) (replicate 16 255))
+-- what the lanes of n bytes have
+pub values_are : (n : ℕ) (bytes : List ℕ) → length bytes ≡ n → Each1 (Fits w8) bytes
+    → sel_l (map (top 7) (zip2 is_less (zip2 minus bytes (replicate n 48)) (replicate n 10))) (zip2 minus bytes (replicate n 48)) (sel_l (map (top 7) (zip2 is_less (zip2 minus (zip2 bit_or bytes (replicate n 32)) (replicate n 97)) (replicate n 6))) (zip2 plus (zip2 minus (zip2 bit_or bytes (replicate n 32)) (replicate n 97)) (replicate n 10)) (replicate n 255))
     ≡ map value_or_none bytes
-values_are bytes long fit =
-    let numbers : zip2 minus bytes (replicate 16 48) ≡ map number bytes = zip2_splat minus bytes 16 48 long in
-    let lowered : zip2 bit_or bytes (replicate 16 32) ≡ map (λ byte. bit_or byte 32) bytes = zip2_splat bit_or bytes 16 32 long in
-    let letters : zip2 minus (zip2 bit_or bytes (replicate 16 32)) (replicate 16 97) ≡ map letter bytes = zip2_of_maps minus (λ byte. bit_or byte 32) (λ _. 97) bytes lowered (splat_is_map bytes 16 97 long) in
-    let tens : zip2 plus (zip2 minus (zip2 bit_or bytes (replicate 16 32)) (replicate 16 97)) (replicate 16 10) ≡ map (λ byte. plus (letter byte) 10) bytes = zip2_of_maps plus letter (λ _. 10) bytes letters (splat_is_map bytes 16 10 long) in
-    let others = sel_of_maps (λ byte. nat_lt (letter byte) 6) (λ byte. plus (letter byte) 10) (λ _. 255) bytes _ _ _ (less_of_map letter 6 bytes _ long letters) tens (splat_is_map bytes 16 255 long) in
-    sel_of_maps (λ byte. nat_lt (number byte) 10) number other bytes _ _ _ (less_of_map number 10 bytes _ long numbers) numbers others ∙ map_lane bytes fit
+values_are n bytes long fit =
+    let numbers : zip2 minus bytes (replicate n 48) ≡ map number bytes = zip2_splat minus bytes n 48 long in
+    let lowered : zip2 bit_or bytes (replicate n 32) ≡ map (λ byte. bit_or byte 32) bytes = zip2_splat bit_or bytes n 32 long in
+    let letters : zip2 minus (zip2 bit_or bytes (replicate n 32)) (replicate n 97) ≡ map letter bytes = zip2_of_maps minus (λ byte. bit_or byte 32) (λ _. 97) bytes lowered (splat_is_map bytes n 97 long) in
+    let tens : zip2 plus (zip2 minus (zip2 bit_or bytes (replicate n 32)) (replicate n 97)) (replicate n 10) ≡ map (λ byte. plus (letter byte) 10) bytes = zip2_of_maps plus letter (λ _. 10) bytes letters (splat_is_map bytes n 10 long) in
+    let others = sel_of_maps (λ byte. nat_lt (letter byte) 6) (λ byte. plus (letter byte) 10) (λ _. 255) bytes _ _ _ (less_of_map n letter 6 bytes _ long letters) tens (splat_is_map bytes n 255 long) in
+    sel_of_maps (λ byte. nat_lt (number byte) 10) number other bytes _ _ _ (less_of_map n number 10 bytes _ long numbers) numbers others ∙ map_lane bytes fit
 
 -- bytes, each of two neighbouring lanes from a place on
 abbrev pairs : ℕ → ℕ → List ℕ → List ℕ
@@ -121,29 +121,56 @@ found : (read : Result ℕ Fault) → or_none read < 16 → read ≡ Ok (or_none
 found (Ok value) lt = refl
 found (Err fault) lt = absurd (omega (arith, lt))
 
--- where no lane is over 15, the bytes are digits, and spell the bytes of their lanes
-pub eight_are : (xs lanes : List ℕ) → length xs ≡ 16 → lanes ≡ map value_or_none xs → mask_l (map (top 7) (zip2 is_less (replicate 16 15) lanes)) % 2 ^ 64 ≡ 0
-    → hex xs ≡ Ok (zip2 plus (zip2 times (pick_l 0 (lanes ++ lanes) (0 ∷ 2 ∷ 4 ∷ 6 ∷ 8 ∷ 10 ∷ 12 ∷ 14 ∷ [])) (replicate 8 16)) (pick_l 0 (lanes ++ lanes) (1 ∷ 3 ∷ 5 ∷ 7 ∷ 9 ∷ 11 ∷ 13 ∷ 15 ∷ [])))
-eight_are xs lanes long e none =
-    let many : length lanes ≡ 16 = ap length e ∙ (length-map xs value_or_none ∙ long) in
-    let mask : mask_l (map (top 7) (zip2 is_less (replicate 16 15) lanes)) % 2 ^ 64 ≡ mask_l (map (λ x. nat_lt 15 x) lanes) =
-    ap (λ (ms : List Bool). mask_l ms % 2 ^ 64) (tops_compared w8 nat_lt (replicate 16 15) lanes ∙ zip2_splat_left nat_lt 15 16 lanes many)
-    ∙ mask_l-mod (map (λ x. nat_lt 15 x) lanes) 64 (omega (arith, many, length-map lanes (λ x. nat_lt 15 x))) in
-    let whole : take 16 lanes ≡ lanes = take_all 16 lanes (omega (arith, many)) in
-    let empty : mask_l (map (λ x. nat_lt 15 x) (take 16 lanes)) ≡ 0 = ap (λ (v : List ℕ). mask_l (map (λ x. nat_lt 15 x) v)) whole ∙ (sym mask ∙ none) in
+-- the bytes of lanes are digits, and the lanes what they stand for
+record AreDigits (xs lanes : List ℕ) : Type 0 where
+  are : (i : ℕ) → i < length xs → digit (get_or xs i 0) ≡ Ok (get_or lanes i 0)
+  small : (i : ℕ) → i < length xs → get_or lanes i 0 < 16
+  many : length lanes ≡ length xs
+
+-- where none of n lanes is over 15, the bytes are digits
+are_digits : (n : ℕ) (xs lanes : List ℕ) → n ≤ 64 → length xs ≡ n → lanes ≡ map value_or_none xs → mask_l (map (top 7) (zip2 is_less (replicate n 15) lanes)) % 2 ^ 64 ≡ 0 → AreDigits xs lanes
+are_digits n xs lanes few long e none =
+    let many : length lanes ≡ n = ap length e ∙ (length-map xs value_or_none ∙ long) in
+    let mask : mask_l (map (top 7) (zip2 is_less (replicate n 15) lanes)) % 2 ^ 64 ≡ mask_l (map (λ x. nat_lt 15 x) lanes) =
+    ap (λ (ms : List Bool). mask_l ms % 2 ^ 64) (tops_compared w8 nat_lt (replicate n 15) lanes ∙ zip2_splat_left nat_lt 15 n lanes many)
+    ∙ mask_l-mod (map (λ x. nat_lt 15 x) lanes) 64 (omega (arith, few, many, length-map lanes (λ x. nat_lt 15 x))) in
+    let whole : take n lanes ≡ lanes = take_all n lanes (omega (arith, many)) in
+    let empty : mask_l (map (λ x. nat_lt 15 x) (take n lanes)) ≡ 0 = ap (λ (v : List ℕ). mask_l (map (λ x. nat_lt 15 x) v)) whole ∙ (sym mask ∙ none) in
     let small : (i : ℕ) → i < length xs → get_or lanes i 0 < 16 = λ i lt.
-    let low = ltb-false _ _ (none_from_empty_mask (λ x. nat_lt 15 x) lanes 0 16 0 (omega (arith, many)) empty i (omega arith) (omega (arith, long, lt))) in
+    let low = ltb-false _ _ (none_from_empty_mask (λ x. nat_lt 15 x) lanes 0 n 0 (omega (arith, many)) empty i (omega arith) (omega (arith, long, lt))) in
     omega (arith, low) in
     let value : (i : ℕ) → i < length xs → get_or lanes i 0 ≡ value_or_none (get_or xs i 0) = λ i lt.
     ap (λ (v : List ℕ). get_or v i 0) e ∙ get_or-map value_or_none xs i 0 0 lt in
-    let are : (i : ℕ) → i < length xs → digit (get_or xs i 0) ≡ Ok (get_or lanes i 0) = λ i lt.
-    let at = value i lt in
-    let below : value_or_none (get_or xs i 0) < 16 = omega (arith, small i lt, at) in
-    found (digit (get_or xs i 0)) below ∙ ap Ok (sym at) in
+    record {
+      are = λ i lt.
+          let at = value i lt in
+          let below : value_or_none (get_or xs i 0) < 16 = omega (arith, small i lt, at) in
+          found (digit (get_or xs i 0)) below ∙ ap Ok (sym at);
+      small = small;
+      many = many ∙ sym long;
+    }
+
+-- where none of sixteen lanes is over 15, the bytes spell those of their lanes
+pub eight_are : (xs lanes : List ℕ) → length xs ≡ 16 → lanes ≡ map value_or_none xs → mask_l (map (top 7) (zip2 is_less (replicate 16 15) lanes)) % 2 ^ 64 ≡ 0
+    → hex xs ≡ Ok (zip2 plus (zip2 times (pick_l 0 (lanes ++ lanes) (0 ∷ 2 ∷ 4 ∷ 6 ∷ 8 ∷ 10 ∷ 12 ∷ 14 ∷ [])) (replicate 8 16)) (pick_l 0 (lanes ++ lanes) (1 ∷ 3 ∷ 5 ∷ 7 ∷ 9 ∷ 11 ∷ 13 ∷ 15 ∷ [])))
+eight_are xs lanes long e none =
+    let so = are_digits 16 xs lanes (omega arith) long e none in
+    let many : length lanes ≡ 16 = so.many ∙ long in
     let highs = pick_l_left 0 lanes lanes 16 (0 ∷ 2 ∷ 4 ∷ 6 ∷ 8 ∷ 10 ∷ 12 ∷ 14 ∷ []) many tt in
     let lows = pick_l_left 0 lanes lanes 16 (1 ∷ 3 ∷ 5 ∷ 7 ∷ 9 ∷ 11 ∷ 13 ∷ 15 ∷ []) many tt in
     let bytes : pairs 8 0 lanes ≡ zip2 plus (zip2 times (pick_l 0 lanes (0 ∷ 2 ∷ 4 ∷ 6 ∷ 8 ∷ 10 ∷ 12 ∷ 14 ∷ [])) (replicate 8 16)) (pick_l 0 lanes (1 ∷ 3 ∷ 5 ∷ 7 ∷ 9 ∷ 11 ∷ 13 ∷ 15 ∷ [])) = refl in
-    spelled 8 0 xs lanes (omega (arith, long)) are small ∙ ap Ok bytes ∙ (λ i. Ok (zip2 plus (zip2 times (sym highs i) (replicate 8 16)) (sym lows i)))
+    spelled 8 0 xs lanes (omega (arith, long)) so.are so.small ∙ ap Ok bytes ∙ (λ i. Ok (zip2 plus (zip2 times (sym highs i) (replicate 8 16)) (sym lows i)))
+
+-- the same of eight lanes
+pub four_are : (xs lanes : List ℕ) → length xs ≡ 8 → lanes ≡ map value_or_none xs → mask_l (map (top 7) (zip2 is_less (replicate 8 15) lanes)) % 2 ^ 64 ≡ 0
+    → hex xs ≡ Ok (zip2 plus (zip2 times (pick_l 0 (lanes ++ lanes) (0 ∷ 2 ∷ 4 ∷ 6 ∷ [])) (replicate 4 16)) (pick_l 0 (lanes ++ lanes) (1 ∷ 3 ∷ 5 ∷ 7 ∷ [])))
+four_are xs lanes long e none =
+    let so = are_digits 8 xs lanes (omega arith) long e none in
+    let many : length lanes ≡ 8 = so.many ∙ long in
+    let highs = pick_l_left 0 lanes lanes 8 (0 ∷ 2 ∷ 4 ∷ 6 ∷ []) many tt in
+    let lows = pick_l_left 0 lanes lanes 8 (1 ∷ 3 ∷ 5 ∷ 7 ∷ []) many tt in
+    let bytes : pairs 4 0 lanes ≡ zip2 plus (zip2 times (pick_l 0 lanes (0 ∷ 2 ∷ 4 ∷ 6 ∷ [])) (replicate 4 16)) (pick_l 0 lanes (1 ∷ 3 ∷ 5 ∷ 7 ∷ [])) = refl in
+    spelled 4 0 xs lanes (omega (arith, long)) so.are so.small ∙ ap Ok bytes ∙ (λ i. Ok (zip2 plus (zip2 times (sym highs i) (replicate 4 16)) (sym lows i)))
 
 -- nothing read before
 front_none : (read : Result (List ℕ) Fault) → read ≡ with_front [] read

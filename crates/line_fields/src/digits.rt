@@ -13,6 +13,9 @@ use std::simd::prelude::*;
 // How many digits are read at once.
 const DIGITS_AT_ONCE: usize = 16;
 
+// How many of the digits behind these are read at once.
+const DIGITS_BEHIND: usize = 8;
+
 // How many bytes are spelled at once.
 const BYTES_AT_ONCE: usize = 8;
 
@@ -49,8 +52,63 @@ fn first_eight(text: &[u8]) -> Option<[u8; 8]>
     Some((high * u8x8::splat(16) + low).to_array())
 }
 
+// What each of the first eight bytes stands for as a digit of either case.
+#[inline(always)]
+fn values_of_eight(text: &[u8]) -> u8x8
+    requires { 8 ≤ length text.now }
+    ensures { result ≡ map value_or_none (chunk 0 8 text.now) }
+{
+    let bytes = u8x8::from_slice(text);
+    let number = bytes - u8x8::splat(b'0');
+    let letter = (bytes | u8x8::splat(0x20)) - u8x8::splat(b'a');
+    let other = letter
+        .simd_lt(u8x8::splat(6))
+        .select(letter + u8x8::splat(10), u8x8::splat(NO_DIGIT));
+    number.simd_lt(u8x8::splat(10)).select(number, other)
+}
+
+// The bytes that the first eight digits of a text spell, or none where one is no digit.
+#[inline(always)]
+fn first_four(text: &[u8]) -> Option<[u8; 4]>
+    requires { 8 ≤ length text.now }
+    ensures { IfSome result (λ four. hex (take 8 text.now) ≡ Ok four) }
+{
+    let lanes = values_of_eight(text);
+    if lanes.simd_gt(u8x8::splat(15)).to_bitmask() != 0 {
+        return None;
+    }
+    let high = lanes.swizzle([0, 2, 4, 6]);
+    let low = lanes.swizzle([1, 3, 5, 7]);
+    Some((high * u8x4::splat(16) + low).to_array())
+}
+
+// Puts the bytes that the first eight digits of a text spell after those of a list, and answers
+// what is left of the text: all of it where it has fewer bytes, or one that is no digit. There is
+// room for them.
+#[inline(always)]
+fn four_into<'a>(bytes: &mut Vec<u8>, text: &'a [u8]) -> &'a [u8]
+    requires { vec_len bytes.old + length text.now / 2 ≤ vec_capacity bytes.old }
+    ensures same { with_front bytes.old.items (hex text.entry.now)
+        ≡ with_front bytes.new.items (hex result.now) }
+    ensures room { vec_len bytes.new + length result.now / 2 ≤ vec_capacity bytes.new }
+    ensures longer { vec_len bytes.old ≤ vec_len bytes.new }
+    ensures kept { take (vec_len bytes.old) bytes.new.items ≡ bytes.old.items }
+{
+    if text.len() < DIGITS_BEHIND {
+        return text;
+    }
+    let Some(four) = first_four(text) else {
+        return text;
+    };
+    let Ok(()) = bytes.extend_from_slice(&four) else {
+        unreachable!()
+    };
+    &text[DIGITS_BEHIND..]
+}
+
 // Puts the bytes that a text spells after those of a list, eight at a time, up to the first sixteen
-// bytes that are not all digits, and answers what is left of the text. There is room for them.
+// bytes that are not all digits, then the four that the next eight digits spell, and answers what
+// is left of the text. There is room for them.
 #[inline(always)]
 pub(crate) fn eights_into<'a>(bytes: &mut Vec<u8>, text: &'a [u8]) -> &'a [u8]
     requires { vec_len bytes.old + length text.now / 2 ≤ vec_capacity bytes.old }
@@ -68,7 +126,7 @@ pub(crate) fn eights_into<'a>(bytes: &mut Vec<u8>, text: &'a [u8]) -> &'a [u8]
         push_eight(bytes, &eight);
         rest = &rest[DIGITS_AT_ONCE..];
     }
-    rest
+    four_into(bytes, rest)
 }
 
 // Writes eight bytes, where there is room for them.

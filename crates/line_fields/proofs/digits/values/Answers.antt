@@ -6,5 +6,5 @@ use Rattle.line_fields.proofs.digits.values.Goals as goal
 
 pub returns : goal.returns
 returns c =
-    values_are (chunk 0 16 c.args.text.now) (length-chunk 0 16 c.args.text.now (omega (arith, c.requires)))
+    values_are 16 (chunk 0 16 c.args.text.now) (length-chunk 0 16 c.args.text.now (omega (arith, c.requires)))
     (chunk-fits w8 0 16 c.args.text.now c.type_inv.text)
