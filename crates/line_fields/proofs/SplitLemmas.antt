@@ -67,10 +67,8 @@ parted_passes text ends at so lt other =
     parted_runs text ends at 1 so (omega (arith, lt)) (λ i low high. let here : at ≡ i = omega (arith, low, high) in subst (λ (k : ℕ). is_mark (get_or text k 0) ≡ false) here other)
 
 -- a copy as far as a place, and the next sixteen bytes
-pub copied_more : (text bytes : List ℕ) (at : ℕ) → bytes ≡ take at text → bytes ++ take ((at + 16) - at) (drop at text) ≡ take (at + 16) text
-copied_more text bytes at is =
-    let sixteen : (at + 16) - at ≡ 16 = omega arith in
-    (λ i. is i ++ take (sixteen i) (drop at text)) ∙ sym (take-add at 16 text)
+pub copied_more : (text bytes : List ℕ) (at : ℕ) → bytes ≡ take at text → bytes ++ chunk at 16 text ≡ take (at + 16) text
+copied_more text bytes at is = ap (λ (front : List ℕ). front ++ chunk at 16 text) is ∙ sym (take-add at 16 text)
 
 -- a copy as far as a place, and all that is left
 pub copied_whole : (text bytes : List ℕ) (at : ℕ) → bytes ≡ take at text → bytes ++ take (length text - at) (drop at text) ≡ text

@@ -49,7 +49,7 @@ pub(crate) fn split(
     let mut at = 0;
     while text.len() - at >= 16 {
         let mut marks = marks_of_sixteen(text, at);
-        bytes.extend_from_slice(&text[at..at + 16])?;
+        bytes.extend_from_slice(&u8x16::from_slice(&text[at..]).to_array())?;
         let mut next = at;
         while marks != 0 {
             let before = marks.trailing_zeros();
