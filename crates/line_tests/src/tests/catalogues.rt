@@ -1,12 +1,11 @@
 //! Catalogues: what they take, refuse and show.
-use crate::tests::build::{catalogue_of, failed, history_of, process};
+use crate::tests::build::{Did, catalogue_of, failed, history_of, process};
 use crate::tests::{DOMINO, ROUND, passed, reads};
 use line_catalogue::{AddError, Catalogue, CatalogueError, DamageError, VectorRow};
 use line_names::{Body, Choice, Line, MsgName, Passed, ProcId, ProcSet};
 use line_plan::{PlanError, plan};
 use line_tape::{BarError, Event, History, Marks};
-use std::alloc::{AllocError, Global};
-use std::process::Abort;
+use std::alloc::Global;
 use std::test::Fail;
 
 /// The receipt of a message of the first process.
@@ -24,10 +23,18 @@ fn send(inc: u16) -> Result<Event, Fail> {
 }
 
 /// The catalogue that is made of a history of two processes at once, without marks.
-fn made_of(rt: &impl Abort, alloc: Global, history: &History) -> Result<Catalogue, Fail> {
+fn made_of(alloc: Global, history: &History) -> Result<Catalogue, Fail> {
+    if history.n() != 2 {
+        return Err(Fail::new("not two processes"));
+    }
     let marks = Marks::new(alloc, 2)?;
-    assert_eq!(rt; history.n(), 2);
     Ok(Catalogue::of(alloc, history, &marks)?)
+}
+
+/// The same of what two processes did.
+fn made_at_once(alloc: Global, all: &[Did]) -> Result<Catalogue, Fail> {
+    let history = history_of(alloc, all)?;
+    made_of(alloc, &history)
 }
 
 /// Whether two rows tell the same of a check.
@@ -64,8 +71,7 @@ fn are_the_same(one: &Catalogue, other: &Catalogue) -> Result<bool, Fail> {
 
 #[test]
 fn fed_event_by_event(rt: HostRuntime) -> Result<(), Fail> {
-    let history = history_of(rt.alloc(), &ROUND)?;
-    let at_once = made_of(&rt, rt.alloc(), &history)?;
+    let at_once = made_at_once(rt.alloc(), &ROUND)?;
     let fed = catalogue_of(rt.alloc(), &ROUND)?;
     assert!(rt; are_the_same(&fed, &at_once)?);
     Ok(())
@@ -97,10 +103,9 @@ fn planned(alloc: Global, catalogue: &Catalogue, lost: &ProcSet) -> Result<Outco
 #[test]
 fn plans_of_both_are_the_same(rt: HostRuntime) -> Result<(), Fail> {
     let lost = failed(&[0])?;
-    let history = history_of(rt.alloc(), &DOMINO)?;
-    let catalogue = made_of(&rt, rt.alloc(), &history)?;
+    let catalogue = made_at_once(rt.alloc(), &DOMINO)?;
     let back = Some((Choice::Check(0), Choice::Check(0)));
-    assert_eq!(rt; planned(rt.alloc(), &catalogue, &lost)?, (back, 3, 4, 0));
+    assert!(rt; planned(rt.alloc(), &catalogue, &lost)? == (back, 3, 4, 0));
     Ok(())
 }
 
@@ -130,9 +135,8 @@ fn told_of_names(catalogue: &mut Catalogue) -> Result<[Option<AddError>; 5], Fai
 #[test]
 fn names_that_disagree(rt: HostRuntime) -> Result<(), Fail> {
     let mut catalogue = Catalogue::new(rt.alloc(), 2)?;
-    let told = told_of_names(&mut catalogue)?;
     let refused = Some(AddError::NamesDisagree);
-    assert_eq!(rt; told, [refused, None, refused, refused, None]);
+    assert!(rt; told_of_names(&mut catalogue)? == [refused, None, refused, refused, None]);
     Ok(())
 }
 
@@ -166,7 +170,7 @@ fn a_history_that_disagrees(rt: HostRuntime) -> Result<(), Fail> {
     disagree(&mut history)?;
     let names = Some(CatalogueError::NamesDisagree);
     let check = Some(CatalogueError::NoSuchCheck);
-    assert_eq!(rt; why_not_twice(rt.alloc(), &history)?, [names, check]);
+    assert!(rt; why_not_twice(rt.alloc(), &history)? == [names, check]);
     Ok(())
 }
 
@@ -178,6 +182,12 @@ fn received_the_greatest(alloc: Global) -> Result<History, Fail> {
     Ok(history)
 }
 
+/// The catalogue of that.
+fn made_of_the_greatest(alloc: Global) -> Result<Catalogue, Fail> {
+    let history = received_the_greatest(alloc)?;
+    made_of(alloc, &history)
+}
+
 /// Whether the plan for a catalogue, where nobody failed, has these entries.
 fn has_entries(alloc: Global, catalogue: &Catalogue, entries: &[Passed]) -> Result<bool, Fail> {
     let plan = plan(alloc, catalogue, &ProcSet::empty())?;
@@ -187,11 +197,9 @@ fn has_entries(alloc: Global, catalogue: &Catalogue, entries: &[Passed]) -> Resu
 #[test]
 fn plans_with_the_greatest_number(rt: HostRuntime) -> Result<(), Fail> {
     let entry = passed(1, Choice::Now, 0, 4_294_967_295)?;
-    let history = received_the_greatest(rt.alloc())?;
-    let catalogue = made_of(&rt, rt.alloc(), &history)?;
+    let catalogue = made_of_the_greatest(rt.alloc())?;
     let line = Some((Choice::Now, Choice::Check(0)));
-    let told = planned(rt.alloc(), &catalogue, &ProcSet::empty())?;
-    assert_eq!(rt; told, (line, 2, 1, 0));
+    assert!(rt; planned(rt.alloc(), &catalogue, &ProcSet::empty())? == (line, 2, 1, 0));
     assert!(rt; has_entries(rt.alloc(), &catalogue, &[entry])?);
     Ok(())
 }
@@ -224,10 +232,15 @@ fn choices_of(catalogue: &Catalogue) -> Result<(Option<Choice>, Option<Choice>, 
 
 #[test]
 fn lower_choices(rt: HostRuntime) -> Result<(), Fail> {
-    let sound = choices_of(&catalogue_of(rt.alloc(), &DOMINO)?)?;
-    assert_eq!(rt; sound, (Some(Choice::Check(1)), None, true));
-    let damaged = choices_of(&damaged_domino(rt.alloc())?)?;
-    assert_eq!(rt; damaged, (Some(Choice::Check(0)), None, false));
+    let catalogue = catalogue_of(rt.alloc(), &DOMINO)?;
+    assert!(rt; choices_of(&catalogue)? == (Some(Choice::Check(1)), None, true));
+    Ok(())
+}
+
+#[test]
+fn lower_choices_beside_damage(rt: HostRuntime) -> Result<(), Fail> {
+    let catalogue = damaged_domino(rt.alloc())?;
+    assert!(rt; choices_of(&catalogue)? == (Some(Choice::Check(0)), None, false));
     Ok(())
 }
 
@@ -249,17 +262,19 @@ fn barred_domino(alloc: Global) -> Result<(Catalogue, [Option<BarError>; 3]), Fa
 #[test]
 fn a_barred_process_goes_back(rt: HostRuntime) -> Result<(), Fail> {
     let (catalogue, refused) = barred_domino(rt.alloc())?;
-    let missing = Some(BarError::NoSuchCheck);
-    let again = Some(BarError::BarNotLower);
-    assert_eq!(rt; refused, [missing, None, again]);
+    let (missing, again) = (Some(BarError::NoSuchCheck), Some(BarError::BarNotLower));
+    assert!(rt; refused == [missing, None, again]);
     let back = Some((Choice::Check(0), Choice::Check(0)));
-    let told = planned(rt.alloc(), &catalogue, &ProcSet::empty())?;
-    assert_eq!(rt; told, (back, 2, 3, 0));
-    let missing = "the process has no such check";
-    assert!(rt; reads(rt.alloc(), &BarError::NoSuchCheck, missing)?);
-    let again = "the process is barred at that check or an earlier one already";
-    assert!(rt; reads(rt.alloc(), &BarError::BarNotLower, again)?);
+    assert!(rt; planned(rt.alloc(), &catalogue, &ProcSet::empty())? == (back, 2, 3, 0));
     Ok(())
+}
+
+#[test]
+fn refusals_of_bars_read_well(rt: HostRuntime) {
+    let missing = "the process has no such check";
+    assert!(rt; reads(rt.alloc(), BarError::NoSuchCheck, missing));
+    let again = "the process is barred at that check or an earlier one already";
+    assert!(rt; reads(rt.alloc(), BarError::BarNotLower, again));
 }
 
 /// Whether the last row of a process has this place, these sends and this damage, and these lanes.
@@ -277,31 +292,29 @@ fn ends_with(catalogue: &Catalogue, p: ProcId, row: (u32, u32, bool), lanes: &[u
 
 #[test]
 fn rows_of_a_damaged_check(rt: HostRuntime) -> Result<(), Fail> {
+    let first = process(0)?;
     let catalogue = damaged_domino(rt.alloc())?;
-    assert!(rt; ends_with(&catalogue, process(0)?, (3, 1, true), &[0, 1]));
+    assert!(rt; ends_with(&catalogue, first, (3, 1, true), &[0, 1]));
     Ok(())
 }
 
 #[test]
-fn refusals_of_catalogues_read_well(rt: HostRuntime) -> Result<(), AllocError> {
-    let alloc = rt.alloc();
+fn refusals_of_catalogues_read_well(rt: HostRuntime) {
     let mark = "a mark or a bar is on a check that its tape does not have";
-    assert!(rt; reads(alloc, &CatalogueError::NoSuchCheck, mark)?);
+    assert!(rt; reads(rt.alloc(), CatalogueError::NoSuchCheck, mark));
     let received = "a received message has a name that its sender did not give it";
-    assert!(rt; reads(alloc, &CatalogueError::NamesDisagree, received)?);
+    assert!(rt; reads(rt.alloc(), CatalogueError::NamesDisagree, received));
     let full = "the tape has no room under 1000000 events";
-    assert!(rt; reads(alloc, &AddError::TapeFull, full)?);
+    assert!(rt; reads(rt.alloc(), AddError::TapeFull, full));
     let named = "the event has a name that its sender did not give it";
-    assert!(rt; reads(alloc, &AddError::NamesDisagree, named)?);
+    assert!(rt; reads(rt.alloc(), AddError::NamesDisagree, named));
+}
+
+#[test]
+fn refusals_of_marks_and_plans_read_well(rt: HostRuntime) {
     let missing = "the tape has no such check";
-    assert!(rt; reads(alloc, &DamageError::NoSuchCheck, missing)?);
-    assert!(rt;
-        reads(
-            alloc,
-            &DamageError::AlreadyDamaged,
-            "the check is marked already"
-        )?
-    );
-    assert!(rt; reads(alloc, &PlanError::OutOfMemory, "out of memory")?);
-    Ok(())
+    assert!(rt; reads(rt.alloc(), DamageError::NoSuchCheck, missing));
+    let already = "the check is marked already";
+    assert!(rt; reads(rt.alloc(), DamageError::AlreadyDamaged, already));
+    assert!(rt; reads(rt.alloc(), PlanError::OutOfMemory, "out of memory"));
 }

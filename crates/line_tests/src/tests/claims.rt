@@ -1,10 +1,10 @@
 //! What the checker says of claims.
-use crate::tests::build::{Did, failed, history_of, process};
+use crate::tests::build::{failed, history_of, process};
 use crate::tests::{DOMINO, passed, reads};
 use line_check::{CertFault, FaultCode, LineFault, check_certificate, check_consistent};
 use line_names::{Choice, Line, Passed, ProcId, ProcSet};
-use line_tape::Marks;
-use std::alloc::{AllocError, Global};
+use line_tape::{History, Marks};
+use std::alloc::Global;
 use std::test::Fail;
 
 /// Both processes back at their initial states.
@@ -29,43 +29,52 @@ fn told(verdict: Result<(), CertFault>) -> Option<(Option<u32>, u32)> {
     }
 }
 
-/// The verdict on a claim about a history of two processes without marks.
-fn verdict(
+/// What is said of a claim: the entry and the number of its fault, if it has one.
+type Verdict = Option<(Option<u32>, u32)>;
+
+/// The verdict on a claim about a history of two processes with these marks.
+fn verdict_on(
     alloc: Global,
-    all: &[Did],
+    marks: &Marks,
     failed: &ProcSet,
     line: &[Choice],
     entries: &[Passed],
-) -> Result<Option<(Option<u32>, u32)>, Fail> {
-    let history = history_of(alloc, all)?;
-    let marks = Marks::new(alloc, 2)?;
-    Ok(told(check_certificate(&history, &marks, failed, &line_of(line), entries)))
+) -> Result<Verdict, Fail> {
+    let history = history_of(alloc, &DOMINO)?;
+    Ok(told(check_certificate(&history, marks, failed, &line_of(line), entries)))
 }
 
-/// The same about the domino, with the first process failed.
-fn verdict_on_domino(
+/// The same without marks.
+fn verdict(
     alloc: Global,
+    failed: &ProcSet,
     line: &[Choice],
     entries: &[Passed],
-) -> Result<Option<(Option<u32>, u32)>, Fail> {
-    verdict(alloc, &DOMINO, &failed(&[0])?, line, entries)
+) -> Result<Verdict, Fail> {
+    let marks = Marks::new(alloc, 2)?;
+    verdict_on(alloc, &marks, failed, line, entries)
 }
 
-/// The same, with a mark on a check of one of so many processes; none on check 0.
-fn verdict_with_mark(
-    alloc: Global,
-    n: u32,
-    p: ProcId,
-    check: u32,
-) -> Result<Option<(Option<u32>, u32)>, Fail> {
-    let history = history_of(alloc, &DOMINO)?;
+/// Marks of so many processes, one of them on a check of one of them; none on check 0.
+fn marked(alloc: Global, n: u32, p: ProcId, check: u32) -> Result<Marks, Fail> {
     let mut marks = Marks::new(alloc, n)?;
     if check > 0 && (p.get() as usize) < marks.processes() {
         marks.mark(p, check)?;
     }
-    let failed = failed(&[0])?;
-    let entries = domino_entries()?;
-    Ok(told(check_certificate(&history, &marks, &failed, &line_of(&BACK), &entries)))
+    Ok(marks)
+}
+
+/// Whether this is said of the domino's claim, with the first process failed and such marks.
+fn is_said_with_mark(
+    alloc: Global,
+    n: u32,
+    p: ProcId,
+    check: u32,
+    want: Verdict,
+) -> Result<bool, Fail> {
+    let (failed, entries) = (failed(&[0])?, domino_entries()?);
+    let marks = marked(alloc, n, p, check)?;
+    Ok(verdict_on(alloc, &marks, &failed, &BACK, &entries)? == want)
 }
 
 /// How the domino goes down: b goes with its sender's check, and all else with b.
@@ -78,112 +87,116 @@ fn domino_entries() -> Result<[Passed; 4], Fail> {
     ])
 }
 
+/// Whether it is valid that the domino goes down with its first process, by these entries.
+fn is_valid(alloc: Global, entries: &[Passed]) -> Result<bool, Fail> {
+    Ok(verdict(alloc, &failed(&[0])?, &BACK, entries)?.is_none())
+}
+
+/// Whether it is valid that all stands where nobody failed.
+fn is_standing(alloc: Global) -> Result<bool, Fail> {
+    Ok(verdict(alloc, &ProcSet::empty(), &[Choice::Now, Choice::Now], &[])?.is_none())
+}
+
 #[test]
 fn valid_certificate(rt: HostRuntime) -> Result<(), Fail> {
     let entries = domino_entries()?;
-    assert_eq!(rt; verdict_on_domino(rt.alloc(), &BACK, &entries)?, None);
-    let standing = [Choice::Now, Choice::Now];
-    assert_eq!(rt;
-        verdict(rt.alloc(), &DOMINO, &ProcSet::empty(), &standing, &[])?,
-        None
-    );
+    assert!(rt; is_valid(rt.alloc(), &entries)?);
+    assert!(rt; is_standing(rt.alloc())?);
     Ok(())
+}
+
+/// How the domino goes down, but for the first choice and what the last entry says.
+fn other_entries(
+    first: Choice,
+    at: ProcId,
+    choice: Choice,
+    from: ProcId,
+) -> Result<[Passed; 4], Fail> {
+    let mut entries = domino_entries()?;
+    entries[0].choice = first;
+    entries[3].at = at;
+    entries[3].choice = choice;
+    entries[3].message.from = from;
+    Ok(entries)
+}
+
+/// Whether such entries have no shape.
+fn are_misshapen(
+    alloc: Global,
+    first: Choice,
+    at: ProcId,
+    choice: Choice,
+    from: ProcId,
+) -> Result<bool, Fail> {
+    let entries = other_entries(first, at, choice, from)?;
+    Ok(verdict(alloc, &failed(&[0])?, &BACK, &entries)? == Some((None, 16)))
 }
 
 #[test]
 fn misshapen_entries(rt: HostRuntime) -> Result<(), Fail> {
-    let third = ProcId::try_new(2, 3)?;
-    let mut entries = domino_entries()?;
-    entries[0].choice = Choice::Check(1);
-    entries[3].choice = Choice::Check(4);
-    assert_eq!(rt;
-        verdict_on_domino(rt.alloc(), &BACK, &entries)?,
-        Some((None, 16))
-    );
-    entries = domino_entries()?;
-    entries[3].at = third;
-    assert_eq!(rt;
-        verdict_on_domino(rt.alloc(), &BACK, &entries)?,
-        Some((None, 16))
-    );
-    entries = domino_entries()?;
-    entries[3].message.from = third;
-    assert_eq!(rt;
-        verdict_on_domino(rt.alloc(), &BACK, &entries)?,
-        Some((None, 16))
-    );
+    let (first, second, third) = (process(0)?, process(1)?, ProcId::try_new(2, 3)?);
+    let (now, one) = (Choice::Now, Choice::Check(1));
+    assert!(rt; are_misshapen(rt.alloc(), one, second, Choice::Check(4), first)?);
+    assert!(rt; are_misshapen(rt.alloc(), now, third, one, first)?);
+    assert!(rt; are_misshapen(rt.alloc(), now, second, one, third)?);
     Ok(())
+}
+
+/// The first process, and a third one that a history of two does not have.
+fn first_and_third() -> Result<ProcSet, Fail> {
+    Ok(failed(&[0])?.with(ProcId::try_new(2, 3)?))
 }
 
 #[test]
 fn misshapen_set(rt: HostRuntime) -> Result<(), Fail> {
-    let set = failed(&[0])?.with(ProcId::try_new(2, 3)?);
-    assert_eq!(rt;
-        verdict(rt.alloc(), &DOMINO, &set, &BACK, &domino_entries()?)?,
-        Some((None, 16))
-    );
+    let (set, entries) = (first_and_third()?, domino_entries()?);
+    assert!(rt; verdict(rt.alloc(), &set, &BACK, &entries)? == Some((None, 16)));
     Ok(())
 }
 
 #[test]
 fn misshapen_marks(rt: HostRuntime) -> Result<(), Fail> {
-    let third = ProcId::try_new(2, 3)?;
-    for (n, p, check, want) in [
-        (2, process(0)?, 2, Some((None, 16))),
-        (3, third, 1, Some((None, 16))),
-        (3, third, 0, None),
-        (1, process(0)?, 0, None),
-        (2, process(1)?, 1, Some((Some(3), 11))),
-    ] {
-        assert_eq!(rt;
-            verdict_with_mark(rt.alloc(), n, p, check)?,
-            want,
-            "at {n}, {check}"
-        );
-    }
+    let (first, second, third) = (process(0)?, process(1)?, ProcId::try_new(2, 3)?);
+    let misshapen = Some((None, 16));
+    assert!(rt; is_said_with_mark(rt.alloc(), 2, first, 2, misshapen)?);
+    assert!(rt; is_said_with_mark(rt.alloc(), 3, third, 1, misshapen)?);
+    assert!(rt; is_said_with_mark(rt.alloc(), 3, third, 0, None)?);
+    assert!(rt; is_said_with_mark(rt.alloc(), 1, first, 0, None)?);
+    assert!(rt; is_said_with_mark(rt.alloc(), 2, second, 1, Some((Some(3), 11)))?);
     Ok(())
+}
+
+/// Whether this is said of a line of a history.
+fn is_tested(history: &History, choices: &[Choice], want: Result<(), LineFault>) -> bool {
+    check_consistent(history, &line_of(choices)) == want
 }
 
 #[test]
 fn tested_lines(rt: HostRuntime) -> Result<(), Fail> {
     let history = history_of(rt.alloc(), &DOMINO)?;
-    for (first, second, want) in [
-        (Choice::Check(0), Choice::Check(0), Ok(())),
-        (
-            Choice::Check(0),
-            Choice::Check(1),
-            Err(LineFault::NotConsistent),
-        ),
-        (Choice::Check(7), Choice::Check(0), Err(LineFault::BadShape)),
-    ] {
-        assert_eq!(rt;
-            check_consistent(&history, &line_of(&[first, second])),
-            want
-        );
-    }
-    assert_eq!(rt;
-        check_consistent(&history, &line_of(&[])),
-        Err(LineFault::BadShape)
-    );
+    let crossed = [Choice::Check(0), Choice::Check(1)];
+    assert!(rt; is_tested(&history, &BACK, Ok(())));
+    assert!(rt; is_tested(&history, &crossed, Err(LineFault::NotConsistent)));
+    let missing = [Choice::Check(7), Choice::Check(0)];
+    assert!(rt; is_tested(&history, &missing, Err(LineFault::BadShape)));
+    assert!(rt; is_tested(&history, &[], Err(LineFault::BadShape)));
     Ok(())
 }
 
 #[test]
-fn faults_read_well(rt: HostRuntime) -> Result<(), AllocError> {
-    let alloc = rt.alloc();
+fn faults_read_well(rt: HostRuntime) {
     let of_an_entry = CertFault {
         entry: Some(3),
         code: FaultCode::NotTop,
     };
     let ceiling = "entry 3: the choice is not the present ceiling of its process";
-    assert!(rt; reads(alloc, &of_an_entry, ceiling)?);
+    assert!(rt; reads(rt.alloc(), of_an_entry, ceiling));
     let of_the_claim = CertFault {
         entry: None,
         code: FaultCode::LineDiffers,
     };
     let line = "the entries lead to another line";
-    assert!(rt; reads(alloc, &of_the_claim, line)?);
+    assert!(rt; reads(rt.alloc(), of_the_claim, line));
     let shape = "the line names what the history does not have";
-    assert!(rt; reads(alloc, &LineFault::BadShape, shape)?);
-    Ok(())
+    assert!(rt; reads(rt.alloc(), LineFault::BadShape, shape));
 }

@@ -1,10 +1,9 @@
 //! The two rules at work, with memory enough.
-ghost use Rattle.std.specs.Prelude.{◌≡◌, ◌<◌, ◌≤◌, IfOk, OnOk};
+ghost use Rattle.std.specs.Prelude.{◌≡◌, ◌≢◌, ◌<◌, ◌≤◌, IfOk, OnOk};
 
 use crate::tests::reads;
 use line_marker::{BeginError, Effect, Marker, MarkerError};
 use line_names::{MsgName, ProcId};
-use std::alloc::AllocError;
 use std::test::Fail;
 
 /// One of three processes.
@@ -43,20 +42,34 @@ fn begun(rt: HostRuntime) -> Result<Marker, Fail>
 #[test]
 fn a_number_is_taken_once(rt: HostRuntime) -> Result<(), Fail> {
     let mut marker = begun(rt)?;
-    assert_eq!(rt; marker.begin(1), Err(BeginError::RoundNotNew));
-    assert_eq!(rt; marker.latest(), 1);
+    assert!(rt; marker.begin(1) == Err(BeginError::RoundNotNew) && marker.latest() == 1);
     Ok(())
+}
+
+/// Whether the marker of a process closes its channel in round 1.
+fn closes(marker: &mut Marker, from: ProcId) -> bool
+    requires { (from < marker.old.n) × (from ≢ marker.old.me) }
+    ensures of { marker.new.n ≡ marker.old.n }
+    ensures me { marker.new.me ≡ marker.old.me }
+{
+    marker.on_marker(from, 1) == Ok(Effect::Closed)
+}
+
+/// Whether that channel holds this message alone after the next one came, and has ended.
+fn has_ended(marker: &mut Marker, from: ProcId, first: MsgName, second: MsgName) -> bool
+    requires { (from < marker.old.n) × (from ≢ marker.old.me) × (second.from ≡ from) }
+{
+    marker.note(second).is_ok()
+        && marker.channel(from, 1) == Some([first].as_slice())
+        && marker.on_marker(from, 1) == Err(MarkerError::MarkerRepeated)
 }
 
 #[test]
 fn a_channel_ends_at_its_marker(rt: HostRuntime) -> Result<(), Fail> {
+    let (from, first, second) = (process(1)?, message(0)?, message(1)?);
     let mut marker = begun(rt)?;
-    let from = process(1)?;
-    let (first, second) = (message(0)?, message(1)?);
-    assert_eq!(rt; marker.on_marker(from, 1)?, Effect::Closed);
-    marker.note(second)?;
-    assert_eq!(rt; marker.channel(from, 1), Some([first].as_slice()));
-    assert_eq!(rt; marker.on_marker(from, 1), Err(MarkerError::MarkerRepeated));
+    assert!(rt; closes(&mut marker, from));
+    assert!(rt; has_ended(&mut marker, from, first, second));
     Ok(())
 }
 
@@ -73,33 +86,34 @@ fn hears(marker: &mut Marker, from: u32, round: u32) -> Result<(Effect, bool), F
 #[test]
 fn a_round_is_over_with_its_last_marker(rt: HostRuntime) -> Result<(), Fail> {
     let mut marker = begun(rt)?;
-    let told = [hears(&mut marker, 1, 1)?, hears(&mut marker, 2, 1)?];
-    assert_eq!(rt; told, [(Effect::Closed, false), (Effect::Closed, true)]);
+    assert!(rt; hears(&mut marker, 1, 1)? == (Effect::Closed, false));
+    assert!(rt; hears(&mut marker, 2, 1)? == (Effect::Closed, true));
     Ok(())
+}
+
+/// Whether the channel of a process in round 3 holds nothing, and there is no round 2.
+fn is_third_alone(marker: &Marker, from: ProcId) -> bool
+    requires { from < marker.now.n }
+{
+    let nothing: &[MsgName] = &[];
+    marker.channel(from, 3) == Some(nothing) && marker.channel(from, 2).is_none()
 }
 
 #[test]
 fn a_marker_forces_a_round(rt: HostRuntime) -> Result<(), Fail> {
-    let mut marker = begun(rt)?;
-    let told = [hears(&mut marker, 2, 3)?, hears(&mut marker, 1, 2)?];
-    assert_eq!(rt; told, [(Effect::Forced, false), (Effect::Ignored, false)]);
     let two = process(2)?;
-    let nothing: &[MsgName] = &[];
-    assert_eq!(rt;
-        (marker.channel(two, 3), marker.channel(two, 2)),
-        (Some(nothing), None)
-    );
-    assert_eq!(rt; marker.latest(), 3);
+    let mut marker = begun(rt)?;
+    assert!(rt; hears(&mut marker, 2, 3)? == (Effect::Forced, false));
+    assert!(rt; hears(&mut marker, 1, 2)? == (Effect::Ignored, false));
+    assert!(rt; is_third_alone(&marker, two) && marker.latest() == 3);
     Ok(())
 }
 
 #[test]
-fn refusals_have_their_numbers(rt: HostRuntime) -> Result<(), AllocError> {
+fn refusals_have_their_numbers(rt: HostRuntime) {
     let begin = "the round is not greater than those known";
-    assert!(rt; reads(rt.alloc(), &BeginError::RoundNotNew, begin)?);
+    assert!(rt; reads(rt.alloc(), BeginError::RoundNotNew, begin));
     let marker = "that channel of that round is closed";
-    assert!(rt; reads(rt.alloc(), &MarkerError::MarkerRepeated, marker)?);
-    assert_eq!(rt; BeginError::RoundNotNew.code(), 9);
-    assert_eq!(rt; MarkerError::MarkerRepeated.code(), 10);
-    Ok(())
+    assert!(rt; reads(rt.alloc(), MarkerError::MarkerRepeated, marker));
+    assert!(rt; BeginError::RoundNotNew.code() == 9 && MarkerError::MarkerRepeated.code() == 10);
 }

@@ -3,7 +3,7 @@ use crate::tests::reads;
 use line_names::{Body, ProcId};
 use line_tape::State;
 use line_world::{Answer, Mode, Reply, RunStopped, Step, StepError, World};
-use std::alloc::{AllocError, Global};
+use std::alloc::Global;
 use std::test::Fail;
 
 /// What an answer tells, a message by its number.
@@ -63,7 +63,7 @@ fn a_run_answers_each_step(rt: HostRuntime) -> Result<(), Fail> {
         Some(Told::Took(0)),
         Some(Told::Checked(1)),
     ];
-    assert_eq!(rt; answers_of(rt.alloc(), 2, &steps)?, (3, all));
+    assert!(rt; answers_of(rt.alloc(), 2, &steps)? == (3, all));
     Ok(())
 }
 
@@ -86,43 +86,38 @@ fn a_run_goes_on_after_a_refusal(rt: HostRuntime) -> Result<(), Fail> {
         Some(Told::Refused),
         Some(Told::Else),
     ];
-    assert_eq!(rt; answers_of(rt.alloc(), 1, &steps)?, (3, all));
+    assert!(rt; answers_of(rt.alloc(), 1, &steps)? == (3, all));
     Ok(())
 }
 
 #[test]
-fn refusals_of_steps_read_well(rt: HostRuntime) -> Result<(), AllocError> {
+fn refusals_of_steps_read_well(rt: HostRuntime) {
     let alloc = rt.alloc();
-    for (error, words) in [
-        (StepError::ToSelf, "a process has no link to itself"),
-        (StepError::LinkEmpty, "the link holds nothing"),
-        (
-            StepError::BadPick,
-            "the link has nothing to take at that place",
-        ),
-        (
-            StepError::RoundOpen,
-            "the last round begun is not completed",
-        ),
-        (
-            StepError::NothingToTurn,
-            "no round is open of which the process has no check",
-        ),
-        (StepError::WrongMode, "links of this kind have no such step"),
-        (
-            StepError::NoMoreRounds,
-            "the last round begun has number 65535",
-        ),
-        (
-            StepError::NoMoreIncarnations,
-            "a process that goes back has incarnation 65535",
-        ),
-    ] {
-        assert!(rt; reads(alloc, &error, words)?, "{words}");
-    }
+    assert!(rt; reads(alloc, StepError::ToSelf, "a process has no link to itself"));
+    assert!(rt; reads(alloc, StepError::LinkEmpty, "the link holds nothing"));
+    let pick = "the link has nothing to take at that place";
+    assert!(rt; reads(alloc, StepError::BadPick, pick));
+    let mode = "links of this kind have no such step";
+    assert!(rt; reads(alloc, StepError::WrongMode, mode));
+}
+
+#[test]
+fn refusals_of_rounds_read_well(rt: HostRuntime) {
+    let alloc = rt.alloc();
+    let open = "the last round begun is not completed";
+    assert!(rt; reads(alloc, StepError::RoundOpen, open));
+    let turn = "no round is open of which the process has no check";
+    assert!(rt; reads(alloc, StepError::NothingToTurn, turn));
+    let rounds = "the last round begun has number 65535";
+    assert!(rt; reads(alloc, StepError::NoMoreRounds, rounds));
+    let incarnations = "a process that goes back has incarnation 65535";
+    assert!(rt; reads(alloc, StepError::NoMoreIncarnations, incarnations));
+}
+
+#[test]
+fn a_run_that_stopped_reads_well(rt: HostRuntime) {
     let stopped = RunStopped {
-        done: Vec::new(alloc),
+        done: Vec::new(rt.alloc()),
     };
-    assert!(rt; reads(alloc, &stopped, "out of memory after 0 steps")?);
-    Ok(())
+    assert!(rt; reads(rt.alloc(), stopped, "out of memory after 0 steps"));
 }
