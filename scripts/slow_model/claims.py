@@ -37,6 +37,7 @@ class Claim:
     entries: list[Entry] = field(default_factory=list)
 
     def records(self) -> Iterator[Record]:
+        """The check text of the claim, record by record."""
         yield from self.history.records(2 if self.marks.bars else self.history.version())
         for p, check in sorted(self.marks.damaged):
             yield "damage", p, check
@@ -49,6 +50,7 @@ class Claim:
         yield ("end",)
 
     def has_shape(self) -> bool:
+        """Whether it names only what the history has, and has a choice for each process."""
         has = self.history.has_choice
         return (
             len(self.line) == len(self.history.tapes)
@@ -100,6 +102,7 @@ class Reading:
         return self.part == {"line": "failed", "pass": "line", "end": "line"}.get(kind)
 
     def read(self, fields: Sequence[str]) -> None:
+        """Takes the next record."""
         kind, rest = fields[0], fields[1:]
         want(self.may_stand(kind), 32)
         getattr(self, f"read_{kind}")(*fields_of(self.readers_of(kind, len(rest)), rest))
@@ -114,35 +117,43 @@ class Reading:
         return READERS[kind]
 
     def known(self, *processes: int) -> None:
+        """Asks that there are these processes."""
         want(all(p < self.n for p in processes), 1)
 
     def add(self, event: Event) -> None:
+        """Adds an event to the tape that is read."""
         want(len(self.tapes[-1]) < MOST_EVENTS, 3)
         self.tapes[-1].append(event)
 
     def read_tape(self, p: int, inc: int) -> None:
+        """Begins the tape of the next process."""
         want(p == len(self.tapes), 32)
         self.tapes.append([])
         self.claim.history.incarnations.append(inc)
 
     def read_send(self, to: int, inc: int, body: bytes) -> None:
+        """A send."""
         self.known(to)
         want(len(body) <= MOST_BODY, 2)
         self.add(Send(to, inc, body))
 
     def read_recv(self, sender: int, inc: int, count: int) -> None:
+        """A receipt."""
         self.known(sender)
         self.add(Recv(Name(sender, inc, count)))
 
     def read_check(self, state: bytes, of_round: int | None) -> None:
+        """A check."""
         want(len(state) <= MOST_STATE, 5)
         self.add(Check(state, of_round))
 
     def read_mark(self, sender: int, of_round: int) -> None:
+        """The receipt of a marker."""
         self.known(sender)
         self.add(Mark(sender, of_round))
 
     def read_damage(self, p: int, check: int) -> None:
+        """A damaged check."""
         self.known(p)
         want(check != 0, 7)
         want((p, check) not in self.claim.marks.damaged, 8)
@@ -150,29 +161,35 @@ class Reading:
         self.part = "damages"
 
     def read_bar(self, p: int, check: int) -> None:
+        """A bar."""
         self.known(p)
         want(check < self.claim.marks.bars.get(p, NOW), 40)
         self.claim.marks.bars[p] = check
         self.part = "bars"
 
     def read_failed(self, *failed: int) -> None:
+        """The failed processes."""
         self.known(*failed)
         self.claim.failed.update(failed)
         self.part = "failed"
 
     def read_line(self, *line: int) -> None:
+        """The line."""
         self.claim.line.extend(line)
         self.part = "line"
 
     def read_pass(self, at: int, passed: int, sender: int, inc: int, count: int) -> None:
+        """An entry of the certificate."""
         self.known(at, sender)
         self.claim.entries.append(Entry(at, passed, Name(sender, inc, count)))
 
     def read_end(self) -> None:
+        """The last record."""
         self.part = "end"
 
 
 def read_claim(text: bytes) -> Claim:
+    """What a check text spells, or its first fault."""
     records = records_of(text)
     reading = Reading(*numbered(1, first_record, records[0], "history", 3))
     for i, fields in enumerate(records[1:], 2):

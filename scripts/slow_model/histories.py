@@ -87,6 +87,7 @@ class History:
         self.incarnations = [0] * n
 
     def processes(self) -> range:
+        """The numbers of the processes."""
         return range(len(self.tapes))
 
     # Choices, and what stands before them.
@@ -96,6 +97,7 @@ class History:
         return len(among(Check, self.tapes[p]))
 
     def has_choice(self, p: int, choice: int) -> bool:
+        """Whether the tape of a process has a choice."""
         return choice == NOW or choice <= self.checks(p)
 
     def front(self, p: int, choice: int) -> list[Event]:
@@ -123,6 +125,7 @@ class History:
         return [event.message for event in among(Recv, self.front(p, choice))]
 
     def is_held(self, message: Name) -> bool:
+        """Whether the sender's tape has the send of a message."""
         return message in [name for name, _ in self.sent(message.sender)]
 
     def sent_before(self, line: Sequence[int]) -> set[Name]:
@@ -135,6 +138,7 @@ class History:
         return [name for name in self.received(p, line[p]) if name not in sent]
 
     def is_consistent(self, line: Sequence[int]) -> bool:
+        """Whether no process has an orphan message before a line."""
         return not any(self.orphans(line, p) for p in self.processes())
 
     def in_transit(self, line: Sequence[int]) -> list[tuple[Name, int]]:
@@ -252,6 +256,7 @@ class History:
     # Rounds and colours.
 
     def colour_of(self, p: int) -> int:
+        """The colour of a process."""
         return colour(self.tapes[p])
 
     def message_colour(self, message: Name) -> int:

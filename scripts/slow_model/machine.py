@@ -42,9 +42,11 @@ class World:
         return newest if newest and not self.history.is_completed(newest, self.is_fifo) else None
 
     def has_no_room(self, p: int, events: int) -> bool:
+        """Whether the tape of a process lacks room for so many events."""
         return len(self.history.tapes[p]) + events > MOST_EVENTS
 
     def known(self, *processes: int) -> None:
+        """Refuses a process that there is not."""
         refuse(1, any(p >= self.n for p in processes))
 
     def add_check(self, p: int, state: bytes, number: int | None) -> int:
@@ -67,6 +69,7 @@ class World:
     # Steps. The refusals stand in the order in which they are asked.
 
     def send(self, source: int, to: int, body: bytes) -> Records:
+        """Sends a message."""
         self.known(source, to)
         refuse(2, len(body) > MOST_BODY)
         refuse(17, source == to)
@@ -78,6 +81,7 @@ class World:
         return [("sent", *name)]
 
     def deliver(self, source: int, to: int, pick: int, state: bytes) -> Records:
+        """Takes the item at a place of a link."""
         self.known(source, to)
         refuse(17, source == to)
         refuse(5, len(state) > MOST_STATE)
@@ -94,6 +98,7 @@ class World:
         return self.take_message(to, item, state)
 
     def take_marker(self, source: int, to: int, number: int, state: bytes) -> Records:
+        """Takes a marker; a process that has no check of its round takes that first."""
         forced = self.history.check_of_round(to, number) is None
         refuse(3, self.has_no_room(to, 1 + forced))
         if forced:
@@ -114,12 +119,14 @@ class World:
         return [("took", *message, number if forced else None)]
 
     def check(self, at: int, state: bytes) -> Records:
+        """Takes a check."""
         self.known(at)
         refuse(5, len(state) > MOST_STATE)
         refuse(3, self.has_no_room(at, 1))
         return [("checked", at, self.add_check(at, state, None))]
 
     def begin(self, at: int, state: bytes) -> Records:
+        """Begins the next round."""
         self.known(at)
         refuse(5, len(state) > MOST_STATE)
         refuse(20, self.open_round())
@@ -131,6 +138,7 @@ class World:
         return [("begun", at, check, self.begun)]
 
     def turn(self, at: int, state: bytes) -> Records:
+        """Takes the check of the open round."""
         self.known(at)
         refuse(22, self.is_fifo)
         refuse(5, len(state) > MOST_STATE)
@@ -142,6 +150,7 @@ class World:
         return [("turned", at, check, number)]
 
     def damage(self, at: int, check: int) -> Records:
+        """Marks a check as damaged."""
         self.known(at)
         refuse(7, check == 0)
         refuse(4, not self.history.has_choice(at, check))
@@ -150,6 +159,7 @@ class World:
         return [("damaged", at, check)]
 
     def bar(self, at: int, check: int) -> Records:
+        """Bars a process at a check."""
         self.known(at)
         refuse(4, not self.history.has_choice(at, check))
         refuse(40, check >= self.marks.bars.get(at, NOW))
@@ -157,6 +167,7 @@ class World:
         return [("barred", at, check)]
 
     def recover(self, *failed: int) -> Records:
+        """Goes on from the line that is planned for these failed processes."""
         self.known(*failed)
         line, entries, sweeps = self.history.plan(self.marks, failed)
         incarnations = self.history.incarnations
@@ -183,6 +194,7 @@ class World:
     # Views.
 
     def rounds(self) -> Records:
+        """The listed rounds."""
         records: Records = [("rounds", len(self.listed))]
         for number, checks, channels in self.listed:
             records.append(("round", number, *checks))
@@ -190,9 +202,11 @@ class World:
         return records
 
     def history_text(self) -> Records:
+        """The history."""
         return list(self.history.records(self.history.version()))
 
     def bundle(self, *failed: int) -> Records:
+        """The history with the claim that is planned for these failed processes."""
         self.known(*failed)
         line, entries, _ = self.history.plan(self.marks, failed)
         return list(Claim(self.history, self.marks, set(failed), line, entries).records())

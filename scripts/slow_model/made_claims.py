@@ -95,16 +95,19 @@ def near_choice(chance: Random, claim: Claim, p: int, choice: int) -> int:
 
 
 def drop_entry(chance: Random, claim: Claim) -> None:
+    """Takes an entry out."""
     if claim.entries:
         del claim.entries[chance.randrange(len(claim.entries))]
 
 
 def double_entry(chance: Random, claim: Claim) -> None:
+    """Puts an entry in once more."""
     if claim.entries:
         claim.entries.insert(chance.randint(0, len(claim.entries)), chance.choice(claim.entries))
 
 
 def exchange_entries(chance: Random, claim: Claim) -> None:
+    """Exchanges two entries, neighbours as often as not."""
     if len(claim.entries) > 1:
         i = chance.randrange(len(claim.entries) - 1)
         j = i + 1 if one_in(chance, 2) else chance.randrange(len(claim.entries))
@@ -153,10 +156,12 @@ def one_too_low(chance: Random, claim: Claim) -> None:
 
 
 def other_failed(chance: Random, claim: Claim) -> None:
+    """Has another process failed, or one process less."""
     claim.failed = claim.failed ^ {some_process(chance, claim)}
 
 
 def other_marks(chance: Random, claim: Claim) -> None:
+    """Has a further check damaged, or one check less."""
     p = some_process(chance, claim)
     checks = claim.history.checks(p)
     which = [checks, chance.randint(1, checks + 1), chance.randint(0, checks)]
@@ -232,6 +237,7 @@ def past_limits(chance: Random, claim: Claim) -> None:
 
 
 def odd_event(chance: Random, n: int, event: Event) -> Event:
+    """An event with a number or bytes that are at a limit or past it."""
     if isinstance(event, Send):
         return Send(chance.choice([event.to, n]), event.incarnation, b"d" * chance.choice([64, 65]))
     if isinstance(event, Recv):

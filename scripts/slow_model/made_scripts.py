@@ -46,16 +46,20 @@ class Player:
         self.weights = chance.choice(moods)
 
     def is_odd(self) -> bool:
+        """Whether the next value is an odd one."""
         return one_in(self.chance, self.care)
 
     def process(self) -> int:
+        """A process; of odd ones some are not there."""
         odd = [self.n, self.n + 1, 0, 64, 256, 2**32 - 1]
         return self.chance.choice(odd if self.is_odd() else self.busy)
 
     def processes(self, *counts: int) -> list[int]:
+        """Some processes, as many as one of these counts."""
         return [self.process() for _ in range(self.chance.choice(counts))]
 
     def pair(self) -> tuple[int, int]:
+        """A sender and a receiver, which are seldom one process."""
         source, to = self.process(), self.process()
         if source == to and not self.is_odd():
             return source, self.chance.choice([p for p in self.busy if p != source] or self.busy)
@@ -74,6 +78,7 @@ class Player:
         return [place for place, name in enumerate(items) if name not in received]
 
     def pick(self, source: int, to: int) -> int:
+        """A place on a link, most often one whose item can be taken."""
         if self.is_odd():
             return self.chance.choice([0, 1, 2, 3, 2**32, 2**64 - 1])
         if self.mode == "unordered" and one_in(self.chance, 6):
@@ -86,6 +91,7 @@ class Player:
         return next((pair for pair in pairs if self.waiting(*pair)), None)
 
     def state(self) -> bytes:
+        """Some bytes, seldom as many as a state may have or more."""
         if self.is_odd():
             return b"c" * self.chance.choice([64, 65, 65, 4096, 4097, 4097])
         some = b"b" * self.chance.randrange(4)
@@ -129,10 +135,12 @@ class Player:
         return "check", to, self.state()
 
     def add(self, *command: Any) -> None:
+        """Adds a command, and does it."""
         self.commands.append(command)
         answer(self.world, *command_of([shown(field) for field in command]))
 
     def play(self) -> "Player":
+        """Adds all commands but those at the end."""
         for _ in range(self.chance.choice(LENGTHS)):
             self.add(*self.command())
         self.care = CARE

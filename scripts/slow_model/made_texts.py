@@ -26,6 +26,7 @@ ODD_TEXTS = [
 
 
 def one_in(chance: Random, times: int) -> bool:
+    """Whether a thing is done that is done once in so many times."""
     return chance.random() < 1 / times
 
 

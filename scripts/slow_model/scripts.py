@@ -27,6 +27,7 @@ METHODS = {"history": "history_text"}  # where the world's method has another na
 
 
 def world_of(fields: Sequence[str]) -> tuple[int, str]:
+    """The number of processes and the mode that a first record spells."""
     _version, n = first_record(fields, "world", 4)
     want(fields[3] in ("fifo", "unordered"), 32)
     return n, fields[3]
@@ -40,6 +41,7 @@ def command_of(fields: Sequence[str]) -> Command:
 
 
 def read_script(text: bytes) -> tuple[int, str, list[Command]]:
+    """The number of processes, the mode and the commands that a script spells."""
     records = records_of(text)
     n, mode = numbered(1, world_of, records[0])
     return n, mode, [numbered(i, command_of, fields) for i, fields in enumerate(records[1:], 2)]

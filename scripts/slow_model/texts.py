@@ -66,6 +66,7 @@ def numbered(record: int, read: Callable[..., Value], *values: Any) -> Value:
 # Reading.
 
 def records_of(text: bytes) -> list[list[str]]:
+    """The fields of each record of a text."""
     if not TEXT.fullmatch(text):
         raise Fault(32, 0)
     lines = text.decode("ascii").replace("\r\n", "\n").split("\n")
@@ -76,6 +77,7 @@ def records_of(text: bytes) -> list[list[str]]:
 
 
 def number(field: str, most: int = 2**32 - 1, least: int = 0) -> int:
+    """The number that a field spells, within these bounds."""
     want(field and DIGITS.issuperset(field), 33)
     # A field may have thousands of leading zeros.
     digits = field.lstrip("0") or "0"
@@ -84,26 +86,32 @@ def number(field: str, most: int = 2**32 - 1, least: int = 0) -> int:
 
 
 def place(field: str) -> int:
+    """A place on a link."""
     return number(field, 2**64 - 1)
 
 
 def incarnation(field: str) -> int:
+    """An incarnation."""
     return number(field, MOST_INCARNATION)
 
 
 def round_number(field: str) -> int:
+    """The number of a round."""
     return number(field, MOST_ROUND, 1)
 
 
 def round_or_none(field: str) -> int | None:
+    """The number of a round, or none."""
     return None if field == "-" else round_number(field)
 
 
 def choice(field: str) -> int:
+    """A choice."""
     return NOW if field == "now" else number(field)
 
 
 def hexadecimal(field: str) -> bytes:
+    """The bytes that a field spells."""
     want(len(field) % 2 == 0 and HEX_DIGITS.issuperset(field), 33)
     return bytes.fromhex(field)
 
@@ -146,6 +154,7 @@ def shown(value: Any) -> str:
 
 
 def written(records: Iterable[Record]) -> bytes:
+    """The text of some records."""
     return "".join(",".join(map(shown, record)) + "\n" for record in records).encode()
 
 
