@@ -10,8 +10,8 @@ with their lines and certificates, and listed rounds, as SVG on standard output.
     ./draw < examples/run/domino.in > domino.svg
 
 Without options a script of up to {views.MOST} records with an effect is drawn whole. Of a longer
-one the last recovery is, with the records that it speaks of, of the processes concerned. What is
-left out is said in the picture. The status is 0 where a picture was drawn, and else that of the
+one the last recovery is drawn, with the records that it speaks of and the processes concerned. What
+is left out is said in the picture. The status is 0 where a picture was drawn, and else that of the
 program."""
 
 
