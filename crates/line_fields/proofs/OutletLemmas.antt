@@ -1,5 +1,6 @@
 -- The text of a record, field by field.
 use Rattle.std.proofs.Common.{◌≡◌, ◌<◌, ◌≤◌, ◌+◌, ◌++◌, ◌∷◌, ◌∙◌, ℕ, List, [], length, map, take, drop, get_or, refl, ap, sym, append_assoc, arith}
+use Rattle.std.specs.Prelude.{decimal}
 use Rattle.std.specs.List.{flat_map, join_with_byte, range_with_len}
 use Rattle.std.proofs.lemmas.Grind.{flat_map-append}
 use Rattle.std.proofs.lemmas.List.{append-nil, drop_all, drop_more, take-append-drop, take_all, take_more}
@@ -12,6 +13,12 @@ pub join_more : {A : Type 0} (f : A → List ℕ) (name : List ℕ) (items : Lis
 join_more {A} f name [] = sym (append-nil name)
 join_more {A} f name (x ∷ items) =
     ap (λ (t : List ℕ). name ++ (44 ∷ t)) (join_more f (f x) items)
+
+-- a name behind a text, and numbers behind that
+pub begun : (held named all name numbers : List ℕ) → named ≡ held ++ name → all ≡ named ++ flat_map (λ n. 44 ∷ decimal n) numbers → all ≡ held ++ join_with_byte 44 (name ∷ map decimal numbers)
+begun held named all name numbers a b =
+    b ∙ ap (λ (t : List ℕ). t ++ flat_map (λ n. 44 ∷ decimal n) numbers) a ∙ append_assoc held name (flat_map (λ n. 44 ∷ decimal n) numbers)
+    ∙ ap (λ (t : List ℕ). held ++ t) (sym (join_more decimal name numbers))
 
 -- a last field behind others
 pub join_last : (name : List ℕ) (fields : List (List ℕ)) (last : List ℕ) → join_with_byte 44 (name ∷ fields ++ last ∷ []) ≡ join_with_byte 44 (name ∷ fields) ++ 44 ∷ last

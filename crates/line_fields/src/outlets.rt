@@ -217,18 +217,6 @@ fn push_numbers(text: &mut Vec<u8>, numbers: &[u64])
     }
 }
 
-// Writes a name and some numbers after a text that has room for all.
-#[inline(always)]
-fn push_begin(text: &mut Vec<u8>, name: &[u8], numbers: &[u64])
-    requires { vec_len text.old + (length name.now + 41 * length numbers.now)
-        ≤ vec_capacity text.old }
-    ensures { text.new.items ≡ text.old.items
-        ++ join_with_byte 44 (name.now ∷ map decimal numbers.now) }
-{
-    push_word(text, name);
-    push_numbers(text, numbers);
-}
-
 // Begins a record with its name and some numbers, and asks for the room of each by itself.
 #[cold]
 #[inline(never)]
@@ -277,7 +265,8 @@ pub fn begin_record<K: Sink>(
     if !has_room_for_all(&writer.text, name, numbers) {
         return begin_far(sink, &mut writer.text, name, numbers);
     }
-    push_begin(&mut writer.text, name, numbers);
+    push_word(&mut writer.text, name);
+    push_numbers(&mut writer.text, numbers);
     Ok(())
 }
 

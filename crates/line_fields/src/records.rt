@@ -162,8 +162,9 @@ impl Row {
     /// growth is refused, and says where that line ends: before a line feed or a carriage return,
     /// or with the text.
     ///
-    /// It looks at the bytes sixteen at a time, as far as the text goes, so a line is best read
-    /// with what stands after it.
+    /// It looks at the bytes sixteen at a time and copies them so, as far as the text goes, so a
+    /// line is best read with what stands after it. It takes memory where the lines before were
+    /// shorter, for up to fifteen bytes more than the line has.
     #[inline(always)]
     #[tactic(auto, unfolding(crate::specs::Rows::spans_from))]
     pub fn take_line(&mut self, text: &[u8]) -> Result<usize, AllocError>
