@@ -13,8 +13,8 @@ use std::simd::prelude::*;
 // How many digits are read at once.
 const DIGITS_AT_ONCE: usize = 16;
 
-// How many of the digits behind these are read at once.
-const DIGITS_BEHIND: usize = 8;
+// How many are read at once of those that are left then.
+const DIGITS_LEFT_AT_ONCE: usize = 8;
 
 // How many bytes are spelled at once.
 const BYTES_AT_ONCE: usize = 8;
@@ -94,7 +94,7 @@ fn four_into<'a>(bytes: &mut Vec<u8>, text: &'a [u8]) -> &'a [u8]
     ensures longer { vec_len bytes.old ≤ vec_len bytes.new }
     ensures kept { take (vec_len bytes.old) bytes.new.items ≡ bytes.old.items }
 {
-    if text.len() < DIGITS_BEHIND {
+    if text.len() < DIGITS_LEFT_AT_ONCE {
         return text;
     }
     let Some(four) = first_four(text) else {
@@ -103,7 +103,7 @@ fn four_into<'a>(bytes: &mut Vec<u8>, text: &'a [u8]) -> &'a [u8]
     let Ok(()) = bytes.extend_from_slice(&four) else {
         unreachable!()
     };
-    &text[DIGITS_BEHIND..]
+    &text[DIGITS_LEFT_AT_ONCE..]
 }
 
 // Puts the bytes that a text spells after those of a list, eight at a time, up to the first sixteen
