@@ -166,7 +166,7 @@ class Little:
             _ = self.send() if step % 4 else self.check()
             if self.refused > 40:
                 return
-        raise Difference(f"{steps} steps were done, and memory never wanting")
+        raise Difference(f"{steps} steps were done, and memory was never out")
 
 
 def little_memory(command: Command, more: int) -> None:
