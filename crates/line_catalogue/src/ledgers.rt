@@ -143,8 +143,9 @@ fn set_places(history: &History, places: &mut Vec<u32>)
 ///
 /// What was sent before that line and is not received before it is among these messages; so no
 /// other send before it has to be looked at again, and no receipt after it. None of these changes
-/// by an event. Now and then, as room is made, the ledger settles: it moves that line to where each
-/// process stands, so that what is to be looked at does not grow with the history.
+/// by an event. Now and then, as room is made, or as an event is added long after that, the ledger
+/// settles: it moves that line to where each process stands, so that what is to be looked at does
+/// not grow with the history.
 #[derive(Drop)]
 pub struct Ledger {
     history: History,

@@ -15,7 +15,8 @@ use line_tape::{Event, MOST_EVENTS};
 
 impl Catalogue {
     /// Adds an event that may come next, in room that was made for it: what `add` does where it is
-    /// not refused, for a caller that has made those tests. It takes no memory.
+    /// not refused, for a caller that has made those tests. It needs no memory. Where no room was
+    /// made for long, now and then it keeps the messages that are in transit, as `reserve` does.
     #[tactic(auto, using(crate::proofs::CatalogueLemmas::lesser_at))]
     pub fn append(&mut self, p: ProcId, event: Event)
         requires process { p < length self.old.processes }
