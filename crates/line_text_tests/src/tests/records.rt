@@ -123,15 +123,20 @@ fn copy_records(
     Ok(())
 }
 
-/// What `csv` writes, with this mark between fields, of all records that it reads of a text.
-fn written_by_csv(alloc: Global, text: &[u8], mark: u8) -> Result<Vec<u8>, AllocError> {
+/// Writes all records that `csv` reads of a text.
+fn copy_text(alloc: Global, text: &[u8], writer: &mut Writer<Vec<u8>>) -> Result<(), AllocError> {
     let mut reader = csv_over(alloc, text);
     let mut record = ByteRecord::new(alloc);
+    copy_records(&mut reader, &mut record, writer)
+}
+
+/// What `csv` writes, with this mark between fields, of all records that it reads of a text.
+fn written_by_csv(alloc: Global, text: &[u8], mark: u8) -> Result<Vec<u8>, AllocError> {
     let mut writer = WriterBuilder::new()
         .flexible(true)
         .delimiter(mark)
         .from_writer(Vec::new(alloc));
-    copy_records(&mut reader, &mut record, &mut writer)?;
+    copy_text(alloc, text, &mut writer)?;
     writer.into_inner().map_err(|_error| AllocError)
 }
 
@@ -204,45 +209,67 @@ fn is_put_at_once(alloc: Global) -> Result<bool, DeviceFault> {
     Ok(put == 112 && text.as_slice() == FIVE)
 }
 
+/// Whether a text of so many pieces is read alike, and has no record only where it has no piece.
+fn is_read_alike(alloc: Global, seed: u64, pieces: u64, returns: bool) -> Result<bool, AllocError> {
+    let text = made(alloc, seed, pieces, returns)?;
+    match read_alike(alloc, &text)? {
+        Some(records) => Ok((records == 0) == (pieces == 0)),
+        None => Ok(false),
+    }
+}
+
 #[test]
 fn read_both_ways(rt: HostRuntime) -> Result<(), AllocError> {
-    for (seed, pieces, returns) in [
-        (1, 0, false),
-        (2, 1_000, false),
-        (3, 1_000, true),
-        (4, 20_000, false),
-        (5, 20_000, true),
-    ] {
-        let text = made(rt.alloc(), seed, pieces, returns)?;
-        let alike = read_alike(rt.alloc(), text.as_slice())?;
-        assert!(rt; alike.is_some());
-        assert_eq!(rt; alike == Some(0), pieces == 0);
-    }
-    let texts: [&[u8]; 6] = [
-        b"",
-        b"\r\n",
-        b"\r\n\r\na,b\n",
-        b"a,\r\n,b\r\nc",
-        b"a\n\n,\nb,c\r\nd\n\r\n",
-        b"0123456789abcdef\r\n,",
-    ];
-    for text in texts {
+    let alloc = rt.alloc();
+    assert!(rt; is_read_alike(alloc, 1, 0, false)?);
+    assert!(rt; is_read_alike(alloc, 2, 1_000, false)?);
+    assert!(rt; is_read_alike(alloc, 3, 1_000, true)?);
+    assert!(rt; is_read_alike(alloc, 4, 20_000, false)?);
+    assert!(rt; is_read_alike(alloc, 5, 20_000, true)?);
+    Ok(())
+}
+
+/// Texts with empty lines, empty fields and a last line without its end.
+const SHORT: [&[u8]; 6] = [
+    b"",
+    b"\r\n",
+    b"\r\n\r\na,b\n",
+    b"a,\r\n,b\r\nc",
+    b"a\n\n,\nb,c\r\nd\n\r\n",
+    b"0123456789abcdef\r\n,",
+];
+
+#[test]
+fn short_texts_are_read_both_ways(rt: HostRuntime) -> Result<(), AllocError> {
+    for text in &SHORT {
         assert!(rt; read_alike(rt.alloc(), text)?.is_some());
     }
     Ok(())
 }
 
+/// Whether a text of a thousand times five records is read so by both, and written so by `csv`.
+fn is_written_alike(alloc: Global, text: &[u8]) -> Result<bool, AllocError> {
+    Ok(
+        read_alike(alloc, text)? == Some(5_000)
+            && is_so_by_csv(alloc, text, b',', FIVE)?
+            && is_so_by_csv(alloc, text, b';', FIVE_PARTED)?,
+    )
+}
+
+#[test]
+fn puts_each_field_at_once(rt: HostRuntime) -> Result<(), Fail> {
+    assert!(rt; is_put_at_once(rt.alloc())?);
+    Ok(())
+}
+
 #[test]
 fn written_both_ways(rt: HostRuntime) -> Result<(), Fail> {
-    let alloc = rt.alloc();
-    assert!(rt; is_put_at_once(alloc)?);
+    let writer = RecordWriter::with_room(rt.alloc())?;
     // With room, what is held is put before the number of eight digits of the 586th five.
-    let (put, text) = put_often(alloc, RecordWriter::with_room(alloc)?, 1_000)?;
-    assert_eq!(rt; (put, text.len()), (65_532, 112_000));
-    assert!(rt; is_thousandfold(alloc, &text, FIVE)?);
+    let (put, text) = put_often(rt.alloc(), writer, 1_000)?;
+    assert!(rt; put == 65_532 && text.len() == 112_000);
+    assert!(rt; is_thousandfold(rt.alloc(), &text, FIVE)?);
     // By `csv` these are the same records.
-    assert_eq!(rt; read_alike(alloc, &text)?, Some(5_000));
-    assert!(rt; is_so_by_csv(alloc, &text, b',', FIVE)?);
-    assert!(rt; is_so_by_csv(alloc, &text, b';', FIVE_PARTED)?);
+    assert!(rt; is_written_alike(rt.alloc(), &text)?);
     Ok(())
 }

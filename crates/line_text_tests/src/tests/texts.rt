@@ -61,27 +61,28 @@ end\n";
 #[test]
 fn reads_a_whole_script(rt: HostRuntime) -> Result<(), Fail> {
     let script = read_script(rt.alloc(), THREE_CHECKS)?;
-    assert_eq!(rt; script.n, 2);
-    assert_eq!(rt; script.mode, Mode::Fifo);
-    assert_eq!(rt; script.commands.len(), 10);
+    assert!(rt; script.n == 2 && script.mode == Mode::Fifo && script.commands.len() == 10);
     Ok(())
 }
 
-#[test]
-fn writes_a_reply(rt: HostRuntime) -> Result<(), Fail> {
+/// The reply to a delivery that forced a check of round 3.
+fn took() -> Result<Reply, Fail> {
     let message = MsgName {
         from: ProcId::try_new(1, 2)?,
         inc: 65_535,
         number: 7,
     };
-    let took = write_reply(
-        rt.alloc(),
-        &Reply::Took {
-            message,
-            forced: Some(3),
-        },
-    )?;
-    assert_eq!(rt; took.as_slice(), b"took,1,65535,7,3\n".as_slice());
+    Ok(Reply::Took {
+        message,
+        forced: Some(3),
+    })
+}
+
+#[test]
+fn writes_a_reply(rt: HostRuntime) -> Result<(), Fail> {
+    let reply = took()?;
+    let text = write_reply(rt.alloc(), &reply)?;
+    assert!(rt; text.as_slice() == b"took,1,65535,7,3\n".as_slice());
     Ok(())
 }
 
@@ -119,21 +120,23 @@ fn run(
 #[test]
 fn runs_a_byte_at_a_time(rt: HostRuntime) -> Result<(), Fail> {
     let ran = run(rt.alloc(), THREE_CHECKS, 1, None, None)?;
-    assert_eq!(rt; ran.answer, Ok(Done { refused: 0 }));
-    assert_eq!(rt; ran.put.as_slice(), THREE_CHECKS_TOLD);
+    assert!(rt; ran.answer == Ok(Done { refused: 0 }));
+    assert!(rt; ran.put.as_slice() == THREE_CHECKS_TOLD);
     Ok(())
 }
 
-/// What a run came to whose devices fail at these calls, in steps of so many bytes: its answer, how
-/// many bytes it put, whether another text begins with these, and how often reading and writing
-/// failed.
+/// What a run came to: its answer, how many bytes it put, whether another text begins with these,
+/// and how often reading and writing failed.
+type Told = (Result<Done, TextFault>, usize, bool, (u64, u64));
+
+/// What a run came to whose devices fail at these calls, in steps of so many bytes.
 fn told(
     alloc: Global,
     text: &[u8],
     whole: &[u8],
     step: usize,
     fails: (Option<u64>, Option<u64>),
-) -> Result<(Result<Done, TextFault>, usize, bool, (u64, u64)), AllocError>
+) -> Result<Told, AllocError>
     requires { 0 < step }
 {
     let ran = run(alloc, text, step, fails.0, fails.1)?;
@@ -142,38 +145,43 @@ fn told(
     Ok((ran.answer, ran.put.len(), is_front, failures))
 }
 
+/// A fault of no record.
+fn fault_of(code: u32) -> TextFault {
+    TextFault {
+        record_number: 0,
+        code,
+    }
+}
+
+/// Whether a run is told that its source failed at this call, and puts nothing.
+fn is_read_told(alloc: Global, fail_at: u64) -> Result<bool, AllocError> {
+    let fails = (Some(fail_at), None);
+    let told = told(alloc, THREE_CHECKS, THREE_CHECKS_TOLD, 16, fails)?;
+    Ok(told == (Err(fault_of(36)), 0, true, (1, 0)))
+}
+
 #[test]
 fn tells_that_the_source_failed(rt: HostRuntime) -> Result<(), Fail> {
-    let fault = TextFault {
-        record_number: 0,
-        code: 36,
-    };
-    for fail_at in [1u64, 2, 5] {
-        let fails = (Some(fail_at), None);
-        assert_eq!(rt;
-            told(rt.alloc(), THREE_CHECKS, THREE_CHECKS_TOLD, 16, fails)?,
-            (Err(fault), 0, true, (1, 0)),
-            "at call {fail_at}"
-        );
-    }
+    assert!(rt; is_read_told(rt.alloc(), 1)?);
+    assert!(rt; is_read_told(rt.alloc(), 2)?);
+    assert!(rt; is_read_told(rt.alloc(), 5)?);
     Ok(())
+}
+
+/// Whether a run is told that its sink failed at this call, and has put so many bytes.
+fn is_write_told(alloc: Global, fail_at: u64, taken: usize) -> Result<bool, AllocError> {
+    let fails = (None, Some(fail_at));
+    let told = told(alloc, THREE_CHECKS, THREE_CHECKS_TOLD, 64, fails)?;
+    Ok(told == (Err(fault_of(37)), taken, true, (0, 1)))
 }
 
 #[test]
 fn tells_that_the_sink_failed(rt: HostRuntime) -> Result<(), Fail> {
-    let fault = TextFault {
-        record_number: 0,
-        code: 37,
-    };
+    assert!(rt; is_write_told(rt.alloc(), 1, 0)?);
+    assert!(rt; is_write_told(rt.alloc(), 2, 64)?);
+    assert!(rt; is_write_told(rt.alloc(), 3, 128)?);
     // The last call lets out what was taken.
-    for (fail_at, taken) in [(1u64, 0usize), (2, 64), (3, 128), (4, 153)] {
-        let fails = (None, Some(fail_at));
-        assert_eq!(rt;
-            told(rt.alloc(), THREE_CHECKS, THREE_CHECKS_TOLD, 64, fails)?,
-            (Err(fault), taken, true, (0, 1)),
-            "at call {fail_at}"
-        );
-    }
+    assert!(rt; is_write_told(rt.alloc(), 4, 153)?);
     Ok(())
 }
 
@@ -192,19 +200,32 @@ fn puts_long_replies_in_pieces(rt: HostRuntime) -> Result<(), Fail> {
     let alloc = rt.alloc();
     let text = followed(alloc, b"world,1,2,fifo\n", b"send,0,0,\n", 5_000)?;
     let want = followed(alloc, b"", b"refused,17,ToSelf\n", 5_000)?;
-    assert_eq!(rt;
-        told(alloc, &text, &want, 4_096, (None, None))?,
-        (Ok(Done { refused: 5_000 }), 90_000, true, (0, 0))
-    );
+    let all = (Ok(Done { refused: 5_000 }), 90_000, true, (0, 0));
+    assert!(rt; told(alloc, &text, &want, 4_096, (None, None))? == all);
     // The second piece fails after the first is put.
-    let fault = TextFault {
-        record_number: 0,
-        code: 37,
+    let half = (Err(fault_of(37)), 65_531, true, (0, 1));
+    assert!(rt; told(alloc, &text, &want, 100_000, (None, Some(2)))? == half);
+    Ok(())
+}
+
+/// What a run of a script is answered that has a fault in its second record, and this after seven
+/// thousand records more, whose bytes are more than 65,536.
+fn answer_before(alloc: Global, last: &[u8]) -> Result<Result<Done, TextFault>, AllocError> {
+    let mut text = followed(alloc, b"world,1,2,fifo\nsned,0,1,\n", b"send,0,1,\n", 7_000)?;
+    text.extend_from_slice(last)?;
+    Ok(run(alloc, &text, 100_000, None, None)?.answer)
+}
+
+/// A byte that no text has is a fault of no record, wherever it stands, and comes before the fault
+/// of an earlier record.
+#[test]
+fn names_no_record_for_a_byte_in_a_later_piece(rt: HostRuntime) -> Result<(), Fail> {
+    assert!(rt; answer_before(rt.alloc(), b"send,0,1,\x01\n")? == Err(fault_of(32)));
+    let second = TextFault {
+        record_number: 2,
+        code: 32,
     };
-    assert_eq!(rt;
-        told(alloc, &text, &want, 100_000, (None, Some(2)))?,
-        (Err(fault), 65_531, true, (0, 1))
-    );
+    assert!(rt; answer_before(rt.alloc(), b"send,0,1,\n")? == Err(second));
     Ok(())
 }
 
@@ -245,39 +266,43 @@ fn long_replies(alloc: Global) -> Result<Vec<u8>, AllocError> {
 }
 
 /// A history and a check text, each of some 138,000 bytes, are put in pieces while they are
-/// written: a piece is put where a field finds no room within its 65,536 bytes.
+/// written.
+#[test]
+fn puts_a_long_history(rt: HostRuntime) -> Result<(), Fail> {
+    let text = long_script(rt.alloc())?;
+    let replies = long_replies(rt.alloc())?;
+    let whole = run(rt.alloc(), &text, 100_000, None, None)?;
+    assert!(rt; whole.answer == Ok(Done { refused: 0 }) && whole.put.len() == 288_974);
+    assert!(rt; whole.put.as_slice().ends_with(&replies));
+    Ok(())
+}
+
+/// Whether a run of a text whose sink fails at this call has put so many bytes, of what it puts
+/// where none fails.
+fn is_cut(
+    alloc: Global,
+    text: &[u8],
+    whole: &[u8],
+    fail_at: u64,
+    taken: usize,
+) -> Result<bool, AllocError> {
+    let (_, put, is_front, failures) = told(alloc, text, whole, 100_000, (None, Some(fail_at)))?;
+    Ok(put == taken && is_front && failures == (0, 1))
+}
+
+/// A piece is put where a field finds no room within its 65,536 bytes.
 #[test]
 fn puts_a_long_history_in_pieces(rt: HostRuntime) -> Result<(), Fail> {
     let alloc = rt.alloc();
     let text = long_script(alloc)?;
-    let whole = run(alloc, &text, 100_000, None, None)?;
-    assert_eq!(rt;
-        (whole.answer, whole.put.len()),
-        (Ok(Done { refused: 0 }), 288_974)
-    );
-    assert!(rt; whole.put.as_slice().ends_with(&long_replies(alloc)?));
+    let whole = run(alloc, &text, 100_000, None, None)?.put;
     // The replies to the sends are 12,890 bytes, and each of the other records but a few is 138.
-    for (fail_at, taken) in [
-        (1u64, 0usize),
-        (2, 65_534),
-        (3, 131_068),
-        (4, 196_602),
-        (5, 262_136),
-        (6, 288_974),
-    ] {
-        let (_, put, is_front, failures) = told(
-            alloc,
-            &text,
-            &whole.put,
-            100_000,
-            (None, Some(fail_at)),
-        )?;
-        assert_eq!(rt;
-            (put, is_front, failures),
-            (taken, true, (0, 1)),
-            "at call {fail_at}"
-        );
-    }
+    assert!(rt; is_cut(alloc, &text, &whole, 1, 0)?);
+    assert!(rt; is_cut(alloc, &text, &whole, 2, 65_534)?);
+    assert!(rt; is_cut(alloc, &text, &whole, 3, 131_068)?);
+    assert!(rt; is_cut(alloc, &text, &whole, 4, 196_602)?);
+    assert!(rt; is_cut(alloc, &text, &whole, 5, 262_136)?);
+    assert!(rt; is_cut(alloc, &text, &whole, 6, 288_974)?);
     Ok(())
 }
 
@@ -307,21 +332,23 @@ fn judge(
     })
 }
 
+/// Whether a judgement whose devices fail at these calls has this fault, and puts so many bytes.
+fn is_judged(
+    alloc: Global,
+    read_fails: Option<u64>,
+    write_fails: Option<u64>,
+    code: u32,
+    put: usize,
+) -> Result<bool, AllocError> {
+    let judged = judge(alloc, CLAIM, 4, read_fails, write_fails)?;
+    Ok(judged.answer == Err(fault_of(code)) && judged.put.len() == put)
+}
+
 #[test]
 fn judges_nothing_where_a_device_fails(rt: HostRuntime) -> Result<(), Fail> {
-    for (read_fails, write_fails, code, put) in [
-        (Some(1u64), None, 36u32, 0usize),
-        (None, Some(1u64), 37, 0),
-        (None, Some(2), 37, 4),
-    ] {
-        let judged = judge(rt.alloc(), CLAIM, 4, read_fails, write_fails)?;
-        let fault = TextFault {
-            record_number: 0,
-            code,
-        };
-        assert_eq!(rt; judged.answer, Err(fault));
-        assert_eq!(rt; judged.put.len(), put);
-    }
+    assert!(rt; is_judged(rt.alloc(), Some(1), None, 36, 0)?);
+    assert!(rt; is_judged(rt.alloc(), None, Some(1), 37, 0)?);
+    assert!(rt; is_judged(rt.alloc(), None, Some(2), 37, 4)?);
     Ok(())
 }
 
@@ -362,11 +389,7 @@ fn refuses_an_input_above_the_limit(rt: HostRuntime) {
         ends: 0,
     };
     let mut sink = MemSink::new(rt.alloc(), 1, None);
-    let fault = TextFault {
-        record_number: 0,
-        code: 36,
-    };
-    assert_eq!(rt; run_text(rt.alloc(), &mut source, &mut sink), Err(fault));
-    assert_eq!(rt; check_text(rt.alloc(), &mut source, &mut sink), Err(fault));
-    assert_eq!(rt; sink.bytes().len(), 0);
+    assert!(rt; run_text(rt.alloc(), &mut source, &mut sink) == Err(fault_of(36)));
+    assert!(rt; check_text(rt.alloc(), &mut source, &mut sink) == Err(fault_of(36)));
+    assert!(rt; sink.bytes().is_empty());
 }
