@@ -21,12 +21,9 @@ use line_tape::{Event, History, MOST_EVENTS};
 use std::alloc::{AllocError, Global};
 use std::marker::Model;
 
-// How many events for each process come at least between two times that the ledger settles, so that
-// what a settling takes for each process is little beside them.
-const EVENTS_FOR_A_PROCESS: usize = 128;
-
-// No more events than these need come, however many processes there are.
-const EVENTS_FOR_ALL: usize = 4096;
+// How many events come at least between two times that the ledger settles, so that what a settling
+// takes but for the events is little beside them.
+const EVENTS_BETWEEN: usize = 4096;
 
 // A ledger settles so many events later where events are added and no room is made. So who makes
 // room for each few events settles as room is made, and takes no memory as events are added.
@@ -62,18 +59,13 @@ fn count_sends(history: &History) -> usize {
     sends
 }
 
-/// How many events come at least between two times that a ledger of `n` processes settles.
-fn events_between(n: u32) -> usize {
-    (n as usize * EVENTS_FOR_A_PROCESS).min(EVENTS_FOR_ALL)
-}
-
 /// After how many further events a ledger settles where it keeps a line: after as many as it would
 /// look at now, which so have paid for it, and some more.
 fn events_to_wait(history: &History, starts: &[u32], left: &[MsgName]) -> usize
     requires { length starts.now ≡ length history.now.processes }
 {
     let n = history.n();
-    let mut events = left.len().saturating_add(events_between(n));
+    let mut events = left.len().saturating_add(EVENTS_BETWEEN);
     for q in 0..n {
         let p = ProcId::try_new(q, n).unwrap();
         let since = history.tape(p).sends().saturating_sub(starts[q as usize]);
@@ -179,15 +171,14 @@ impl Ledger {
     {
         let starts = no_starts(alloc, history.n())?;
         let places = no_starts(alloc, history.n())?;
-        let wait = events_between(history.n());
-        let credit = count_sends(&history).saturating_add(wait);
+        let credit = count_sends(&history).saturating_add(EVENTS_BETWEEN);
         Ok(Ledger {
             history,
             starts,
             places,
             left: Vec::new(alloc),
             alloc,
-            due: wait.saturating_add(EVENTS_LATER),
+            due: EVENTS_BETWEEN + EVENTS_LATER,
             credit,
         })
     }
@@ -210,10 +201,7 @@ impl Ledger {
         move_places(&self.history, line, &mut self.places);
         self.starts = starts;
         self.left = kept;
-        let wait = self
-            .left
-            .len()
-            .saturating_add(events_between(self.history.n()));
+        let wait = self.left.len().saturating_add(EVENTS_BETWEEN);
         self.due = wait.saturating_add(EVENTS_LATER);
         self.credit = credit.saturating_add(wait);
     }
