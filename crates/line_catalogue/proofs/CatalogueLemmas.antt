@@ -10,7 +10,7 @@ use Rattle.line_tape.specs.Event.{checks, sends, NamesBelow}
 use Rattle.line_tape.specs.History.{Process, tape_at, with_event}
 use Rattle.line_tape.specs.Views.{MarksView, no_marks, with_bar, with_mark, bar_at, damaged_at}
 use Rattle.line_tape.proofs.RowLemmas.{checks-push}
-use Rattle.line_catalogue.specs.declared.kept_rows.VectorRow.{VectorRow}
+use Rattle.line_catalogue.specs.declared.kept_rows.Row.{Row}
 use Rattle.line_catalogue.specs.Agreement.{AgreesNext}
 use Rattle.line_catalogue.specs.Damage.{AreOnChecks}
 use Rattle.line_catalogue.specs.Kept.{rows_at, present_at, IsCatalogue}
@@ -108,10 +108,10 @@ AreOnChecks-below history marks count barred below = record {
 }
 
 -- the vector of where a process stands has a lane for each
-pub length-present : (history : List Process) (marks : MarksView) (rows : List (List VectorRow)) (presents : List (List ℕ)) (p : ℕ) → p < length history → IsCatalogue history marks rows presents → length (present_at presents p) ≡ length history
+pub length-present : (history : List Process) (marks : MarksView) (rows : List (List Row)) (presents : List (List ℕ)) (p : ℕ) → p < length history → IsCatalogue history marks rows presents → length (present_at presents p) ≡ length history
 length-present history marks rows presents p within is = ap (λ (xs : List ℕ). length xs) (is.heard p within) ∙ length-reach (length history) (tape_at history p)
 
-module _ (history : List Process) (marks : MarksView) (rows : List (List VectorRow)) (presents : List (List ℕ)) (p : ℕ) (within : p < length history) where
+module _ (history : List Process) (marks : MarksView) (rows : List (List Row)) (presents : List (List ℕ)) (p : ℕ) (within : p < length history) where
   -- an event that agrees, the row that it adds, and what it lets the process hear
   pub IsCatalogue-event : (event : Event) (place sent : ℕ) → place ≡ length (tape_at history p) + 1 → sent ≡ sends (tape_at history p) → NamesBelow (length history) event → AgreesNext history p event → IsCatalogue history marks rows presents
       → IsCatalogue (with_event history p event) marks (set rows p (with_row (rows_at rows p) (row_added place sent (present_at presents p) event))) (set presents p (vector_after_event (present_at presents p) event))
@@ -120,7 +120,7 @@ module _ (history : List Process) (marks : MarksView) (rows : List (List VectorR
       let grown : List Process = with_event history p event in
       let same : length grown ≡ n = length-set history p _ in
       let tape : List Event = tape_at history p in
-      let there : List VectorRow = with_row (rows_at rows p) (row_added place sent (present_at presents p) event) in
+      let there : List Row = with_row (rows_at rows p) (row_added place sent (present_at presents p) event) in
       let further : List ℕ = vector_after_event (present_at presents p) event in
       let new : AreRows n (tape ++ event ∷ []) (damaged_at marks p) there =
       subst (λ k. AreRows n (tape ++ event ∷ []) (damaged_at marks p) (with_row (rows_at rows p) (row_added k sent (present_at presents p) event))) (sym place_is)

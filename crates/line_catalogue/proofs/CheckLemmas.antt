@@ -24,7 +24,7 @@ use Rattle.line_tape.proofs.RowLemmas.{checks_front}
 use Rattle.line_tape.proofs.StayLemmas.{front_restarted, front_take}
 use Rattle.line_vectors.specs.Reach.{reach_of_event, reach_of}
 use Rattle.line_vectors.proofs.ReachLemmas.{reach-deaf, reach-none, reach-recv, reach_of-left}
-use Rattle.line_catalogue.specs.declared.kept_rows.VectorRow.{VectorRow}
+use Rattle.line_catalogue.specs.declared.kept_rows.Row.{Row}
 use Rattle.line_catalogue.specs.Rows.{IsRow, AreInStep, AreRows, WithPlaces, vector_after_event, new_row, no_row, row_added, rows_kept, vector_at, with_damage, with_row}
 
 -- whether a check is among the marked ones, with one more
@@ -46,10 +46,10 @@ any-other damaged c k apart =
     any-push damaged c k ∙ ap (λ (b : Bool). list_any (λ check. eqb check k) damaged || b) (or_none (eqb c k) ∙ ne_eqb c k (λ e. apart (sym e))) ∙ or_none (list_any (λ check. eqb check k) damaged)
 
 -- a mark changes the row of its check, and no other one
-pub AreRows-damage : (n : ℕ) (tape : List Event) (damaged : List ℕ) (rows : List VectorRow) (c : ℕ) → c ≤ checks tape → AreRows n tape damaged rows → AreRows n tape (damaged ++ c ∷ []) (with_damage rows c)
+pub AreRows-damage : (n : ℕ) (tape : List Event) (damaged : List ℕ) (rows : List Row) (c : ℕ) → c ≤ checks tape → AreRows n tape damaged rows → AreRows n tape (damaged ++ c ∷ []) (with_damage rows c)
 AreRows-damage n tape damaged rows c within are =
-    let old : VectorRow = get_or rows c no_row in
-    let new : VectorRow = record old { damaged = true } in
+    let old : Row = get_or rows c no_row in
+    let new : Row = record old { damaged = true } in
     let row : IsRow n tape damaged c old = are.each c no_row within in
     let marked : IsRow n tape (damaged ++ c ∷ []) c new = record { place_is = row.place_is; sends_is = row.sends_is; damaged_is = sym (any-here damaged c); reach_is = row.reach_is } in
     record {
@@ -63,7 +63,7 @@ AreRows-damage n tape damaged rows c within are =
     }
 
 -- a row stays right when an event is added
-IsRow-push : (n : ℕ) (tape : List Event) (event : Event) (damaged : List ℕ) (c : ℕ) (row : VectorRow) → c ≤ checks tape → IsRow n tape damaged c row → IsRow n (tape ++ event ∷ []) damaged c row
+IsRow-push : (n : ℕ) (tape : List Event) (event : Event) (damaged : List ℕ) (c : ℕ) (row : Row) → c ≤ checks tape → IsRow n tape damaged c row → IsRow n (tape ++ event ∷ []) damaged c row
 IsRow-push n tape event damaged c row within is =
     let same : check_place (tape ++ event ∷ []) c ≡ check_place tape c = check_place-push tape event c within in
     let left : take (check_place tape c) (tape ++ event ∷ []) ≡ take (check_place tape c) tape = take-append-le (check_place tape c) tape (event ∷ []) (check_place-le tape c) in
@@ -110,7 +110,7 @@ IsRow-last n tape event damaged present is deaf now on =
     }
 
 -- an event that is no check adds no row
-AreRows-none : (n : ℕ) (tape : List Event) (event : Event) (damaged : List ℕ) (rows : List VectorRow) → is_check event ≡ false → AreRows n tape damaged rows → AreRows n (tape ++ event ∷ []) damaged rows
+AreRows-none : (n : ℕ) (tape : List Event) (event : Event) (damaged : List ℕ) (rows : List Row) → is_check event ≡ false → AreRows n tape damaged rows → AreRows n (tape ++ event ∷ []) damaged rows
 AreRows-none n tape event damaged rows unchecked are =
     let more : checks (tape ++ event ∷ []) ≡ checks tape + 0 = checks-push tape event ∙ ap (λ b. checks tape + cond b 1 0) unchecked in
     record {
@@ -119,10 +119,10 @@ AreRows-none n tape event damaged rows unchecked are =
     }
 
 -- a check adds its own
-AreRows-one : (n : ℕ) (tape : List Event) (event : Event) (damaged : List ℕ) (rows : List VectorRow) (present : List ℕ) → is_check event ≡ true → ((p : ℕ) → reach_of_event p event ≡ 0) → present ≡ reach_of n tape → All (λ check. check ≤ checks tape) damaged → AreRows n tape damaged rows
+AreRows-one : (n : ℕ) (tape : List Event) (event : Event) (damaged : List ℕ) (rows : List Row) (present : List ℕ) → is_check event ≡ true → ((p : ℕ) → reach_of_event p event ≡ 0) → present ≡ reach_of n tape → All (λ check. check ≤ checks tape) damaged → AreRows n tape damaged rows
     → AreRows n (tape ++ event ∷ []) damaged (rows ++ new_row (length tape + 1) (sends tape) present ∷ [])
 AreRows-one n tape event damaged rows present is deaf now on are =
-    let row : VectorRow = new_row (length tape + 1) (sends tape) present in
+    let row : Row = new_row (length tape + 1) (sends tape) present in
     let more : checks (tape ++ event ∷ []) ≡ checks tape + 1 = checks-push tape event ∙ ap (λ b. checks tape + cond b 1 0) is in
     record {
       count = omega (arith, are.count, more, length_push rows row);
@@ -136,7 +136,7 @@ AreRows-one n tape event damaged rows present is deaf now on are =
     }
 
 -- the rows stay right with the one that an event adds
-pub AreRows-added : (n : ℕ) (tape : List Event) (event : Event) (damaged : List ℕ) (rows : List VectorRow) (present : List ℕ) → All (λ check. check ≤ checks tape) damaged → present ≡ reach_of n tape → AreRows n tape damaged rows
+pub AreRows-added : (n : ℕ) (tape : List Event) (event : Event) (damaged : List ℕ) (rows : List Row) (present : List ℕ) → All (λ check. check ≤ checks tape) damaged → present ≡ reach_of n tape → AreRows n tape damaged rows
     → AreRows n (tape ++ event ∷ []) damaged (with_row rows (row_added (length tape + 1) (sends tape) present event))
 AreRows-added n tape (Send to inc body) damaged rows present on now are = AreRows-none n tape (Send to inc body) damaged rows refl are
 AreRows-added n tape (Recv message) damaged rows present on now are = AreRows-none n tape (Recv message) damaged rows refl are
@@ -151,7 +151,7 @@ heard-added n tape (Check state round) present named now = now ∙ sym (reach-de
 heard-added n tape (Mark from round) present named now = now ∙ sym (reach-deaf n tape (Mark from round) (λ p. refl))
 
 -- the only row of a process that has done nothing
-pub AreRows-start : (n : ℕ) (rows : List VectorRow) → rows ≡ new_row 0 0 (replicate n 0) ∷ [] → AreRows n [] [] rows
+pub AreRows-start : (n : ℕ) (rows : List Row) → rows ≡ new_row 0 0 (replicate n 0) ∷ [] → AreRows n [] [] rows
 AreRows-start n rows is = subst (AreRows n [] []) (sym is) (record {
   count = refl;
   each = λ c d h.
@@ -185,10 +185,10 @@ any-now c [] = refl
 any-now c (x ∷ xs) = ap (λ b. eqb x c || b) (any-now c xs)
 
 -- the rows up to a choice, with their places noted anew, are those of what is left of the tape
-rows-left : (n : ℕ) (tape : List Event) (damaged kept : List ℕ) (choice : Choice) (m : ℕ) (old some new : List VectorRow)
+rows-left : (n : ℕ) (tape : List Event) (damaged kept : List ℕ) (choice : Choice) (m : ℕ) (old some new : List Row)
     → checks (front tape choice) ≡ m → m ≤ checks tape → ((c : ℕ) → c ≤ m → front (front tape choice) (AtCheck c) ≡ front tape (AtCheck c))
     → ((c : ℕ) → c ≤ m → list_any (λ check. eqb check c) kept ≡ list_any (λ check. eqb check c) damaged)
-    → length some ≡ m + 1 → ((c : ℕ) (d : VectorRow) → c ≤ m → get_or some c d ≡ get_or old c d) → AreRows n tape damaged old
+    → length some ≡ m + 1 → ((c : ℕ) (d : Row) → c ≤ m → get_or some c d ≡ get_or old c d) → AreRows n tape damaged old
     → WithPlaces (filter_map restarted_event (front tape choice)) some new → AreRows n (filter_map restarted_event (front tape choice)) kept new
 rows-left n tape damaged kept choice m old some new many within fronts marks count reads are placed =
     let before : List Event = front tape choice in
@@ -202,18 +202,18 @@ rows-left n tape damaged kept choice m old some new many within fronts marks cou
           let here : front left (AtCheck c) ≡ filter_map restarted_event (front tape (AtCheck c)) = front_restarted before c ∙ ap (filter_map restarted_event) (fronts c earlier) in
           record {
             place_is = placed.places c d (omega (arith, count, earlier));
-            sends_is = placed.sends_same c d ∙ ap (λ (row : VectorRow). row.sends) (reads c d earlier) ∙ is.sends_is ∙ ap length (sym (sent_left (front tape (AtCheck c)))) ∙ ap sends (sym here);
-            damaged_is = placed.damaged_same c d ∙ ap (λ (row : VectorRow). row.damaged) (reads c d earlier) ∙ is.damaged_is ∙ sym (marks c earlier);
-            reach_is = placed.reach_same c d ∙ ap (λ (row : VectorRow). row.reach) (reads c d earlier) ∙ is.reach_is ∙ sym (reach_of-left n (front tape (AtCheck c))) ∙ ap (reach_of n) (sym here);
+            sends_is = placed.sends_same c d ∙ ap (λ (row : Row). row.sends) (reads c d earlier) ∙ is.sends_is ∙ ap length (sym (sent_left (front tape (AtCheck c)))) ∙ ap sends (sym here);
+            damaged_is = placed.damaged_same c d ∙ ap (λ (row : Row). row.damaged) (reads c d earlier) ∙ is.damaged_is ∙ sym (marks c earlier);
+            reach_is = placed.reach_same c d ∙ ap (λ (row : Row). row.reach) (reads c d earlier) ∙ is.reach_is ∙ sym (reach_of-left n (front tape (AtCheck c))) ∙ ap (reach_of n) (sym here);
           };
     }
 
 -- how many rows there are up to a choice
-pub length-kept : (n : ℕ) (tape : List Event) (damaged : List ℕ) (choice : Choice) (rows : List VectorRow) → HasChoice tape choice → AreRows n tape damaged rows → length (rows_kept choice rows) ≡ checks (filter_map restarted_event (front tape choice)) + 1
+pub length-kept : (n : ℕ) (tape : List Event) (damaged : List ℕ) (choice : Choice) (rows : List Row) → HasChoice tape choice → AreRows n tape damaged rows → length (rows_kept choice rows) ≡ checks (filter_map restarted_event (front tape choice)) + 1
 length-kept n tape damaged (AtCheck k) rows has are = omega (arith, length-take (k + 1) rows, are.count, checks_left (front tape (AtCheck k)), checks_front tape k has)
 length-kept n tape damaged Now rows has are = omega (arith, are.count, checks_left (front tape Now), ap checks (take_all (length tape) tape (omega arith)))
 
-pub AreRows-left : (n : ℕ) (tape : List Event) (damaged : List ℕ) (choice : Choice) (old new : List VectorRow) → HasChoice tape choice → AreRows n tape damaged old → WithPlaces (filter_map restarted_event (front tape choice)) (rows_kept choice old) new
+pub AreRows-left : (n : ℕ) (tape : List Event) (damaged : List ℕ) (choice : Choice) (old new : List Row) → HasChoice tape choice → AreRows n tape damaged old → WithPlaces (filter_map restarted_event (front tape choice)) (rows_kept choice old) new
     → AreRows n (filter_map restarted_event (front tape choice)) (filter (is_kept choice) damaged) new
 AreRows-left n tape damaged (AtCheck k) old new has are placed =
     rows-left n tape damaged (filter (is_kept (AtCheck k)) damaged) (AtCheck k) k old (take (k + 1) old) new (checks_front tape k has) has
@@ -258,32 +258,32 @@ place-kept tape choice c within =
     let n : ℕ = place tape choice in
     sym (check_place-append (take n tape) (drop n tape) c within) ∙ ap (λ (es : List Event). check_place es c) (take-append-drop n tape)
 
-in-step : (n : ℕ) (tape : List Event) (damaged : List ℕ) (choice : Choice) (m : ℕ) (old some : List VectorRow)
-    → checks (front tape choice) ≡ m → m ≤ checks tape → length some ≡ m + 1 → ((c : ℕ) (d : VectorRow) → c ≤ m → get_or some c d ≡ get_or old c d) → AreRows n tape damaged old
+in-step : (n : ℕ) (tape : List Event) (damaged : List ℕ) (choice : Choice) (m : ℕ) (old some : List Row)
+    → checks (front tape choice) ≡ m → m ≤ checks tape → length some ≡ m + 1 → ((c : ℕ) (d : Row) → c ≤ m → get_or some c d ≡ get_or old c d) → AreRows n tape damaged old
     → AreInStep (filter_map restarted_event (front tape choice)) some
 in-step n tape damaged choice m old some many within count reads are = record {
   each = λ k c d le there same.
       let before : List Event = front tape choice in
       let was : (j : ℕ) → j ≤ m → (get_or some j d).place ≡ check_place before j = λ j h.
-      ap (λ (row : VectorRow). row.place) (reads j d h) ∙ (are.each j d (omega (arith, h, within))).place_is ∙ sym (place-kept tape choice j (omega (arith, h, many)))
+      ap (λ (row : Row). row.place) (reads j d h) ∙ (are.each j d (omega (arith, h, within))).place_is ∙ sym (place-kept tape choice j (omega (arith, h, many)))
       in
       was k (omega (arith, le, there, count)) ∙ sym (place-same before k c le (sym same ∙ was c (omega (arith, there, count))));
 }
 
 -- where a check that is kept stands as it did, so does each one before it
-pub AreInStep-left : (n : ℕ) (tape : List Event) (damaged : List ℕ) (choice : Choice) (rows : List VectorRow) → HasChoice tape choice → AreRows n tape damaged rows → AreInStep (filter_map restarted_event (front tape choice)) (rows_kept choice rows)
+pub AreInStep-left : (n : ℕ) (tape : List Event) (damaged : List ℕ) (choice : Choice) (rows : List Row) → HasChoice tape choice → AreRows n tape damaged rows → AreInStep (filter_map restarted_event (front tape choice)) (rows_kept choice rows)
 AreInStep-left n tape damaged (AtCheck k) rows has are =
     in-step n tape damaged (AtCheck k) k rows (take (k + 1) rows) (checks_front tape k has) has (omega (arith, length-take (k + 1) rows, are.count, has)) (λ c d h. get_or-take (k + 1) rows c d (omega (arith, h))) are
 AreInStep-left n tape damaged Now rows has are =
     in-step n tape damaged Now (checks tape) rows rows (ap checks (take_all (length tape) tape (omega arith))) (omega arith) are.count (λ c d h. refl) are
 
 -- the vector of the choice is that of what is left
-pub vector-left : (n : ℕ) (tape : List Event) (damaged : List ℕ) (choice : Choice) (rows : List VectorRow) (present : List ℕ) → HasChoice tape choice → AreRows n tape damaged rows → present ≡ reach_of n tape
+pub vector-left : (n : ℕ) (tape : List Event) (damaged : List ℕ) (choice : Choice) (rows : List Row) (present : List ℕ) → HasChoice tape choice → AreRows n tape damaged rows → present ≡ reach_of n tape
     → vector_at rows present choice ≡ reach_of n (filter_map restarted_event (front tape choice))
 vector-left n tape damaged (AtCheck k) rows present has are now = (are.each k no_row has).reach_is ∙ sym (reach_of-left n (front tape (AtCheck k)))
 vector-left n tape damaged Now rows present has are now = now ∙ ap (reach_of n) (sym (take_all (length tape) tape (omega arith))) ∙ sym (reach_of-left n (front tape Now))
 
 -- the vector of a choice
-pub vector-before : (n : ℕ) (tape : List Event) (damaged : List ℕ) (choice : Choice) (rows : List VectorRow) (present : List ℕ) → HasChoice tape choice → AreRows n tape damaged rows → present ≡ reach_of n tape
+pub vector-before : (n : ℕ) (tape : List Event) (damaged : List ℕ) (choice : Choice) (rows : List Row) (present : List ℕ) → HasChoice tape choice → AreRows n tape damaged rows → present ≡ reach_of n tape
     → vector_at rows present choice ≡ reach_of n (front tape choice)
 vector-before n tape damaged choice rows present has are now = vector-left n tape damaged choice rows present has are now ∙ reach_of-left n (front tape choice)

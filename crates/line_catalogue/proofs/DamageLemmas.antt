@@ -9,7 +9,7 @@ use Rattle.std.proofs.lemmas.List.Folds.{Any-from_list_any}
 use Rattle.std.proofs.lemmas.List.{length-set, get_or-set_same, get_or-set_other}
 use Rattle.line_tape.specs.declared.events.Event.{Event}
 use Rattle.line_tape.specs.Event.{checks}
-use Rattle.line_catalogue.specs.declared.kept_rows.VectorRow.{VectorRow}
+use Rattle.line_catalogue.specs.declared.kept_rows.Row.{Row}
 use Rattle.line_catalogue.specs.Rows.{IsRow, AreRows, no_row, with_damage}
 
 -- what holds of each damaged check holds of the one that is found
@@ -25,9 +25,9 @@ told damaged c k = cond (nat_lt k c) damaged []
 
 -- the rows of the checks before c tell whether these are damaged, and those from c on of no damage
 pub record AreTold (n : ℕ) (tape : List Event) (damaged : List ℕ) (c : ℕ)
-    (rows : List VectorRow) : Type 0 where
+    (rows : List Row) : Type 0 where
   pub count : length rows ≡ checks tape + 1
-  pub each : (k : ℕ) (d : VectorRow) → k ≤ checks tape
+  pub each : (k : ℕ) (d : Row) → k ≤ checks tape
       → IsRow n tape (told damaged c k) k (get_or rows k d)
 
 told-before : (damaged : List ℕ) (c k : ℕ) → k < c → told damaged c k ≡ damaged
@@ -53,7 +53,7 @@ told-other damaged c k apart = elim (cases_lt k c) [
     ]
 
 -- at first none is told of
-pub AreTold-none : (n : ℕ) (tape : List Event) (damaged : List ℕ) (rows : List VectorRow)
+pub AreTold-none : (n : ℕ) (tape : List Event) (damaged : List ℕ) (rows : List Row)
     → AreRows n tape [] rows → AreTold n tape damaged 0 rows
 AreTold-none n tape damaged rows are = record {
   count = are.count;
@@ -62,7 +62,7 @@ AreTold-none n tape damaged rows are = record {
 }
 
 -- in the end all are
-pub AreTold-all : (n : ℕ) (tape : List Event) (damaged : List ℕ) (c : ℕ) (rows : List VectorRow)
+pub AreTold-all : (n : ℕ) (tape : List Event) (damaged : List ℕ) (c : ℕ) (rows : List Row)
     → checks tape < c → AreTold n tape damaged c rows → AreRows n tape damaged rows
 AreTold-all n tape damaged c rows past are = record {
   count = are.count;
@@ -70,21 +70,21 @@ AreTold-all n tape damaged c rows past are = record {
       (told-before damaged c k (omega (arith, past, h))) (are.each k d h);
 }
 
-module _ (n : ℕ) (tape : List Event) (damaged : List ℕ) (c : ℕ) (rows : List VectorRow)
+module _ (n : ℕ) (tape : List Event) (damaged : List ℕ) (c : ℕ) (rows : List Row)
     (within : c ≤ checks tape) (are : AreTold n tape damaged c rows) where
   abbrev is_there : Bool
   is_there = list_any (λ check. eqb check c) damaged
 
-  here : (d : VectorRow) → IsRow n tape [] c (get_or rows c d)
+  here : (d : Row) → IsRow n tape [] c (get_or rows c d)
   here d = subst (λ (xs : List ℕ). IsRow n tape xs c (get_or rows c d))
       (told-behind damaged c c (omega arith)) (are.each c d within)
 
-  others : (k : ℕ) (d : VectorRow) → k ≢ c → k ≤ checks tape
+  others : (k : ℕ) (d : Row) → k ≢ c → k ≤ checks tape
       → IsRow n tape (told damaged (c + 1) k) k (get_or rows k d)
   others k d apart h = subst (λ (xs : List ℕ). IsRow n tape xs k (get_or rows k d))
       (told-other damaged c k apart) (are.each k d h)
 
-  at_check : (row : VectorRow) → IsRow n tape damaged c row → IsRow n tape (told damaged (c + 1) c) c row
+  at_check : (row : Row) → IsRow n tape damaged c row → IsRow n tape (told damaged (c + 1) c) c row
   at_check row is = subst (λ (xs : List ℕ). IsRow n tape xs c row)
       (sym (told-before damaged (c + 1) c (omega arith))) is
 
@@ -109,8 +109,8 @@ module _ (n : ℕ) (tape : List Event) (damaged : List ℕ) (c : ℕ) (rows : Li
 
   told_damaged : is_there ≡ true → AreTold n tape damaged (c + 1) (with_damage rows c)
   told_damaged some =
-      let old : VectorRow = get_or rows c no_row in
-      let new : VectorRow = record old { damaged = true } in
+      let old : Row = get_or rows c no_row in
+      let new : Row = record old { damaged = true } in
       let row : IsRow n tape [] c old = here no_row in
       let marked : IsRow n tape damaged c new =
       record {

@@ -7,7 +7,7 @@ use Rattle.line_names.specs.declared.choices.Choice.TheVariants.{Check as AtChec
 use Rattle.line_tape.specs.declared.events.Event.{Event}
 use Rattle.line_tape.specs.Front.{place}
 use Rattle.line_catalogue.specs.declared.kept_rows.KeptRow.{KeptRow}
-use Rattle.line_catalogue.specs.declared.kept_rows.VectorRow.{VectorRow}
+use Rattle.line_catalogue.specs.declared.kept_rows.Row.{Row}
 use Rattle.line_catalogue.specs.Laid.{AreAmong, AreLaid, EndWith, row_of}
 use Rattle.line_catalogue.specs.Rows.{AreInStep, WithPlaces, new_row, no_row, with_damage}
 
@@ -29,7 +29,7 @@ row-more n lanes more row within =
     ap (λ (vector : List ℕ). record { place = row.place; sends = row.sends; damaged = row.damaged; reach = vector }) (vector-more n row.start lanes more within)
 
 -- rows are shown the same where each is
-map-same : (f g : KeptRow → VectorRow) (rows : List KeptRow) → ((c : ℕ) → c < length rows → f (get_or rows c no_kept) ≡ g (get_or rows c no_kept)) → map f rows ≡ map g rows
+map-same : (f g : KeptRow → Row) (rows : List KeptRow) → ((c : ℕ) → c < length rows → f (get_or rows c no_kept) ≡ g (get_or rows c no_kept)) → map f rows ≡ map g rows
 map-same f g rows same = ext_get_or no_row (map f rows) (map g rows) (length-map rows f ∙ sym (length-map rows g)) (λ c h.
     let within : c < length rows = omega (arith, h, length-map rows f) in
     get_or-map f rows c no_kept no_row within ∙ same c within ∙ sym (get_or-map g rows c no_kept no_row within))
@@ -58,7 +58,7 @@ more-few false vector = omega arith
 -- ---- a row more
 
 -- the rows are laid among the lanes, and show these
-pub record Shows (lanes : List ℕ) (rows : List KeptRow) (heard : Bool) (present : List ℕ) (n : ℕ) (shown : List VectorRow) : Type 0 where
+pub record Shows (lanes : List ℕ) (rows : List KeptRow) (heard : Bool) (present : List ℕ) (n : ℕ) (shown : List Row) : Type 0 where
   pub laid : AreLaid lanes rows heard present
   pub shows : map (row_of n lanes) rows ≡ shown
 
@@ -121,8 +121,8 @@ module _ (lanes more present : List ℕ) (rows : List KeptRow) (heard : Bool) (p
       last = λ same. ends;
     };
     shows = map-append (row_of (length present) (lanes ++ more)) rows (added-row ∷ [])
-        ∙ ap (λ (xs : List VectorRow). xs ++ row_of (length present) (lanes ++ more) added-row ∷ []) (rows-more (length present) lanes more rows laid.among)
-        ∙ ap (λ (r : VectorRow). map (row_of (length present) lanes) rows ++ r ∷ []) row-added;
+        ∙ ap (λ (xs : List Row). xs ++ row_of (length present) (lanes ++ more) added-row ∷ []) (rows-more (length present) lanes more rows laid.among)
+        ∙ ap (λ (r : Row). map (row_of (length present) lanes) rows ++ r ∷ []) row-added;
   }
 
 -- ---- back to a row
@@ -157,7 +157,7 @@ module _ (lanes present : List ℕ) (rows : List KeptRow) (heard : Bool) (c : �
 
   -- the vector of the row
   pub back-reach : (get_or (map (row_of (length present) lanes) rows) c no_row).reach ≡ back-vector
-  back-reach = ap (λ (r : VectorRow). r.reach) (get_or-map (row_of (length present) lanes) rows c row no_row within ∙ ap (row_of (length present) lanes) (sym is))
+  back-reach = ap (λ (r : Row). r.reach) (get_or-map (row_of (length present) lanes) rows c row no_row within ∙ ap (row_of (length present) lanes) (sym is))
 
   pub back-laid : Shows back-lanes (take (c + 1) rows) false back-vector (length present) (take (c + 1) (map (row_of (length present) lanes) rows))
   back-laid = record {
@@ -188,7 +188,7 @@ module _ (old new : List KeptRow) (count : length new ≡ length old) (start_sam
   }
 
 -- what is seen of each row is the same, past the last one too
-seen-each : {X : Type 0} (see : VectorRow → X) (show : KeptRow → VectorRow) (old new : List KeptRow) → length new ≡ length old → ((k : ℕ) → k < length old → see (show (get_or new k no_kept)) ≡ see (show (get_or old k no_kept))) → (c : ℕ) (d : VectorRow) → see (get_or (map show new) c d) ≡ see (get_or (map show old) c d)
+seen-each : {X : Type 0} (see : Row → X) (show : KeptRow → Row) (old new : List KeptRow) → length new ≡ length old → ((k : ℕ) → k < length old → see (show (get_or new k no_kept)) ≡ see (show (get_or old k no_kept))) → (c : ℕ) (d : Row) → see (get_or (map show new) c d) ≡ see (get_or (map show old) c d)
 seen-each see show old new count same c d = elim (cases_lt c (length old)) [
   | inl before ↦ ap see (get_or-map show new c no_kept d (omega (arith, before, count))) ∙ same c before ∙ sym (ap see (get_or-map show old c no_kept d before))
   | inr behind ↦ ap see (get_or_past (map show new) c d (omega (arith, behind, count, length-map new show))) ∙ sym (ap see (get_or_past (map show old) c d (omega (arith, behind, length-map old show))))
@@ -204,30 +204,30 @@ pub record ArePlaced (tape : List Event) (old new : List KeptRow) : Type 0 where
 
 pub placed-shown : (tape : List Event) (old new : List KeptRow) (n : ℕ) (lanes : List ℕ) → ArePlaced tape old new → WithPlaces tape (map (row_of n lanes) old) (map (row_of n lanes) new)
 placed-shown tape old new n lanes placed =
-    let show : KeptRow → VectorRow = row_of n lanes in
+    let show : KeptRow → Row = row_of n lanes in
     record {
       count = length-map new show ∙ placed.count ∙ sym (length-map old show);
       places = λ c d h.
           let within : c < length old = omega (arith, h, length-map old show) in
-          ap (λ (r : VectorRow). r.place) (get_or-map show new c no_kept d (omega (arith, within, placed.count))) ∙ placed.places c no_kept within;
-      sends_same = seen-each (λ (r : VectorRow). r.sends) show old new placed.count (λ k h. placed.sends_same k no_kept);
-      damaged_same = seen-each (λ (r : VectorRow). r.damaged) show old new placed.count (λ k h. placed.damaged_same k no_kept);
-      reach_same = seen-each (λ (r : VectorRow). r.reach) show old new placed.count (λ k h. ap (λ start. take n (drop start lanes)) (placed.start_same k no_kept));
+          ap (λ (r : Row). r.place) (get_or-map show new c no_kept d (omega (arith, within, placed.count))) ∙ placed.places c no_kept within;
+      sends_same = seen-each (λ (r : Row). r.sends) show old new placed.count (λ k h. placed.sends_same k no_kept);
+      damaged_same = seen-each (λ (r : Row). r.damaged) show old new placed.count (λ k h. placed.damaged_same k no_kept);
+      reach_same = seen-each (λ (r : Row). r.reach) show old new placed.count (λ k h. ap (λ start. take n (drop start lanes)) (placed.start_same k no_kept));
     }
 
 -- what rows in step say of the kept ones
 pub step-kept : (tape : List Event) (rows : List KeptRow) (n : ℕ) (lanes : List ℕ) → AreInStep tape (map (row_of n lanes) rows) → (k c : ℕ) (d : KeptRow) → k ≤ c → c < length rows → (get_or rows c d).place ≡ place tape (AtCheck c) → (get_or rows k d).place ≡ place tape (AtCheck k)
 step-kept tape rows n lanes step k c d below within here =
-    let show : KeptRow → VectorRow = row_of n lanes in
-    sym (ap (λ (r : VectorRow). r.place) (get_or-map show rows k d no_row (omega (arith, below, within))))
-    ∙ step.each k c no_row below (omega (arith, within, length-map rows show)) (ap (λ (r : VectorRow). r.place) (get_or-map show rows c d no_row within) ∙ here)
+    let show : KeptRow → Row = row_of n lanes in
+    sym (ap (λ (r : Row). r.place) (get_or-map show rows k d no_row (omega (arith, below, within))))
+    ∙ step.each k c no_row below (omega (arith, within, length-map rows show)) (ap (λ (r : Row). r.place) (get_or-map show rows c d no_row within) ∙ here)
 
 -- a row that is damaged from now on
 module _ (rows : List KeptRow) (c : ℕ) (row : KeptRow) (within : c < length rows) (is : row ≡ get_or rows c row) where
   pub damage-shown : (n : ℕ) (lanes : List ℕ) → map (row_of n lanes) (set rows c (record row { damaged = true })) ≡ with_damage (map (row_of n lanes) rows) c
   damage-shown n lanes =
       map-set (row_of n lanes) rows c (record row { damaged = true })
-      ∙ ap (λ (r : VectorRow). set (map (row_of n lanes) rows) c (record r { damaged = true })) (ap (row_of n lanes) is ∙ sym (get_or-map (row_of n lanes) rows c row no_row within))
+      ∙ ap (λ (r : Row). set (map (row_of n lanes) rows) c (record r { damaged = true })) (ap (row_of n lanes) is ∙ sym (get_or-map (row_of n lanes) rows c row no_row within))
 
   pub damage-start : (k : ℕ) (d : KeptRow) → (get_or (set rows c (record row { damaged = true })) k d).start ≡ (get_or rows k d).start
   damage-start k d = elim (cases_eq k c) [

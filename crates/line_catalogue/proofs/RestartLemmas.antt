@@ -18,7 +18,7 @@ use Rattle.line_tape.specs.Views.{MarksView, damaged_at}
 use Rattle.line_tape.proofs.CutLemmas.{checks_left, checks_take, received_left, sent_left}
 use Rattle.line_tape.proofs.EachLemmas.{each_at, length-each, restarted-each, damage-each, kept_damage}
 use Rattle.line_tape.proofs.LineLemmas.{front-empty, tape_at-past}
-use Rattle.line_catalogue.specs.declared.kept_rows.VectorRow.{VectorRow}
+use Rattle.line_catalogue.specs.declared.kept_rows.Row.{Row}
 use Rattle.line_catalogue.specs.Agreement.{EventAgrees, Agrees}
 use Rattle.line_catalogue.specs.Damage.{AreOnChecks}
 use Rattle.line_catalogue.specs.Kept.{rows_at, present_at, IsCatalogue}
@@ -112,7 +112,7 @@ module _ (history : List Process) (line : List Choice) (is_line : IsLine history
         let left : All (λ check. check ≤ checks (tape_at (restarted_history history line) p)) kept = λ k d l. omega (arith, checks-restarted p within, kept_within (tape_at history p) choice (get_or kept k d) (is_line.exist p) (there k d l) (pass k d l)) in
         subst (All (λ check. check ≤ checks (tape_at (restarted_history history line) p))) (sym (marks-restarted p within)) left)
 
-module _ (history : List Process) (marks : MarksView) (rows : List (List VectorRow)) (presents : List (List ℕ)) (line : List Choice) (is : IsCatalogue history marks rows presents) (is_line : IsLine history line) where
+module _ (history : List Process) (marks : MarksView) (rows : List (List Row)) (presents : List (List ℕ)) (line : List Choice) (is : IsCatalogue history marks rows presents) (is_line : IsLine history line) where
   -- there is a row of each choice
   pub there-restarted : (p c : ℕ) → p < length history → choice_at line p ≡ AtCheck c → c < length (rows_at rows p)
   there-restarted p c within at =
@@ -131,7 +131,7 @@ module _ (history : List Process) (marks : MarksView) (rows : List (List VectorR
       (AreInStep-left (length history) (tape_at history p) (damaged_at marks p) (choice_at line p) (rows_at rows p) (is_line.exist p) (is.shown p within))
 
   -- with the rows of what is left the catalogue is one again
-  pub IsCatalogue-restarted : (new : List (List VectorRow)) (presents' : List (List ℕ)) → IsConsistent history line → length new ≡ length history → length presents' ≡ length history
+  pub IsCatalogue-restarted : (new : List (List Row)) (presents' : List (List ℕ)) → IsConsistent history line → length new ≡ length history → length presents' ≡ length history
       → ((p : ℕ) → p < length history → WithPlaces (tape_at (restarted_history history line) p) (rows_kept (choice_at line p) (rows_at rows p)) (rows_at new p))
       → ((p : ℕ) → p < length history → present_at presents' p ≡ vector_at (rows_at rows p) (present_at presents p) (choice_at line p))
       → IsCatalogue (restarted_history history line) (restarted_marks marks line) new presents'

@@ -3,7 +3,7 @@ use Rattle.std.specs.Prelude.{◌≡◌, ℕ, ◌<◌, List, [], length, slice_i
 use Rattle.line_tape.specs.History.{Process, tape_at}
 use Rattle.line_tape.specs.Views.{MarksView, damaged_at}
 use Rattle.line_vectors.specs.Reach.{reach_of}
-use Rattle.line_catalogue.specs.declared.kept_rows.VectorRow.{VectorRow}
+use Rattle.line_catalogue.specs.declared.kept_rows.Row.{Row}
 use Rattle.line_catalogue.specs.Agreement.{Agrees}
 use Rattle.line_catalogue.specs.Damage.{AreOnChecks}
 use Rattle.line_catalogue.specs.Rows.{AreRows}
@@ -11,18 +11,18 @@ use Rattle.line_catalogue.specs.Rows.{AreRows}
 -- the rows of one process, the vector of where it stands, and how many further events are taken
 -- with no more memory
 pub record RowsView : Type 0 where
-  pub rows : List VectorRow
+  pub rows : List Row
   pub present : List ℕ
   pub room : ℕ
 
 -- the same of all processes
 pub record TableView : Type 0 where
-  pub rows : List (List VectorRow)
+  pub rows : List (List Row)
   pub presents : List (List ℕ)
   pub rooms : List ℕ
 
 -- the rows of process p
-abbrev pub rows_at : List (List VectorRow) → ℕ → List VectorRow
+abbrev pub rows_at : List (List Row) → ℕ → List Row
 rows_at rows p = slice_index_or rows p []
 
 -- the vector of where process p stands
@@ -30,7 +30,7 @@ abbrev pub present_at : List (List ℕ) → ℕ → List ℕ
 present_at presents p = slice_index_or presents p []
 
 -- an agreeing history, marks of its checks, and the rows and vectors that tell of both
-pub record IsCatalogue (history : List Process) (marks : MarksView) (rows : List (List VectorRow))
+pub record IsCatalogue (history : List Process) (marks : MarksView) (rows : List (List Row))
     (presents : List (List ℕ)) : Type 0 where
   pub agrees : Agrees history
   pub marked : AreOnChecks history marks

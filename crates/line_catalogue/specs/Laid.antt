@@ -2,10 +2,10 @@
 use Rattle.std.specs.Prelude.{◌≡◌, ℕ, ◌+◌, ◌-◌, ◌*◌, ◌<◌, ◌≤◌, Bool, false, List, drop, length}
 use Rattle.std.specs.Prelude.{slice_index_or, take}
 use Rattle.line_catalogue.specs.declared.kept_rows.KeptRow.{KeptRow}
-use Rattle.line_catalogue.specs.declared.kept_rows.VectorRow.{VectorRow}
+use Rattle.line_catalogue.specs.declared.kept_rows.Row.{Row}
 
 -- the row that is kept so, with its vector of n lanes from among these
-abbrev pub row_of : ℕ → List ℕ → KeptRow → VectorRow
+abbrev pub row_of : ℕ → List ℕ → KeptRow → Row
 row_of n lanes row =
     record {
       place = row.place;

@@ -1,10 +1,10 @@
 -- What a table shows of each of its processes.
 use Rattle.std.specs.Prelude.{ℕ, List}
-use Rattle.line_catalogue.specs.declared.kept_rows.VectorRow.{VectorRow}
+use Rattle.line_catalogue.specs.declared.kept_rows.Row.{Row}
 use Rattle.line_catalogue.specs.Kept.{RowsView}
 
 -- its rows
-abbrev pub check_rows_of : RowsView → List VectorRow
+abbrev pub check_rows_of : RowsView → List Row
 check_rows_of kept = kept.rows
 
 -- the vector of where it stands

@@ -19,7 +19,7 @@ pub(crate) struct KeptRow {
 /// before the choice of it, whether it is damaged, and how much the process had heard of each other
 /// one.
 #[derive(Drop)]
-pub struct VectorRow<'a> {
+pub struct Row<'a> {
     pub place: u32,
     pub sends: u32,
     pub damaged: bool,
@@ -38,10 +38,10 @@ pub struct Rows<'a> {
 impl<'a> Model for Rows<'a> {
     ghost use Rattle.std.specs.Prelude.{◌≤◌, List, length, map};
     ghost use Rattle.line_names.specs.declared.limits.TheConstants.{MOST_PROCESSES};
-    ghost use Rattle.line_catalogue.specs.declared.kept_rows.VectorRow.{VectorRow};
+    ghost use Rattle.line_catalogue.specs.declared.kept_rows.Row.{Row};
     ghost use Rattle.line_catalogue.specs.Laid.{AreAmong, row_of};
 
-    ghost Value = { List VectorRow };
+    ghost Value = { List Row };
 
     ghost view = { λ r. map (row_of r.n r.lanes.now) r.rows.now };
 
@@ -74,7 +74,7 @@ impl<'a> Rows<'a> {
     }
 
     /// The row of a check. It costs nothing.
-    pub fn at(&self, check: usize) -> VectorRow<'a>
+    pub fn at(&self, check: usize) -> Row<'a>
         requires { check < length self.now }
         ensures { slice_get self.now check ≡ Some result }
     {
@@ -82,7 +82,7 @@ impl<'a> Rows<'a> {
         let lanes = self.lanes;
         let row = rows[check];
         let start = row.start as usize;
-        VectorRow {
+        Row {
             place: row.place,
             sends: row.sends,
             damaged: row.damaged,

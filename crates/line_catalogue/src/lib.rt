@@ -24,6 +24,6 @@ mod tables;
 mod transits;
 
 pub use catalogues::Catalogue;
-pub use kept_rows::{Rows, VectorRow};
+pub use kept_rows::{Row, Rows};
 pub use laws::{lanes_name_orphans, numbers_decide, vectors_decide};
 pub use refusals::{AddError, CatalogueError, DamageError};

@@ -9,7 +9,7 @@ ghost use Rattle.line_claims.specs.Events as spec;
 ghost use Rattle.line_claims.specs.Parts.{begins, is_named};
 
 use crate::events::{Kind, kind_of};
-use line_fields::{RecordReader, Row};
+use line_fields::{FieldRow, RecordReader};
 use std::alloc::{AllocError, Global};
 use std::marker::Model;
 
@@ -18,7 +18,7 @@ use std::marker::Model;
 #[derive(Drop)]
 pub(crate) struct Cursor<'a> {
     records: RecordReader<'a>,
-    row: Row,
+    row: FieldRow,
     found: bool,
     number: u64,
 }
@@ -42,7 +42,7 @@ impl<'a> Cursor<'a> {
             (λ cursor. cursor ≡ record { number = 1; left = records_of_text text.entry.now }) }
     {
         let mut records = RecordReader::open(alloc, text);
-        let mut row = Row::new(alloc);
+        let mut row = FieldRow::new(alloc);
         let found = records.next_row(&mut row)?;
         Ok(Cursor {
             records,
@@ -60,7 +60,7 @@ impl<'a> Cursor<'a> {
     }
 
     /// The record that stands here.
-    pub fn row(&self) -> Option<&Row>
+    pub fn row(&self) -> Option<&FieldRow>
         ensures { MatchOption result (self.now.left ≡ [])
             (λ row. self.now.left ≡ row.now ∷ drop 1 self.now.left) }
     {
@@ -68,7 +68,7 @@ impl<'a> Cursor<'a> {
     }
 
     /// The record that stands here, where it has that name.
-    pub fn named(&self, name: &[u8]) -> Option<&Row>
+    pub fn named(&self, name: &[u8]) -> Option<&FieldRow>
         ensures { MatchOption result (begins (is_named name.now) self.now.left ≡ false)
             (λ row. (begins (is_named name.now) self.now.left ≡ true)
             × (self.now.left ≡ row.now ∷ drop 1 self.now.left)) }
@@ -86,7 +86,7 @@ impl<'a> Cursor<'a> {
     }
 
     /// The record that stands here and the kind of its event, where it spells one.
-    pub fn event(&self) -> Option<(Kind, &Row)>
+    pub fn event(&self) -> Option<(Kind, &FieldRow)>
         ensures { MatchOption result (begins spec.is_event self.now.left ≡ false)
             (λ found. (begins spec.is_event self.now.left ≡ true)
             × (self.now.left ≡ found.1.now ∷ drop 1 self.now.left)
@@ -102,7 +102,7 @@ impl<'a> Cursor<'a> {
     }
 
     /// The record that stands here, where it bars a process and the version knows bars.
-    pub fn bar(&self, version: u32) -> Option<&Row>
+    pub fn bar(&self, version: u32) -> Option<&FieldRow>
         ensures { MatchOption result (begins (is_bar version) self.now.left ≡ false)
             (λ row. (begins (is_bar version) self.now.left ≡ true)
             × (self.now.left ≡ row.now ∷ drop 1 self.now.left)) }

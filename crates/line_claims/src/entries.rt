@@ -8,13 +8,13 @@ ghost use Rattle.line_claims.specs.Reads.{Steps};
 
 use crate::numbers::{choice, incarnation, plain, process, want};
 use crate::versions::most_in;
-use line_fields::{Fault, ReadError, Row};
+use line_fields::{Fault, FieldRow, ReadError};
 use line_names::{Certificate, Line, MsgName, Passed, ProcId, ProcSet};
 use line_tape::{BarError, MarkError, Marks};
 
 /// Adds the mark of `damage,P,C`.
 #[tactic(auto, unfolding(crate::specs::Entries::damage_of, crate::specs::Entries::one_mark_more, line_fields::specs::Shapes::two))]
-pub(crate) fn damage_of(marks: &mut Marks, n: u32, row: &Row) -> Result<(), ReadError>
+pub(crate) fn damage_of(marks: &mut Marks, n: u32, row: &FieldRow) -> Result<(), ReadError>
     requires few { n ≤ MOST_PROCESSES }
     requires whole { length marks.old.damaged ≡ n }
     ensures exact { Steps result (spec.damage_of n marks.old row.now) marks.new }
@@ -34,7 +34,7 @@ pub(crate) fn damage_of(marks: &mut Marks, n: u32, row: &Row) -> Result<(), Read
 
 /// Adds the bar of `bar,P,C`.
 #[tactic(auto, unfolding(crate::specs::Entries::bar_of, crate::specs::Entries::one_bar_more, line_fields::specs::Shapes::two))]
-pub(crate) fn bar_of(marks: &mut Marks, n: u32, row: &Row) -> Result<(), Fault>
+pub(crate) fn bar_of(marks: &mut Marks, n: u32, row: &FieldRow) -> Result<(), Fault>
     requires few { n ≤ MOST_PROCESSES }
     requires whole { length marks.old.damaged ≡ n }
     ensures ok { OnOk result (spec.bar_of n marks.old row.now ≡ Ok marks.new) }
@@ -54,7 +54,7 @@ pub(crate) fn bar_of(marks: &mut Marks, n: u32, row: &Row) -> Result<(), Fault>
 
 /// The processes of a record such as `failed` or `failed,P,..`: those of the fields after the
 /// first, a process that is not below `n` being a fault once all fields are numbers.
-pub fn failed_of(n: u32, row: &Row) -> Result<ProcSet, Fault>
+pub fn failed_of(n: u32, row: &FieldRow) -> Result<ProcSet, Fault>
     requires { n ≤ MOST_PROCESSES }
     ensures { result ≡ spec.failed_of n row.now }
 {
@@ -74,7 +74,7 @@ pub fn failed_of(n: u32, row: &Row) -> Result<ProcSet, Fault>
 }
 
 // The choices of the fields after the first.
-fn choices_of(row: &Row) -> Result<Line, Fault>
+fn choices_of(row: &FieldRow) -> Result<Line, Fault>
     requires { length row.now ≤ MOST_PROCESSES + 1 }
     ensures { result ≡ choices (drop 1 row.now) }
 {
@@ -88,7 +88,7 @@ fn choices_of(row: &Row) -> Result<Line, Fault>
 
 /// The choices of `line,CHOICE,..`.
 #[tactic(auto, unfolding(crate::specs::Entries::line_of))]
-pub(crate) fn line_of(version: u32, row: &Row) -> Result<Line, Fault>
+pub(crate) fn line_of(version: u32, row: &FieldRow) -> Result<Line, Fault>
     ensures { result ≡ spec.line_of version row.now }
 {
     let most = most_in(version) as usize;
@@ -98,7 +98,7 @@ pub(crate) fn line_of(version: u32, row: &Row) -> Result<Line, Fault>
 
 /// The entry of `pass,P,CHOICE,FROM,INC,NUMBER`.
 #[tactic(auto, unfolding(crate::specs::Entries::passed_of, line_fields::specs::Shapes::five))]
-pub(crate) fn passed_of(n: u32, row: &Row) -> Result<Passed, Fault>
+pub(crate) fn passed_of(n: u32, row: &FieldRow) -> Result<Passed, Fault>
     requires { n ≤ MOST_PROCESSES }
     ensures { result ≡ spec.passed_of n row.now }
 {
@@ -120,7 +120,11 @@ pub(crate) fn passed_of(n: u32, row: &Row) -> Result<Passed, Fault>
 
 /// Adds the entry of a record.
 #[tactic(auto, unfolding(crate::specs::Entries::entry_of))]
-pub(crate) fn entry_of(certificate: &mut Certificate, n: u32, row: &Row) -> Result<(), ReadError>
+pub(crate) fn entry_of(
+    certificate: &mut Certificate,
+    n: u32,
+    row: &FieldRow,
+) -> Result<(), ReadError>
     requires { n ≤ MOST_PROCESSES }
     ensures { Steps result (spec.entry_of n certificate.old.items row.now) certificate.new.items }
 {

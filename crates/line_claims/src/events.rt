@@ -10,7 +10,7 @@ ghost use Rattle.line_tape.specs.declared.limits.TheConstants.{MOST_STATE};
 ghost use Rattle.line_claims.specs.Events as spec;
 
 use crate::numbers::{incarnation, plain, process, round, round_or_none, want};
-use line_fields::{Fault, ReadError, Row, hex, hex_into};
+use line_fields::{Fault, FieldRow, ReadError, hex, hex_into};
 use line_names::{MOST_BODY, MOST_PROCESSES, MsgName, ProcId};
 use line_tape::{MOST_STATE, State};
 use std::alloc::Global;
@@ -20,7 +20,7 @@ use std::alloc::Global;
 #[tactic(auto, unfolding(crate::specs::Events::send_event_of, line_fields::specs::Shapes::three))]
 pub(crate) fn send_event_of(
     n: u32,
-    row: &Row,
+    row: &FieldRow,
     bytes: &mut Vec<u8>,
 ) -> Result<(ProcId, u16), ReadError>
     requires { n ≤ MOST_PROCESSES }
@@ -40,7 +40,7 @@ pub(crate) fn send_event_of(
 
 /// The message of `recv,FROM,INC,NUMBER`.
 #[tactic(auto, unfolding(crate::specs::Events::recv_event_of, line_fields::specs::Shapes::three))]
-pub(crate) fn recv_event_of(n: u32, row: &Row) -> Result<MsgName, Fault>
+pub(crate) fn recv_event_of(n: u32, row: &FieldRow) -> Result<MsgName, Fault>
     requires { n ≤ MOST_PROCESSES }
     ensures ok { IfOk result (λ message. spec.recv_event_of n row.now ≡ Ok (events.Recv message)) }
     ensures err { IfErr result (λ fault. spec.recv_event_of n row.now ≡ Err fault) }
@@ -56,7 +56,10 @@ pub(crate) fn recv_event_of(n: u32, row: &Row) -> Result<MsgName, Fault>
 
 /// The state and the round of `check,HEX,ROUND`.
 #[tactic(auto, unfolding(crate::specs::Events::check_event_of, line_fields::specs::Shapes::two))]
-pub(crate) fn check_event_of(alloc: Global, row: &Row) -> Result<(State, Option<u32>), ReadError>
+pub(crate) fn check_event_of(
+    alloc: Global,
+    row: &FieldRow,
+) -> Result<(State, Option<u32>), ReadError>
     ensures exact { Gives (λ parts. events.Check parts.0 parts.1) result
         (spec.check_event_of row.now) }
     ensures short { IfOk result (λ parts. length parts.0 ≤ MOST_STATE) }
@@ -70,7 +73,7 @@ pub(crate) fn check_event_of(alloc: Global, row: &Row) -> Result<(State, Option<
 
 /// The sender and the round of `mark,FROM,ROUND`.
 #[tactic(auto, unfolding(crate::specs::Events::mark_event_of, line_fields::specs::Shapes::two))]
-pub(crate) fn mark_event_of(n: u32, row: &Row) -> Result<(ProcId, u32), Fault>
+pub(crate) fn mark_event_of(n: u32, row: &FieldRow) -> Result<(ProcId, u32), Fault>
     requires { n ≤ MOST_PROCESSES }
     ensures ok { IfOk result
         (λ parts. spec.mark_event_of n row.now ≡ Ok (events.Mark parts.0 parts.1)) }
@@ -94,7 +97,7 @@ pub(crate) enum Kind {
 }
 
 /// The kind of event that a record spells, by its first field.
-pub(crate) fn kind_of(row: &Row) -> Option<Kind>
+pub(crate) fn kind_of(row: &FieldRow) -> Option<Kind>
     ensures { MatchOption result (spec.is_event row.now ≡ false)
         (λ kind. (spec.is_event row.now ≡ true) × (field row.now 0 ≡ spec.kind_text kind)) }
 {

@@ -18,14 +18,14 @@ use crate::events::{Kind, check_event_of, mark_event_of, recv_event_of, send_eve
 use crate::faults::{TextError, error_at, fault_at};
 use crate::numbers::{incarnation, plain, want};
 use crate::versions::{LAST_VERSION, most_in};
-use line_fields::{Fault, ReadError, Row};
+use line_fields::{Fault, FieldRow, ReadError};
 use line_names::ProcId;
 use line_tape::{CountError, Event, History, MOST_EVENTS};
 use std::alloc::Global;
 
 /// The version and the number of processes that `history,V,N` announces.
 #[tactic(auto, unfolding(crate::specs::Histories::head_of, line_fields::specs::Shapes::two))]
-pub(crate) fn head_of(row: &Row) -> Result<(u32, u32), Fault>
+pub(crate) fn head_of(row: &FieldRow) -> Result<(u32, u32), Fault>
     ensures exact { result ≡ spec.head_of row.now }
     ensures within { IfOk result (λ head. (1 ≤ head.1) × (head.1 ≤ MOST_PROCESSES)) }
 {
@@ -40,7 +40,7 @@ pub(crate) fn head_of(row: &Row) -> Result<(u32, u32), Fault>
 
 // Begins the tape of a process, by `tape,P,INC`.
 #[tactic(auto, unfolding(crate::specs::Histories::tape_of, line_fields::specs::Shapes::two))]
-fn tape_of(history: &mut History, at: ProcId, row: &Row) -> Result<(), Fault>
+fn tape_of(history: &mut History, at: ProcId, row: &FieldRow) -> Result<(), Fault>
     requires { at < length history.old.processes }
     ensures ok { OnOk result
         (spec.tape_of at history.old.processes row.now ≡ Ok history.new.processes) }
@@ -78,7 +78,7 @@ fn make_room(history: &mut History, at: ProcId) -> Result<(), ReadError>
 fn send_at(
     history: &mut History,
     at: ProcId,
-    row: &Row,
+    row: &FieldRow,
     bytes: &mut Vec<u8>,
 ) -> Result<(), ReadError>
     requires there { at < length history.old.processes }
@@ -95,7 +95,7 @@ fn send_at(
 
 // Adds the receipt of a record to the tape of a process.
 #[tactic(auto, unfolding(crate::specs::Histories::event_at))]
-fn recv_at(history: &mut History, at: ProcId, row: &Row) -> Result<(), ReadError>
+fn recv_at(history: &mut History, at: ProcId, row: &FieldRow) -> Result<(), ReadError>
     requires there { at < length history.old.processes }
     requires kind { field row.now 0 ≡ codes "recv" }
     ensures exact { Steps result (spec.event_at at history.old.processes row.now)
@@ -111,7 +111,12 @@ fn recv_at(history: &mut History, at: ProcId, row: &Row) -> Result<(), ReadError
 // Adds the check of a record to the tape of a process. It stands apart: its event is large.
 #[inline(never)]
 #[tactic(auto, unfolding(crate::specs::Histories::event_at))]
-fn check_at(alloc: Global, history: &mut History, at: ProcId, row: &Row) -> Result<(), ReadError>
+fn check_at(
+    alloc: Global,
+    history: &mut History,
+    at: ProcId,
+    row: &FieldRow,
+) -> Result<(), ReadError>
     requires there { at < length history.old.processes }
     requires kind { field row.now 0 ≡ codes "check" }
     ensures exact { Steps result (spec.event_at at history.old.processes row.now)
@@ -126,7 +131,7 @@ fn check_at(alloc: Global, history: &mut History, at: ProcId, row: &Row) -> Resu
 
 // Adds the receipt of a marker of a record to the tape of a process.
 #[tactic(auto, unfolding(crate::specs::Histories::event_at))]
-fn mark_at(history: &mut History, at: ProcId, row: &Row) -> Result<(), ReadError>
+fn mark_at(history: &mut History, at: ProcId, row: &FieldRow) -> Result<(), ReadError>
     requires there { at < length history.old.processes }
     requires kind { field row.now 0 ≡ codes "mark" }
     ensures exact { Steps result (spec.event_at at history.old.processes row.now)
@@ -145,7 +150,7 @@ fn event_at(
     history: &mut History,
     at: ProcId,
     kind: Kind,
-    row: &Row,
+    row: &FieldRow,
     bytes: &mut Vec<u8>,
 ) -> Result<(), ReadError>
     requires there { at < length history.old.processes }

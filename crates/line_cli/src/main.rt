@@ -18,7 +18,7 @@ use line_service::{Outcome, ServeError};
 use line_statuses::{status_of_drill, status_of_fault};
 use line_streams::{ReadSource, WriteSink};
 use line_text::{Done, TextFault, check_text, run_text};
-use line_words::{Job, WordsFault, fault_of_reading, read_job};
+use line_words::{Job, WordsFault, command_of, fault_of_reading};
 use std::alloc::{AllocError, Global};
 use std::process::ExitCode;
 use std::sync::Wait;
@@ -182,7 +182,7 @@ fn done(
     let Ok(words) = command_line(alloc, given) else {
         return answer(rt, &WordsFault::OutOfMemory);
     };
-    match read_job(alloc, &words) {
+    match command_of(alloc, &words) {
         Ok(Job::Run) => run(rt, alloc),
         Ok(Job::Serve) => serve(rt, alloc),
         Ok(Job::Check) => check(rt, alloc),

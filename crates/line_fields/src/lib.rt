@@ -23,5 +23,5 @@ pub use laws::{
 pub use outlets::{
     Field, add_field, begin_record, close_record, put_ending, put_fields, put_numbers,
 };
-pub use records::{RecordReader, Row};
+pub use records::{FieldRow, RecordReader};
 pub use writers::RecordWriter;

@@ -19,7 +19,7 @@ use std::marker::Model;
 
 /// The fields of a record that was read.
 #[derive(Drop)]
-pub struct Row {
+pub struct FieldRow {
     // A line, and where each of its fields ends in it.
     bytes: Vec<u8>,
     ends: Vec<usize>,
@@ -28,7 +28,7 @@ pub struct Row {
     by_csv: bool,
 }
 
-impl Model for Row {
+impl Model for FieldRow {
     ghost use Rattle.std.specs.Prelude.{All, ℕ, List};
     ghost use Rattle.csv.specs.Records.{fields_of};
     ghost use Rattle.line_fields.specs.Rows.{IsFieldWithin, fields_held, spans_from};
@@ -80,13 +80,13 @@ fn field_of(record: &ByteRecord, place: usize) -> &[u8]
     }
 }
 
-impl Row {
+impl FieldRow {
     /// A row without fields. It takes no memory.
     #[tactic(auto, unfolding(crate::specs::Rows::spans_from))]
-    pub fn new(alloc: Global) -> Row
+    pub fn new(alloc: Global) -> FieldRow
         ensures { result ≡ [] }
     {
-        Row {
+        FieldRow {
             bytes: Vec::new(alloc),
             ends: Vec::new(alloc),
             record: ByteRecord::new(alloc),
@@ -148,7 +148,7 @@ impl<'a> Model for RecordReader<'a> {
     ghost invariant = { λ s. IsLeft s.reader s.rest.now };
 }
 
-impl Row {
+impl FieldRow {
     // Takes all fields away.
     #[tactic(auto, unfolding(crate::specs::Rows::spans_from))]
     fn clear(&mut self)
@@ -252,7 +252,7 @@ fn begins_with_return(text: &[u8]) -> bool
 
 // Puts the fields of the first line of a text in place of those of a row, and answers what stands
 // from the end of that line on.
-fn read_first<'a>(text: &'a [u8], row: &mut Row) -> Result<&'a [u8], AllocError>
+fn read_first<'a>(text: &'a [u8], row: &mut FieldRow) -> Result<&'a [u8], AllocError>
     requires input { is_input_text text.now ≡ true }
     requires some { has_byte text.now ≡ true }
     requires begins { begins_with_end text.now ≡ false }
@@ -309,7 +309,10 @@ fn let_go(_error: Error) -> AllocError {
 }
 
 // The next record of what `csv` reads, or the end, after which nothing is left to it.
-fn read_or_close(reader: &mut Option<Box<Reader<&[u8]>>>, row: &mut Row) -> Result<bool, AllocError>
+fn read_or_close(
+    reader: &mut Option<Box<Reader<&[u8]>>>,
+    row: &mut FieldRow,
+) -> Result<bool, AllocError>
     requires { IsReadingOn reader.old }
     ensures reading { IsReadingOn reader.new }
     ensures ok { IfOk result
@@ -356,7 +359,7 @@ impl<'a> RecordReader<'a> {
     /// fields. An error of `csv` is answered as out of memory. It takes time in proportion to the
     /// bytes read. At the first carriage return it asks for the memory of a reader of `csv`, some
     /// 16 KiB.
-    pub fn next_row(&mut self, row: &mut Row) -> Result<bool, AllocError>
+    pub fn next_row(&mut self, row: &mut FieldRow) -> Result<bool, AllocError>
         ensures ok { IfOk result
             (λ found. MatchBool found (self.old ≡ row.new ∷ self.new)
             ((self.old ≡ []) × (self.new ≡ []) × (row.new ≡ []))) }
@@ -373,7 +376,7 @@ impl<'a> RecordReader<'a> {
         }
         if begins_with_return(rest) {
             // What the longest line took is given back.
-            *row = Row::new(self.alloc);
+            *row = FieldRow::new(self.alloc);
             let reader = hand_over(self.alloc, rest)?;
             self.reader = Some(reader);
             return read_or_close(&mut self.reader, row);

@@ -25,7 +25,7 @@ use Rattle.line_scripts.specs.declared.commands.Command.{Command}
 use Rattle.line_scripts.specs.declared.commands.Command.TheVariants.{Bundle, Do, History, Refused, Rounds}
 use Rattle.line_scripts.specs.Ranges.{IsCommandInRange, IsScriptInRange, IsSetAmong, IsWithCheck, IsWithState}
 use Rattle.line_scripts.specs.Records.{command_record, mode_text, script_records, world_record}
-use Rattle.line_scripts.specs.Scripts.{Script, command_of, commands_from, deliver_of, mode_named, pick, script_of, script_of_text, send_of, with_check, with_failed, with_state, world_of}
+use Rattle.line_scripts.specs.Scripts.{Script, command_in, commands_from, deliver_of, mode_named, pick, script_of, script_of_text, send_of, with_check, with_failed, with_state, world_of}
 use Rattle.line_scripts.proofs.FailedLemmas.{failed_found}
 
 mode_again : (mode : Mode) → mode_named (mode_text mode) ≡ Ok mode
@@ -47,8 +47,8 @@ failed_set : (n : ℕ) (name : List ℕ) (command : List Bool → Command) (set 
 unfolding failed_of
 failed_set n name command set few fit = failed_found command n (name ∷ map decimal (members n set)) set (failed_again n set few fit.whole fit.there)
 
-command_again : (n : ℕ) (c : Command) → n ≤ MOST_PROCESSES → IsCommandInRange n c → command_of n (command_record n c) ≡ Ok c
-unfolding command_of send_of deliver_of with_state with_check two three four alone
+command_again : (n : ℕ) (c : Command) → n ≤ MOST_PROCESSES → IsCommandInRange n c → command_in n (command_record n c) ≡ Ok c
+unfolding command_in send_of deliver_of with_state with_check two three four alone
 command_again n (Do (Send from to body)) few fit =
     let there : from < n = fit.0 in
     let at : to < n = fit.1 in

@@ -21,7 +21,7 @@ use Rattle.line_scripts.specs.declared.commands.Command.{Command}
 use Rattle.line_scripts.specs.declared.commands.Command.TheVariants.{Bundle, Do, History, Rounds}
 use Rattle.line_scripts.specs.Pieces.{begun_of, begun_on, with_commands}
 use Rattle.line_scripts.specs.Reads.{IsOfScript}
-use Rattle.line_scripts.specs.Scripts.{Script, command_of, commands_from, deliver_of, mode_named, pick, script_of, send_of, with_check, with_failed, with_state, world_of}
+use Rattle.line_scripts.specs.Scripts.{Script, command_in, commands_from, deliver_of, mode_named, pick, script_of, send_of, with_check, with_failed, with_state, world_of}
 
 -- the fault of a record is one that scripts have
 abbrev IsLow : Fault → Type 0
@@ -135,8 +135,8 @@ failed_low : (command : List Bool → Command) (n : ℕ) (r : Record) → OnlyLo
 unfolding with_failed
 failed_low command n r = both_low (numbers (drop 1 r)) _ (numbers_low (drop 1 r)) (λ failed. tt)
 
-command_low : (n : ℕ) (r : Record) → OnlyLow (command_of n r)
-unfolding command_of
+command_low : (n : ℕ) (r : Record) → OnlyLow (command_in n r)
+unfolding command_in
 command_low n r =
     one_low (bytes_eq (field r 0) (codes "send")) (send_of n r) _ (send_low n r)
     (one_low (bytes_eq (field r 0) (codes "deliver")) (deliver_of n r) _ (deliver_low n r)
@@ -182,7 +182,7 @@ commands_faults : (n : ℕ) (i : ℕ) (rows : List Record) → OnlyOfScript (com
 unfolding commands_from
 commands_faults n i [] = tt
 commands_faults n i (r ∷ rest) =
-    both_faults (at_record i (command_of n r)) _ (numbered_faults i (command_of n r) (command_low n r))
+    both_faults (at_record i (command_in n r)) _ (numbered_faults i (command_in n r) (command_low n r))
     (λ command. both_faults (commands_from n (i + 1) rest) _ (commands_faults n (i + 1) rest) (λ others. tt))
 
 rows_faults : (rows : List Record) → OnlyOfScript (script_of rows)

@@ -17,7 +17,7 @@ use Rattle.line_scripts.specs.declared.commands.Command.{Command}
 use Rattle.line_scripts.specs.Pieces.{EndsLine, at_end, begun_in, begun_of, begun_on, found, script_or_none, script_with, with_commands}
 use Rattle.line_scripts.specs.declared.scripts.KeptScript as kept
 use Rattle.line_scripts.specs.Reads.{kept_script_view}
-use Rattle.line_scripts.specs.Scripts.{Script, command_of, commands_from, script_of, script_of_text, world_of}
+use Rattle.line_scripts.specs.Scripts.{Script, command_in, commands_from, script_of, script_of_text, world_of}
 use Rattle.line_scripts.proofs.ApartLemmas.{input_apart, records_apart}
 
 -- ---- the commands of records, and of those behind them
@@ -45,7 +45,7 @@ commands_none n i rest =
     let same : i ≡ length {A = Command} [] + i = omega arith in
     read_alone (commands_from n i rest) ∙ ap (λ (j : ℕ). with_commands [] (commands_from n j rest)) same
 
-commands_one : (n i : ℕ) (r : Record) (rest : List Record) → commands_from n i (r ∷ rest) ≡ (at_record i (command_of n r) >>= λ c. (commands_from n (i + 1) rest >>= λ others. Ok (c ∷ others)))
+commands_one : (n i : ℕ) (r : Record) (rest : List Record) → commands_from n i (r ∷ rest) ≡ (at_record i (command_in n r) >>= λ c. (commands_from n (i + 1) rest >>= λ others. Ok (c ∷ others)))
 unfolding commands_from
 commands_one n i r rest = refl
 
@@ -56,8 +56,8 @@ pub commands_both : (n i : ℕ) (records rest : List Record) → commands_from n
 commands_both n i [] rest = commands_none n i rest
 commands_both n i (r ∷ records) rest =
     commands_one n i r (records ++ rest)
-    ∙ ap (λ (read : Result (List Command) TextFault). at_record i (command_of n r) >>= λ c. (read >>= λ others. Ok (c ∷ others))) (commands_both n (i + 1) records rest)
-    ∙ step_both (at_record i (command_of n r)) (commands_from n (i + 1) records)
+    ∙ ap (λ (read : Result (List Command) TextFault). at_record i (command_in n r) >>= λ c. (read >>= λ others. Ok (c ∷ others))) (commands_both n (i + 1) records rest)
+    ∙ step_both (at_record i (command_in n r)) (commands_from n (i + 1) records)
     (λ cs. commands_from n (length cs + (i + 1)) rest) (λ cs. commands_from n (length cs + i) rest)
     (λ c cs. ap (λ (j : ℕ). commands_from n j rest) (longer_by_one c cs i))
     ∙ sym (ap (λ (read : Result (List Command) TextFault). read >>= λ cs. with_commands cs (commands_from n (length cs + i) rest)) (commands_one n i r records))

@@ -9,18 +9,18 @@ use Rattle.line_claims.specs.declared.faults.TextError.{TextError}
 use Rattle.line_claims.specs.declared.faults.TextError.TheVariants as errors
 use Rattle.line_claims.specs.Reads.{FailsText, at_record}
 use Rattle.line_scripts.specs.Pieces.{with_commands}
-use Rattle.line_scripts.specs.Scripts.{command_of, commands_from}
+use Rattle.line_scripts.specs.Scripts.{command_in, commands_from}
 
 no_more : (n i : ℕ) (rows : List Record) → rows ≡ [] → commands_from n i rows ≡ Ok []
 unfolding commands_from
 no_more n i rows e = ap (commands_from n i) e
 
-first_command : (n i : ℕ) (r : Record) (rest : List Record) (c : Command) → at_record i (command_of n r) ≡ Ok c
+first_command : (n i : ℕ) (r : Record) (rest : List Record) (c : Command) → at_record i (command_in n r) ≡ Ok c
     → commands_from n i (r ∷ rest) ≡ (commands_from n (i + 1) rest >>= λ others. Ok (c ∷ others))
 unfolding commands_from
 first_command n i r rest c h = rw h refl
 
-stops_at : (n i : ℕ) (r : Record) (rest : List Record) (f : TextFault) → at_record i (command_of n r) ≡ Err f → commands_from n i (r ∷ rest) ≡ Err f
+stops_at : (n i : ℕ) (r : Record) (rest : List Record) (f : TextFault) → at_record i (command_in n r) ≡ Err f → commands_from n i (r ∷ rest) ≡ Err f
 unfolding commands_from
 stops_at n i r rest f h = rw h refl
 
@@ -35,7 +35,7 @@ ended_at front n i rows total e k = k ∙ ap (with_commands front) (no_more n i 
 
 -- one more record was read
 pub read_more : (front later : List Command) (n i next : ℕ) (rows : List Record) (r : Record) (rest : List Record) (c : Command) (total : Result (List Command) TextFault) → rows ≡ r ∷ rest
-    → later ≡ front ++ (c ∷ []) → next ≡ i + 1 → at_record i (command_of n r) ≡ Ok c → total ≡ with_commands front (commands_from n i rows) → total ≡ with_commands later (commands_from n next rest)
+    → later ≡ front ++ (c ∷ []) → next ≡ i + 1 → at_record i (command_in n r) ≡ Ok c → total ≡ with_commands front (commands_from n i rows) → total ≡ with_commands later (commands_from n next rest)
 read_more front later n i next rows r rest c total e more number h k =
     k ∙ ap (λ (rs : List Record). with_commands front (commands_from n i rs)) e ∙ ap (with_commands front) (first_command n i r rest c h) ∙ one_more front c (commands_from n (i + 1) rest)
     ∙ ap (λ (j : ℕ). with_commands (front ++ (c ∷ [])) (commands_from n j rest)) (sym number)
@@ -43,7 +43,7 @@ read_more front later n i next rows r rest c total e more number h k =
 
 -- a record has a fault
 pub stopped : (front : List Command) (n i : ℕ) (rows : List Record) (r : Record) (rest : List Record) (e : TextError) (total : Result (List Command) TextFault) → rows ≡ r ∷ rest
-    → FailsText e (at_record i (command_of n r)) → total ≡ with_commands front (commands_from n i rows) → FailsText e total
+    → FailsText e (at_record i (command_in n r)) → total ≡ with_commands front (commands_from n i rows) → FailsText e total
 stopped front n i rows r rest errors.OutOfMemory total s h k = tt
 stopped front n i rows r rest (errors.Fault f) total s h k =
     k ∙ ap (λ (rs : List Record). with_commands front (commands_from n i rs)) s ∙ ap (with_commands front) (stops_at n i r rest f h)

@@ -89,8 +89,8 @@ with_failed command n r =
     numbers (drop 1 r) >>= λ failed. Ok (below n failed (command (fold with_member nobody failed)))
 
 -- the command that a record spells, among n processes: the first field is its name
-unfoldable pub command_of : ℕ → Record → Result Command Fault
-command_of n r =
+unfoldable pub command_in : ℕ → Record → Result Command Fault
+command_in n r =
     if bytes_eq (field r 0) (codes "send") then send_of n r
     else if bytes_eq (field r 0) (codes "deliver") then deliver_of n r
     else if bytes_eq (field r 0) (codes "check") then with_state Check n r
@@ -109,7 +109,7 @@ command_of n r =
 unfoldable pub commands_from : ℕ → ℕ → List Record → Result (List Command) TextFault
 commands_from n i [] = Ok []
 commands_from n i (r ∷ rest) = do
-  command ← at_record i (command_of n r)
+  command ← at_record i (command_in n r)
   others ← commands_from n (i + 1) rest
   Ok (command ∷ others)
 

@@ -13,7 +13,7 @@ ghost use Rattle.line_scripts.specs.Scripts as spec;
 use crate::keeping::{Kept, delivery, in_byte};
 use crate::names::{Name, name_in};
 use line_claims::{LAST_VERSION, failed_of, most_in, plain, want};
-use line_fields::{Fault, ReadError, Row, hex_behind, number};
+use line_fields::{Fault, FieldRow, ReadError, hex_behind, number};
 use line_names::{MOST_BODY, ProcId, ProcSet};
 use line_world::{Mode, Step, StepRef};
 use std::alloc::{AllocError, Global};
@@ -84,7 +84,7 @@ fn mode_named(text: &[u8]) -> Result<Mode, Fault>
 
 /// The number of processes and how links deliver, as a first record says, or its first fault.
 #[tactic(auto, unfolding(crate::specs::Scripts::world_of))]
-pub fn world_of(row: &Row) -> Result<(u32, Mode), Fault>
+pub fn world_of(row: &FieldRow) -> Result<(u32, Mode), Fault>
     ensures exact { result ≡ spec.world_of row.now }
     ensures within { IfOk result (λ world. (1 ≤ world.0) × (world.0 ≤ MOST_PROCESSES)) }
 {
@@ -127,7 +127,7 @@ fn spell_behind(bytes: &mut Vec<u8>, text: &[u8]) -> Result<usize, ReadError>
 }
 
 #[tactic(auto, unfolding(crate::specs::Scripts::send_of, line_fields::specs::Shapes::three))]
-fn send_of(n: u32, row: &Row, bytes: &mut Vec<u8>) -> Result<Kept, ReadError>
+fn send_of(n: u32, row: &FieldRow, bytes: &mut Vec<u8>) -> Result<Kept, ReadError>
     requires { n ≤ MOST_PROCESSES }
     ensures exact { Gives (λ kept. with_bytes kept (behind bytes.old.items bytes.new.items)) result
         (spec.send_of n row.now) }
@@ -157,7 +157,7 @@ fn send_of(n: u32, row: &Row, bytes: &mut Vec<u8>) -> Result<Kept, ReadError>
 }
 
 #[tactic(auto, unfolding(crate::specs::Scripts::deliver_of, line_fields::specs::Shapes::four))]
-fn deliver_of(alloc: Global, n: u32, row: &Row, bytes: &mut Vec<u8>) -> Result<Kept, ReadError>
+fn deliver_of(alloc: Global, n: u32, row: &FieldRow, bytes: &mut Vec<u8>) -> Result<Kept, ReadError>
     requires { n ≤ MOST_PROCESSES }
     ensures exact { Gives (λ kept. with_bytes kept (behind bytes.old.items bytes.new.items)) result
         (spec.deliver_of n row.now) }
@@ -184,7 +184,7 @@ fn deliver_of(alloc: Global, n: u32, row: &Row, bytes: &mut Vec<u8>) -> Result<K
 // The process of a record with a state, whose bytes the list then has after the others; none where
 // there is no such process.
 #[tactic(auto, unfolding(crate::specs::Scripts::with_state, line_fields::specs::Shapes::two))]
-fn with_state(n: u32, row: &Row, bytes: &mut Vec<u8>) -> Result<Option<ProcId>, ReadError>
+fn with_state(n: u32, row: &FieldRow, bytes: &mut Vec<u8>) -> Result<Option<ProcId>, ReadError>
     requires { n ≤ MOST_PROCESSES }
     ensures exact { (step : ℕ → List ℕ → Step)
         → Gives (of_found (λ at. Command.Do (step at (behind bytes.old.items bytes.new.items))))
@@ -199,7 +199,7 @@ fn with_state(n: u32, row: &Row, bytes: &mut Vec<u8>) -> Result<Option<ProcId>, 
 
 // The process and the check of a record; none where there is no such process.
 #[tactic(auto, unfolding(crate::specs::Scripts::with_check, line_fields::specs::Shapes::two))]
-fn with_check(n: u32, row: &Row) -> Result<Option<(ProcId, u32)>, ReadError>
+fn with_check(n: u32, row: &FieldRow) -> Result<Option<(ProcId, u32)>, ReadError>
     requires { n ≤ MOST_PROCESSES }
     ensures { (step : ℕ → ℕ → Step)
         → Gives (of_found (λ found. Command.Do (step found.0 found.1))) result
@@ -230,7 +230,7 @@ fn is_of_process(fault: Fault) -> bool
 }
 
 // The processes of a record; none where there is no such process.
-fn with_failed(alloc: Global, n: u32, row: &Row) -> Result<Option<Box<ProcSet>>, ReadError>
+fn with_failed(alloc: Global, n: u32, row: &FieldRow) -> Result<Option<Box<ProcSet>>, ReadError>
     requires { n ≤ MOST_PROCESSES }
     ensures { (command : List Bool → Command)
         → Gives (of_found (λ failed. command failed.value)) result
@@ -246,16 +246,16 @@ fn with_failed(alloc: Global, n: u32, row: &Row) -> Result<Option<Box<ProcSet>>,
 /// The command that a record after the first spells, or its first fault. The bytes that the command
 /// carries are put after those that a list has; of one that is refused they may be there too.
 #[inline(always)]
-#[tactic(auto, unfolding(crate::specs::Scripts::command_of, line_fields::specs::Shapes::alone))]
-pub(crate) fn command_of(
+#[tactic(auto, unfolding(crate::specs::Scripts::command_in, line_fields::specs::Shapes::alone))]
+pub(crate) fn command_in(
     alloc: Global,
     n: u32,
-    row: &Row,
+    row: &FieldRow,
     bytes: &mut Vec<u8>,
 ) -> Result<Kept, ReadError>
     requires { n ≤ MOST_PROCESSES }
     ensures exact { Gives (λ kept. with_bytes kept (behind bytes.old.items bytes.new.items)) result
-        (spec.command_of n row.now) }
+        (spec.command_in n row.now) }
     ensures long { IfOk result
         (λ kept. long_of kept ≡ length (behind bytes.old.items bytes.new.items)) }
     ensures short { IfOk result HasShortMessage }

@@ -12,19 +12,19 @@ ghost use Rattle.line_scripts.specs.Keeping.{commands_of_kept};
 ghost use Rattle.line_scripts.specs.Keeping.{with_bytes};
 ghost use Rattle.line_scripts.specs.Pieces as spec;
 ghost use Rattle.line_scripts.specs.Reads.{IsOfScript, kept_script_view};
-ghost use Rattle.line_scripts.specs.Scripts.{command_of, commands_from, world_of};
+ghost use Rattle.line_scripts.specs.Scripts.{command_in, commands_from, world_of};
 
-use crate::commands::{command_of, world_of};
+use crate::commands::{command_in, world_of};
 use crate::keeping::{Commands, Kept, keep};
 use crate::scripts::KeptScript;
 use line_claims::{TextError, TextFault, error_at, fault_at};
-use line_fields::{Fault, RecordReader, Row, is_plain};
+use line_fields::{Fault, FieldRow, RecordReader, is_plain};
 use line_world::Mode;
 use std::alloc::{AllocError, Global};
 use std::marker::Model;
 
 // The number of processes and how links deliver, as the first record says.
-fn world_at(row: &Row) -> Result<(u32, Mode), TextError>
+fn world_at(row: &FieldRow) -> Result<(u32, Mode), TextError>
     ensures exact { Yields (λ world. world) result (reads.at_record 1 (world_of row.now)) }
     ensures within { IfOk result (λ world. (1 ≤ world.0) × (world.0 ≤ MOST_PROCESSES)) }
 {
@@ -40,18 +40,18 @@ fn command_at(
     alloc: Global,
     n: u32,
     record_number: u64,
-    row: &Row,
+    row: &FieldRow,
     bytes: &mut Vec<u8>,
 ) -> Result<Kept, TextError>
     requires { n ≤ MOST_PROCESSES }
     ensures exact { Yields (λ kept. with_bytes kept (behind bytes.old.items bytes.new.items)) result
-        (reads.at_record record_number (command_of n row.now)) }
+        (reads.at_record record_number (command_in n row.now)) }
     ensures long { IfOk result
         (λ kept. long_of kept ≡ length (behind bytes.old.items bytes.new.items)) }
     ensures short { IfOk result HasShortMessage }
     ensures kept { take (length bytes.old.items) bytes.new.items ≡ bytes.old.items }
 {
-    match command_of(alloc, n, row, bytes) {
+    match command_in(alloc, n, row, bytes) {
         Ok(kept) => Ok(kept),
         Err(error) => Err(error_at(record_number, error)),
     }
@@ -63,7 +63,7 @@ fn keep_all(
     alloc: Global,
     n: u32,
     records: &mut RecordReader<'_>,
-    row: &mut Row,
+    row: &mut FieldRow,
     kept: &mut Vec<Kept>,
     bytes: &mut Vec<u8>,
 ) -> Result<(), TextError>
@@ -89,7 +89,7 @@ fn keep_all(
 fn begin(
     alloc: Global,
     records: &mut RecordReader<'_>,
-    row: &mut Row,
+    row: &mut FieldRow,
     world: &mut Option<(u32, Mode)>,
     kept: &mut Vec<Kept>,
     bytes: &mut Vec<u8>,
@@ -112,7 +112,7 @@ fn begin(
 fn take_records(
     alloc: Global,
     piece: &[u8],
-    row: &mut Row,
+    row: &mut FieldRow,
     world: &mut Option<(u32, Mode)>,
     kept: &mut Vec<Kept>,
     bytes: &mut Vec<u8>,
@@ -135,7 +135,7 @@ fn take_records(
 fn take_or_let_go(
     alloc: Global,
     piece: &[u8],
-    row: &mut Row,
+    row: &mut FieldRow,
     world: &mut Option<(u32, Mode)>,
     kept: &mut Vec<Kept>,
     bytes: &mut Vec<u8>,
@@ -166,7 +166,7 @@ fn take_or_let_go(
 #[derive(Drop)]
 pub struct ScriptReader {
     alloc: Global,
-    row: Row,
+    row: FieldRow,
     // The number of processes and how links deliver, once the first record was taken.
     world: Option<(u32, Mode)>,
     kept: Vec<Kept>,
@@ -196,7 +196,7 @@ impl ScriptReader {
     {
         ScriptReader {
             alloc,
-            row: Row::new(alloc),
+            row: FieldRow::new(alloc),
             world: None,
             kept: Vec::new(alloc),
             bytes: Vec::new(alloc),

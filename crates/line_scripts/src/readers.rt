@@ -3,12 +3,12 @@
 ghost use Rattle.std.specs.Prelude.{◌≡◌, ◌≤◌};
 ghost use Rattle.line_fields.specs.Fields.{Gives};
 ghost use Rattle.line_names.specs.declared.limits.TheConstants.{MOST_PROCESSES};
-ghost use Rattle.line_scripts.specs.Scripts.{command_of};
+ghost use Rattle.line_scripts.specs.Scripts.{command_in};
 ghost use Rattle.line_scripts.specs.Shown.{HasShortBodyInStep, command_of_ref};
 
-use crate::commands::{Command, CommandRef, command_of};
+use crate::commands::{Command, CommandRef, command_in};
 use crate::keeping::{Kept, lent, long_of};
-use line_fields::{ReadError, Row};
+use line_fields::{FieldRow, ReadError};
 use std::alloc::Global;
 use std::marker::Model;
 
@@ -54,13 +54,13 @@ impl CommandReader {
     ///
     /// It takes memory for a set of processes, and where the bytes of a message or a state are more
     /// than those of each record before.
-    pub fn read(&mut self, n: u32, row: &Row) -> Result<(), ReadError>
+    pub fn read(&mut self, n: u32, row: &FieldRow) -> Result<(), ReadError>
         requires { n ≤ MOST_PROCESSES }
-        ensures { Gives (λ _. self.new) result (command_of n row.now) }
+        ensures { Gives (λ _. self.new) result (command_in n row.now) }
     {
         self.kept = Kept::Rounds;
         self.bytes.clear();
-        self.kept = command_of(self.alloc, n, row, &mut self.bytes)?;
+        self.kept = command_in(self.alloc, n, row, &mut self.bytes)?;
         Ok(())
     }
 

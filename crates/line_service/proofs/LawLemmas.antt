@@ -13,7 +13,7 @@ use Rattle.line_fields.specs.Fields.{◌>>=◌}
 use Rattle.line_fields.specs.Records.{Record, records_of_text}
 use Rattle.line_moves.specs.declared.modes.Mode.{Mode}
 use Rattle.line_scripts.specs.declared.commands.Command.{Command}
-use Rattle.line_scripts.specs.Scripts.{Script, command_of, commands_from, script_of, script_of_text, world_of}
+use Rattle.line_scripts.specs.Scripts.{Script, command_in, commands_from, script_of, script_of_text, world_of}
 use Rattle.line_service.specs.declared.outcomes.Outcome.{Outcome}
 use Rattle.line_service.specs.declared.outcomes.Outcome.TheVariants as outcomes
 use Rattle.line_service.specs.Lines.{Pending, pending_after}
@@ -124,10 +124,10 @@ record IsSpelt (n i : ℕ) (first : Record) (rest : List Record) (commands : Lis
   command : Command
   others : List Command
   all : commands ≡ command ∷ others
-  spelt : command_of n first ≡ Ok command
+  spelt : command_in n first ≡ Ok command
   rest_are : commands_from n (i + 1) rest ≡ Ok others
 
-spelt_in : (n i : ℕ) (first : Record) (rest : List Record) (commands : List Command) (one : Result Command Fault) (more : Result (List Command) TextFault) → command_of n first ≡ one → commands_from n (i + 1) rest ≡ more
+spelt_in : (n i : ℕ) (first : Record) (rest : List Record) (commands : List Command) (one : Result Command Fault) (more : Result (List Command) TextFault) → command_in n first ≡ one → commands_from n (i + 1) rest ≡ more
     → (at_record i one >>= λ command. more >>= λ others. Ok (command ∷ others)) ≡ Ok commands → IsSpelt n i first rest commands
 spelt_in n i first rest commands (Ok command) (Ok others) is are h = record { command = command; others = others; all = cc; spelt = is; rest_are = are }
 spelt_in n i first rest commands (Ok command) (Err fault) is are h = absurd cc
@@ -135,7 +135,7 @@ spelt_in n i first rest commands (Err fault) more is are h = absurd cc
 
 first_spelt : (n i : ℕ) (first : Record) (rest : List Record) (commands : List Command) → commands_from n i (first ∷ rest) ≡ Ok commands → IsSpelt n i first rest commands
 unfolding commands_from
-first_spelt n i first rest commands h = spelt_in n i first rest commands (command_of n first) (commands_from n (i + 1) rest) refl refl h
+first_spelt n i first rest commands h = spelt_in n i first rest commands (command_in n first) (commands_from n (i + 1) rest) refl refl h
 
 none_spelt : (n i : ℕ) (commands : List Command) → commands_from n i [] ≡ Ok commands → commands ≡ []
 unfolding commands_from
@@ -145,8 +145,8 @@ none_spelt n i commands h = cc
 abbrev pub heard_records : List Record → List (Result Record Fault)
 heard_records records = map Ok records
 
-command_at : (machine : Machine) (n : ℕ) (r : Record) (command : Command) → n ≡ length machine.history → command_of n r ≡ Ok command → command_of (length machine.history) r ≡ Ok command
-command_at machine n r command is h = subst (λ (m : ℕ). command_of m r ≡ Ok command) is h
+command_at : (machine : Machine) (n : ℕ) (r : Record) (command : Command) → n ≡ length machine.history → command_in n r ≡ Ok command → command_in (length machine.history) r ≡ Ok command
+command_at machine n r command is h = subst (λ (m : ℕ). command_in m r ≡ Ok command) is h
 
 -- what commands are told is heard
 told_none : (old new : Machine) (told : List CommandAnswer) → TellsAll old [] told new → HearsAll (Some old) [] (map Replied told) (Some new)

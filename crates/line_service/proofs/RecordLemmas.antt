@@ -12,7 +12,7 @@ use Rattle.line_fields.specs.Fields.{Fails}
 use Rattle.line_fields.specs.Records.{Record}
 use Rattle.line_fields.specs.Texts.{record_text, records_text}
 use Rattle.line_scripts.specs.declared.commands.Command.{Command}
-use Rattle.line_scripts.specs.Scripts.{command_of}
+use Rattle.line_scripts.specs.Scripts.{command_in}
 use Rattle.line_service.specs.declared.outcomes.Outcome.{Outcome}
 use Rattle.line_service.specs.declared.outcomes.Outcome.TheVariants as outcomes
 use Rattle.line_service.specs.declared.seats.Stop.{Stop}
@@ -30,7 +30,7 @@ done_told old new command taken now held later refused outcome h is =
     record { told = h.told; tells = h.tells; outcome_is = is ∙ ap (λ (b : Bool). cond b outcomes.Refused outcomes.Done) h.counted; put = h.put }
 
 -- a command that was told something
-pub told_one : (old new : Machine) (r : Record) (command : Command) (taken now : Option (List ℕ)) (held later : List ℕ) (outcome : Outcome) → command_of (length old.history) r ≡ Ok command
+pub told_one : (old new : Machine) (r : Record) (command : Command) (taken now : Option (List ℕ)) (held later : List ℕ) (outcome : Outcome) → command_in (length old.history) r ≡ Ok command
     → TellsOne old command new taken now held later outcome → AnswersOne (Some old) (Ok r) (Some new) taken now held later outcome
 told_one old new r command taken now held later outcome spelt h =
     record { answer = Replied h.told; heard = (command, spelt, new, h.tells, refl); outcome_is = h.outcome_is; put = h.put }
@@ -39,9 +39,9 @@ told_one old new r command taken now held later outcome spelt h =
 out_of_memory : {A : Type 0} (error : ReadError) (read : Result A Fault) → error ≡ errors.OutOfMemory → Fails error read
 out_of_memory {A} error read is = subst (λ (e : ReadError). Fails e read) (sym is) tt
 
-pub told_none : (stop : Stop) (old new : Machine) (r : Record) (command : Command) (taken now : Option (List ℕ)) (held later : List ℕ) → command_of (length old.history) r ≡ Ok command
+pub told_none : (stop : Stop) (old new : Machine) (r : Record) (command : Command) (taken now : Option (List ℕ)) (held later : List ℕ) → command_in (length old.history) r ≡ Ok command
     → TellsNone stop old command new taken now held later → StopsOne stop (Some old) (Ok r) (Some new) taken now held later
-told_none (stops.Fault error) old new r command taken now held later spelt (is, same, put, kept) = ((out_of_memory error (command_of (length old.history) r) is, ap Some same), put, kept)
+told_none (stops.Fault error) old new r command taken now held later spelt (is, same, put, kept) = ((out_of_memory error (command_in (length old.history) r) is, ap Some same), put, kept)
 told_none stops.Write old new r command taken now held later spelt h =
     one_front (Some old) (Some new) held (Ok r) (Replied h.told) taken now (command, spelt, new, h.tells, refl)
     (subst (λ (t : List ℕ). PutsFront taken now t) (append_assoc held (records_text (command_answer_records h.told)) (10 ∷ [])) (front_of_front taken now (held ++ records_text (command_answer_records h.told)) (10 ∷ []) h.put))

@@ -13,7 +13,7 @@ use Rattle.line_fields.specs.Records.{Record}
 use Rattle.line_fields.specs.Texts.{records_text}
 use Rattle.line_moves.specs.declared.modes.Mode.{Mode}
 use Rattle.line_scripts.specs.declared.commands.Command.{Command}
-use Rattle.line_scripts.specs.Scripts.{command_of, world_of}
+use Rattle.line_scripts.specs.Scripts.{command_in, world_of}
 use Rattle.line_service.specs.declared.outcomes.Outcome.{Outcome}
 use Rattle.line_service.specs.declared.outcomes.Outcome.TheVariants as outcomes
 use Rattle.line_service.specs.Lines.{Pending, Kept, ended_record, last_record, lines_in}
@@ -69,7 +69,7 @@ Obeys old read (Replied told) new = (command : Command) × (read ≡ Ok command)
 abbrev pub Hears : Option Machine → Result Record Fault → ServiceAnswer → Option Machine → Type 0
 Hears None one answer new = Begins (one >>= world_of) answer new
 Hears (Some machine) one answer new =
-    Obeys machine (one >>= command_of (length machine.history)) answer new
+    Obeys machine (one >>= command_in (length machine.history)) answer new
 
 -- records may be answered these, one after another
 abbrev pub HearsAll : Option Machine → List (Result Record Fault) → List ServiceAnswer

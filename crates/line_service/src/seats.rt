@@ -15,7 +15,7 @@ use crate::faults::put_fault;
 use crate::outcomes::Outcome;
 use line_answers::{Halt, do_command};
 use line_devices::{DeviceFault, Sink};
-use line_fields::{ReadError, RecordWriter, Row, close_record};
+use line_fields::{FieldRow, ReadError, RecordWriter, close_record};
 use line_scripts::{CommandReader, CommandRef, world_of};
 use line_tape::CountError;
 use line_world::World;
@@ -30,7 +30,7 @@ pub(crate) struct Seat {
     /// The worst of what was answered.
     pub outcome: Outcome,
     // The fields and the command of the record that is read.
-    pub row: Row,
+    pub row: FieldRow,
     pub command: CommandReader,
     /// The text of answers that is not put yet.
     pub writer: RecordWriter,
@@ -47,7 +47,7 @@ pub(crate) enum Stop {
 
 /// Begins the machine, as a first record says.
 #[inline(never)]
-fn begin(alloc: Global, world: &mut Option<World>, row: &Row) -> Result<(), ReadError>
+fn begin(alloc: Global, world: &mut Option<World>, row: &FieldRow) -> Result<(), ReadError>
     requires { world.old ≡ None }
     ensures ok { OnOk result (Hears None (Ok row.now) Began world.new) }
     ensures err { IfErr result (λ error. Hears None (Ok row.now) (Faulted error) world.new) }
@@ -107,7 +107,7 @@ fn tell<K: Sink>(
 fn obey<K: Sink>(
     alloc: Global,
     world: &mut World,
-    row: &Row,
+    row: &FieldRow,
     command: &mut CommandReader,
     writer: &mut RecordWriter,
     sink: &mut K,
@@ -131,7 +131,7 @@ fn obey<K: Sink>(
 fn answer_one<K: Sink>(
     alloc: Global,
     world: &mut Option<World>,
-    row: &Row,
+    row: &FieldRow,
     command: &mut CommandReader,
     writer: &mut RecordWriter,
     sink: &mut K,

@@ -11,4 +11,4 @@ mod words;
 pub use faults::WordsFault;
 pub use jobs::{Job, MOST_DRILL_WORKERS};
 pub use readings::fault_of_reading;
-pub use words::{jobs_are_taken, read_job};
+pub use words::{command_of, jobs_are_taken};

@@ -9,7 +9,7 @@ use crate::jobs::{Job, job_of};
 use std::alloc::Global;
 
 /// The job that the words ask for, the program's name first.
-pub fn read_job<'a>(alloc: Global, words: &'a [&'a str]) -> Result<Job, WordsFault>
+pub fn command_of<'a>(alloc: Global, words: &'a [&'a str]) -> Result<Job, WordsFault>
     ensures ok { IfOk result (λ job. AsksFor (map (λ w. w.now) words.entry.now) job) }
     ensures range { IfOk result IsJobInRange }
 

@@ -64,7 +64,7 @@ pub mod text {
         DeviceFault, MOST_INPUT, MemSink, MemSource, ReadRefused, Sink, Source, put_all, read_all,
     };
     pub use line_fields::{
-        Fault, ReadError, RecordReader, RecordWriter, Row, hex, is_plain, number,
+        Fault, FieldRow, ReadError, RecordReader, RecordWriter, hex, is_plain, number,
     };
     pub use line_replies::{put_refusal, put_reply, write_reply};
     pub use line_scripts::{

@@ -1,7 +1,7 @@
 //! Catalogues: what they take, refuse and show.
 use crate::tests::build::{Did, catalogue_of, failed, history_of, process};
 use crate::tests::{DOMINO, ROUND, passed, reads};
-use line_catalogue::{AddError, Catalogue, CatalogueError, DamageError, VectorRow};
+use line_catalogue::{AddError, Catalogue, CatalogueError, DamageError, Row};
 use line_names::{Body, Choice, Line, MsgName, Passed, ProcId, ProcSet};
 use line_plan::{PlanError, plan};
 use line_tape::{BarError, Event, History, Marks};
@@ -38,7 +38,7 @@ fn made_at_once(alloc: Global, all: &[Did]) -> Result<Catalogue, Fail> {
 }
 
 /// Whether two rows tell the same of a check.
-fn is_same_row(one: &VectorRow<'_>, other: &VectorRow<'_>) -> bool {
+fn is_same_row(one: &Row<'_>, other: &Row<'_>) -> bool {
     one.place == other.place
         && one.sends == other.sends
         && one.damaged == other.damaged

@@ -3,7 +3,7 @@
 use csv::{ByteRecord, Reader, ReaderBuilder, Writer, WriterBuilder};
 use line_devices::{DeviceFault, MemSink, Sink};
 use line_fields::{
-    Field, RecordReader, RecordWriter, Row, is_plain, put_ending, put_fields, put_numbers,
+    Field, FieldRow, RecordReader, RecordWriter, is_plain, put_ending, put_fields, put_numbers,
 };
 use std::alloc::{AllocError, Global};
 use std::test::Fail;
@@ -60,7 +60,7 @@ fn next(reader: &mut Reader<&[u8]>, record: &mut ByteRecord) -> Result<bool, All
 }
 
 /// Whether a record of `csv` and a row have the same fields.
-fn is_same(record: &ByteRecord, row: &Row) -> bool {
+fn is_same(record: &ByteRecord, row: &FieldRow) -> bool {
     if record.len() != row.len() {
         return false;
     }
@@ -77,7 +77,7 @@ fn count_alike(
     by_csv: &mut Reader<&[u8]>,
     record: &mut ByteRecord,
     reader: &mut RecordReader<'_>,
-    row: &mut Row,
+    row: &mut FieldRow,
 ) -> Result<Option<u64>, AllocError> {
     for number in 0..u64::MAX {
         let found = next(by_csv, record)?;
@@ -102,7 +102,7 @@ fn read_alike(alloc: Global, text: &[u8]) -> Result<Option<u64>, AllocError> {
     let mut by_csv = csv_over(alloc, text);
     let mut record = ByteRecord::new(alloc);
     let mut reader = RecordReader::open(alloc, text);
-    let mut row = Row::new(alloc);
+    let mut row = FieldRow::new(alloc);
     count_alike(&mut by_csv, &mut record, &mut reader, &mut row)
 }
 

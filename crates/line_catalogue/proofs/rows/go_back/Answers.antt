@@ -3,7 +3,7 @@ use Rattle.std.proofs.Common.{◌≡◌, ◌+◌, ◌-◌, ◌<◌, ℕ, false, 
 use Rattle.std.proofs.lemmas.List.{length-take}
 use Rattle.line_names.specs.declared.choices.Choice.{Choice}
 use Rattle.line_catalogue.specs.declared.kept_rows.KeptRow.{KeptRow}
-use Rattle.line_catalogue.specs.declared.kept_rows.VectorRow.{VectorRow}
+use Rattle.line_catalogue.specs.declared.kept_rows.Row.{Row}
 use Rattle.line_catalogue.specs.Laid.{row_of}
 use Rattle.line_catalogue.specs.Rows.{rows_kept}
 use Rattle.line_catalogue.proofs.LaidLemmas.{Shows, back-laid}
@@ -29,7 +29,7 @@ whole c =
 
 pub returns-in-Check-clause-rows : goal.returns-in-Check-clause-rows
 returns-in-Check-clause-rows c =
-    let shown : List VectorRow = map (row_of (length c.args.present.now) c.args.lanes.now.items) c.args.rows.now.items in
+    let shown : List Row = map (row_of (length c.args.present.now) c.args.lanes.now.items) c.args.rows.now.items in
     (whole c).shows ∙ ap (λ (choice : Choice). rows_kept choice shown) (sym c.in-Check.is)
 
 pub returns-in-Check-clause-laid : goal.returns-in-Check-clause-laid

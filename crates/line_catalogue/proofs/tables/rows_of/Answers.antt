@@ -3,7 +3,7 @@ use Rattle.std.proofs.Common.{◌+◌, ◌≤◌, ◌<◌, ℕ, List, sym, ◌�
 use Rattle.line_tape.specs.declared.events.Event.{Event}
 use Rattle.line_tape.specs.Event.{checks}
 use Rattle.line_tape.specs.Views.{damaged_at}
-use Rattle.line_catalogue.specs.declared.kept_rows.VectorRow.{VectorRow}
+use Rattle.line_catalogue.specs.declared.kept_rows.Row.{Row}
 use Rattle.line_catalogue.proofs.DamageLemmas.{AreTold, AreTold-none, AreTold-more, AreTold-all}
 use Rattle.line_catalogue.proofs.tables.rows_of.Goals as goal
 
@@ -20,7 +20,7 @@ loop-check-preserved c =
     let tape : List Event = c.args.tape.now.events in
     let damaged : List ℕ = damaged_at c.args.marks.now c.args.p in
     let check : ℕ = c.loop-check.check in
-    let rows : List VectorRow = c.loop-check.process.rows in
+    let rows : List Row = c.loop-check.process.rows in
     let within : check ≤ checks tape =
     omega (arith, c.loop-check-test.true, c.checks-check-end.ensures.value) in
     record {

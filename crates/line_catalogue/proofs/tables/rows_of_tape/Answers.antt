@@ -8,7 +8,7 @@ use Rattle.line_tape.specs.Shown.{event_of_ref}
 use Rattle.line_tape.proofs.RowLemmas.{checks_le, sends_le}
 use Rattle.line_vectors.specs.Reach.{reach_of}
 use Rattle.line_vectors.proofs.ReachLemmas.{length-reach, reach-none}
-use Rattle.line_catalogue.specs.declared.kept_rows.VectorRow.{VectorRow}
+use Rattle.line_catalogue.specs.declared.kept_rows.Row.{Row}
 use Rattle.line_catalogue.specs.Kept.{RowsView}
 use Rattle.line_catalogue.specs.Rows.{AreRows, vector_after_event, row_added, with_row}
 use Rattle.line_catalogue.proofs.CheckLemmas.{AreRows-added, AreRows-start, heard-added}
@@ -26,7 +26,7 @@ append-requires-clause-few c =
     let events : List Event = c.args.tape.now.events in
     let i : ℕ = c.loop-i.i in
     let within : i < length events = omega (arith, c.loop-i-test.true, c.len-i-end.ensures.value) in
-    omega (arith, within, ap (λ (xs : List VectorRow). length xs) c.reserve.ensures.same.0, c.loop-i.invariant.rows.count, checks_le (take i events), length-take i events, c.len-i-end.ensures.limits.few)
+    omega (arith, within, ap (λ (xs : List Row). length xs) c.reserve.ensures.same.0, c.loop-i.invariant.rows.count, checks_le (take i events), length-take i events, c.len-i-end.ensures.limits.few)
 
 pub append-requires-clause-named : goal.append-requires-clause-named
 append-requires-clause-named c =
@@ -68,7 +68,7 @@ loop-i-preserved c =
     let place : i + 1 ≡ length es + 1 = omega (arith, within, length-take i events) in
     let rows : c.append.new.self.rows ≡ with_row old.rows (row_added (length es + 1) (sends es) old.present event) =
     c.append.ensures.rows
-    ∙ ap (λ (xs : List VectorRow). with_row xs (row_added (i + 1) c.loop-i.sent c.reserve.new.self.present event)) c.reserve.ensures.same.0
+    ∙ ap (λ (xs : List Row). with_row xs (row_added (i + 1) c.loop-i.sent c.reserve.new.self.present event)) c.reserve.ensures.same.0
     ∙ ap (λ (ys : List ℕ). with_row old.rows (row_added (i + 1) c.loop-i.sent ys event)) c.reserve.ensures.same.1
     ∙ ap (λ k. with_row old.rows (row_added k c.loop-i.sent old.present event)) place
     ∙ ap (λ k. with_row old.rows (row_added (length es + 1) k old.present event)) c.loop-i.invariant.sent_is

@@ -6,7 +6,7 @@ use Rattle.line_tape.specs.Event.{sends, NamesBelow}
 use Rattle.line_tape.proofs.RowLemmas.{checks_le}
 use Rattle.line_tape.specs.Views.{HistoryView, MarksView}
 use Rattle.line_tape.specs.History.{Process, tape_at, with_event}
-use Rattle.line_catalogue.specs.declared.kept_rows.VectorRow.{VectorRow}
+use Rattle.line_catalogue.specs.declared.kept_rows.Row.{Row}
 use Rattle.line_catalogue.specs.Agreement.{AgreesNext}
 use Rattle.line_catalogue.specs.Kept.{present_at, rows_at, IsCatalogue}
 use Rattle.line_catalogue.specs.Rows.{vector_after_event, row_added, with_row}
@@ -53,7 +53,7 @@ pub invariant_of-self : goal.invariant_of-self
 invariant_of-self c =
     let history : List Process = c.self.inside.ledger.processes in
     let marks : MarksView = c.self.inside.marks in
-    let rows : List (List VectorRow) = c.self.inside.rows.rows in
+    let rows : List (List Row) = c.self.inside.rows.rows in
     let presents : List (List ℕ) = c.self.inside.rows.presents in
     let p : ℕ = c.args.p in
     let event : Event = Recv c.args.message.now in
@@ -72,5 +72,5 @@ invariant_of-self c =
     let grown : c.append_receipt.new.self.processes ≡ with_event history p event = c.append_receipt.ensures.processes in
     subst (λ (xs : List Process). IsCatalogue xs marks c.append.new.self.rows c.append.new.self.presents) (sym grown)
     (subst (λ (ys : List (List ℕ)). IsCatalogue (with_event history p event) marks c.append.new.self.rows ys) (sym presents_are)
-    (subst (λ (xs : List (List VectorRow)). IsCatalogue (with_event history p event) marks xs (set presents p (vector_after_event (present_at presents p) event))) (sym rows_are)
+    (subst (λ (xs : List (List Row)). IsCatalogue (with_event history p event) marks xs (set presents p (vector_after_event (present_at presents p) event))) (sym rows_are)
     (IsCatalogue-event history marks rows presents p within event place sent place_is sent_is named next c.self.invariant)))

@@ -6,7 +6,7 @@ use Rattle.line_tape.specs.declared.events.Event.TheVariants.{Send}
 use Rattle.line_tape.specs.Event.{sends, NamesBelow}
 use Rattle.line_tape.specs.Views.{MarksView}
 use Rattle.line_tape.specs.History.{Process, tape_at, with_event}
-use Rattle.line_catalogue.specs.declared.kept_rows.VectorRow.{VectorRow}
+use Rattle.line_catalogue.specs.declared.kept_rows.Row.{Row}
 use Rattle.line_catalogue.specs.Agreement.{AgreesNext}
 use Rattle.line_catalogue.specs.Kept.{present_at, IsCatalogue}
 use Rattle.line_catalogue.specs.Views.{CatalogueView, catalogue_room_at}
@@ -30,7 +30,7 @@ pub invariant_of-self : goal.invariant_of-self
 invariant_of-self c =
     let history : List Process = c.self.inside.ledger.processes in
     let marks : MarksView = c.self.inside.marks in
-    let rows : List (List VectorRow) = c.self.inside.rows.rows in
+    let rows : List (List Row) = c.self.inside.rows.rows in
     let presents : List (List ℕ) = c.self.inside.rows.presents in
     let p : ℕ = c.args.p in
     let event : Event = (Send c.args.to c.args.inc c.args.body.now) in
@@ -41,5 +41,5 @@ invariant_of-self c =
     let next : AgreesNext history p event = subst (λ (xs : List Process). AgreesNext xs p event) (sym seen) c.requires.agrees in
     subst (λ (xs : List Process). IsCatalogue xs marks rows presents) (sym c.append_send.ensures.processes)
     (subst (λ (ys : List (List ℕ)). IsCatalogue after marks rows ys) (set-get_or presents p [])
-    (subst (λ (xs : List (List VectorRow)). IsCatalogue after marks xs (set presents p (present_at presents p))) (set-get_or rows p [])
+    (subst (λ (xs : List (List Row)). IsCatalogue after marks xs (set presents p (present_at presents p))) (set-get_or rows p [])
     (IsCatalogue-event history marks rows presents p within event (length (tape_at history p) + 1) (sends (tape_at history p)) refl refl named next c.self.invariant)))

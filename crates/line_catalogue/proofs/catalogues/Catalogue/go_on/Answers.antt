@@ -7,7 +7,7 @@ use Rattle.line_tape.specs.History.{Process, tape_at}
 use Rattle.line_tape.specs.Line.{IsLine, IsConsistent}
 use Rattle.line_tape.specs.Restart.{restarted_history}
 use Rattle.line_tape.specs.Views.{HistoryView, MarksView}
-use Rattle.line_catalogue.specs.declared.kept_rows.VectorRow.{VectorRow}
+use Rattle.line_catalogue.specs.declared.kept_rows.Row.{Row}
 use Rattle.line_catalogue.specs.Kept.{rows_at, present_at, IsCatalogue}
 use Rattle.line_catalogue.specs.Rows.{AreInStep, WithPlaces, rows_kept, vector_at}
 use Rattle.line_catalogue.specs.Views.{CatalogueView}
@@ -18,7 +18,7 @@ pub restart-requires-3-clause-count : goal.restart-requires-3-clause-count
 restart-requires-3-clause-count c =
     let history : List Process = c.self.inside.ledger.processes in
     let marks : MarksView = c.self.inside.marks in
-    let rows : List (List VectorRow) = c.self.inside.rows.rows in
+    let rows : List (List Row) = c.self.inside.rows.rows in
     let presents : List (List ℕ) = c.self.inside.rows.presents in
     let line : List Choice = c.args.line.now in
     let seen : history ≡ c.args.self.now.processes = ap (λ (v : CatalogueView). v.processes) c.self.view_is in
@@ -31,7 +31,7 @@ pub restart-requires-3-clause-there : goal.restart-requires-3-clause-there
 restart-requires-3-clause-there c =
     let history : List Process = c.self.inside.ledger.processes in
     let marks : MarksView = c.self.inside.marks in
-    let rows : List (List VectorRow) = c.self.inside.rows.rows in
+    let rows : List (List Row) = c.self.inside.rows.rows in
     let presents : List (List ℕ) = c.self.inside.rows.presents in
     let line : List Choice = c.args.line.now in
     let seen : history ≡ c.args.self.now.processes = ap (λ (v : CatalogueView). v.processes) c.self.view_is in
@@ -44,7 +44,7 @@ pub restart-requires-3-clause-left : goal.restart-requires-3-clause-left
 restart-requires-3-clause-left c =
     let history : List Process = c.self.inside.ledger.processes in
     let marks : MarksView = c.self.inside.marks in
-    let rows : List (List VectorRow) = c.self.inside.rows.rows in
+    let rows : List (List Row) = c.self.inside.rows.rows in
     let presents : List (List ℕ) = c.self.inside.rows.presents in
     let line : List Choice = c.args.line.now in
     let seen : history ≡ c.args.self.now.processes = ap (λ (v : CatalogueView). v.processes) c.self.view_is in
@@ -57,7 +57,7 @@ pub restart-requires-3-clause-in_step : goal.restart-requires-3-clause-in_step
 restart-requires-3-clause-in_step c =
     let history : List Process = c.self.inside.ledger.processes in
     let marks : MarksView = c.self.inside.marks in
-    let rows : List (List VectorRow) = c.self.inside.rows.rows in
+    let rows : List (List Row) = c.self.inside.rows.rows in
     let presents : List (List ℕ) = c.self.inside.rows.presents in
     let line : List Choice = c.args.line.now in
     let seen : history ≡ c.args.self.now.processes = ap (λ (v : CatalogueView). v.processes) c.self.view_is in
@@ -70,7 +70,7 @@ pub invariant_of-self : goal.invariant_of-self
 invariant_of-self c =
     let history : List Process = c.self.inside.ledger.processes in
     let marks : MarksView = c.self.inside.marks in
-    let rows : List (List VectorRow) = c.self.inside.rows.rows in
+    let rows : List (List Row) = c.self.inside.rows.rows in
     let presents : List (List ℕ) = c.self.inside.rows.presents in
     let line : List Choice = c.args.line.now in
     let seen : history ≡ c.args.self.now.processes = ap (λ (v : CatalogueView). v.processes) c.self.view_is in
@@ -79,7 +79,7 @@ invariant_of-self c =
     let read : c.history.result.now.processes ≡ restarted_history history line = ap (λ (v : HistoryView). v.processes) c.history.ensures ∙ left in
     let same : length c.history.result.now.processes ≡ length history = ap (λ (xs : List Process). length xs) read ∙ length-restarted history line is_line in
     let consistent : IsConsistent history line = subst (λ (xs : List Process). IsConsistent xs line) (sym seen) c.requires.consistent in
-    let new : List (List VectorRow) = c.restart-3.new.self.rows in
+    let new : List (List Row) = c.restart-3.new.self.rows in
     let news : List (List ℕ) = c.restart-3.new.self.presents in
     let placed : (p : ℕ) → p < length history → WithPlaces (tape_at (restarted_history history line) p) (rows_kept (choice_at line p) (rows_at rows p)) (rows_at new p) =
     λ p h. subst (λ (xs : List Process). WithPlaces (tape_at xs p) (rows_kept (choice_at line p) (rows_at rows p)) (rows_at new p)) read (c.restart-3.ensures.rows p (omega (arith, h, same)))

@@ -3,7 +3,7 @@ use Rattle.std.proofs.Common.{◌≡◌, ◌+◌, ◌<◌, length, map, get_or, 
 use Rattle.std.proofs.lemmas.List.{length-map}
 use Rattle.line_tape.specs.declared.events.Event.{Event}
 use Rattle.line_tape.specs.Event.{sends}
-use Rattle.line_catalogue.specs.declared.kept_rows.VectorRow.{VectorRow}
+use Rattle.line_catalogue.specs.declared.kept_rows.Row.{Row}
 use Rattle.line_catalogue.specs.Kept.{RowsView, TableView, rows_at, present_at}
 use Rattle.line_catalogue.specs.Plain.{check_rows_of, present_of, rows_room}
 use Rattle.line_catalogue.specs.Rows.{vector_after_event, row_added, with_row}
@@ -19,19 +19,19 @@ returns-clause-rows c =
     let rows : map check_rows_of items ≡ c.args.self.now.rows = ap (λ (t : TableView). t.rows) c.self.view_is in
     let presents : map present_of items ≡ c.args.self.now.presents = ap (λ (t : TableView). t.presents) c.self.view_is in
     let rooms : map rows_room items ≡ c.args.self.now.rooms = ap (λ (t : TableView). t.rooms) c.self.view_is in
-    let within : k < length items = omega (arith, c.requires.process, ap (λ (xs : List (List VectorRow)). length xs) rows, length-map items check_rows_of) in
+    let within : k < length items = omega (arith, c.requires.process, ap (λ (xs : List (List Row)). length xs) rows, length-map items check_rows_of) in
     let old : RowsView = c.index_mut.result.now in
     let new : RowsView = c.append_next.new.self in
     let is : old ≡ get_or items k old = c.index_mut.ensures.value in
     let event : Event = c.args.event.now in
-    let with : List (List VectorRow) → List (List ℕ) → ℕ → List VectorRow = λ xs ys j. with_row (rows_at xs j) (row_added (length c.args.tape.now.events + 1) (sends c.args.tape.now.events) (present_at ys j) event) in
+    let with : List (List Row) → List (List ℕ) → ℕ → List Row = λ xs ys j. with_row (rows_at xs j) (row_added (length c.args.tape.now.events + 1) (sends c.args.tape.now.events) (present_at ys j) event) in
     let there : check_rows_of new ≡ with (map check_rows_of items) (map present_of items) k =
     c.append_next.ensures.rows
-    ∙ ap (λ (xs : List VectorRow). with_row xs (row_added (length c.args.tape.now.events + 1) (sends c.args.tape.now.events) old.present event)) (sym (seen-old check_rows_of [] items k old new within is))
+    ∙ ap (λ (xs : List Row). with_row xs (row_added (length c.args.tape.now.events + 1) (sends c.args.tape.now.events) old.present event)) (sym (seen-old check_rows_of [] items k old new within is))
     ∙ ap (λ (ys : List ℕ). with_row (rows_at (map check_rows_of items) k) (row_added (length c.args.tape.now.events + 1) (sends c.args.tape.now.events) ys event)) (sym (seen-old present_of [] items k old new within is))
     in
     seen-written check_rows_of [] items k old new within is ∙ ap (set (map check_rows_of items) k) there ∙ ap (λ j. set (map check_rows_of items) j (with (map check_rows_of items) (map present_of items) j)) at
-    ∙ ap (λ (xs : List (List VectorRow)). set xs p (with xs (map present_of items) p)) rows ∙ ap (λ (ys : List (List ℕ)). set c.args.self.now.rows p (with c.args.self.now.rows ys p)) presents
+    ∙ ap (λ (xs : List (List Row)). set xs p (with xs (map present_of items) p)) rows ∙ ap (λ (ys : List (List ℕ)). set c.args.self.now.rows p (with c.args.self.now.rows ys p)) presents
 
 pub returns-clause-presents : goal.returns-clause-presents
 returns-clause-presents c =
@@ -42,7 +42,7 @@ returns-clause-presents c =
     let rows : map check_rows_of items ≡ c.args.self.now.rows = ap (λ (t : TableView). t.rows) c.self.view_is in
     let presents : map present_of items ≡ c.args.self.now.presents = ap (λ (t : TableView). t.presents) c.self.view_is in
     let rooms : map rows_room items ≡ c.args.self.now.rooms = ap (λ (t : TableView). t.rooms) c.self.view_is in
-    let within : k < length items = omega (arith, c.requires.process, ap (λ (xs : List (List VectorRow)). length xs) rows, length-map items check_rows_of) in
+    let within : k < length items = omega (arith, c.requires.process, ap (λ (xs : List (List Row)). length xs) rows, length-map items check_rows_of) in
     let old : RowsView = c.index_mut.result.now in
     let new : RowsView = c.append_next.new.self in
     let is : old ≡ get_or items k old = c.index_mut.ensures.value in
@@ -60,7 +60,7 @@ returns-clause-room c =
     let rows : map check_rows_of items ≡ c.args.self.now.rows = ap (λ (t : TableView). t.rows) c.self.view_is in
     let presents : map present_of items ≡ c.args.self.now.presents = ap (λ (t : TableView). t.presents) c.self.view_is in
     let rooms : map rows_room items ≡ c.args.self.now.rooms = ap (λ (t : TableView). t.rooms) c.self.view_is in
-    let within : k < length items = omega (arith, c.requires.process, ap (λ (xs : List (List VectorRow)). length xs) rows, length-map items check_rows_of) in
+    let within : k < length items = omega (arith, c.requires.process, ap (λ (xs : List (List Row)). length xs) rows, length-map items check_rows_of) in
     let old : RowsView = c.index_mut.result.now in
     let new : RowsView = c.append_next.new.self in
     let is : old ≡ get_or items k old = c.index_mut.ensures.value in
@@ -77,7 +77,7 @@ returns-clause-others c =
     let rows : map check_rows_of items ≡ c.args.self.now.rows = ap (λ (t : TableView). t.rows) c.self.view_is in
     let presents : map present_of items ≡ c.args.self.now.presents = ap (λ (t : TableView). t.presents) c.self.view_is in
     let rooms : map rows_room items ≡ c.args.self.now.rooms = ap (λ (t : TableView). t.rooms) c.self.view_is in
-    let within : k < length items = omega (arith, c.requires.process, ap (λ (xs : List (List VectorRow)). length xs) rows, length-map items check_rows_of) in
+    let within : k < length items = omega (arith, c.requires.process, ap (λ (xs : List (List Row)). length xs) rows, length-map items check_rows_of) in
     let old : RowsView = c.index_mut.result.now in
     let new : RowsView = c.append_next.new.self in
     let is : old ≡ get_or items k old = c.index_mut.ensures.value in

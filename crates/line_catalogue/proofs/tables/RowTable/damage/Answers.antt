@@ -1,7 +1,7 @@
 -- One row of one process changes.
 use Rattle.std.proofs.Common.{◌≡◌, ◌<◌, length, map, get_or, set, [], List, ℕ, sym, ap, ◌∙◌, arith}
 use Rattle.std.proofs.lemmas.List.{length-map}
-use Rattle.line_catalogue.specs.declared.kept_rows.VectorRow.{VectorRow}
+use Rattle.line_catalogue.specs.declared.kept_rows.Row.{Row}
 use Rattle.line_catalogue.specs.Kept.{RowsView, TableView, rows_at}
 use Rattle.line_catalogue.specs.Plain.{check_rows_of, present_of, rows_room}
 use Rattle.line_catalogue.specs.Rows.{with_damage}
@@ -17,13 +17,13 @@ returns-clause-rows c =
     let rows : map check_rows_of items ≡ c.args.self.now.rows = ap (λ (t : TableView). t.rows) c.self.view_is in
     let presents : map present_of items ≡ c.args.self.now.presents = ap (λ (t : TableView). t.presents) c.self.view_is in
     let rooms : map rows_room items ≡ c.args.self.now.rooms = ap (λ (t : TableView). t.rooms) c.self.view_is in
-    let within : k < length items = omega (arith, c.requires.process, ap (λ (xs : List (List VectorRow)). length xs) rows, length-map items check_rows_of) in
+    let within : k < length items = omega (arith, c.requires.process, ap (λ (xs : List (List Row)). length xs) rows, length-map items check_rows_of) in
     let old : RowsView = c.index_mut.result.now in
     let new : RowsView = c.damage.new.self in
     let is : old ≡ get_or items k old = c.index_mut.ensures.value in
-    let there : check_rows_of new ≡ with_damage (rows_at (map check_rows_of items) k) c.args.check = c.damage.ensures.rows ∙ ap (λ (xs : List VectorRow). with_damage xs c.args.check) (sym (seen-old check_rows_of [] items k old new within is)) in
+    let there : check_rows_of new ≡ with_damage (rows_at (map check_rows_of items) k) c.args.check = c.damage.ensures.rows ∙ ap (λ (xs : List Row). with_damage xs c.args.check) (sym (seen-old check_rows_of [] items k old new within is)) in
     seen-written check_rows_of [] items k old new within is ∙ ap (set (map check_rows_of items) k) there ∙ ap (λ j. set (map check_rows_of items) j (with_damage (rows_at (map check_rows_of items) j) c.args.check)) at
-    ∙ ap (λ (xs : List (List VectorRow)). set xs p (with_damage (rows_at xs p) c.args.check)) rows
+    ∙ ap (λ (xs : List (List Row)). set xs p (with_damage (rows_at xs p) c.args.check)) rows
 
 pub returns-clause-presents : goal.returns-clause-presents
 returns-clause-presents c =
@@ -34,7 +34,7 @@ returns-clause-presents c =
     let rows : map check_rows_of items ≡ c.args.self.now.rows = ap (λ (t : TableView). t.rows) c.self.view_is in
     let presents : map present_of items ≡ c.args.self.now.presents = ap (λ (t : TableView). t.presents) c.self.view_is in
     let rooms : map rows_room items ≡ c.args.self.now.rooms = ap (λ (t : TableView). t.rooms) c.self.view_is in
-    let within : k < length items = omega (arith, c.requires.process, ap (λ (xs : List (List VectorRow)). length xs) rows, length-map items check_rows_of) in
+    let within : k < length items = omega (arith, c.requires.process, ap (λ (xs : List (List Row)). length xs) rows, length-map items check_rows_of) in
     let old : RowsView = c.index_mut.result.now in
     let new : RowsView = c.damage.new.self in
     let is : old ≡ get_or items k old = c.index_mut.ensures.value in
@@ -49,7 +49,7 @@ returns-clause-rooms c =
     let rows : map check_rows_of items ≡ c.args.self.now.rows = ap (λ (t : TableView). t.rows) c.self.view_is in
     let presents : map present_of items ≡ c.args.self.now.presents = ap (λ (t : TableView). t.presents) c.self.view_is in
     let rooms : map rows_room items ≡ c.args.self.now.rooms = ap (λ (t : TableView). t.rooms) c.self.view_is in
-    let within : k < length items = omega (arith, c.requires.process, ap (λ (xs : List (List VectorRow)). length xs) rows, length-map items check_rows_of) in
+    let within : k < length items = omega (arith, c.requires.process, ap (λ (xs : List (List Row)). length xs) rows, length-map items check_rows_of) in
     let old : RowsView = c.index_mut.result.now in
     let new : RowsView = c.damage.new.self in
     let is : old ≡ get_or items k old = c.index_mut.ensures.value in

@@ -6,7 +6,7 @@ use Rattle.line_tape.specs.declared.events.Event.{Event}
 use Rattle.line_tape.specs.History.{Process, tape_at}
 use Rattle.line_tape.specs.Views.{MarksView, damaged_at}
 use Rattle.line_vectors.specs.Reach.{reach_of}
-use Rattle.line_catalogue.specs.declared.kept_rows.VectorRow.{VectorRow}
+use Rattle.line_catalogue.specs.declared.kept_rows.Row.{Row}
 use Rattle.line_catalogue.specs.Kept.{RowsView, rows_at, present_at}
 use Rattle.line_catalogue.specs.Plain.{check_rows_of, present_of}
 use Rattle.line_catalogue.specs.Rows.{AreRows}
@@ -34,7 +34,7 @@ loop-q-preserved c =
       count = omega (arith, ap (λ (xs : List RowsView). length xs) pushed, length_push items made, c.loop-q.invariant.count);
       len = omega (arith, c.push_reserved.ensures.len, c.loop-q.invariant.len);
       room = omega (arith, c.push_reserved.ensures.capacity, c.loop-q.invariant.room);
-      shown = λ p h. subst (λ (xs : List (List VectorRow)). AreRows n (tape_at history p) (damaged_at marks p) (rows_at xs p)) (sym seen) (elim (cases_lt p q) [
+      shown = λ p h. subst (λ (xs : List (List Row)). AreRows n (tape_at history p) (damaged_at marks p) (rows_at xs p)) (sym seen) (elim (cases_lt p q) [
         | inl before ↦ subst (AreRows n (tape_at history p) (damaged_at marks p)) (sym (get_or_append_left (map check_rows_of items) (made.rows ∷ []) [] p (omega arith))) (c.loop-q.invariant.shown p before)
         | inr behind ↦
             let here : q ≡ p = omega arith in

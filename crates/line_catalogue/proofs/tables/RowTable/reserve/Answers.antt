@@ -2,7 +2,7 @@
 use Rattle.std.proofs.Common.{◌≡◌, ◌<◌, ◌≤◌, length, map, get_or, set, [], List, ℕ, sym, ap, ◌∙◌, subst, arith}
 use Rattle.std.proofs.lemmas.List.{length-map}
 use Rattle.std.specs.Prelude.{OnOk}
-use Rattle.line_catalogue.specs.declared.kept_rows.VectorRow.{VectorRow}
+use Rattle.line_catalogue.specs.declared.kept_rows.Row.{Row}
 use Rattle.line_catalogue.specs.Kept.{RowsView, TableView}
 use Rattle.line_catalogue.specs.Plain.{check_rows_of, present_of, rows_room}
 use Rattle.line_catalogue.proofs.TableLemmas.{seen-old, seen-new, seen-other, seen-same}
@@ -17,7 +17,7 @@ returns-clause-same c =
     let rows : map check_rows_of items ≡ c.args.self.now.rows = ap (λ (t : TableView). t.rows) c.self.view_is in
     let presents : map present_of items ≡ c.args.self.now.presents = ap (λ (t : TableView). t.presents) c.self.view_is in
     let rooms : map rows_room items ≡ c.args.self.now.rooms = ap (λ (t : TableView). t.rooms) c.self.view_is in
-    let within : k < length items = omega (arith, c.requires, ap (λ (xs : List (List VectorRow)). length xs) rows, length-map items check_rows_of) in
+    let within : k < length items = omega (arith, c.requires, ap (λ (xs : List (List Row)). length xs) rows, length-map items check_rows_of) in
     let old : RowsView = c.index_mut.result.now in
     let new : RowsView = c.reserve.new.self in
     let is : old ≡ get_or items k old = c.index_mut.ensures.value in
@@ -32,7 +32,7 @@ returns-clause-presents c =
     let rows : map check_rows_of items ≡ c.args.self.now.rows = ap (λ (t : TableView). t.rows) c.self.view_is in
     let presents : map present_of items ≡ c.args.self.now.presents = ap (λ (t : TableView). t.presents) c.self.view_is in
     let rooms : map rows_room items ≡ c.args.self.now.rooms = ap (λ (t : TableView). t.rooms) c.self.view_is in
-    let within : k < length items = omega (arith, c.requires, ap (λ (xs : List (List VectorRow)). length xs) rows, length-map items check_rows_of) in
+    let within : k < length items = omega (arith, c.requires, ap (λ (xs : List (List Row)). length xs) rows, length-map items check_rows_of) in
     let old : RowsView = c.index_mut.result.now in
     let new : RowsView = c.reserve.new.self in
     let is : old ≡ get_or items k old = c.index_mut.ensures.value in
@@ -47,7 +47,7 @@ returns-clause-ok c =
     let rows : map check_rows_of items ≡ c.args.self.now.rows = ap (λ (t : TableView). t.rows) c.self.view_is in
     let presents : map present_of items ≡ c.args.self.now.presents = ap (λ (t : TableView). t.presents) c.self.view_is in
     let rooms : map rows_room items ≡ c.args.self.now.rooms = ap (λ (t : TableView). t.rooms) c.self.view_is in
-    let within : k < length items = omega (arith, c.requires, ap (λ (xs : List (List VectorRow)). length xs) rows, length-map items check_rows_of) in
+    let within : k < length items = omega (arith, c.requires, ap (λ (xs : List (List Row)). length xs) rows, length-map items check_rows_of) in
     let old : RowsView = c.index_mut.result.now in
     let new : RowsView = c.reserve.new.self in
     let is : old ≡ get_or items k old = c.index_mut.ensures.value in
@@ -63,7 +63,7 @@ returns-clause-room c =
     let rows : map check_rows_of items ≡ c.args.self.now.rows = ap (λ (t : TableView). t.rows) c.self.view_is in
     let presents : map present_of items ≡ c.args.self.now.presents = ap (λ (t : TableView). t.presents) c.self.view_is in
     let rooms : map rows_room items ≡ c.args.self.now.rooms = ap (λ (t : TableView). t.rooms) c.self.view_is in
-    let within : k < length items = omega (arith, c.requires, ap (λ (xs : List (List VectorRow)). length xs) rows, length-map items check_rows_of) in
+    let within : k < length items = omega (arith, c.requires, ap (λ (xs : List (List Row)). length xs) rows, length-map items check_rows_of) in
     let old : RowsView = c.index_mut.result.now in
     let new : RowsView = c.reserve.new.self in
     let is : old ≡ get_or items k old = c.index_mut.ensures.value in
@@ -80,7 +80,7 @@ returns-clause-others c =
     let rows : map check_rows_of items ≡ c.args.self.now.rows = ap (λ (t : TableView). t.rows) c.self.view_is in
     let presents : map present_of items ≡ c.args.self.now.presents = ap (λ (t : TableView). t.presents) c.self.view_is in
     let rooms : map rows_room items ≡ c.args.self.now.rooms = ap (λ (t : TableView). t.rooms) c.self.view_is in
-    let within : k < length items = omega (arith, c.requires, ap (λ (xs : List (List VectorRow)). length xs) rows, length-map items check_rows_of) in
+    let within : k < length items = omega (arith, c.requires, ap (λ (xs : List (List Row)). length xs) rows, length-map items check_rows_of) in
     let old : RowsView = c.index_mut.result.now in
     let new : RowsView = c.reserve.new.self in
     let is : old ≡ get_or items k old = c.index_mut.ensures.value in

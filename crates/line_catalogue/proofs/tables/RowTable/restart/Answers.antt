@@ -6,7 +6,7 @@ use Rattle.line_names.specs.declared.choices.Choice.{Choice}
 use Rattle.line_names.specs.Lines.{choice_at}
 use Rattle.line_tape.specs.declared.events.Event.{Event}
 use Rattle.line_tape.specs.History.{Process, tape_at}
-use Rattle.line_catalogue.specs.declared.kept_rows.VectorRow.{VectorRow}
+use Rattle.line_catalogue.specs.declared.kept_rows.Row.{Row}
 use Rattle.line_catalogue.specs.Kept.{RowsView, rows_at, present_at}
 use Rattle.line_catalogue.specs.Plain.{check_rows_of, present_of, rows_room}
 use Rattle.line_catalogue.specs.Rows.{WithPlaces, rows_kept, vector_at}
@@ -17,7 +17,7 @@ pub loop-q-preserved : goal.loop-q-preserved
 loop-q-preserved c =
     let history : List Process = c.args.history.now.processes in
     let line : List Choice = c.args.line.now in
-    let first : List (List VectorRow) = c.args.self.now.rows in
+    let first : List (List Row) = c.args.self.now.rows in
     let firsts : List (List ℕ) = c.args.self.now.presents in
     let items : List RowsView = c.loop-q.self-inside.table.items in
     let q : ℕ = c.loop-q.q in
@@ -33,10 +33,10 @@ loop-q-preserved c =
     let made : WithPlaces (tape_at history q) (rows_kept (choice_at line q) (rows_at first q)) new.rows =
     subst (λ (es : List Event). WithPlaces es (rows_kept (choice_at line q) (rows_at first q)) new.rows) tape
     (subst (λ (x : Choice). WithPlaces c.tape.result.now.events (rows_kept x (rows_at first q)) new.rows) choice
-    (subst (λ (xs : List VectorRow). WithPlaces c.tape.result.now.events (rows_kept c.at.result xs) new.rows) rows c.restart.ensures.rows))
+    (subst (λ (xs : List Row). WithPlaces c.tape.result.now.events (rows_kept c.at.result xs) new.rows) rows c.restart.ensures.rows))
     in
     let kept : new.present ≡ vector_at (rows_at first q) (present_at firsts q) (choice_at line q) =
-    c.restart.ensures.present ∙ ap (λ (xs : List VectorRow). vector_at xs old.present c.at.result) rows ∙ ap (λ (ys : List ℕ). vector_at (rows_at first q) ys c.at.result) present ∙ ap (vector_at (rows_at first q) (present_at firsts q)) choice
+    c.restart.ensures.present ∙ ap (λ (xs : List Row). vector_at xs old.present c.at.result) rows ∙ ap (λ (ys : List ℕ). vector_at (rows_at first q) ys c.at.result) present ∙ ap (vector_at (rows_at first q) (present_at firsts q)) choice
     in
     record {
       count = length-set items q new ∙ c.loop-q.invariant.count;

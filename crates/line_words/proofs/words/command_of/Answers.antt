@@ -9,7 +9,7 @@ use Rattle.line_words.specs.declared.jobs.Job.TheVariants.{Check, Drill, Run, Se
 use Rattle.line_words.specs.declared.faults.WordsFault.{WordsFault}
 use Rattle.line_words.specs.declared.faults.WordsFault.TheVariants as faults
 use Rattle.line_words.specs.Words.{HasCause, IsAskedBy, IsJobInRange, IsToldAs, refusals_of}
-use Rattle.line_words.proofs.words.read_job.Goals as goal
+use Rattle.line_words.proofs.words.command_of.Goals as goal
 
 no_help : errors.OutOfMemory ≡ errors.DisplayHelp → ⊥
 no_help same = cc same

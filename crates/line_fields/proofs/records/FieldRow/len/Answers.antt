@@ -2,7 +2,7 @@ use Rattle.std.proofs.Common.{◌≡◌, ◌∙◌, length, ap, rules, sym}
 use Rattle.csv.specs.Records.{fields_of}
 use Rattle.line_fields.specs.Records.{Record}
 use Rattle.line_fields.proofs.EndLemmas.{held_of_line}
-use Rattle.line_fields.proofs.records.Row.len.Goals as goal
+use Rattle.line_fields.proofs.records.FieldRow.len.Goals as goal
 
 pub returns-else-self : goal.returns-else-self
 returns-else-self c =
