@@ -26,7 +26,7 @@ use std::snapshot::Snapshot;
 
 // How many reports come at least between two times that a collector keeps what is in transit, so
 // that what a plan takes but for what it finds is little beside them.
-const REPORTS_BETWEEN: usize = 4096;
+const REPORTS_BETWEEN: usize = 16_384;
 
 /// The history that was collected so far, as a catalogue, and the other ends of the report lines.
 ///
