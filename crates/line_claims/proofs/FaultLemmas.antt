@@ -16,7 +16,7 @@ use Rattle.line_claims.specs.Entries.{bar_of, damage_of, end_of, entry_of, faile
 use Rattle.line_claims.specs.Events.{is_event}
 use Rattle.line_claims.specs.Histories.{event_at, front_of, head_in, head_of, tape_from, tape_of, tapes_from}
 use Rattle.line_claims.specs.Parts.{Part, begins, first, many, is_named, one}
-use Rattle.line_claims.specs.Reads.{FailsText, IsOfText, fault_of_record, no_memory, at_record, fault_of_error}
+use Rattle.line_claims.specs.Reads.{FailsText, IsOfText, Reads, fault_of_record, no_memory, at_record, fault_of_error}
 use Rattle.line_claims.specs.Texts.{certificate_of, certificate_of_text, check_text_of, check_of_text, history_of, history_of_text, records_in}
 
 -- each fault that is read is one of the text
@@ -54,6 +54,12 @@ fault_is_of_text {A} read fault all h = subst (λ (r : Result A TextFault). IfEr
 pub told_codes : {A : Type 0} (error : TextError) (read : Result A TextFault) → OnlyOfText read → FailsText error read → (fault_of_error error ≡ no_memory) ⊎ IsOfText (fault_of_error error)
 told_codes errors.OutOfMemory read all h = inl refl
 told_codes (errors.Fault fault) read all h = inr (fault_is_of_text read fault all h)
+
+-- so it is of what was read
+pub reads_codes : {A B : Type 0} (seen : A → B) (result : Result A TextFault) (read : Result B TextFault) → OnlyOfText read → Reads seen result read → IfErr result (λ fault. (fault ≡ no_memory) ⊎ IsOfText fault)
+reads_codes seen (Ok x) read all h = tt
+reads_codes seen (Err fault) read all (inl none) = inl none
+reads_codes seen (Err fault) read all (inr is) = inr (fault_is_of_text read fault all is)
 
 head_faults : (records : List Record) → OnlyOfText (head_in records)
 head_faults records = numbered_faults 1 (want (begins (is_named (codes "history")) records) faults.NoWorld >>= λ it. head_of (first records))

@@ -1,4 +1,5 @@
 pub mod AgainLemmas
+pub mod ApartLemmas
 pub mod ClaimAgainLemmas
 pub mod ClaimWrittenLemmas
 pub mod EntryAgainLemmas
@@ -7,6 +8,7 @@ pub mod FaultLemmas
 pub mod LaterLemmas
 pub mod MemoryLemmas
 pub mod PartLemmas
+pub mod PlaceLemmas
 pub mod ReadingLemmas
 pub mod SpellLemmas
 pub mod VersionLemmas

@@ -1,52 +1,28 @@
--- Reading the parts of a text record by record.
-use Rattle.std.proofs.Common.{◌≡◌, ◌<◌, ℕ, suc, ◌+◌, ◌-◌, Bool, true, false, List, [], ◌∷◌, drop, Result, Ok, Err, refl, sym, ap, ◌∙◌, arith}
+-- The parts of a text, taken record by record.
+use Rattle.std.proofs.Common.{◌≡◌, ◌<◌, ◌≤◌, ℕ, zero, suc, ◌+◌, ◌-◌, Bool, true, false, List, [], ◌∷◌, Result, Ok, Err, ◌⊎◌, inl, inr, refl, sym, subst, ap, ◌∙◌, arith}
+use Rattle.std.specs.Prelude.{codes}
 use Rattle.line_fields.specs.declared.faults.Fault.{Fault}
+use Rattle.line_fields.specs.declared.faults.Fault.TheVariants as faults
 use Rattle.line_fields.specs.declared.faults.ReadError.{ReadError}
 use Rattle.line_fields.specs.declared.faults.ReadError.TheVariants as errors
 use Rattle.line_fields.specs.Fields.{◌>>=◌, Fails}
 use Rattle.line_fields.specs.Records.{Record}
 use Rattle.line_tape.specs.History.{Process}
+use Rattle.line_claims.specs.declared.claims.ClaimStage.{ClaimStage}
+use Rattle.line_claims.specs.declared.claims.ClaimStage.TheVariants as stages
 use Rattle.line_claims.specs.declared.faults.TextError.{TextError}
-use Rattle.line_claims.specs.declared.faults.TextError.TheVariants as texts
 use Rattle.line_claims.specs.declared.faults.TextFault.{TextFault}
-use Rattle.line_claims.specs.Histories.{tape_from, tapes_from}
-use Rattle.line_claims.specs.Parts.{Part, begins, many}
-use Rattle.line_claims.specs.Reads.{FailsText, error_at, fault_of_record}
+use Rattle.line_claims.specs.Claims.{Claim}
+use Rattle.line_claims.specs.Events.{is_event}
+use Rattle.line_claims.specs.Histories.{event_at, head_in, head_of, tape_from, tape_of, tapes_from}
+use Rattle.line_claims.specs.Parts.{Part, begins, is_named, many, one}
+use Rattle.line_claims.specs.Reads.{FailsText, at_record, error_at, fault_of_record}
+use Rattle.line_claims.specs.Stages.{Goes, claim_left, open_tape, tapes_left}
 
 pub first_more : {A : Type 0} (is : Record → Bool) (read : A → Record → Result A Fault) (before more : A) (i : ℕ) (r : Record) (rest : List Record)
     → is r ≡ true → read before r ≡ Ok more → many is read before i (r ∷ rest) ≡ many is read more (i + 1) rest
 unfolding many
 first_more is read before more i r rest it h = rw (it, h) refl
-
--- one more record was read
-pub many_more : {A : Type 0} (is : Record → Bool) (read : A → Record → Result A Fault) (before more : A) (i : ℕ) (left : List Record) (r : Record)
-    → begins is left ≡ true → left ≡ r ∷ drop 1 left → read before r ≡ Ok more → many is read before i left ≡ many is read more (i + 1) (drop 1 left)
-many_more is read before more i left r it e h =
-    ap (many is read before i) e ∙ first_more is read before more i r (drop 1 left) (sym (ap (begins is) e) ∙ it) h
-
-first_fault : {A : Type 0} (is : Record → Bool) (read : A → Record → Result A Fault) (before : A) (i : ℕ) (r : Record) (rest : List Record) (e : ReadError)
-    → is r ≡ true → Fails e (read before r) → FailsText (error_at i e) (many is read before i (r ∷ rest))
-unfolding many
-first_fault is read before i r rest errors.OutOfMemory it h = tt
-first_fault is read before i r rest (errors.Fault f) it h = rw (it, h) refl
-
--- a record has a fault
-pub many_fault : {A : Type 0} (is : Record → Bool) (read : A → Record → Result A Fault) (before : A) (i : ℕ) (left : List Record) (r : Record) (e : ReadError) (total : Result (Part A) TextFault)
-    → begins is left ≡ true → left ≡ r ∷ drop 1 left → Fails e (read before r) → many is read before i left ≡ total → FailsText (error_at i e) total
-many_fault is read before i left r e total it same h k =
-    let there : FailsText (error_at i e) (many is read before i left) = rw same (first_fault is read before i r (drop 1 left) e (sym (ap (begins is) same) ∙ it) h) in
-    rw k at there
-
-first_refused : {A : Type 0} (is : Record → Bool) (read : A → Record → Result A Fault) (before : A) (i : ℕ) (r : Record) (rest : List Record) (f : Fault)
-    → is r ≡ true → read before r ≡ Err f → many is read before i (r ∷ rest) ≡ Err (fault_of_record i f)
-unfolding many
-first_refused is read before i r rest f it h = rw (it, h) refl
-
--- the same of a reader that takes no memory
-pub many_refused : {A : Type 0} (is : Record → Bool) (read : A → Record → Result A Fault) (before : A) (i : ℕ) (left : List Record) (r : Record) (f : Fault)
-    → begins is left ≡ true → left ≡ r ∷ drop 1 left → read before r ≡ Err f → many is read before i left ≡ Err (fault_of_record i f)
-many_refused is read before i left r f it same h =
-    ap (many is read before i) same ∙ first_refused is read before i r (drop 1 left) f (sym (ap (begins is) same) ∙ it) h
 
 -- the next record, if there is one, is of another kind
 pub many_end : {A : Type 0} (is : Record → Bool) (read : A → Record → Result A Fault) (before : A) (i : ℕ) (left : List Record)
@@ -55,11 +31,104 @@ unfolding many
 many_end is read before i [] h = refl
 many_end is read before i (r ∷ rest) h = rw h refl
 
+-- ---- a record, and what is read behind it
+
+-- a record of many was read
+pub then_more : {A B : Type 0} (is : Record → Bool) (read : A → Record → Result A Fault) (before more : A) (i : ℕ) (r : Record) (rest : List Record) (next : Part A → Result B TextFault)
+    → is r ≡ true → read before r ≡ Ok more → (many is read before i (r ∷ rest) >>= next) ≡ (many is read more (i + 1) rest >>= next)
+unfolding many
+then_more is read before more i r rest next it h = rw (it, h) refl
+
+-- it has a fault
+pub then_fault : {A B : Type 0} (is : Record → Bool) (read : A → Record → Result A Fault) (before : A) (i : ℕ) (r : Record) (rest : List Record) (e : ReadError) (next : Part A → Result B TextFault)
+    → is r ≡ true → Fails e (read before r) → FailsText (error_at i e) (many is read before i (r ∷ rest) >>= next)
+unfolding many
+then_fault is read before i r rest errors.OutOfMemory next it h = tt
+then_fault is read before i r rest (errors.Fault f) next it h = rw (it, h) refl
+
+-- the same of a reader that takes no memory
+pub then_refused : {A B : Type 0} (is : Record → Bool) (read : A → Record → Result A Fault) (before : A) (i : ℕ) (r : Record) (rest : List Record) (f : Fault) (next : Part A → Result B TextFault)
+    → is r ≡ true → read before r ≡ Err f → (many is read before i (r ∷ rest) >>= next) ≡ Err (fault_of_record i f)
+unfolding many
+then_refused is read before i r rest f next it h = rw (it, h) refl
+
+-- the next record is of another kind
+pub then_end : {A B : Type 0} (is : Record → Bool) (read : A → Record → Result A Fault) (before : A) (i : ℕ) (r : Record) (rest : List Record) (next : Part A → Result B TextFault)
+    → is r ≡ false → (many is read before i (r ∷ rest) >>= next) ≡ next (record { value = before; number = i; left = r ∷ rest })
+unfolding many
+then_end is read before i r rest next it = rw it refl
+
+-- there is no next record
+pub then_none : {A B : Type 0} (is : Record → Bool) (read : A → Record → Result A Fault) (before : A) (i : ℕ) (next : Part A → Result B TextFault)
+    → (many is read before i [] >>= next) ≡ next (record { value = before; number = i; left = [] })
+unfolding many
+then_none is read before i next = refl
+
+-- the one record with a name was read
+pub one_read : {A B : Type 0} (name : List ℕ) (read : Record → Result A Fault) (x : A) (i : ℕ) (r : Record) (rest : List Record) (next : Part A → Result B TextFault)
+    → is_named name r ≡ true → read r ≡ Ok x → (one name read i (r ∷ rest) >>= next) ≡ next (record { value = x; number = i + 1; left = rest })
+unfolding one
+one_read name read x i r rest next it h = rw (it, h) refl
+
+-- it has a fault
+pub one_refused : {A B : Type 0} (name : List ℕ) (read : Record → Result A Fault) (i : ℕ) (r : Record) (rest : List Record) (f : Fault) (next : Part A → Result B TextFault)
+    → is_named name r ≡ true → read r ≡ Err f → (one name read i (r ∷ rest) >>= next) ≡ Err (fault_of_record i f)
+unfolding one
+one_refused name read i r rest f next it h = rw (it, h) refl
+
+-- another one stands in its place
+pub one_missing : {A B : Type 0} (name : List ℕ) (read : Record → Result A Fault) (i : ℕ) (r : Record) (rest : List Record) (next : Part A → Result B TextFault)
+    → is_named name r ≡ false → (one name read i (r ∷ rest) >>= next) ≡ Err (fault_of_record i faults.BadRecord)
+unfolding one
+one_missing name read i r rest next it = rw it refl
+
+-- none stands there
+pub one_none : {A B : Type 0} (name : List ℕ) (read : Record → Result A Fault) (i : ℕ) (next : Part A → Result B TextFault)
+    → (one name read i [] >>= next) ≡ Err (fault_of_record i faults.BadRecord)
+unfolding one
+one_none name read i next = refl
+
+-- what is to be read of a record may be said otherwise
+pub goes_by : {A B : Type 0} (result : Result B TextError) (old mid : List Record → Result A TextFault) (new : B → List Record → Result A TextFault) (r : Record)
+    → ((rest : List Record) → old (r ∷ rest) ≡ mid (r ∷ rest)) → Goes result mid new r → Goes result old new r
+goes_by (Ok x) old mid new r same h = λ rest. same rest ∙ h rest
+goes_by {A} (Err e) old mid new r same h = λ rest. subst (λ (read : Result A TextFault). FailsText e read) (sym (same rest)) (h rest)
+
+-- ---- a claim that ends too soon
+
+pub claim_open : (stage : ClaimStage) (version n : ℕ) (claim : Claim) (i : ℕ) → (stage ≡ stages.Nothing → ⊥) → claim_left stage version n claim i [] ≡ Err (fault_of_record i faults.BadRecord)
+unfolding many one
+claim_open stages.Damage version n claim i other = refl
+claim_open stages.Bars version n claim i other = refl
+claim_open stages.Line version n claim i other = refl
+claim_open stages.Entries version n claim i other = refl
+claim_open stages.Nothing version n claim i other = absurd (other refl)
+
+-- ---- the first record of a text
+
+pub head_missing : (r : Record) (rest : List Record) → is_named (codes "history") r ≡ false → head_in (r ∷ rest) ≡ Err (fault_of_record 1 faults.NoWorld)
+head_missing r rest it = rw it refl
+
+pub head_same : (r : Record) (rest : List Record) → is_named (codes "history") r ≡ true → head_in (r ∷ rest) ≡ at_record 1 (head_of r)
+head_same r rest it = rw it refl
+
+-- ---- tapes
+
 -- the tapes from one on are that one and those behind it
 tapes_next : (p others : ℕ) (history : List Process) (i : ℕ) (left : List Record)
     → tapes_from p (suc others) history i left ≡ (tape_from p history i left >>= λ tape. tapes_from (p + 1) others tape.value tape.number tape.left)
 unfolding tapes_from
 tapes_next p others history i left = refl
+
+next_apart : {A B C : Type 0} (read : Result A TextFault) (more : A → Result B TextFault) (next : B → Result C TextFault) → ((read >>= more) >>= next) ≡ (read >>= λ x. (more x >>= next))
+next_apart (Ok x) more next = refl
+next_apart (Err fault) more next = refl
+
+-- the first of them, and its events
+tape_apart : {B : Type 0} (p : ℕ) (history : List Process) (i : ℕ) (left : List Record) (next : Part (List Process) → Result B TextFault)
+    → (tape_from p history i left >>= next) ≡ (one (codes "tape") (tape_of p history) i left >>= λ tape. (many is_event (event_at p) tape.value tape.number tape.left >>= next))
+unfolding tape_from
+tape_apart p history i left next = next_apart (one (codes "tape") (tape_of p history) i left) (λ tape. many is_event (event_at p) tape.value tape.number tape.left) next
 
 tapes_next_of : (n p : ℕ) (history : List Process) (i : ℕ) (left : List Record) → p < n
     → tapes_from p (n - p) history i left ≡ (tape_from p history i left >>= λ tape. tapes_from (p + 1) (n - (p + 1)) tape.value tape.number tape.left)
@@ -67,24 +136,70 @@ tapes_next_of n p history i left lt =
     let count : n - p ≡ suc (n - (p + 1)) = omega (arith, lt) in
     ap (λ (k : ℕ). tapes_from p k history i left) count ∙ tapes_next p (n - (p + 1)) history i left
 
--- one tape more was read
-pub tapes_more : (n p : ℕ) (history more : List Process) (i j : ℕ) (left rest : List Record) → p < n
-    → tape_from p history i left ≡ Ok (record { value = more; number = j; left = rest }) → tapes_from p (n - p) history i left ≡ tapes_from (p + 1) (n - (p + 1)) more j rest
-tapes_more n p history more i j left rest lt h = tapes_next_of n p history i left lt ∙ rw h refl
+-- by their first record
+tapes_first : (n p : ℕ) (history : List Process) (i : ℕ) (left : List Record) → p < n
+    → tapes_from p (n - p) history i left
+    ≡ (one (codes "tape") (tape_of p history) i left >>= λ head. (many is_event (event_at p) head.value head.number head.left >>= λ tape. tapes_from (p + 1) (n - (p + 1)) tape.value tape.number tape.left))
+tapes_first n p history i left lt = tapes_next_of n p history i left lt ∙ tape_apart p history i left (λ tape. tapes_from (p + 1) (n - (p + 1)) tape.value tape.number tape.left)
 
-fault_of : (e : TextError) (p k : ℕ) (read : Result (Part (List Process)) TextFault) → FailsText e read
-    → FailsText e (read >>= λ tape. tapes_from p k tape.value tape.number tape.left)
-fault_of texts.OutOfMemory p k read h = tt
-fault_of (texts.Fault f) p k read h = rw h refl
+-- the tape that was begun last
+open_next : (p : ℕ) (history : List Process) (i : ℕ) (left : List Record) → open_tape (p + 1) history i left ≡ many is_event (event_at p) history i left
+open_next p history i left =
+    let same : p + 1 ≡ suc p = omega arith in
+    ap (λ (b : ℕ). open_tape b history i left) same
 
--- a tape has a fault
-pub tapes_fault : (n p : ℕ) (history : List Process) (i : ℕ) (left : List Record) (e : TextError) (total : Result (Part (List Process)) TextFault) → p < n
-    → FailsText e (tape_from p history i left) → tapes_from p (n - p) history i left ≡ total → FailsText e total
-tapes_fault n p history i left e total lt h k =
-    let there : FailsText e (tapes_from p (n - p) history i left) = rw (tapes_next_of n p history i left lt) (fault_of e (p + 1) (n - (p + 1)) (tape_from p history i left) h) in
-    rw k at there
+-- the first record of a tape was taken
+pub tape_begun : (n p : ℕ) (history more : List Process) (i : ℕ) (r : Record) (rest : List Record) → p < n → is_named (codes "tape") r ≡ true → tape_of p history r ≡ Ok more
+    → tapes_from p (n - p) history i (r ∷ rest) ≡ tapes_left n (p + 1) more (i + 1) rest
+tape_begun n p history more i r rest lt it h =
+    tapes_first n p history i (r ∷ rest) lt ∙ one_read (codes "tape") (tape_of p history) more i r rest _ it h
+    ∙ sym (ap (λ (tape : Result (Part (List Process)) TextFault). tape >>= λ tape. tapes_from (p + 1) (n - (p + 1)) tape.value tape.number tape.left) (open_next p more (i + 1) rest))
+
+pub tape_refused : (n p : ℕ) (history : List Process) (i : ℕ) (r : Record) (rest : List Record) (f : Fault) → p < n → is_named (codes "tape") r ≡ true → tape_of p history r ≡ Err f
+    → tapes_from p (n - p) history i (r ∷ rest) ≡ Err (fault_of_record i f)
+tape_refused n p history i r rest f lt it h = tapes_first n p history i (r ∷ rest) lt ∙ one_refused (codes "tape") (tape_of p history) i r rest f _ it h
+
+pub tape_missing : (n p : ℕ) (history : List Process) (i : ℕ) (r : Record) (rest : List Record) → p < n → is_named (codes "tape") r ≡ false
+    → tapes_from p (n - p) history i (r ∷ rest) ≡ Err (fault_of_record i faults.BadRecord)
+tape_missing n p history i r rest lt it = tapes_first n p history i (r ∷ rest) lt ∙ one_missing (codes "tape") (tape_of p history) i r rest _ it
 
 -- all tapes were read
 pub tapes_end : (p k : ℕ) (history : List Process) (i : ℕ) (left : List Record) → k ≡ 0 → tapes_from p k history i left ≡ Ok (record { value = history; number = i; left = left })
 unfolding tapes_from
 tapes_end p k history i left none = ap (λ (m : ℕ). tapes_from p m history i left) none
+
+-- ---- the tape that was begun last, and those that were not
+
+-- an event of it was taken
+pub event_taken : (n b : ℕ) (history more : List Process) (i : ℕ) (r : Record) (rest : List Record) → 0 < b → is_event r ≡ true → event_at (b - 1) history r ≡ Ok more
+    → tapes_left n b history i (r ∷ rest) ≡ tapes_left n b more (i + 1) rest
+event_taken n zero history more i r rest some it h = absurd (omega (arith, some))
+event_taken n (suc p) history more i r rest some it h =
+    let same : suc p - 1 ≡ p = omega arith in
+    then_more is_event (event_at p) history more i r rest _ it (ap (λ (q : ℕ). event_at q history r) (sym same) ∙ h)
+
+pub event_fault : (n b : ℕ) (history : List Process) (i : ℕ) (r : Record) (rest : List Record) (e : ReadError) → 0 < b → is_event r ≡ true → Fails e (event_at (b - 1) history r)
+    → FailsText (error_at i e) (tapes_left n b history i (r ∷ rest))
+event_fault n zero history i r rest e some it h = absurd (omega (arith, some))
+event_fault n (suc p) history i r rest e some it h =
+    let same : suc p - 1 ≡ p = omega arith in
+    then_fault is_event (event_at p) history i r rest e _ it (subst (λ (q : ℕ). Fails e (event_at q history r)) same h)
+
+-- there is none, or it has ended
+pub tape_closed : (n b : ℕ) (history : List Process) (i : ℕ) (r : Record) (rest : List Record) → (b ≡ 0) ⊎ (is_event r ≡ false) → tapes_left n b history i (r ∷ rest) ≡ tapes_from b (n - b) history i (r ∷ rest)
+tape_closed n zero history i r rest h = refl
+tape_closed n (suc p) history i r rest (inl none) = absurd (omega (arith, none))
+tape_closed n (suc p) history i r rest (inr it) = then_end is_event (event_at p) history i r rest _ it
+
+-- there are no more records
+nothing_open : (n b : ℕ) (history : List Process) (i : ℕ) → tapes_left n b history i [] ≡ tapes_from b (n - b) history i []
+nothing_open n zero history i = refl
+nothing_open n (suc p) history i = then_none is_event (event_at p) history i _
+
+pub tapes_whole : (n b : ℕ) (history : List Process) (i : ℕ) → n ≤ b → tapes_left n b history i [] ≡ Ok (record { value = history; number = i; left = [] })
+tapes_whole n b history i le =
+    let none : n - b ≡ 0 = omega (arith, le) in
+    nothing_open n b history i ∙ tapes_end b (n - b) history i [] none
+
+pub tape_none : (n b : ℕ) (history : List Process) (i : ℕ) → b < n → tapes_left n b history i [] ≡ Err (fault_of_record i faults.BadRecord)
+tape_none n b history i lt = nothing_open n b history i ∙ tapes_first n b history i [] lt ∙ one_none (codes "tape") (tape_of b history) i _

@@ -1,5 +1,4 @@
 pub mod Claims
-pub mod Cursors
 pub mod Entries
 pub mod Events
 pub mod Faults
@@ -7,7 +6,9 @@ pub mod Histories
 pub mod Numbers
 pub mod Parts
 pub mod Ranges
+pub mod Readings
 pub mod Reads
 pub mod Records
+pub mod Stages
 pub mod Texts
 pub mod Versions

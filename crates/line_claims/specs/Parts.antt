@@ -1,15 +1,13 @@
 -- The parts that a text is made of: one record with a name, or any number of records of a kind.
-use Rattle.std.specs.Prelude.{◌≡◌, ℕ, ◌+◌, Bool, false, List, [], ◌∷◌, drop, slice_index_or, Result}
-use Rattle.std.specs.Prelude.{Ok, Err, if◌then◌else◌}
+use Rattle.std.specs.Prelude.{ℕ, ◌+◌, Bool, false, List, [], ◌∷◌, drop, slice_index_or, Result}
+use Rattle.std.specs.Prelude.{Ok, if◌then◌else◌}
 use Rattle.std.specs.Str.{bytes_eq}
 use Rattle.line_fields.specs.declared.faults.Fault.{Fault}
 use Rattle.line_fields.specs.declared.faults.Fault.TheVariants as faults
 use Rattle.line_fields.specs.Fields.{◌>>=◌, want}
 use Rattle.line_fields.specs.Records.{Record, field}
-use Rattle.line_claims.specs.declared.faults.TextError.{TextError}
 use Rattle.line_claims.specs.declared.faults.TextFault.{TextFault}
-use Rattle.line_claims.specs.Cursors.{TextPlace}
-use Rattle.line_claims.specs.Reads.{FailsText, at_record}
+use Rattle.line_claims.specs.Reads.{at_record}
 
 -- what a part spells, the number of the record after it, and that record with those after it
 pub record Part (A : Type 0) : Type 0 where
@@ -46,10 +44,3 @@ many is read before i [] = Ok (record { value = before; number = i; left = [] })
 many is read before i (r ∷ rest) =
     if is r then (at_record i (read before r) >>= λ more. many is read more (i + 1) rest)
     else Ok (record { value = before; number = i; left = r ∷ rest })
-
--- a part was read, seen as a value, and the place after it was left
-abbrev pub Leaves : {A B : Type 0} → (A → B) → Result A TextError → Result (Part B) TextFault
-    → TextPlace → Type 0
-Leaves seen (Ok x) read place =
-    read ≡ Ok (record { value = seen x; number = place.number; left = place.left })
-Leaves seen (Err e) read place = FailsText e read

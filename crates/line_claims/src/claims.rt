@@ -1,20 +1,19 @@
-//! Claims, read record by record.
+//! Claims, taken record by record.
 
-ghost use Rattle.std.specs.Prelude.{◌≡◌, ◌≤◌, [], codes, length, IfOk};
+ghost use Rattle.std.specs.Prelude.{◌≡◌, ◌≤◌, ◌+◌, [], ℕ, length, IfOk};
 ghost use Rattle.line_names.specs.declared.limits.TheConstants.{MOST_PROCESSES};
-ghost use Rattle.line_claims.specs.Claims as spec;
-ghost use Rattle.line_claims.specs.Entries as entries;
-ghost use Rattle.line_claims.specs.Parts.{Leaves, many, is_named, one};
+ghost use Rattle.line_claims.specs.Claims as claims;
 ghost use Rattle.line_claims.specs.Reads.{Yields};
-ghost use Rattle.line_tape.specs.Views.{no_marks};
+ghost use Rattle.line_claims.specs.Stages.{Goes};
+ghost use Rattle.line_claims.specs.Stages as spec;
 
-use crate::cursors::Cursor;
-use crate::entries::{bar_of, damage_of, entry_of, failed_of, line_of};
+use crate::entries::{bar_of, damage_of, end_of, entry_of, failed_of, line_of};
 use crate::faults::{TextError, error_at, fault_at};
-use line_fields::Fault;
+use crate::parts::is_named;
+use line_fields::{Fault, FieldRow};
 use line_names::{Certificate, Line, MOST_PROCESSES, ProcSet};
 use line_tape::Marks;
-use std::alloc::Global;
+use std::alloc::{AllocError, Global};
 
 /// What is claimed of a history: that this is the latest line, where these checks are damaged,
 /// processes are barred at these checks and these failed, and that this certificate shows it.
@@ -30,141 +29,213 @@ pub struct Claim {
     pub certificate: Certificate,
 }
 
-// The damaged checks of a claim among `n` processes.
-fn read_damage(alloc: Global, n: u32, cursor: &mut Cursor<'_>) -> Result<Marks, TextError>
-    requires { n ≤ MOST_PROCESSES }
-    ensures exact { Leaves (λ marks. marks) result
-        (many (is_named (codes "damage")) (entries.damage_of n) (no_marks n) cursor.old.number
-        cursor.old.left)
-        cursor.new }
-    ensures whole { IfOk result (λ marks. length marks.damaged ≡ n) }
-{
-    let mut marks = Marks::new(alloc, n)?;
-    'records: while let Some(row) = cursor.named(b"damage") {
-        if let Err(error) = damage_of(&mut marks, n, row) {
-            return Err(error_at(cursor.number(), error));
-        }
-        cursor.advance()?;
-    }
-    Ok(marks)
+/// Which part of a claim its next record may be of, if not of one that may follow that part.
+#[derive(Clone, Copy)]
+pub(crate) enum ClaimStage {
+    /// The marks of damage.
+    Damage,
+    /// The bars, and after them the processes that failed.
+    Bars,
+    /// The line.
+    Line,
+    /// The entries of the certificate, and after them the end.
+    Entries,
+    /// None: the claim has ended.
+    Nothing,
 }
 
-// The bars of a claim of that version among `n` processes, added to its damaged checks.
-fn read_bars(
-    version: u32,
-    n: u32,
-    marks: &mut Marks,
-    cursor: &mut Cursor<'_>,
-) -> Result<(), TextError>
-    requires few { n ≤ MOST_PROCESSES }
-    requires whole { length marks.old.damaged ≡ n }
-    ensures { Leaves (λ done. marks.new) result
-        (many (spec.is_bar version) (entries.bar_of n) marks.old cursor.old.number cursor.old.left)
-        cursor.new }
+/// A claim among `n` processes of which nothing was read yet.
+pub(crate) fn begin_claim(alloc: Global, n: u32) -> Result<Claim, AllocError>
+    ensures exact { IfOk result (λ claim. claims.claim_view claim ≡ spec.no_claim n) }
+    ensures whole { IfOk result (λ claim. length claim.marks.damaged ≡ n) }
 {
-    'records: while let Some(row) = cursor.bar(version) {
-        if let Err(fault) = bar_of(marks, n, row) {
-            return Err(fault_at(cursor.number(), fault));
-        }
-        cursor.advance()?;
-    }
-    Ok(())
-}
-
-// Its processes that failed.
-#[tactic(auto, unfolding(crate::specs::Parts::one))]
-fn read_failed(n: u32, cursor: &mut Cursor<'_>) -> Result<ProcSet, TextError>
-    requires { n ≤ MOST_PROCESSES }
-    ensures { Leaves (λ failed. failed) result
-        (one (codes "failed") (entries.failed_of n) cursor.old.number cursor.old.left) cursor.new }
-{
-    let Some(row) = cursor.named(b"failed") else {
-        return Err(fault_at(cursor.number(), Fault::BadRecord));
-    };
-    let failed = match failed_of(n, row) {
-        Ok(failed) => failed,
-        Err(fault) => return Err(fault_at(cursor.number(), fault)),
-    };
-    cursor.advance()?;
-    Ok(failed)
-}
-
-// Its line, in a text of that version.
-#[tactic(auto, unfolding(crate::specs::Parts::one))]
-fn read_line(version: u32, cursor: &mut Cursor<'_>) -> Result<Line, TextError>
-    ensures { Leaves (λ line. line) result
-        (one (codes "line") (entries.line_of version) cursor.old.number cursor.old.left)
-        cursor.new }
-{
-    let Some(row) = cursor.named(b"line") else {
-        return Err(fault_at(cursor.number(), Fault::BadRecord));
-    };
-    let line = match line_of(version, row) {
-        Ok(line) => line,
-        Err(fault) => return Err(fault_at(cursor.number(), fault)),
-    };
-    cursor.advance()?;
-    Ok(line)
-}
-
-// The entries of its certificate, among `n` processes.
-fn read_entries(alloc: Global, n: u32, cursor: &mut Cursor<'_>) -> Result<Certificate, TextError>
-    requires { n ≤ MOST_PROCESSES }
-    ensures { Leaves (λ certificate. certificate.items) result
-        (many (is_named (codes "pass")) (entries.entry_of n) [] cursor.old.number cursor.old.left)
-        cursor.new }
-{
-    let mut certificate = Certificate::new(alloc);
-    'records: while let Some(row) = cursor.named(b"pass") {
-        if let Err(error) = entry_of(&mut certificate, n, row) {
-            return Err(error_at(cursor.number(), error));
-        }
-        cursor.advance()?;
-    }
-    Ok(certificate)
-}
-
-// Its end.
-#[tactic(auto, unfolding(crate::specs::Parts::one))]
-fn read_end(cursor: &mut Cursor<'_>) -> Result<(), TextError>
-    ensures { Leaves (λ done. done) result
-        (one (codes "end") entries.end_of cursor.old.number cursor.old.left) cursor.new }
-{
-    let Some(row) = cursor.named(b"end") else {
-        return Err(fault_at(cursor.number(), Fault::BadRecord));
-    };
-    if row.len() != 1 {
-        return Err(fault_at(cursor.number(), Fault::BadRecord));
-    }
-    cursor.advance()?;
-    Ok(())
-}
-
-/// The claim of that version among `n` processes that the records from a place on spell.
-#[tactic(auto, unfolding(crate::specs::Claims::claim_from))]
-pub(crate) fn read_claim(
-    alloc: Global,
-    version: u32,
-    n: u32,
-    cursor: &mut Cursor<'_>,
-) -> Result<Claim, TextError>
-    requires { n ≤ MOST_PROCESSES }
-    ensures { Yields spec.claim_view result
-        (spec.claim_from version n cursor.old.number cursor.old.left) }
-{
-    let mut marks = read_damage(alloc, n, cursor)?;
-    read_bars(version, n, &mut marks, cursor)?;
-    let failed = read_failed(n, cursor)?;
-    let line = read_line(version, cursor)?;
-    let certificate = read_entries(alloc, n, cursor)?;
-    read_end(cursor)?;
-    if cursor.row().is_some() {
-        return Err(fault_at(cursor.number(), Fault::BadRecord));
-    }
+    let marks = Marks::new(alloc, n)?;
     Ok(Claim {
         marks,
-        failed,
-        line,
-        certificate,
+        failed: ProcSet::empty(),
+        line: Line::new(),
+        certificate: Certificate::new(alloc),
     })
+}
+
+// Takes the end of a claim.
+fn take_end(number: u64, row: &FieldRow) -> Result<ClaimStage, TextError>
+    ensures { (version n : ℕ) (claim : claims.Claim)
+        → Goes result (spec.end_left claim number)
+        (λ stage. spec.claim_left stage version n claim (number + 1)) row.now }
+{
+    if !is_named(row, b"end") {
+        return Err(fault_at(number, Fault::BadRecord));
+    }
+    match end_of(row) {
+        Ok(()) => Ok(ClaimStage::Nothing),
+        Err(fault) => Err(fault_at(number, fault)),
+    }
+}
+
+// Takes an entry of the certificate of a claim, or what may follow the entries.
+fn take_entry(
+    n: u32,
+    claim: &mut Claim,
+    number: u64,
+    row: &FieldRow,
+) -> Result<ClaimStage, TextError>
+    requires { n ≤ MOST_PROCESSES }
+    ensures exact { (version : ℕ)
+        → Goes result (spec.entries_left n (claims.claim_view claim.old) number)
+        (λ stage. spec.claim_left stage version n (claims.claim_view claim.new)
+        (number + 1)) row.now }
+    ensures same { claim.new.marks ≡ claim.old.marks }
+{
+    if !is_named(row, b"pass") {
+        return take_end(number, row);
+    }
+    match entry_of(&mut claim.certificate, n, row) {
+        Ok(()) => Ok(ClaimStage::Entries),
+        Err(error) => Err(error_at(number, error)),
+    }
+}
+
+// Takes the line of a claim, in a text of that version.
+fn take_line(
+    version: u32,
+    claim: &mut Claim,
+    number: u64,
+    row: &FieldRow,
+) -> Result<ClaimStage, TextError>
+    ensures exact { (n : ℕ)
+        → Goes result (spec.line_left version n (claims.claim_view claim.old) number)
+        (λ stage. spec.claim_left stage version n (claims.claim_view claim.new)
+        (number + 1)) row.now }
+    ensures same { claim.new.marks ≡ claim.old.marks }
+{
+    if !is_named(row, b"line") {
+        return Err(fault_at(number, Fault::BadRecord));
+    }
+    match line_of(version, row) {
+        Ok(line) => {
+            claim.line = line;
+            Ok(ClaimStage::Entries)
+        }
+        Err(fault) => Err(fault_at(number, fault)),
+    }
+}
+
+// Takes the processes of a claim that failed.
+fn take_failed(
+    n: u32,
+    claim: &mut Claim,
+    number: u64,
+    row: &FieldRow,
+) -> Result<ClaimStage, TextError>
+    requires { n ≤ MOST_PROCESSES }
+    ensures exact { (version : ℕ)
+        → Goes result (spec.failed_left version n (claims.claim_view claim.old) number)
+        (λ stage. spec.claim_left stage version n (claims.claim_view claim.new)
+        (number + 1)) row.now }
+    ensures same { claim.new.marks ≡ claim.old.marks }
+{
+    if !is_named(row, b"failed") {
+        return Err(fault_at(number, Fault::BadRecord));
+    }
+    match failed_of(n, row) {
+        Ok(failed) => {
+            claim.failed = failed;
+            Ok(ClaimStage::Line)
+        }
+        Err(fault) => Err(fault_at(number, fault)),
+    }
+}
+
+// Whether a record bars a process, which version 1 does not know.
+fn is_bar(version: u32, row: &FieldRow) -> bool
+    ensures { result ≡ claims.is_bar version row.now }
+{
+    version == 2 && is_named(row, b"bar")
+}
+
+// Takes a bar of a claim in a text of that version, or what may follow the bars.
+fn take_bar(
+    version: u32,
+    n: u32,
+    claim: &mut Claim,
+    number: u64,
+    row: &FieldRow,
+) -> Result<ClaimStage, TextError>
+    requires few { n ≤ MOST_PROCESSES }
+    requires whole { length claim.old.marks.damaged ≡ n }
+    ensures exact { Goes result (spec.bars_left version n (claims.claim_view claim.old) number)
+        (λ stage. spec.claim_left stage version n (claims.claim_view claim.new)
+        (number + 1)) row.now }
+    ensures whole { length claim.new.marks.damaged ≡ n }
+{
+    if !is_bar(version, row) {
+        return take_failed(n, claim, number, row);
+    }
+    match bar_of(&mut claim.marks, n, row) {
+        Ok(()) => Ok(ClaimStage::Bars),
+        Err(fault) => Err(fault_at(number, fault)),
+    }
+}
+
+// Takes a mark of damage of a claim, or what may follow the marks.
+fn take_damage(
+    version: u32,
+    n: u32,
+    claim: &mut Claim,
+    number: u64,
+    row: &FieldRow,
+) -> Result<ClaimStage, TextError>
+    requires few { n ≤ MOST_PROCESSES }
+    requires whole { length claim.old.marks.damaged ≡ n }
+    ensures exact { Goes result (spec.damage_left version n (claims.claim_view claim.old) number)
+        (λ stage. spec.claim_left stage version n (claims.claim_view claim.new)
+        (number + 1)) row.now }
+    ensures whole { length claim.new.marks.damaged ≡ n }
+{
+    if !is_named(row, b"damage") {
+        return take_bar(version, n, claim, number, row);
+    }
+    match damage_of(&mut claim.marks, n, row) {
+        Ok(()) => Ok(ClaimStage::Damage),
+        Err(error) => Err(error_at(number, error)),
+    }
+}
+
+/// Takes the next record of a claim among `n` processes in a text of that version, which may be of
+/// that part or of one that may follow it, and answers the same of the record after it.
+pub(crate) fn take_of_claim(
+    version: u32,
+    n: u32,
+    stage: ClaimStage,
+    claim: &mut Claim,
+    number: u64,
+    row: &FieldRow,
+) -> Result<ClaimStage, TextError>
+    requires few { n ≤ MOST_PROCESSES }
+    requires whole { length claim.old.marks.damaged ≡ n }
+    ensures exact { Goes result
+        (spec.claim_left stage version n (claims.claim_view claim.old) number)
+        (λ next. spec.claim_left next version n (claims.claim_view claim.new)
+        (number + 1)) row.now }
+    ensures whole { length claim.new.marks.damaged ≡ n }
+{
+    match stage {
+        ClaimStage::Damage => take_damage(version, n, claim, number, row),
+        ClaimStage::Bars => take_bar(version, n, claim, number, row),
+        ClaimStage::Line => take_line(version, claim, number, row),
+        ClaimStage::Entries => take_entry(n, claim, number, row),
+        ClaimStage::Nothing => Err(fault_at(number, Fault::BadRecord)),
+    }
+}
+
+/// Refuses a claim that ends before its end; the record that is missing has that number.
+pub(crate) fn close_claim(stage: ClaimStage, number: u64) -> Result<(), TextError>
+    ensures { (version n : ℕ) (claim : claims.Claim)
+        → Yields (λ _. claim) result (spec.claim_left stage version n claim number []) }
+{
+    match stage {
+        ClaimStage::Nothing => Ok(()),
+        _ => Err(fault_at(number, Fault::BadRecord)),
+    }
 }

@@ -132,3 +132,10 @@ pub(crate) fn entry_of(
     certificate.push(entry)?;
     Ok(())
 }
+
+/// Refuses a record `end` with further fields.
+pub(crate) fn end_of(row: &FieldRow) -> Result<(), Fault>
+    ensures { result ≡ spec.end_of row.now }
+{
+    want(row.len() == 1, Fault::BadRecord)
+}

@@ -1,31 +1,33 @@
-//! Histories, read record by record.
+//! Histories, taken record by record.
 
-ghost use Rattle.std.specs.Prelude.{◌≡◌, ◌≤◌, ◌<◌, Ok, Err, codes, length, replicate, IfErr, IfOk};
+ghost use Rattle.std.specs.Prelude.{◌≡◌, ◌≤◌, ◌<◌, ◌-◌, ◌⊎◌, true, false, [], ◌∷◌, List};
+ghost use Rattle.std.specs.Prelude.{Ok, Err, codes, length, replicate, IfErr, IfOk, MatchOption};
 ghost use Rattle.std.specs.Prelude.{OnOk, nat_lt};
 ghost use Rattle.line_names.specs.declared.limits.TheConstants.{MOST_PROCESSES};
 ghost use Rattle.line_fields.specs.declared.faults.Fault.TheVariants as faults;
 ghost use Rattle.line_fields.specs.Fields as fields;
-ghost use Rattle.line_fields.specs.Records.{field};
+ghost use Rattle.line_fields.specs.Records.{Record, field};
 ghost use Rattle.line_tape.specs.History.{fresh, tape_at};
 ghost use Rattle.line_tape.specs.Views.{room_at};
 ghost use Rattle.line_claims.specs.Events.{is_event, kind_text};
 ghost use Rattle.line_claims.specs.Histories as spec;
-ghost use Rattle.line_claims.specs.Parts.{Leaves, many, one};
-ghost use Rattle.line_claims.specs.Reads.{Steps};
+ghost use Rattle.line_claims.specs.Histories.{tapes_from};
+ghost use Rattle.line_claims.specs.Reads.{Steps, Yields};
+ghost use Rattle.line_claims.specs.Stages.{Goes, tapes_left, with_tape};
 
-use crate::cursors::Cursor;
-use crate::events::{Kind, check_event_of, mark_event_of, recv_event_of, send_event_of};
+use crate::events::{Kind, check_event_of, kind_of, mark_event_of, recv_event_of, send_event_of};
 use crate::faults::{TextError, error_at, fault_at};
 use crate::numbers::{incarnation, plain, want};
+use crate::parts::is_named;
 use crate::versions::{LAST_VERSION, most_in};
 use line_fields::{Fault, FieldRow, ReadError};
 use line_names::ProcId;
 use line_tape::{CountError, Event, History, MOST_EVENTS};
 use std::alloc::Global;
 
-/// The version and the number of processes that `history,V,N` announces.
+// The version and the number of processes that `history,V,N` announces.
 #[tactic(auto, unfolding(crate::specs::Histories::head_of, line_fields::specs::Shapes::two))]
-pub(crate) fn head_of(row: &FieldRow) -> Result<(u32, u32), Fault>
+fn head_of(row: &FieldRow) -> Result<(u32, u32), Fault>
     ensures exact { result ≡ spec.head_of row.now }
     ensures within { IfOk result (λ head. (1 ≤ head.1) × (head.1 ≤ MOST_PROCESSES)) }
 {
@@ -36,6 +38,21 @@ pub(crate) fn head_of(row: &FieldRow) -> Result<(u32, u32), Fault>
     want(known, Fault::BadVersion)?;
     want(1 <= n && n <= most_in(version), Fault::BadCount)?;
     Ok((version, n))
+}
+
+/// The version and the number of processes that the first record of a text announces.
+pub(crate) fn head_at(row: &FieldRow) -> Result<(u32, u32), TextError>
+    ensures exact { (rest : List Record)
+        → Yields (λ head. head) result (spec.head_in (row.now ∷ rest)) }
+    ensures within { IfOk result (λ head. (1 ≤ head.1) × (head.1 ≤ MOST_PROCESSES)) }
+{
+    if !is_named(row, b"history") {
+        return Err(fault_at(1, Fault::NoWorld));
+    }
+    match head_of(row) {
+        Ok(head) => Ok(head),
+        Err(fault) => Err(fault_at(1, fault)),
+    }
 }
 
 // Begins the tape of a process, by `tape,P,INC`.
@@ -167,89 +184,132 @@ fn event_at(
     }
 }
 
-// The record with which the tape of a process begins.
-#[tactic(auto, unfolding(crate::specs::Parts::one))]
-fn read_head(history: &mut History, at: ProcId, cursor: &mut Cursor<'_>) -> Result<(), TextError>
-    requires { at < length history.old.processes }
-    ensures exact { Leaves (λ done. history.new.processes) result
-        (one (codes "tape") (spec.tape_of at history.old.processes) cursor.old.number
-        cursor.old.left)
-        cursor.new }
-    ensures same { length history.new.processes ≡ length history.old.processes }
+// The kind of event that a record spells, where a tape was begun that it may be of.
+fn event_kind(begun: u32, row: &FieldRow) -> Option<Kind>
+    ensures { MatchOption result ((begun ≡ 0) ⊎ (is_event row.now ≡ false))
+        (λ kind. (0 < begun) × (is_event row.now ≡ true) × (field row.now 0 ≡ kind_text kind)) }
 {
-    let Some(row) = cursor.named(b"tape") else {
-        return Err(fault_at(cursor.number(), Fault::BadRecord));
-    };
-    if let Err(fault) = tape_of(history, at, row) {
-        return Err(fault_at(cursor.number(), fault));
+    if begun == 0 {
+        return None;
     }
-    cursor.advance()?;
-    Ok(())
+    kind_of(row)
 }
 
-// The events of a tape. The bytes of messages take the place of those of a list.
-fn read_events(
+// Takes an event of the tape that was begun last.
+fn take_event(
     alloc: Global,
     history: &mut History,
-    at: ProcId,
-    cursor: &mut Cursor<'_>,
+    begun: u32,
+    kind: Kind,
+    number: u64,
+    row: &FieldRow,
     bytes: &mut Vec<u8>,
-) -> Result<(), TextError>
-    requires { at < length history.old.processes }
-    ensures exact { Leaves (λ done. history.new.processes) result
-        (many is_event (spec.event_at at) history.old.processes cursor.old.number cursor.old.left)
-        cursor.new }
+) -> Result<bool, TextError>
+    requires some { 0 < begun }
+    requires there { begun ≤ length history.old.processes }
+    requires event { is_event row.now ≡ true }
+    requires kind { field row.now 0 ≡ kind_text kind }
+    ensures exact { Goes result
+        (tapes_left (length history.old.processes) begun history.old.processes number)
+        (λ more. with_tape more (length history.old.processes) begun history.new.processes number
+        row.now)
+        row.now }
     ensures same { length history.new.processes ≡ length history.old.processes }
 {
-    'records: while let Some((kind, row)) = cursor.event() {
-        if let Err(error) = event_at(alloc, history, at, kind, row, bytes) {
-            return Err(error_at(cursor.number(), error));
+    let Ok(at) = ProcId::try_new(begun - 1, history.n()) else {
+        unreachable!()
+    };
+    match event_at(alloc, history, at, kind, row, bytes) {
+        Ok(()) => Ok(true),
+        Err(error) => Err(error_at(number, error)),
+    }
+}
+
+// Takes the record with which the next tape begins, where another one follows those that were
+// begun.
+fn take_next_tape(
+    history: &mut History,
+    begun: &mut u32,
+    number: u64,
+    row: &FieldRow,
+) -> Result<bool, TextError>
+    requires { begun.old ≤ length history.old.processes }
+    ensures exact { Goes result
+        (tapes_from begun.old (length history.old.processes - begun.old) history.old.processes
+        number)
+        (λ more. with_tape more (length history.old.processes) begun.new history.new.processes
+        number row.now)
+        row.now }
+    ensures same { length history.new.processes ≡ length history.old.processes }
+    ensures there { begun.new ≤ length history.old.processes }
+{
+    let n = history.n();
+    if *begun == n {
+        return Ok(false);
+    }
+    let Ok(at) = ProcId::try_new(*begun, n) else {
+        unreachable!()
+    };
+    if !is_named(row, b"tape") {
+        return Err(fault_at(number, Fault::BadRecord));
+    }
+    match tape_of(history, at, row) {
+        Ok(()) => {
+            *begun += 1;
+            Ok(true)
         }
-        cursor.advance()?;
+        Err(fault) => Err(fault_at(number, fault)),
+    }
+}
+
+/// Takes the next record of the tapes of a history, so many of which were begun, and answers false
+/// where it stands after the last one. The bytes of messages take the place of those of a list.
+pub(crate) fn take_of_tapes(
+    alloc: Global,
+    history: &mut History,
+    begun: &mut u32,
+    number: u64,
+    row: &FieldRow,
+    bytes: &mut Vec<u8>,
+) -> Result<bool, TextError>
+    requires { begun.old ≤ length history.old.processes }
+    ensures exact { Goes result
+        (tapes_left (length history.old.processes) begun.old history.old.processes number)
+        (λ more. with_tape more (length history.old.processes) begun.new history.new.processes
+        number row.now)
+        row.now }
+    ensures same { length history.new.processes ≡ length history.old.processes }
+    ensures there { begun.new ≤ length history.old.processes }
+{
+    match event_kind(*begun, row) {
+        Some(kind) => take_event(alloc, history, *begun, kind, number, row, bytes),
+        None => take_next_tape(history, begun, number, row),
+    }
+}
+
+/// Refuses a history that ends before its last tape; the record that is missing has that number.
+pub(crate) fn close_tapes(history: &History, begun: u32, number: u64) -> Result<(), TextError>
+    requires { begun ≤ length history.now.processes }
+    ensures { Yields (λ _. record { value = history.now.processes; number = number; left = [] })
+        result
+        (tapes_left (length history.now.processes) begun history.now.processes number []) }
+{
+    if begun < history.n() {
+        return Err(fault_at(number, Fault::BadRecord));
     }
     Ok(())
 }
 
-// The tape of a process, with its events.
-#[tactic(auto, unfolding(crate::specs::Histories::tape_from))]
-fn read_tape(
-    alloc: Global,
-    history: &mut History,
-    at: ProcId,
-    cursor: &mut Cursor<'_>,
-    bytes: &mut Vec<u8>,
-) -> Result<(), TextError>
-    requires { at < length history.old.processes }
-    ensures exact { Leaves (λ done. history.new.processes) result
-        (spec.tape_from at history.old.processes cursor.old.number cursor.old.left) cursor.new }
-    ensures same { length history.new.processes ≡ length history.old.processes }
+/// The history of `n` processes of which nothing was read yet.
+pub(crate) fn begin_history(alloc: Global, n: u32) -> Result<History, TextError>
+    requires { (1 ≤ n) × (n ≤ MOST_PROCESSES) }
+    ensures exact { IfOk result (λ history. history.processes ≡ replicate n fresh) }
+    ensures long { IfOk result (λ history. length history.processes ≡ n) }
+    ensures err { IfErr result (λ error. error ≡ TextError.OutOfMemory) }
 {
-    read_head(history, at, cursor)?;
-    read_events(alloc, history, at, cursor, bytes)
-}
-
-/// The tapes of `n` processes.
-pub(crate) fn read_tapes(
-    alloc: Global,
-    n: u32,
-    cursor: &mut Cursor<'_>,
-) -> Result<History, TextError>
-    requires some { 1 ≤ n }
-    requires few { n ≤ MOST_PROCESSES }
-    ensures { Leaves (λ history. history.processes) result
-        (spec.tapes_from 0 n (replicate n fresh) cursor.old.number cursor.old.left) cursor.new }
-{
-    let mut history = match History::new(alloc, n) {
-        Ok(history) => history,
-        Err(CountError::OutOfMemory) => return Err(TextError::OutOfMemory),
+    match History::new(alloc, n) {
+        Ok(history) => Ok(history),
+        Err(CountError::OutOfMemory) => Err(TextError::OutOfMemory),
         Err(CountError::BadCount) => unreachable!(),
-    };
-    let mut bytes = Vec::new(alloc);
-    for p in 0..n {
-        let Ok(at) = ProcId::try_new(p, n) else {
-            unreachable!()
-        };
-        read_tape(alloc, &mut history, at, cursor, &mut bytes)?;
     }
-    Ok(history)
 }

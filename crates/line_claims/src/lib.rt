@@ -6,7 +6,6 @@
 #![tactic(auto)]
 
 mod claims;
-mod cursors;
 mod entries;
 mod events;
 mod faults;
@@ -16,6 +15,8 @@ mod kept;
 mod laws;
 mod marks;
 mod numbers;
+mod parts;
+mod readers;
 mod spellings;
 mod texts;
 mod versions;
@@ -28,6 +29,7 @@ pub use judgements::{put_check_text, put_pass};
 pub use kept::{write_check_text, write_history};
 pub use laws::{claims_are_read_again, histories_are_read_again, version_2_reads_version_1};
 pub use numbers::{plain, want};
+pub use readers::CheckReader;
 pub use spellings::{choice_field, number_field, numbers_of};
 pub use texts::{CheckText, read_certificate, read_check_text, read_history};
 pub use versions::{LAST_VERSION, MOST_IN_FIRST_VERSION, earliest_version, most_in};

@@ -1,19 +1,19 @@
 //! Texts: a history, a claim, or both.
 
-ghost use Rattle.std.specs.Prelude.{◌≡◌, ◌≢◌, ◌≤◌, ◌⊎◌, [], IfErr, IfOk};
+ghost use Rattle.std.specs.Prelude.{◌≡◌, ◌≤◌, ◌<◌, ◌+◌, ◌^◌, ◌⊎◌, drop, length, IfErr, IfOk, OnOk};
 ghost use Rattle.line_names.specs.declared.limits.TheConstants.{MOST_PROCESSES};
 ghost use Rattle.line_claims.specs.Claims as claims;
-ghost use Rattle.line_claims.specs.Histories.{front_of, head_in};
-ghost use Rattle.line_claims.specs.Parts.{Leaves};
+ghost use Rattle.line_claims.specs.Histories.{head_in};
 ghost use Rattle.line_claims.specs.Reads.{IsOfText, Reads, Yields, no_memory};
+ghost use Rattle.line_claims.specs.Stages.{claim_left, tapes_left, whole_front};
 ghost use Rattle.line_claims.specs.Texts as spec;
 ghost use Rattle.line_claims.specs.Versions.{IsVersion};
 
-use crate::claims::{Claim, read_claim};
-use crate::cursors::Cursor;
+use crate::claims::{Claim, ClaimStage, begin_claim, close_claim, take_of_claim};
 use crate::faults::{TextError, TextFault, fault_at, told};
-use crate::histories::{head_of, read_tapes};
-use line_fields::{Fault, is_plain};
+use crate::histories::{begin_history, close_tapes, head_at, take_of_tapes};
+use crate::readers::CheckReader;
+use line_fields::{Fault, FieldRow, RecordReader, is_plain};
 use line_names::MOST_PROCESSES;
 use line_tape::History;
 use std::alloc::Global;
@@ -28,56 +28,85 @@ pub struct CheckText {
 }
 
 // The records of a text.
-fn open(alloc: Global, text: &[u8]) -> Result<Cursor<'_>, TextError>
-    ensures records { Yields (λ cursor. cursor.left) result (spec.records_in text.entry.now) }
-    ensures first { IfOk result (λ cursor. cursor.number ≡ 1) }
+fn open(alloc: Global, text: &[u8]) -> Result<RecordReader<'_>, TextError>
+    ensures records { Yields (λ records. records) result (spec.records_in text.entry.now) }
+    ensures few { IfOk result (λ records. length records + 2 < 2 ^ 64) }
 {
     if !is_plain(text) {
         return Err(fault_at(0, Fault::BadRecord));
     }
-    let cursor = Cursor::open(alloc, text)?;
-    Ok(cursor)
+    Ok(RecordReader::open(alloc, text))
 }
 
-// The version and the number of processes that the first record announces.
-fn read_first(cursor: &Cursor<'_>) -> Result<(u32, u32), TextError>
-    ensures exact { Yields (λ head. head) result (head_in cursor.now.left) }
-    ensures within { IfOk result
-        (λ head. (1 ≤ head.1) × (head.1 ≤ MOST_PROCESSES) × (cursor.now.left ≢ [])) }
+// Takes the first record of a text, which announces the version and the number of processes.
+fn take_head(records: &mut RecordReader<'_>, row: &mut FieldRow) -> Result<(u32, u32), TextError>
+    ensures exact { Yields (λ head. head) result (head_in records.old) }
+    ensures within { IfOk result (λ head. (1 ≤ head.1) × (head.1 ≤ MOST_PROCESSES)) }
+    ensures rest { OnOk result (records.new ≡ drop 1 records.old) }
 {
-    let Some(row) = cursor.named(b"history") else {
+    if !records.next_row(row)? {
         return Err(fault_at(1, Fault::NoWorld));
-    };
-    match head_of(row) {
-        Ok(head) => Ok(head),
-        Err(fault) => Err(fault_at(1, fault)),
     }
+    head_at(row)
 }
 
-// The history of `n` processes that a text begins with.
-#[tactic(auto, unfolding(crate::specs::Histories::front_of))]
-fn read_front(alloc: Global, n: u32, cursor: &mut Cursor<'_>) -> Result<History, TextError>
-    requires first { cursor.old.number ≡ 1 }
-    requires there { cursor.old.left ≢ [] }
-    requires some { 1 ≤ n }
-    requires few { n ≤ MOST_PROCESSES }
-    ensures { Leaves (λ history. history.processes) result (front_of n cursor.old.left) cursor.new }
+// Takes the tapes of a history, which all records that are left are of.
+fn take_tapes(
+    alloc: Global,
+    records: &mut RecordReader<'_>,
+    row: &mut FieldRow,
+    history: &mut History,
+) -> Result<(), TextError>
+    requires { length records.old + 2 < 2 ^ 64 }
+    ensures { Yields (λ _. history.new.processes) result
+        (whole_front
+        (tapes_left (length history.old.processes) 0 history.old.processes 2 records.old)) }
 {
-    cursor.advance()?;
-    read_tapes(alloc, n, cursor)
+    let mut bytes = Vec::new(alloc);
+    let mut begun = 0u32;
+    let mut number = 2u64;
+    'records: while records.next_row(row)? {
+        if !take_of_tapes(alloc, history, &mut begun, number, row, &mut bytes)? {
+            return Err(fault_at(number, Fault::BadRecord));
+        }
+        number += 1;
+    }
+    close_tapes(history, begun, number)
 }
 
 #[tactic(auto, unfolding(crate::specs::Texts::history_of))]
 fn history_in(alloc: Global, text: &[u8]) -> Result<History, TextError>
     ensures { Yields (λ history. history.processes) result (spec.history_of_text text.now) }
 {
-    let mut cursor = open(alloc, text)?;
-    let (_, n) = read_first(&cursor)?;
-    let history = read_front(alloc, n, &mut cursor)?;
-    if cursor.row().is_some() {
-        return Err(fault_at(cursor.number(), Fault::BadRecord));
-    }
+    let mut records = open(alloc, text)?;
+    let mut row = FieldRow::new(alloc);
+    let (_, n) = take_head(&mut records, &mut row)?;
+    let mut history = begin_history(alloc, n)?;
+    take_tapes(alloc, &mut records, &mut row, &mut history)?;
     Ok(history)
+}
+
+// Takes the claim that all records that are left are of.
+fn take_claim(
+    version: u32,
+    n: u32,
+    records: &mut RecordReader<'_>,
+    row: &mut FieldRow,
+    claim: &mut Claim,
+) -> Result<(), TextError>
+    requires few { n ≤ MOST_PROCESSES }
+    requires room { length records.old + 2 < 2 ^ 64 }
+    requires whole { length claim.old.marks.damaged ≡ n }
+    ensures { Yields (λ _. claims.claim_view claim.new) result
+        (claim_left ClaimStage.Damage version n (claims.claim_view claim.old) 1 records.old) }
+{
+    let mut stage = ClaimStage::Damage;
+    let mut number = 1u64;
+    'records: while records.next_row(row)? {
+        stage = take_of_claim(version, n, stage, claim, number, row)?;
+        number += 1;
+    }
+    close_claim(stage, number)
 }
 
 #[tactic(auto, unfolding(crate::specs::Texts::certificate_of))]
@@ -85,19 +114,11 @@ fn certificate_in(alloc: Global, text: &[u8], n: u32, version: u32) -> Result<Cl
     requires { n ≤ MOST_PROCESSES }
     ensures { Yields claims.claim_view result (spec.certificate_of_text version n text.now) }
 {
-    let mut cursor = open(alloc, text)?;
-    read_claim(alloc, version, n, &mut cursor)
-}
-
-#[tactic(auto, unfolding(crate::specs::Texts::check_text_of))]
-fn check_in(alloc: Global, text: &[u8]) -> Result<CheckText, TextError>
-    ensures { Yields spec.check_view result (spec.check_of_text text.now) }
-{
-    let mut cursor = open(alloc, text)?;
-    let (version, n) = read_first(&cursor)?;
-    let history = read_front(alloc, n, &mut cursor)?;
-    let claim = read_claim(alloc, version, n, &mut cursor)?;
-    Ok(CheckText { history, claim })
+    let mut records = open(alloc, text)?;
+    let mut row = FieldRow::new(alloc);
+    let mut claim = begin_claim(alloc, n)?;
+    take_claim(version, n, &mut records, &mut row, &mut claim)?;
+    Ok(claim)
 }
 
 /// The history that a text spells.
@@ -157,8 +178,9 @@ pub fn read_check_text(alloc: Global, text: &[u8]) -> Result<CheckText, TextFaul
     ensures exact { Reads spec.check_view result (spec.check_of_text text.now) }
     ensures codes { IfErr result (λ fault. (fault ≡ no_memory) ⊎ IsOfText fault) }
 {
-    match check_in(alloc, text) {
-        Ok(check) => Ok(check),
-        Err(error) => Err(told(error)),
+    let mut reader = CheckReader::new(alloc);
+    match reader.take(text) {
+        Ok(()) => reader.into_check(),
+        Err(_) => Err(told(TextError::OutOfMemory)),
     }
 }

@@ -1,0 +1,84 @@
+-- What a check text still spells, the first records of which were taken.
+use Rattle.std.specs.Prelude.{◌≡◌, ◌≤◌, ◌⊎◌, ℕ, ◌++◌, List, [], ◌∷◌, length, Option, Some, None}
+use Rattle.std.specs.Prelude.{Result, Ok, Err}
+use Rattle.line_fields.specs.Fields.{◌>>=◌}
+use Rattle.line_fields.specs.Records.{Record}
+use Rattle.line_claims.specs.declared.claims.ClaimStage.{ClaimStage}
+use Rattle.line_claims.specs.declared.faults.TextFault.{TextFault}
+use Rattle.line_claims.specs.declared.readers.BegunCheck as made
+use Rattle.line_claims.specs.Stages.{claim_left, damage_left, tapes_left}
+use Rattle.line_claims.specs.Texts.{Check, check_text_of, check_view, records_in}
+
+-- the check text of n processes that these records end, from the i-th on, so many tapes of which
+-- were begun: its claim from that part on, or its tapes and the claim
+abbrev pub stage_left : Option ClaimStage → ℕ → ℕ → ℕ → Check → ℕ → List Record
+    → Result Check TextFault
+stage_left None version n begun check i records = do
+  front ← tapes_left n begun check.history i records
+  claim ← damage_left version n check.claim front.number front.left
+  Ok (record { history = front.value; claim = claim })
+stage_left (Some stage) version n begun check i records = do
+  claim ← claim_left stage version n check.claim i records
+  Ok (record { history = check.history; claim = claim })
+
+-- what was begun, as lists
+pub record Begun : Type 0 where
+  pub version : ℕ
+  pub begun : ℕ
+  pub stage : Option ClaimStage
+  pub check : Check
+
+abbrev pub begun_view : made.BegunCheck → Begun
+begun_view begun =
+    record {
+      version = begun.version;
+      begun = begun.begun;
+      stage = begun.stage;
+      check = check_view begun.text;
+    }
+
+-- the check text that was begun, and these records end; where nothing was begun, they are all of it
+abbrev pub place_left : Option Begun → ℕ → List Record → Result Check TextFault
+place_left None i records = check_text_of records
+place_left (Some begun) i records =
+    stage_left begun.stage begun.version (length begun.check.history) begun.begun begun.check i
+    records
+
+abbrev pub begun_left : made.BegunCheck → ℕ → List Record → Result Check TextFault
+begun_left begun i records = place_left (Some (begun_view begun)) i records
+
+-- what was begun, if anything was
+abbrev pub begun_if_any : Option made.BegunCheck → Option Begun
+begun_if_any None = None
+begun_if_any (Some begun) = Some (begun_view begun)
+
+abbrev pub left_of : Option made.BegunCheck → ℕ → List Record → Result Check TextFault
+left_of begun i records = place_left (begun_if_any begun) i records
+
+-- no more tapes were begun than there are, and there are marks of each process
+pub record IsBegun (begun : made.BegunCheck) : Type 0 where
+  pub few : begun.begun ≤ length begun.text.history.processes
+  pub whole : length begun.text.claim.marks.damaged ≡ length begun.text.history.processes
+
+-- what is read, unless there was a fault before
+abbrev pub unless_fault : Option TextFault → Result Check TextFault → Result Check TextFault
+unless_fault None read = read
+unless_fault (Some fault) read = Err fault
+
+-- what was read so far: what was begun, the number of the next record, and the fault, if there was
+-- one
+pub record CheckPlace : Type 0 where
+  pub begun : Option Begun
+  pub number : ℕ
+  pub fault : Option TextFault
+
+-- what a text spells that ends what was read so far
+unfoldable pub text_left : CheckPlace → List ℕ → Result Check TextFault
+text_left place text =
+    records_in text >>= λ records. unless_fault place.fault
+    (place_left place.begun place.number records)
+
+-- a text ends with a line feed, or is empty, or nothing stands after it
+abbrev pub EndsBefore : List ℕ → List ℕ → Type 0
+EndsBefore text rest =
+    (rest ≡ []) ⊎ (text ≡ []) ⊎ ((front : List ℕ) × (text ≡ front ++ 10 ∷ []))

@@ -1,0 +1,104 @@
+-- What records still spell of a claim or a history, the first parts of which were taken.
+use Rattle.std.specs.Prelude.{◌≡◌, ℕ, zero, suc, ◌+◌, ◌-◌, List, [], ◌∷◌, Bool, true, false}
+use Rattle.std.specs.Prelude.{Result, Ok, Err, codes}
+use Rattle.line_fields.specs.declared.faults.Fault.TheVariants as faults
+use Rattle.line_fields.specs.Fields.{◌>>=◌, want}
+use Rattle.line_fields.specs.Records.{Record}
+use Rattle.line_names.specs.Sets.{nobody}
+use Rattle.line_tape.specs.History.{Process}
+use Rattle.line_tape.specs.Views.{no_marks}
+use Rattle.line_claims.specs.declared.claims.ClaimStage.{ClaimStage}
+use Rattle.line_claims.specs.declared.claims.ClaimStage.TheVariants as stages
+use Rattle.line_claims.specs.declared.faults.TextError.{TextError}
+use Rattle.line_claims.specs.declared.faults.TextFault.{TextFault}
+use Rattle.line_claims.specs.Claims.{Claim, is_bar, is_none}
+use Rattle.line_claims.specs.Entries.{bar_of, damage_of, end_of, entry_of, failed_of, line_of}
+use Rattle.line_claims.specs.Events.{is_event}
+use Rattle.line_claims.specs.Histories.{event_at, tapes_from}
+use Rattle.line_claims.specs.Parts.{Part, is_named, many, one}
+use Rattle.line_claims.specs.Reads.{FailsText, at_record}
+
+-- a claim of which nothing was taken
+abbrev pub no_claim : ℕ → Claim
+no_claim n = record { marks = no_marks n; failed = nobody; line = []; certificate = [] }
+
+-- the claim that these records end, from the i-th on, of which all was taken
+abbrev pub nothing_left : Claim → ℕ → List Record → Result Claim TextFault
+nothing_left claim i records =
+    at_record i (want (is_none records) faults.BadRecord) >>= λ last. Ok claim
+
+-- that they end with its end
+abbrev pub end_left : Claim → ℕ → List Record → Result Claim TextFault
+end_left claim i records = do
+  end ← one (codes "end") end_of i records
+  nothing_left claim end.number end.left
+
+-- that they end with more entries
+abbrev pub entries_left : ℕ → Claim → ℕ → List Record → Result Claim TextFault
+entries_left n claim i records = do
+  entries ← many (is_named (codes "pass")) (entry_of n) claim.certificate i records
+  end_left (record claim { certificate = entries.value }) entries.number entries.left
+
+-- that they end with a line
+abbrev pub line_left : ℕ → ℕ → Claim → ℕ → List Record → Result Claim TextFault
+line_left version n claim i records = do
+  line ← one (codes "line") (line_of version) i records
+  entries_left n (record claim { line = line.value }) line.number line.left
+
+-- that they end with the processes that failed
+abbrev pub failed_left : ℕ → ℕ → Claim → ℕ → List Record → Result Claim TextFault
+failed_left version n claim i records = do
+  failed ← one (codes "failed") (failed_of n) i records
+  line_left version n (record claim { failed = failed.value }) failed.number failed.left
+
+-- that they end with more bars
+abbrev pub bars_left : ℕ → ℕ → Claim → ℕ → List Record → Result Claim TextFault
+bars_left version n claim i records = do
+  marks ← many (is_bar version) (bar_of n) claim.marks i records
+  failed_left version n (record claim { marks = marks.value }) marks.number marks.left
+
+-- that they end with more marks of damage
+abbrev pub damage_left : ℕ → ℕ → Claim → ℕ → List Record → Result Claim TextFault
+damage_left version n claim i records = do
+  damage ← many (is_named (codes "damage")) (damage_of n) claim.marks i records
+  bars_left version n (record claim { marks = damage.value }) damage.number damage.left
+
+-- that they end from that part on
+abbrev pub claim_left : ClaimStage → ℕ → ℕ → Claim → ℕ → List Record → Result Claim TextFault
+claim_left stages.Damage version n claim i records = damage_left version n claim i records
+claim_left stages.Bars version n claim i records = bars_left version n claim i records
+claim_left stages.Line version n claim i records = line_left version n claim i records
+claim_left stages.Entries version n claim i records = entries_left n claim i records
+claim_left stages.Nothing version n claim i records = nothing_left claim i records
+
+-- the tape that was begun last, with the events that these records go on with
+abbrev pub open_tape : ℕ → List Process → ℕ → List Record → Result (Part (List Process)) TextFault
+open_tape zero history i records = Ok (record { value = history; number = i; left = records })
+open_tape (suc p) history i records = many is_event (event_at p) history i records
+
+-- the history of n processes that these records go on with, so many tapes of which were begun
+abbrev pub tapes_left : ℕ → ℕ → List Process → ℕ → List Record
+    → Result (Part (List Process)) TextFault
+tapes_left n begun history i records = do
+  tape ← open_tape begun history i records
+  tapes_from begun (n - begun) tape.value tape.number tape.left
+
+-- a record was of the tapes, or the history is whole and ends before it
+abbrev pub with_tape : Bool → ℕ → ℕ → List Process → ℕ → Record → List Record
+    → Result (Part (List Process)) TextFault
+with_tape true n begun history i r rest = tapes_left n begun history (i + 1) rest
+with_tape false n begun history i r rest =
+    Ok (record { value = history; number = i; left = r ∷ rest })
+
+-- a history that ends here
+abbrev pub whole_front : Result (Part (List Process)) TextFault → Result (List Process) TextFault
+whole_front read = do
+  front ← read
+  ended ← at_record front.number (want (is_none front.left) faults.BadRecord)
+  Ok front.value
+
+-- what was to be read of a record and any after it is what is to be read of these, or fails
+abbrev pub Goes : {A B : Type 0} → Result B TextError → (List Record → Result A TextFault)
+    → (B → List Record → Result A TextFault) → Record → Type 0
+Goes (Ok x) old new r = (rest : List Record) → old (r ∷ rest) ≡ new x rest
+Goes (Err e) old new r = (rest : List Record) → FailsText e (old (r ∷ rest))

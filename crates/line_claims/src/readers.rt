@@ -1,0 +1,302 @@
+//! Check texts that come in pieces of whole lines.
+
+ghost use Rattle.std.specs.Prelude.{◌≡◌, ◌≤◌, ◌<◌, ◌+◌, ◌^◌, ◌++◌, ◌≢◌, ℕ, List, length};
+ghost use Rattle.std.specs.Prelude.{IfErr, IfOk, IfSome, IsTrue, OnOk, [], None, Some};
+ghost use Rattle.line_fields.specs.Bytes.{is_input_text};
+ghost use Rattle.line_fields.specs.Records.{Record, records_of_text};
+ghost use Rattle.line_claims.specs.Readings.{IsBegun};
+ghost use Rattle.line_claims.specs.Readings as spec;
+ghost use Rattle.line_claims.specs.Reads.{FailsText, Reads, Yields};
+ghost use Rattle.line_claims.specs.Stages.{Goes};
+ghost use Rattle.line_claims.specs.Texts.{check_of_text, check_text_of, check_view};
+
+use crate::claims::{ClaimStage, begin_claim, close_claim, take_of_claim};
+use crate::faults::{TextError, TextFault, told};
+use crate::histories::{begin_history, close_tapes, head_at, take_of_tapes};
+use crate::texts::CheckText;
+use line_fields::{Fault, FieldRow, RecordReader, is_plain};
+use std::alloc::{AllocError, Global};
+use std::marker::Model;
+
+// A check text, the first records of which were taken.
+#[derive(Drop)]
+struct BegunCheck {
+    version: u32,
+    // How many of its tapes were begun.
+    begun: u32,
+    // Which part of the claim the next record may be of; none while the tapes go on.
+    stage: Option<ClaimStage>,
+    text: CheckText,
+}
+
+// Takes the first record of a check text.
+fn begin_check(alloc: Global, row: &FieldRow) -> Result<BegunCheck, TextError>
+    ensures exact { Goes result check_text_of (λ begun. spec.begun_left begun 2) row.now }
+    ensures kept { IfOk result IsBegun }
+{
+    let (version, n) = head_at(row)?;
+    let history = begin_history(alloc, n)?;
+    let claim = begin_claim(alloc, n)?;
+    Ok(BegunCheck {
+        version,
+        begun: 0,
+        stage: None,
+        text: CheckText { history, claim },
+    })
+}
+
+// Takes a record of the claim of a check text, which may be of that part or of one that may follow
+// it.
+fn take_in_claim(
+    begun: &mut BegunCheck,
+    stage: ClaimStage,
+    number: u64,
+    row: &FieldRow,
+) -> Result<(), TextError>
+    requires { IsBegun begun.old }
+    ensures exact { Goes result
+        (spec.stage_left (Some stage) begun.old.version
+        (length begun.old.text.history.processes) begun.old.begun (check_view begun.old.text)
+        number)
+        (λ _. spec.begun_left begun.new (number + 1)) row.now }
+    ensures kept { IsBegun begun.new }
+{
+    let n = begun.text.history.n();
+    let next = take_of_claim(begun.version, n, stage, &mut begun.text.claim, number, row)?;
+    begun.stage = Some(next);
+    Ok(())
+}
+
+// Takes a record of the tapes of a check text, or the first one of its claim.
+fn take_in_tapes(
+    alloc: Global,
+    begun: &mut BegunCheck,
+    number: u64,
+    row: &FieldRow,
+    bytes: &mut Vec<u8>,
+) -> Result<(), TextError>
+    requires kept { IsBegun begun.old }
+    requires tapes { begun.old.stage ≡ None }
+    ensures exact { Goes result (spec.begun_left begun.old number)
+        (λ _. spec.begun_left begun.new (number + 1)) row.now }
+    ensures kept { IsBegun begun.new }
+{
+    let history = &mut begun.text.history;
+    if take_of_tapes(alloc, history, &mut begun.begun, number, row, bytes)? {
+        return Ok(());
+    }
+    take_in_claim(begun, ClaimStage::Damage, number, row)
+}
+
+// Takes a record of a check text after the first.
+fn take_of_check(
+    alloc: Global,
+    begun: &mut BegunCheck,
+    number: u64,
+    row: &FieldRow,
+    bytes: &mut Vec<u8>,
+) -> Result<(), TextError>
+    requires { IsBegun begun.old }
+    ensures exact { Goes result (spec.begun_left begun.old number)
+        (λ _. spec.begun_left begun.new (number + 1)) row.now }
+    ensures kept { IsBegun begun.new }
+{
+    match begun.stage {
+        None => take_in_tapes(alloc, begun, number, row, bytes),
+        Some(stage) => take_in_claim(begun, stage, number, row),
+    }
+}
+
+// Takes a record of a check text.
+fn take_row(
+    alloc: Global,
+    begun: &mut Option<BegunCheck>,
+    number: u64,
+    row: &FieldRow,
+    bytes: &mut Vec<u8>,
+) -> Result<(), TextError>
+    requires kept { IfSome begun.old IsBegun }
+    requires first { begun.old ≡ None → number ≡ 1 }
+    ensures exact { Goes result (spec.left_of begun.old number)
+        (λ _. spec.left_of begun.new (number + 1)) row.now }
+    ensures kept { IfSome begun.new IsBegun }
+    ensures some { OnOk result (begun.new ≢ None) }
+    ensures none { begun.new ≡ None → begun.old ≡ None }
+{
+    match begun {
+        Some(begun) => take_of_check(alloc, begun, number, row, bytes),
+        None => {
+            *begun = Some(begin_check(alloc, row)?);
+            Ok(())
+        }
+    }
+}
+
+// Takes the records of a piece after those that were taken.
+fn take_records(
+    alloc: Global,
+    piece: &[u8],
+    begun: &mut Option<BegunCheck>,
+    number: &mut u64,
+    row: &mut FieldRow,
+    bytes: &mut Vec<u8>,
+) -> Result<(), TextError>
+    requires input { IsTrue (is_input_text piece.now) }
+    requires kept { IfSome begun.old IsBegun }
+    requires first { begun.old ≡ None → number.old ≡ 1 }
+    requires room { number.old + length piece.now + 1 < 2 ^ 64 }
+    ensures ok { OnOk result ((rest : List Record)
+        → spec.left_of begun.old number.old (records_of_text piece.now ++ rest)
+        ≡ spec.left_of begun.new number.new rest) }
+    ensures err { IfErr result (λ error. (rest : List Record)
+        → FailsText error
+        (spec.left_of begun.old number.old (records_of_text piece.now ++ rest))) }
+    ensures kept { IfSome begun.new IsBegun }
+    ensures first { begun.new ≡ None → number.new ≡ 1 }
+{
+    let mut records = RecordReader::open(alloc, piece);
+    'records: while records.next_row(row)? {
+        take_row(alloc, begun, *number, row, bytes)?;
+        *number += 1;
+    }
+    Ok(())
+}
+
+// Refuses a check text that ends before its end; the record that is missing has that number.
+fn close_check(begun: &BegunCheck, number: u64) -> Result<(), TextError>
+    requires { IsBegun begun.now }
+    ensures { Yields (λ _. check_view begun.now.text) result (spec.begun_left begun.now number []) }
+{
+    match begun.stage {
+        Some(stage) => close_claim(stage, number),
+        None => {
+            close_tapes(&begun.text.history, begun.begun, number)?;
+            close_claim(ClaimStage::Damage, number)
+        }
+    }
+}
+
+// The history and the claim of a check text that ends here.
+fn end_check(begun: BegunCheck, number: u64) -> Result<CheckText, TextFault>
+    requires { IsBegun begun }
+    ensures { Reads check_view result (spec.begun_left begun number []) }
+{
+    match close_check(&begun, number) {
+        Ok(()) => Ok(begun.text),
+        Err(error) => Err(told(error)),
+    }
+}
+
+/// Reads a check text that comes in pieces of whole lines, the last of which may lack its line
+/// feed.
+///
+/// It keeps the history and the claim, and no text. Once a record has a fault it keeps that alone,
+/// and only looks at the bytes of further pieces: a byte that no text has comes before all else.
+#[derive(Drop)]
+pub struct CheckReader {
+    alloc: Global,
+    row: FieldRow,
+    bytes: Vec<u8>,
+    begun: Option<BegunCheck>,
+    // The number of the record that would come next.
+    number: u64,
+    fault: Option<TextFault>,
+}
+
+impl Model for CheckReader {
+    ghost use Rattle.std.specs.Prelude.{◌≡◌, IfSome, None};
+    ghost use Rattle.line_claims.specs.Readings.{CheckPlace, IsBegun, begun_if_any};
+
+    ghost Value = { CheckPlace };
+
+    ghost view = { λ s. record
+        { begun = begun_if_any s.begun; number = s.number; fault = s.fault } };
+
+    ghost invariant = { λ s. (IfSome s.begun IsBegun)
+        × (s.begun ≡ None → s.fault ≡ None → s.number ≡ 1) };
+}
+
+impl CheckReader {
+    /// A reader that has taken nothing. It takes no memory.
+    pub fn new(alloc: Global) -> CheckReader
+        ensures { (text : List ℕ) → spec.text_left result text ≡ check_of_text text }
+    {
+        CheckReader {
+            alloc,
+            row: FieldRow::new(alloc),
+            bytes: Vec::new(alloc),
+            begun: None,
+            number: 1,
+            fault: None,
+        }
+    }
+
+    // Keeps a fault alone.
+    fn refuse(&mut self, fault: TextFault)
+        ensures { self.new.fault ≡ Some fault }
+    {
+        self.begun = None;
+        self.fault = Some(fault);
+    }
+
+    /// Takes the next piece of the text.
+    ///
+    /// It takes time in proportion to the piece, and memory in proportion to the history and the
+    /// claim. Where memory is refused, or more records came than a number of 64 bits counts, what
+    /// the reader reads from then on is left open.
+    pub fn take(&mut self, piece: &[u8]) -> Result<(), AllocError>
+        ensures { OnOk result ((rest : List ℕ) → spec.EndsBefore piece.now rest
+            → spec.text_left self.old (piece.now ++ rest) ≡ spec.text_left self.new rest) }
+    {
+        if !is_plain(piece) {
+            self.refuse(TextFault {
+                record_number: 0,
+                code: Fault::BadRecord.code(),
+            });
+            return Ok(());
+        }
+        if self.fault.is_some() {
+            return Ok(());
+        }
+        if self.number >= u64::MAX - piece.len() as u64 {
+            return Err(AllocError);
+        }
+        match take_records(
+            self.alloc,
+            piece,
+            &mut self.begun,
+            &mut self.number,
+            &mut self.row,
+            &mut self.bytes,
+        ) {
+            Ok(()) => Ok(()),
+            Err(TextError::Fault(fault)) => {
+                self.refuse(fault);
+                Ok(())
+            }
+            Err(TextError::OutOfMemory) => Err(AllocError),
+        }
+    }
+
+    /// The history and the claim that all pieces spell, or their first fault. It takes no memory.
+    pub fn into_check(self) -> Result<CheckText, TextFault>
+        ensures { Reads check_view result (spec.text_left self []) }
+    {
+        let CheckReader {
+            begun,
+            number,
+            fault,
+            ..
+        } = self;
+        if let Some(fault) = fault {
+            return Err(fault);
+        }
+        match begun {
+            Some(begun) => end_check(begun, number),
+            None => Err(TextFault {
+                record_number: 1,
+                code: Fault::NoWorld.code(),
+            }),
+        }
+    }
+}
