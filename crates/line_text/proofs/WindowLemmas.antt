@@ -1,111 +1,132 @@
 -- A text that is read through a window, a chunk further.
 use Rattle.std.proofs.Common.{inl, inr, ◌≡◌, ◌≢◌, ◌<◌, ◌≤◌, ℕ, ◌+◌, ◌-◌, List, [], ◌∷◌, ◌++◌, append_assoc, drop, false, get_or, length, take, refl, sym, subst, ap, ◌∙◌, arith, length-append, ne_eqb}
-use Rattle.std.specs.Prelude.{◌⊎◌, if◌then◌else◌, Err, IfErr, IfOk, IfSome, None, Ok, OnOk, Option, Result, Some}
-use Rattle.std.specs.Result.{is_err, is_ok}
+use Rattle.std.specs.Prelude.{◌⊎◌, Err, IfErr, IfOk, IfSome, None, Ok, OnOk, Option, Result, Some}
+use Rattle.std.specs.Result.{is_err}
 use Rattle.std.proofs.lemmas.Bool.{eqb-true}
-use Rattle.std.proofs.lemmas.List.{take-append-drop, take_more}
+use Rattle.std.proofs.Math.Seq.{take-append-add}
+use Rattle.std.proofs.lemmas.List.{append-nil, get_or-drop, get_or-take, length-drop, length-take-le, take-append-drop, take-append-le, take_more}
 use Rattle.memchr.specs.Find.{IsLastByte, is_byte}
 use Rattle.line_claims.specs.declared.faults.TextFault.{TextFault}
-use Rattle.line_claims.specs.Reads.{IsOfText, no_memory}
+use Rattle.line_claims.specs.Reads.{IsOfText, Reads, no_memory}
 use Rattle.line_devices.specs.Devices.{Fills, IsDone, ends_after, one_more}
 use Rattle.line_devices.specs.Reads.{GivesAll, IsTooLong}
-use Rattle.line_devices.proofs.PutLemmas.{all_read, all_told, fills_both, slice_from}
+use Rattle.line_devices.proofs.PutLemmas.{all_read, all_told, fills_both}
+use Rattle.line_claims.specs.declared.texts.CheckText as made
+use Rattle.line_claims.specs.Readings.{CheckPlace, EndsBefore, text_left}
+use Rattle.line_claims.specs.Texts.{check_of_text, check_view}
+use Rattle.line_claims.proofs.FaultLemmas.{check_text_faults, reads_codes}
 use Rattle.line_scripts.specs.declared.scripts.KeptScript as kept
 use Rattle.line_scripts.specs.Pieces.{EndsLine, at_end, begun_in}
 use Rattle.line_scripts.specs.Reads.{kept_script_view}
 use Rattle.line_scripts.specs.Scripts.{Script, script_of_text}
-use Rattle.line_scripts.proofs.PieceLemmas.{ended_text, nothing_begun}
+use Rattle.line_scripts.proofs.PieceLemmas.{ended_text}
+use Rattle.line_text.proofs.RunLemmas.{fault_of_text}
 use Rattle.line_text.specs.declared.ends.TheConstants.{READ_FAULT}
-use Rattle.line_text.specs.Inputs.{HasCome, HearsEnd, IsReadTo}
+use Rattle.line_text.specs.Inputs.{HasCome, HasTakenCheck, HasHeard, HearsEnd, IsReadTo}
 
 -- the last line feed, as `memrchr` finds it
 pub feed_found : (bytes : List ℕ) (at : Option ℕ) → IsLastByte (is_byte 10) bytes at → IfSome at (λ k. (k < length bytes) × (get_or bytes k 0 ≡ 10))
 feed_found bytes None h = tt
 feed_found bytes (Some k) h = (h.0.high, eqb-true _ 10 h.1)
 
--- nothing has come
-pub nothing_read : (begun : Result (Option Script) TextFault) → begun ≡ Ok None → IsReadTo [] [] begun
-nothing_read begun is = record { lines = []; ends = inl refl; parts = refl; taken = is ∙ sym nothing_begun }
-
--- bytes that have come are held
-pub held_on : (text held later bytes : List ℕ) (begun : Result (Option Script) TextFault) → later ≡ held ++ bytes → IsReadTo text held begun → IsReadTo (text ++ bytes) later begun
-held_on text held later bytes begun is h = record {
+-- bytes that have come wait
+pub held_on : (text held later bytes : List ℕ) (HasTaken : List ℕ → Type 0) → later ≡ held ++ bytes → IsReadTo text held HasTaken → IsReadTo (text ++ bytes) later HasTaken
+held_on text held later bytes HasTaken is h = record {
   lines = h.lines;
   ends = h.ends;
   parts = ap (λ (t : List ℕ). t ++ bytes) h.parts ∙ append_assoc h.lines held bytes ∙ ap (λ (t : List ℕ). h.lines ++ t) (sym is);
   taken = h.taken;
 }
 
--- the bytes up to a line feed, with it
-up_to_feed : (bytes : List ℕ) (at : ℕ) → at < length bytes → get_or bytes at 0 ≡ 10 → take (at + 1) bytes ≡ take at bytes ++ 10 ∷ []
-up_to_feed bytes at lt is = take_more bytes at 0 lt ∙ ap (λ (c : ℕ). take at bytes ++ c ∷ []) is
+-- the same bytes wait
+pub still_held : (text held later : List ℕ) (HasTaken : List ℕ → Type 0) → later ≡ held → IsReadTo text held HasTaken → IsReadTo text later HasTaken
+still_held text held later HasTaken is h = subst (λ (t : List ℕ). IsReadTo text t HasTaken) (sym is) h
 
--- the lines that end within bytes that have come are taken, and the rest of these is held
-pub lines_taken : (text held joined later bytes : List ℕ) (at : ℕ) (old new : Result (Option Script) TextFault) → at < length bytes → get_or bytes at 0 ≡ 10 → joined ≡ held ++ take (at + 1) bytes
-    → ((front : List ℕ) → EndsLine front → old ≡ begun_in front → new ≡ begun_in (front ++ joined)) → later ≡ drop (at + 1) bytes → IsReadTo text held old → IsReadTo (text ++ bytes) later new
-lines_taken text held joined later bytes at old new lt feed is taken rest h =
-    let front : List ℕ = h.lines ++ (held ++ take at bytes) in
-    let ends : h.lines ++ joined ≡ front ++ 10 ∷ [] =
-    ap (λ (t : List ℕ). h.lines ++ t) (is ∙ ap (λ (t : List ℕ). held ++ t) (up_to_feed bytes at lt feed) ∙ sym (append_assoc held (take at bytes) (10 ∷ [])))
-    ∙ sym (append_assoc h.lines (held ++ take at bytes) (10 ∷ [])) in
-    let whole : joined ++ later ≡ held ++ bytes =
-    ap (λ (t : List ℕ). t ++ later) is ∙ ap (λ (t : List ℕ). (held ++ take (at + 1) bytes) ++ t) rest ∙ append_assoc held (take (at + 1) bytes) (drop (at + 1) bytes)
-    ∙ ap (λ (t : List ℕ). held ++ t) (take-append-drop (at + 1) bytes) in
-    record {
-      lines = h.lines ++ joined;
-      ends = inr (front, ends);
-      parts =
-          ap (λ (t : List ℕ). t ++ bytes) h.parts ∙ append_assoc h.lines held bytes ∙ ap (λ (t : List ℕ). h.lines ++ t) (sym whole)
-          ∙ sym (append_assoc h.lines joined later);
-      taken = taken h.lines h.ends h.taken;
-    }
+-- ---- bytes that were filled behind those that wait
 
--- the lines that end within bytes that have come were taken, and the rest of these put into an empty list
-pub lines_if_ok : {A E : Type 0} (result : Result A E) (held joined cleared later bytes : List ℕ) (at : ℕ) (old new : Result (Option Script) TextFault) → at < length bytes → get_or bytes at 0 ≡ 10
-    → joined ≡ held ++ take (at + 1) bytes → ((front : List ℕ) → EndsLine front → old ≡ begun_in front → new ≡ begun_in (front ++ joined)) → cleared ≡ []
-    → later ≡ (if is_ok result then cleared ++ take (length bytes - (at + 1)) (drop (at + 1) bytes) else cleared) → OnOk result ((text : List ℕ) → IsReadTo text held old → IsReadTo (text ++ bytes) later new)
-lines_if_ok (Err e) held joined cleared later bytes at old new lt feed is taken none rest = tt
-lines_if_ok (Ok x) held joined cleared later bytes at old new lt feed is taken none rest = λ text h.
-    let behind : later ≡ drop (at + 1) bytes = rest ∙ ap (λ (t : List ℕ). t ++ take (length bytes - (at + 1)) (drop (at + 1) bytes)) none ∙ slice_from (at + 1) bytes in
-    lines_taken text held joined later bytes at old new lt feed is taken behind h
+pub filled_behind : (n count : ℕ) (old new into : List ℕ) → n ≤ length old → new ≡ take n old ++ into → take (n + count) new ≡ take n old ++ take count into
+filled_behind n count old new into le is =
+    let long : length (take n old) ≡ n = length-take-le n old le in
+    ap (take (n + count)) is ∙ ap (λ (k : ℕ). take (k + count) (take n old ++ into)) (sym long) ∙ take-append-add (take n old) into count
 
--- nothing has come of a source
-pub none_come : (left : Option (List ℕ)) (begun : Result (Option Script) TextFault) (held : List ℕ) → begun ≡ Ok None → held ≡ [] → HasCome left left 0 held begun
-none_come None begun held is none = record { text = []; moved = tt; counted = refl; read = held_on [] [] held [] begun none (nothing_read begun is) }
-none_come (Some xs) begun held is none = record { text = []; moved = refl; counted = refl; read = held_on [] [] held [] begun none (nothing_read begun is) }
+pub front_of : (n : ℕ) (xs ys zs : List ℕ) → n ≤ length xs → take n ((xs ++ ys) ++ zs) ≡ take n xs
+front_of n xs ys zs le = take-append-le n (xs ++ ys) zs (omega (arith, le, length-append xs ys)) ∙ take-append-le n xs ys le
 
--- more has come
-pub more_come : (old now new : Option (List ℕ)) (long count : ℕ) (held later bytes filled : List ℕ) (begun after : Result (Option Script) TextFault) → ((text : List ℕ) → IsReadTo text held begun → IsReadTo (text ++ bytes) later after)
-    → bytes ≡ filled → Fills now new filled → length filled ≡ count → HasCome old now long held begun → HasCome old new (long + count) later after
-more_come old now new long count held later bytes filled begun after read same moved counted h = record {
-  text = h.text ++ bytes;
-  moved = subst (λ (t : List ℕ). Fills old new (h.text ++ t)) (sym same) (fills_both old now new h.text filled h.moved moved);
-  counted = omega (arith, length-append h.text bytes, h.counted, counted, ap length same);
-  read = read h.text h.read;
+-- the bytes up to a line feed among those that came last
+pub up_to_feed : (room : List ℕ) (begin held at : ℕ) → begin ≤ held → held ≤ length room → at < length (take (held - begin) (drop begin room)) → get_or (take (held - begin) (drop begin room)) at 0 ≡ 10
+    → (front : List ℕ) × (take (begin + at + 1) (take held room) ≡ front ++ 10 ∷ [])
+up_to_feed room begin held at first within lt feed =
+    let long : length (take (held - begin) (drop begin room)) ≡ held - begin = length-take-le (held - begin) (drop begin room) (omega (arith, within, length-drop begin room)) in
+    let near : at < held - begin = omega (arith, lt, long) in
+    let there : begin + at < length (take held room) = omega (arith, near, length-take-le held room within) in
+    let is : get_or (take held room) (begin + at) 0 ≡ 10 =
+    get_or-take held room (begin + at) 0 (omega (arith, near)) ∙ sym (get_or-drop begin room at 0) ∙ sym (get_or-take (held - begin) (drop begin room) at 0 near) ∙ feed in
+    (take (begin + at) (take held room), take_more (take held room) (begin + at) 0 there ∙ ap (λ (c : ℕ). take (begin + at) (take held room) ++ c ∷ []) is)
+
+-- lines up to a line feed were taken, and what stands behind it waits
+pub lines_taken : (text held later : List ℕ) (end : ℕ) (Before After : List ℕ → Type 0) → (front : List ℕ) × (take end held ≡ front ++ 10 ∷ [])
+    → ((front : List ℕ) → EndsLine front → Before front → After (front ++ take end held)) → later ≡ drop end held → IsReadTo text held Before → IsReadTo text later After
+lines_taken text held later end Before After (front, feed) taken rest h = record {
+  lines = h.lines ++ take end held;
+  ends = inr (h.lines ++ front, ap (λ (t : List ℕ). h.lines ++ t) feed ∙ sym (append_assoc h.lines front (10 ∷ [])));
+  parts =
+      h.parts ∙ ap (λ (t : List ℕ). h.lines ++ t) (sym (take-append-drop end held) ∙ ap (λ (t : List ℕ). take end held ++ t) (sym rest))
+      ∙ sym (append_assoc h.lines (take end held) later);
+  taken = taken h.lines h.ends h.taken;
 }
 
+pub lines_if_ok : {A E : Type 0} (result : Result A E) (held later : List ℕ) (end : ℕ) (Before After : List ℕ → Type 0) → (front : List ℕ) × (take end held ≡ front ++ 10 ∷ [])
+    → OnOk result ((front : List ℕ) → EndsLine front → Before front → After (front ++ take end held)) → OnOk result (later ≡ drop end held)
+    → OnOk result ((text : List ℕ) → IsReadTo text held Before → IsReadTo text later After)
+lines_if_ok (Err e) held later end Before After feed taken rest = tt
+lines_if_ok (Ok x) held later end Before After feed taken rest = λ text h. lines_taken text held later end Before After feed taken rest h
+
+-- ---- a source
+
+-- nothing has come of it
+pub none_come : (left : Option (List ℕ)) (held : List ℕ) (HasTaken : List ℕ → Type 0) → HasTaken [] → held ≡ [] → HasCome left left 0 held HasTaken
+none_come None held HasTaken is none = record { text = []; moved = tt; counted = refl; read = record { lines = []; ends = inl refl; parts = sym none; taken = is } }
+none_come (Some xs) held HasTaken is none = record { text = []; moved = refl; counted = refl; read = record { lines = []; ends = inl refl; parts = sym none; taken = is } }
+
+-- more has come
+pub more_come : (old now new : Option (List ℕ)) (long count : ℕ) (held heard later : List ℕ) (Before After : List ℕ → Type 0) → ((text : List ℕ) → IsReadTo text heard Before → IsReadTo text later After)
+    → HasHeard count held heard now new → HasCome old now long held Before → HasCome old new (long + count) later After
+more_come old now new long count held heard later Before After read hears h = record {
+  text = h.text ++ hears.bytes;
+  moved = fills_both old now new h.text hears.bytes h.moved hears.moved;
+  counted = omega (arith, length-append h.text hears.bytes, h.counted, hears.long);
+  read = read (h.text ++ hears.bytes) (held_on h.text held heard hears.bytes Before hears.behind h.read);
+}
+
+length_zero : (bytes : List ℕ) → length bytes ≡ 0 → bytes ≡ []
+length_zero [] none = refl
+length_zero (c ∷ bytes) none = absurd (omega (arith, none))
+
 -- nothing is left: what has come is the whole text
-pub all_come : (old now new : Option (List ℕ)) (given later long count : ℕ) (held into : List ℕ) (begun after : Result (Option Script) TextFault) → long ≤ 67108864 → later ≡ given + long → count ≡ 0
-    → Fills now new (take count into) → IsDone now → ((front : List ℕ) → EndsLine front → begun ≡ begun_in front → after ≡ begun_in (front ++ held)) → HasCome old now long held begun
-    → (text : List ℕ) × GivesAll text old new given later × (after ≡ begun_in text)
-all_come old now new given later long count held into begun after few sum none moved done taken h = (
-  h.text,
-  record {
-    few = omega (arith, few, h.counted);
-    counted = omega (arith, sum, h.counted);
-    told = λ xs told. (all_told old now h.text xs told h.moved done, all_read old now new h.text count into xs told h.moved none moved done);
-  },
-  taken h.read.lines h.read.ends h.read.taken ∙ ap begun_in (sym h.read.parts),
-)
+pub all_come : (old now new : Option (List ℕ)) (given later long count : ℕ) (held heard : List ℕ) (Before After : List ℕ → Type 0) → long ≤ 67108864 → later ≡ given + count + long → count ≡ 0
+    → HasHeard count held heard now new → IsDone now → ((front : List ℕ) → EndsLine front → Before front → After (front ++ heard)) → HasCome old now long held Before
+    → (text : List ℕ) × GivesAll text old new given later × After text
+all_come old now new given later long count held heard Before After few sum none hears done taken h =
+    let nothing : hears.bytes ≡ [] = length_zero hears.bytes (hears.long ∙ none) in
+    let read : IsReadTo (h.text ++ hears.bytes) heard Before = held_on h.text held heard hears.bytes Before hears.behind h.read in
+    let same : h.text ++ hears.bytes ≡ h.text = ap (λ (t : List ℕ). h.text ++ t) nothing ∙ append-nil h.text in
+    let whole : GivesAll h.text old new given later = record {
+      few = omega (arith, few, h.counted);
+      counted = omega (arith, sum, none, h.counted);
+      told = λ xs told. (
+        all_told old now h.text xs told h.moved done,
+        all_read old now new h.text 0 [] xs told h.moved refl (subst (λ (t : List ℕ). Fills now new t) nothing hears.moved) done,
+      );
+    } in
+    (h.text, whole, subst After (sym (sym same ∙ read.parts)) (taken read.lines read.ends read.taken))
 
 -- so it is where the last line was taken
-pub whole_if_ok : (result : Result (Unit {0}) TextFault) (old now new : Option (List ℕ)) (given later long count : ℕ) (held shown into : List ℕ) (begun after : Result (Option Script) TextFault) → long ≤ 67108864
-    → later ≡ given + long → count ≡ 0 → Fills now new (take count into) → IsDone now → shown ≡ held → OnOk result ((front : List ℕ) → EndsLine front → begun ≡ begun_in front → after ≡ begun_in (front ++ shown))
-    → HasCome old now long held begun → OnOk result ((text : List ℕ) × GivesAll text old new given later × (after ≡ begun_in text))
-whole_if_ok (Err fault) old now new given later long count held shown into begun after few sum none moved done same taken h = tt
-whole_if_ok (Ok u) old now new given later long count held shown into begun after few sum none moved done same taken h =
-    all_come old now new given later long count held into begun after few sum none moved done
-    (λ front ends is. taken front ends is ∙ ap (λ (t : List ℕ). begun_in (front ++ t)) same) h
+pub whole_if_ok : (result : Result (Unit {0}) TextFault) (old now new : Option (List ℕ)) (given later long count : ℕ) (held heard : List ℕ) (Before After : List ℕ → Type 0) → long ≤ 67108864
+    → later ≡ given + count + long → count ≡ 0 → HasHeard count held heard now new → IsDone now → OnOk result ((front : List ℕ) → EndsLine front → Before front → After (front ++ heard))
+    → HasCome old now long held Before → OnOk result ((text : List ℕ) × GivesAll text old new given later × After text)
+whole_if_ok (Err fault) old now new given later long count held heard Before After few sum none hears done taken h = tt
+whole_if_ok (Ok u) old now new given later long count held heard Before After few sum none hears done taken h =
+    all_come old now new given later long count held heard Before After few sum none hears done taken h
 
 -- ---- why it was not
 
@@ -158,6 +179,63 @@ pub fault_if_err : (result : Result kept.KeptScript TextFault) (old new : Option
 fault_if_err (Ok script) old new given later begun whole err = tt
 fault_if_err (Err fault) old new given later begun (text, gives, is) err = λ of_text. (text, gives, sym (ended_text text) ∙ ap at_end (sym is) ∙ err)
 
+-- ---- the check text that was read whole
+
+pub check_if_ok : (result : Result made.CheckText TextFault) (old new : Option (List ℕ)) (given later : ℕ) (place : CheckPlace) → (text : List ℕ) × GivesAll text old new given later × HasTakenCheck place text
+    → Reads check_view result (text_left place []) → IfOk result (λ check. (text : List ℕ) × GivesAll text old new given later × (check_of_text text ≡ Ok (check_view check)))
+check_if_ok (Err fault) old new given later place whole reads = tt
+check_if_ok (Ok check) old new given later place (text, gives, taken) reads = (text, gives, ap check_of_text (sym (append-nil text)) ∙ taken [] (inl refl) ∙ reads)
+
+pub check_if_err : (result : Result made.CheckText TextFault) (old new : Option (List ℕ)) (given later : ℕ) (place : CheckPlace) → (text : List ℕ) × GivesAll text old new given later × HasTakenCheck place text
+    → Reads check_view result (text_left place []) → IfErr result (λ fault. IsOfText fault → (text : List ℕ) × GivesAll text old new given later × (check_of_text text ≡ Err fault))
+check_if_err (Ok check) old new given later place whole reads = tt
+check_if_err (Err fault) old new given later place (text, gives, taken) reads =
+    λ of_text. (text, gives, ap check_of_text (sym (append-nil text)) ∙ taken [] (inl refl) ∙ fault_of_text (text_left place []) fault reads of_text)
+
+pub check_codes : (result : Result made.CheckText TextFault) (text : List ℕ) (place : CheckPlace) → HasTakenCheck place text → Reads check_view result (text_left place [])
+    → IfErr result (λ fault. (fault ≡ no_memory) ⊎ IsOfText fault)
+check_codes result text place taken reads =
+    let same : text_left place [] ≡ check_of_text text = sym (taken [] (inl refl)) ∙ ap check_of_text (append-nil text) in
+    reads_codes check_view result (check_of_text text) (check_text_faults text) (rw same at reads)
+
+-- the end of a text is the end of its last piece
+ends_of : (front piece xs : List ℕ) → front ++ piece ≡ xs ++ 10 ∷ [] → (piece ≡ []) ⊎ ((ys : List ℕ) × (piece ≡ ys ++ 10 ∷ []))
+ends_of [] piece xs is = inr (xs, is)
+ends_of (c ∷ front) [] [] is = inl refl
+ends_of (c ∷ front) (p ∷ piece) [] is = absurd (omega (arith, ap length is, length-append front (p ∷ piece)))
+ends_of (c ∷ front) piece (x ∷ xs) is = ends_of front piece xs (ap (drop 1) is)
+
+ends_before : (front piece rest : List ℕ) → EndsBefore (front ++ piece) rest → EndsBefore piece rest
+ends_before front piece rest (inl none) = inl none
+ends_before front piece rest (inr (inl none)) = inr (inl (length_zero piece (omega (arith, ap length none, length-append front piece))))
+ends_before front piece rest (inr (inr (xs, is))) = inr (ends_of front piece xs is)
+
+pub taken_of_check : {A E : Type 0} (result : Result A E) (old new : CheckPlace) (piece : List ℕ) → OnOk result ((rest : List ℕ) → EndsBefore piece rest → text_left old (piece ++ rest) ≡ text_left new rest)
+    → OnOk result ((front : List ℕ) → EndsLine front → HasTakenCheck old front → HasTakenCheck new (front ++ piece))
+taken_of_check (Err e) old new piece taken = tt
+taken_of_check (Ok x) old new piece taken = λ front ends before rest after.
+    ap check_of_text (append_assoc front piece rest) ∙ before (piece ++ rest) (inr ends) ∙ taken rest (ends_before front piece rest after)
+
+-- what is told of a fault of the text alone
+not_read : (fault : TextFault) → (fault ≡ no_memory) ⊎ IsOfText fault → fault.code ≡ READ_FAULT → ⊥
+not_read fault (inl none) code = codes_differ fault none code
+not_read fault (inr (inl low)) code = let read : fault.code ≡ 36 = code in omega (arith, low.1, read)
+not_read fault (inr (inr forty)) code = let read : fault.code ≡ 36 = code in omega (arith, forty, read)
+
+pub read_if_err : {A : Type 0} (result : Result A TextFault) (P : Type 0) → IfErr result (λ fault. (fault ≡ no_memory) ⊎ IsOfText fault) → IfErr result (λ fault. fault.code ≡ READ_FAULT → P)
+read_if_err (Ok x) P h = tt
+read_if_err (Err fault) P h = λ code. absurd (not_read fault h code)
+
+pub wider_codes : {A : Type 0} (result : Result A TextFault) → IfErr result (λ fault. (fault ≡ no_memory) ⊎ IsOfText fault)
+    → IfErr result (λ fault. (fault ≡ no_memory) ⊎ (fault ≡ record { record_number = 0; code = READ_FAULT }) ⊎ IsOfText fault)
+wider_codes (Ok x) h = tt
+wider_codes (Err fault) (inl none) = inl none
+wider_codes (Err fault) (inr of_text) = inr (inr of_text)
+
+pub ended_if : {A : Type 0} (result : Result A TextFault) (old new : ℕ) → IfErr result (λ fault. (fault ≡ no_memory) ⊎ IsOfText fault) → new ≡ one_more old → HearsEnd result old new
+ended_if (Ok x) old new h is = is
+ended_if (Err fault) old new h is = (λ code. absurd (not_read fault h code), λ other. inl is)
+
 -- ---- too much
 
 -- a source that tells gave no more than it had
@@ -169,10 +247,10 @@ fills_within (Some p) (Some q) xs text told h =
     omega (arith, ap length same, ap length h, length-append text q)
 
 -- more has come than an input may have
-pub too_much : (old now new : Option (List ℕ)) (given later long count : ℕ) (held bytes : List ℕ) (begun : Result (Option Script) TextFault) → Fills now new bytes → length bytes ≡ count → 67108864 < long + count
-    → later ≡ given + long + count → HasCome old now long held begun → IsTooLong old given later
-too_much old now new given later long count held bytes begun moved counted much sum h = record {
+pub too_much : (old now new : Option (List ℕ)) (given later long count : ℕ) (held heard : List ℕ) (HasTaken : List ℕ → Type 0) → HasHeard count held heard now new → 67108864 < long + count
+    → later ≡ given + long + count → HasCome old now long held HasTaken → IsTooLong old given later
+too_much old now new given later long count held heard HasTaken hears much sum h = record {
   counted = omega (arith, much, sum);
   told = λ xs told.
-      omega (arith, length-append h.text bytes, h.counted, counted, much, fills_within old new xs (h.text ++ bytes) told (fills_both old now new h.text bytes h.moved moved));
+      omega (arith, length-append h.text hears.bytes, h.counted, hears.long, much, fills_within old new xs (h.text ++ hears.bytes) told (fills_both old now new h.text hears.bytes h.moved hears.moved));
 }

@@ -1,8 +1,8 @@
 //! Check texts that are judged: a text in, a verdict out.
 
-ghost use Rattle.std.specs.Prelude.{◌≡◌, ◌≢◌, ◌++◌, ◌≤◌, ◌⊎◌, [], ℕ, List, Err, Some, IfErr, IfOk};
-ghost use Rattle.std.specs.Prelude.{OnErr, OnOk};
-ghost use Rattle.line_claims.specs.Reads.{IsOfText};
+ghost use Rattle.std.specs.Prelude.{◌≡◌, ◌≢◌, ◌++◌, ◌≤◌, ◌⊎◌, [], ℕ, List, Err, Ok, Some};
+ghost use Rattle.std.specs.Prelude.{IfErr, IfOk, OnErr, OnOk};
+ghost use Rattle.line_claims.specs.Reads.{IsOfText, no_memory};
 ghost use Rattle.line_claims.specs.Texts.{check_of_text, check_view};
 ghost use Rattle.line_devices.specs.Devices.{Outputs, Puts, PutsFront, one_more};
 ghost use Rattle.line_devices.specs.Reads.{GivesAll, IsTooLong};
@@ -11,9 +11,10 @@ ghost use Rattle.line_text.specs.declared.ends.TheConstants.{READ_FAULT, WRITE_F
 ghost use Rattle.line_text.specs.Inputs.{HearsEnd};
 ghost use Rattle.line_text.specs.Judgings as spec;
 
-use crate::ends::{WRITE_FAULT, fault_of_code, put, read_input};
+use crate::ends::{WRITE_FAULT, fault_of_code, put};
+use crate::windows::read_lines;
 use line_check::{CertFault, FaultCode, check_certificate};
-use line_claims::{CheckText, TextFault, name_of, number_field, read_check_text};
+use line_claims::{CheckReader, CheckText, TextFault, name_of, number_field};
 use line_devices::{DeviceFault, Sink, Source};
 use line_fields::{Field, RecordWriter, put_fields, put_numbers};
 use std::alloc::Global;
@@ -93,6 +94,35 @@ fn tell_verdict<K: Sink>(
     put(sink, writer.text())
 }
 
+// The history and the claim on it that the whole input spells. No text of the input is kept.
+fn check_of<S: Source>(alloc: Global, source: &mut S) -> Result<CheckText, TextFault>
+    ensures spelt { IfOk result
+        (λ check. (text : List ℕ)
+        × GivesAll text (S.left source.old) (S.left source.new) (S.given source.old)
+        (S.given source.new)
+        × (check_of_text text ≡ Ok (check_view check))) }
+    ensures text { IfErr result (λ fault. IsOfText fault
+        → (text : List ℕ)
+        × GivesAll text (S.left source.old) (S.left source.new) (S.given source.old)
+        (S.given source.new)
+        × (check_of_text text ≡ Err fault)) }
+    ensures read { IfErr result (λ fault. fault.code ≡ READ_FAULT
+        → (S.faults source.new ≡ one_more (S.faults source.old))
+        ⊎ IsTooLong (S.left source.old) (S.given source.old) (S.given source.new)) }
+    ensures codes { IfErr result
+        (λ fault. (fault ≡ no_memory)
+        ⊎ (fault ≡ record { record_number = 0; code = READ_FAULT })
+        ⊎ IsOfText fault) }
+    ensures heard { OnOk result (S.faults source.new ≡ S.faults source.old) }
+    ensures told { IfErr result
+        (λ fault. fault.code ≢ READ_FAULT → S.faults source.new ≡ S.faults source.old) }
+    ensures ended { HearsEnd result (S.ends source.old) (S.ends source.new) }
+{
+    let mut reader = CheckReader::new(alloc);
+    read_lines(alloc, source, &mut reader)?;
+    reader.into_check()
+}
+
 /// Reads a history and a claim on it, judges the claim, and writes the verdict: `valid`, or
 /// `invalid,ENTRY,CODE,NAME` with the first fault of the claim, and the entry that it is of,
 /// counted from 0, or `-`. It answers that fault, and none where the claim is valid.
@@ -104,8 +134,8 @@ fn tell_verdict<K: Sink>(
 /// A fault of the text is the first one, with the number of its record; then nothing is judged and
 /// nothing written. `ReadFault` says that the source failed or that the input is too long,
 /// `WriteFault` that the sink failed, and the fault 0 that memory did not suffice; these are of
-/// record 0. It takes time and memory in proportion to the input, and keeps beside it the history
-/// and the claim, each once.
+/// record 0. It takes time and memory in proportion to the input, and keeps the history and the
+/// claim, each once, and of the text no more than the longest line and some 64 KiB.
 pub fn check_text<S: Source, K: Sink>(
     alloc: Global,
     source: &mut S,
@@ -155,8 +185,7 @@ pub fn check_text<S: Source, K: Sink>(
     // Once the source said that nothing is left, it is asked no more.
     ensures ended { HearsEnd result (S.ends source.old) (S.ends source.new) }
 {
-    let text = read_input(alloc, source)?;
-    let check = read_check_text(alloc, &text)?;
+    let check = check_of(alloc, source)?;
     let verdict = verdict_of(&check);
     let Ok(mut writer) = RecordWriter::with_room(alloc) else {
         return Err(fault_of_code(0));

@@ -1,24 +1,62 @@
 //! An input that is read through a window: what has come of it is taken line by line, and only the
 //! beginning of a line waits for more.
 
-ghost use Rattle.std.specs.Prelude.{◌≡◌, ◌≢◌, ◌++◌, ◌<◌, ◌⊎◌, ℕ, List, None, Ok, IfErr, IfSome};
-ghost use Rattle.std.specs.Prelude.{OnOk, length, slice_index_or};
+ghost use Rattle.std.specs.Prelude.{◌≡◌, ◌≢◌, ◌++◌, ◌+◌, ◌<◌, ◌≤◌, ◌⊎◌, ℕ, List, [], IfErr, IfOk};
+ghost use Rattle.std.specs.Prelude.{IfSome, OnErr, OnOk, drop, length, slice_index_or, take};
 ghost use Rattle.line_claims.specs.Reads.{no_memory};
-ghost use Rattle.line_devices.specs.Devices.{one_more};
+ghost use Rattle.line_devices.specs.Devices.{IsDone, ends_after, one_more};
 ghost use Rattle.line_devices.specs.Reads.{GivesAll, IsTooLong};
+ghost use Rattle.line_devices.specs.declared.sources.TheConstants.{MOST_INPUT};
 ghost use Rattle.line_scripts.specs.Pieces.{EndsLine, begun_in};
 ghost use Rattle.line_text.specs.declared.ends.TheConstants.{READ_FAULT};
-ghost use Rattle.line_text.specs.Inputs.{HearsEnd, IsReadTo};
+ghost use Rattle.line_text.specs.Inputs.{HasHeard, HearsEnd, IsReadTo, waiting};
 
 use crate::ends::{READ_FAULT, fault_of_code};
-use line_claims::TextFault;
-use line_devices::{MOST_INPUT, Source};
+use line_claims::{CheckReader, TextFault};
+use line_devices::{DeviceFault, MOST_INPUT, Source};
 use line_scripts::ScriptReader;
 use memchr::memrchr;
 use std::alloc::{AllocError, Global};
 
-// How many bytes are asked for at a time.
+/// What takes a text in pieces of whole lines, the last of which may lack its line feed.
+pub(crate) trait LineReader {
+    /// It has taken this text.
+    ghost has_taken: { Self → List ℕ → Type 0 };
+
+    /// Takes the next piece.
+    fn take_piece(&mut self, piece: &[u8]) -> Result<(), AllocError>
+        ensures { OnOk result ((front : List ℕ) → EndsLine front → has_taken self.old front
+            → has_taken self.new (front ++ piece.now)) };
+}
+
+impl LineReader for ScriptReader {
+    ghost has_taken = { λ s text. s ≡ begun_in text };
+
+    fn take_piece(&mut self, piece: &[u8]) -> Result<(), AllocError> {
+        self.take(piece)
+    }
+}
+
+impl LineReader for CheckReader {
+    ghost use Rattle.line_text.specs.Inputs.{HasTakenCheck};
+
+    ghost has_taken = { λ s text. HasTakenCheck s text };
+
+    fn take_piece(&mut self, piece: &[u8]) -> Result<(), AllocError> {
+        self.take(piece)
+    }
+}
+
+// The room of a window where no line is longer, and how much more is asked for where one is.
 const CHUNK: usize = 65_536;
+
+// Room for bytes of an input: at its front those that wait, and after them what a source fills.
+#[derive(Drop)]
+struct Window {
+    bytes: Vec<u8>,
+    // How many bytes wait.
+    held: usize,
+}
 
 // Where the last line feed of some bytes stands, if there is one.
 fn last_feed(bytes: &[u8]) -> Option<usize>
@@ -28,28 +66,99 @@ fn last_feed(bytes: &[u8]) -> Option<usize>
     memrchr(b'\n', bytes)
 }
 
-// Takes the lines that end within bytes that have come, the first of which may have begun before
-// them, and holds what stands after them.
-fn take_lines(held: &mut Vec<u8>, bytes: &[u8], reader: &mut ScriptReader) -> Result<(), AllocError>
-    ensures { OnOk result ((text : List ℕ) → IsReadTo text held.old.items reader.old
-        → IsReadTo (text ++ bytes.now) held.new.items reader.new) }
+// A window in which nothing waits.
+fn open_window(alloc: Global) -> Result<Window, AllocError>
+    ensures none { IfOk result (λ window. window.held ≡ 0) }
+    ensures room { IfOk result (λ window. window.held < length window.bytes.items) }
 {
-    let Some(at) = last_feed(bytes) else {
-        return held.extend_from_slice(bytes);
-    };
-    held.extend_from_slice(&bytes[..at + 1])?;
-    reader.take(held)?;
-    held.clear();
-    held.extend_from_slice(&bytes[at + 1..])
+    let bytes = Vec::from_elem(alloc, 0u8, CHUNK)?;
+    Ok(Window { bytes, held: 0 })
 }
 
-// Takes what is held where nothing more comes: the last line, which may lack its line feed.
-fn take_last(held: &[u8], reader: &mut ScriptReader) -> Result<(), TextFault>
-    ensures ok { OnOk result ((front : List ℕ) → EndsLine front → reader.old ≡ begun_in front
-        → reader.new ≡ begun_in (front ++ held.now)) }
+// Asks a source for more bytes, and says how many came.
+fn hear<S: Source>(window: &mut Window, source: &mut S) -> Result<usize, DeviceFault>
+    requires { window.old.held < length window.old.bytes.items }
+    ensures room { OnOk result (window.new.held ≤ length window.new.bytes.items) }
+    ensures held { IfOk result (λ count. window.new.held ≡ window.old.held + count) }
+    ensures moves { IfOk result
+        (λ count. HasHeard count (waiting window.old) (waiting window.new) (S.left source.old)
+        (S.left source.new)) }
+    ensures gives { IfOk result (λ count. S.given source.new ≡ S.given source.old + count) }
+    ensures end { IfOk result (λ count. count ≡ 0 → IsDone (S.left source.old)) }
+    ensures sound { OnOk result (S.faults source.new ≡ S.faults source.old) }
+    ensures failed { OnErr result (S.faults source.new ≡ one_more (S.faults source.old)) }
+    ensures ended { IfOk result
+        (λ count. S.ends source.new ≡ ends_after count (S.ends source.old)) }
+    ensures unended { OnErr result (S.ends source.new ≡ S.ends source.old) }
+{
+    let count = source.fill(&mut window.bytes[window.held..])?;
+    window.held += count;
+    Ok(count)
+}
+
+// Makes room for more bytes, where there is none.
+fn make_room(window: &mut Window) -> Result<(), AllocError>
+    requires room { window.old.held ≤ length window.old.bytes.items }
+    requires few { window.old.held ≤ MOST_INPUT }
+    ensures same { OnOk result (waiting window.new ≡ waiting window.old) }
+    ensures room { OnOk result (window.new.held < length window.new.bytes.items) }
+{
+    if window.held < window.bytes.len() {
+        return Ok(());
+    }
+    window.bytes.resize(window.held + CHUNK, 0)
+}
+
+// Takes the bytes up to a place, which are whole lines, and moves those after it to the front.
+fn take_front<R: LineReader>(
+    window: &mut Window,
+    end: usize,
+    reader: &mut R,
+) -> Result<(), AllocError>
+    requires some { 0 < end }
+    requires within { end ≤ window.old.held }
+    requires room { window.old.held ≤ length window.old.bytes.items }
+    ensures taken { OnOk result ((front : List ℕ) → EndsLine front → R.has_taken reader.old front
+        → R.has_taken reader.new (front ++ take end (waiting window.old))) }
+    ensures rest { OnOk result (waiting window.new ≡ drop end (waiting window.old)) }
+    ensures room { OnOk result (window.new.held < length window.new.bytes.items) }
+{
+    reader.take_piece(&window.bytes[..end])?;
+    window.bytes.copy_within(end..window.held, 0);
+    window.held -= end;
+    Ok(())
+}
+
+// Takes the lines that end within the bytes that came last, so many, the first of which may have
+// begun before them.
+fn take_lines<R: LineReader>(
+    window: &mut Window,
+    count: usize,
+    reader: &mut R,
+) -> Result<(), AllocError>
+    requires count { count ≤ window.old.held }
+    requires room { window.old.held ≤ length window.old.bytes.items }
+    requires few { window.old.held ≤ MOST_INPUT }
+    ensures read { OnOk result ((text : List ℕ)
+        → IsReadTo text (waiting window.old) (R.has_taken reader.old)
+        → IsReadTo text (waiting window.new) (R.has_taken reader.new)) }
+    ensures room { OnOk result (window.new.held < length window.new.bytes.items) }
+{
+    let begin = window.held - count;
+    let Some(at) = last_feed(&window.bytes[begin..window.held]) else {
+        return make_room(window);
+    };
+    take_front(window, begin + at + 1, reader)
+}
+
+// Takes what waits where nothing more comes: the last line, which may lack its line feed.
+fn take_last<R: LineReader>(window: &Window, reader: &mut R) -> Result<(), TextFault>
+    requires { window.now.held ≤ length window.now.bytes.items }
+    ensures ok { OnOk result ((front : List ℕ) → EndsLine front → R.has_taken reader.old front
+        → R.has_taken reader.new (front ++ waiting window.now)) }
     ensures err { IfErr result (λ fault. fault ≡ no_memory) }
 {
-    match reader.take(held) {
+    match reader.take_piece(&window.bytes[..window.held]) {
         Ok(()) => Ok(()),
         Err(_) => Err(fault_of_code(0)),
     }
@@ -57,18 +166,19 @@ fn take_last(held: &[u8], reader: &mut ScriptReader) -> Result<(), TextFault>
 
 /// Reads the whole input, whose lines the reader takes as they come.
 ///
-/// It keeps no text but the longest line, and some 64 KiB. What a source refuses, and how, is as of
-/// `read_all`.
-pub(crate) fn read_lines<S: Source>(
+/// It keeps no text but the longest line, and some 64 KiB. It stops at the first failure of the
+/// source, at the first call that gives nothing, and where the source has given more than
+/// `MOST_INPUT` bytes.
+pub(crate) fn read_lines<S: Source, R: LineReader>(
     alloc: Global,
     source: &mut S,
-    reader: &mut ScriptReader,
+    reader: &mut R,
 ) -> Result<(), TextFault>
-    requires { reader.old ≡ Ok None }
+    requires { R.has_taken reader.old [] }
     ensures whole { OnOk result ((text : List ℕ)
         × GivesAll text (S.left source.old) (S.left source.new) (S.given source.old)
         (S.given source.new)
-        × (reader.new ≡ begun_in text)) }
+        × R.has_taken reader.new text) }
     ensures codes { IfErr result
         (λ fault. (fault ≡ no_memory) ⊎ (fault ≡ record { record_number = 0; code = READ_FAULT })) }
     ensures failed { IfErr result (λ fault. fault.code ≡ READ_FAULT
@@ -79,23 +189,24 @@ pub(crate) fn read_lines<S: Source>(
         (λ fault. fault.code ≢ READ_FAULT → S.faults source.new ≡ S.faults source.old) }
     ensures ended { HearsEnd result (S.ends source.old) (S.ends source.new) }
 {
-    let mut held = Vec::new(alloc);
-    let mut chunk = [0u8; CHUNK];
+    let Ok(mut window) = open_window(alloc) else {
+        return Err(fault_of_code(0));
+    };
     let mut read = 0;
     // Each turn but the last moves a byte at least.
     for turn in 0..MOST_INPUT + 1 {
         prove!(turn <= read);
-        let Ok(count) = source.fill(&mut chunk) else {
+        let Ok(count) = hear(&mut window, source) else {
             return Err(fault_of_code(READ_FAULT));
         };
         if count == 0 {
-            return take_last(&held, reader);
+            return take_last(&window, reader);
         }
         if count > MOST_INPUT - read {
             return Err(fault_of_code(READ_FAULT));
         }
         read += count;
-        if take_lines(&mut held, &chunk[..count], reader).is_err() {
+        if take_lines(&mut window, count, reader).is_err() {
             return Err(fault_of_code(0));
         }
     }
