@@ -352,6 +352,40 @@ fn judges_nothing_where_a_device_fails(rt: HostRuntime) -> Result<(), Fail> {
     Ok(())
 }
 
+/// What a claim is answered on a history that begins so and has seven thousand sends, whose bytes
+/// are more than 65,536, where the text ends so.
+fn judged_after(
+    alloc: Global,
+    first: &[u8],
+    last: &[u8],
+) -> Result<Result<Option<CertFault>, TextFault>, AllocError> {
+    let mut text = followed(alloc, first, b"send,1,0,\n", 7_000)?;
+    text.extend_from_slice(last)?;
+    Ok(judge(alloc, &text, 100_000, None, None)?.answer)
+}
+
+/// A claim is judged whose text is longer than what is read at a time.
+#[test]
+fn judges_a_text_of_several_pieces(rt: HostRuntime) -> Result<(), Fail> {
+    let first = b"history,1,2\ntape,0,0\n";
+    let last = b"tape,1,0\nfailed,0\nline,0,now\nend\n";
+    assert!(rt; judged_after(rt.alloc(), first, last)? == Ok(None));
+    Ok(())
+}
+
+/// A byte that no text has comes before the fault of an earlier record here too.
+#[test]
+fn judges_no_record_before_a_byte_in_a_later_piece(rt: HostRuntime) -> Result<(), Fail> {
+    let first = b"history,1,2\ntape,0,0\nsned,1,0,\n";
+    let third = TextFault {
+        record_number: 3,
+        code: 32,
+    };
+    assert!(rt; judged_after(rt.alloc(), first, b"end\x01\n")? == Err(fault_of(32)));
+    assert!(rt; judged_after(rt.alloc(), first, b"end\n")? == Err(third));
+    Ok(())
+}
+
 /// A source that gives more than an input may have.
 #[derive(Drop)]
 struct Endless {
