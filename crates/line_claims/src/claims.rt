@@ -97,6 +97,9 @@ fn take_entry(
 }
 
 // Takes the line of a claim, in a text of that version.
+//
+// It is a function of its own, since a line is a large value and comes once.
+#[inline(never)]
 fn take_line(
     version: u32,
     claim: &mut Claim,

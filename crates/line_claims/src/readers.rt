@@ -45,6 +45,24 @@ fn begin_check(alloc: Global, row: &FieldRow) -> Result<BegunCheck, TextError>
     })
 }
 
+// Begins a check text with its first record.
+//
+// It is a function of its own, since what is begun is a large value and is made once.
+#[inline(never)]
+fn begin_with(
+    alloc: Global,
+    begun: &mut Option<BegunCheck>,
+    row: &FieldRow,
+) -> Result<(), TextError>
+    requires { begun.old ≡ None }
+    ensures exact { Goes result (spec.left_of begun.old 1) (λ _. spec.left_of begun.new 2) row.now }
+    ensures kept { IfSome begun.new IsBegun }
+    ensures some { OnOk result (begun.new ≢ None) }
+{
+    *begun = Some(begin_check(alloc, row)?);
+    Ok(())
+}
+
 // Takes a record of the claim of a check text, which may be of that part or of one that may follow
 // it.
 fn take_in_claim(
@@ -125,10 +143,7 @@ fn take_row(
 {
     match begun {
         Some(begun) => take_of_check(alloc, begun, number, row, bytes),
-        None => {
-            *begun = Some(begin_check(alloc, row)?);
-            Ok(())
-        }
+        None => begin_with(alloc, begun, row),
     }
 }
 
