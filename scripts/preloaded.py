@@ -9,6 +9,7 @@ import pathlib
 import shutil
 import struct
 import subprocess
+import tempfile
 from typing import NamedTuple
 
 TOP = pathlib.Path(__file__).resolve().parent.parent
@@ -67,24 +68,31 @@ def compiled(folder: str) -> str:
 def answered(
     program: str, library: str, it: Text, settings: dict[str, int]
 ) -> tuple[Answer, Counts]:
-    """Runs the program with these settings of the library."""
+    """Runs the program with these settings of the library.
+
+    Its standard input is a file, which gives as much as is asked for, so that the reads of two runs
+    are the same; how much a pipe gives depends on who is faster.
+    """
     kept = os.memfd_create("counts", 0)
     os.ftruncate(kept, COUNTS.size)
     environment = {"LD_PRELOAD": library, "COUNTS_FD": str(kept)}
     environment.update((name, str(value)) for name, value in settings.items())
-    try:
-        ran = subprocess.run(
-            [program, *it.words],
-            input=it.text,
-            capture_output=True,
-            check=False,
-            timeout=MOST_SECONDS,
-            env=environment,
-            pass_fds=[kept],
-        )
-        answer = Answer(ran.stdout, ran.stderr, ran.returncode)
-    except subprocess.TimeoutExpired:
-        answer = Answer(b"", b"", None)
+    with tempfile.TemporaryFile() as source:
+        source.write(it.text)
+        source.seek(0)
+        try:
+            ran = subprocess.run(
+                [program, *it.words],
+                stdin=source,
+                capture_output=True,
+                check=False,
+                timeout=MOST_SECONDS,
+                env=environment,
+                pass_fds=[kept],
+            )
+            answer = Answer(ran.stdout, ran.stderr, ran.returncode)
+        except subprocess.TimeoutExpired:
+            answer = Answer(b"", b"", None)
     with os.fdopen(kept, "rb") as counts:
         return answer, Counts(*COUNTS.unpack(counts.read(COUNTS.size)))
 
