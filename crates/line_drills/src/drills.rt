@@ -1,10 +1,15 @@
 //! All workers at once, each in a thread of its own.
 ghost use Rattle.std.specs.Prelude.{◌≡◌, ◌≢◌, ◌<◌, ◌≤◌, ◌⊎◌, ◌↔◌, ℕ, IfOk, IfErr, IsErrOf, OnOk};
-ghost use Rattle.std.specs.Prelude.{length, vec_capacity};
+ghost use Rattle.std.specs.Prelude.{Some, length, slice_get, vec_capacity};
+ghost use Rattle.line_marker.specs.Recording.{latest};
 ghost use Rattle.line_names.specs.Sets.{nobody};
 ghost use Rattle.line_tape.specs.Fit.{IsFitFifo};
 ghost use Rattle.line_tape.specs.History.{incarnation_at, tape_at};
 ghost use Rattle.line_tape.specs.Views.{no_marks};
+ghost use Rattle.line_posts.specs.Extension.{Extends};
+ghost use Rattle.line_posts.specs.Gathered.{AreGathered};
+ghost use Rattle.line_posts.specs.Generations.{own_history, AreLined, AreWhole, IsGeneration};
+ghost use Rattle.line_posts.specs.Posts.{PostView};
 ghost use Rattle.line_drills.specs.Faults.{of_no_order, AreStopped, HasFilledRing, IsFault};
 ghost use Rattle.line_drills.specs.Followed.{AreDrilled, HasDone};
 ghost use Rattle.line_drills.specs.Scripts.{scripts_of, IsScripted};
@@ -14,7 +19,9 @@ use crate::orders::Order;
 use crate::refusals::{DrillError, DrillWhy, of_no_order};
 use crate::workers::follow;
 use line_names::ProcSet;
-use line_posts::{GatherWhy, Gathered, MOST_CAPACITY, MOST_WORKERS, Post, fleet, gather};
+use line_posts::{
+    Collector, GatherWhy, Gathered, MOST_CAPACITY, MOST_WORKERS, Post, fleet, gather,
+};
 use std::alloc::Global;
 use std::snapshot::Snapshot;
 use std::sync::Wait;
@@ -110,6 +117,34 @@ fn all_at_once<G: Gate, R: Threads + Wait + Sync>(
     )
 }
 
+/// Gathers what the workers of a drill did, of which nobody failed.
+fn gather_all(collector: Collector, posts: Vec<Post>) -> Result<Gathered, DrillError>
+    requires generation { IsGeneration posts.items }
+    requires lines { AreLined collector posts.items }
+    requires whole { AreWhole collector posts.items }
+    ensures own { OnOk result (IsFitFifo (own_history posts.items)) }
+    ensures gathered { IfOk result (λ g. AreGathered nobody posts.items g.processes) }
+    ensures fit { IfOk result (λ g. IsFitFifo g.processes) }
+    ensures failed { IfOk result (λ g. g.failed ≡ nobody) }
+    ensures onward { IfOk result (λ g. Extends g.processes collector.processes) }
+    ensures marks { IfOk result (λ g. g.marks ≡ collector.marks) }
+    ensures floor { IfOk result (λ g. (lead : PostView) → slice_get posts.items 0 ≡ Some lead
+        → g.floor ≡ latest lead.floor lead.rounds) }
+    ensures slots { IfOk result (λ g. g.capacity ≡ collector.capacity) }
+    ensures memory { IfErr result (λ e. e ≡ of_no_order DrillWhy.OutOfMemory) }
+{
+    match gather(collector, posts, ProcSet::empty()) {
+        Ok(gathered) => {
+            let _fit = gathered.history();
+            Ok(gathered)
+        }
+        Err(refused) => match refused.why {
+            GatherWhy::OutOfMemory => Err(of_no_order(DrillWhy::OutOfMemory)),
+            GatherWhy::NoSuchProcess | GatherWhy::Unfinished => unreachable!(),
+        },
+    }
+}
+
 /// Drills a worker for each script, 1 to `MOST_WORKERS` of them, each in a thread of its own and
 /// over rings of this capacity, and gathers what they did, nobody having failed.
 ///
@@ -154,11 +189,6 @@ pub fn drill<G: Gate, R: Threads + Wait + Sync>(
     }
     let (collector, posts) = fleet(alloc, scripts.len() as u32, capacity)?;
     let back = all_at_once(rt, posts, scripts, turns, gate)?;
-    match gather(collector, back, ProcSet::empty()) {
-        Ok(gathered) => Ok(gathered),
-        Err(refused) => match refused.why {
-            GatherWhy::OutOfMemory => Err(of_no_order(DrillWhy::OutOfMemory)),
-            GatherWhy::NoSuchProcess | GatherWhy::Unfinished => unreachable!(),
-        },
-    }
+    let gathered = gather_all(collector, back)?;
+    Ok(gathered)
 }
