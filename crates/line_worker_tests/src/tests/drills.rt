@@ -6,13 +6,12 @@ use crate::tests::drills::scripts::{
     both_waiting, check, crowded, idle, receive, ring, second, send, waiting,
 };
 use line_drills::{DrillError, DrillWhy, Order, drill};
-use line_names::{MsgName, ProcId};
+use line_names::ProcId;
 use line_posts::{Gathered, MOST_WORKERS};
 use line_tape::{EventRef, Tape};
 use std::alloc::{AllocError, Global};
 use std::fmt::Display;
 use std::sync::Wait;
-use std::test::Fail;
 use std::thread::Threads;
 
 mod gates;
@@ -20,6 +19,9 @@ mod scripts;
 
 /// What a drill answers.
 type Drilled = Result<Gathered, DrillError>;
+
+/// Scripts for which there was memory.
+type Scripts = Result<Vec<Vec<Order>>, AllocError>;
 
 /// Nobody is held back.
 const OPEN: Fixed = Fixed { is_open: true };
@@ -58,6 +60,33 @@ fn stops<R: Threads + Wait + Sync>(
         order,
         why,
     )
+}
+
+/// Whether a drill of these scripts is stopped there, where somebody waits in vain.
+fn stops_in_vain<R: Threads + Wait + Sync>(
+    rt: &R,
+    alloc: Global,
+    scripts: &Scripts,
+    order: u32,
+) -> bool {
+    match scripts {
+        Ok(scripts) => stops(rt, alloc, scripts, 0, order, DrillWhy::WaitedOut),
+        Err(_) => false,
+    }
+}
+
+/// Whether a drill, where the second worker has this order after a check, is stopped there for that
+/// reason.
+fn stops_second<R: Threads + Wait + Sync>(
+    rt: &R,
+    alloc: Global,
+    order: Order,
+    why: DrillWhy,
+) -> bool {
+    match second(alloc, order) {
+        Ok(scripts) => stops(rt, alloc, &scripts, 1, 1, why),
+        Err(_) => false,
+    }
 }
 
 /// Whether that event is the first message to this process, with this body.
@@ -99,13 +128,16 @@ fn is_exchange(tape: &Tape, to: u32, from: u32, byte: u8) -> bool {
 }
 
 /// Whether each process exchanged with its neighbours, round in a circle of `n`.
-fn is_ring(drilled: &Drilled, n: u32) -> bool {
+fn is_ring(drilled: &Drilled, n: usize) -> bool {
     let Ok(gathered) = drilled else {
         return false;
     };
+    if n > MOST_WORKERS {
+        return false;
+    }
     let history = gathered.history();
+    let n = n as u32;
     history.n() == n
-        && n as usize <= MOST_WORKERS
         && (0..n).all(|p| match ProcId::try_new(p, n) {
             Ok(at) => is_exchange(
                 history.tape(at),
@@ -117,89 +149,103 @@ fn is_ring(drilled: &Drilled, n: u32) -> bool {
         })
 }
 
-/// Whether a circle of `n` was drilled, and whether workers 0 and 1 met at its gate.
-fn drill_meeting<R: Threads + Wait + Sync>(
+/// Whether these workers round a circle were drilled, and whether workers 0 and 1 met at its gate.
+fn meet_in<R: Threads + Wait + Sync>(
     rt: &R,
     alloc: Global,
-    n: u32,
+    scripts: &[Vec<Order>],
     turns: u64,
-) -> Result<(bool, bool), Fail>
+) -> bool {
+    let gate = Meeting::new();
+    let drilled = drill(rt, alloc, 1, turns, scripts, &gate);
+    is_ring(&drilled, scripts.len()) && gate.have_met()
+}
+
+/// Whether a circle of `n` was drilled, and whether workers 0 and 1 met at its gate.
+fn is_met<R: Threads + Wait + Sync>(rt: &R, alloc: Global, n: u32, turns: u64) -> bool
     requires { n ≤ MOST_WORKERS }
 {
-    let scripts = ring(alloc, n)?;
-    let gate = Meeting::new();
-    let drilled = drill(rt, alloc, 1, turns, &scripts, &gate);
-    Ok((is_ring(&drilled, n), gate.have_met()))
+    match ring(alloc, n) {
+        Ok(scripts) => scripts.len() == n as usize && meet_in(rt, alloc, &scripts, turns),
+        Err(_) => false,
+    }
 }
 
 #[test]
-fn meeting_gate(rt: HostRuntime) -> Result<(), Fail> {
-    assert_eq!(rt; drill_meeting(&rt, rt.alloc(), 2, 1_000)?, (true, true));
-    Ok(())
+fn meeting_gate(rt: HostRuntime) {
+    assert!(rt; is_met(&rt, rt.alloc(), 2, 1_000));
 }
 
 #[test]
-fn drill_needs_two_threads(rt: HostRuntime) -> Result<(), Fail> {
-    assert_eq!(rt; drill_meeting(&rt, rt.alloc(), 3, 1_000_000)?, (true, true));
-    Ok(())
+fn drill_needs_two_threads(rt: HostRuntime) {
+    assert!(rt; is_met(&rt, rt.alloc(), 3, 1_000_000));
+}
+
+/// Whether a gate that lets nobody go on holds out the first of two workers.
+fn is_held_out<R: Threads + Wait + Sync>(rt: &R, alloc: Global) -> bool {
+    match ring(alloc, 2) {
+        Ok(scripts) => {
+            let drilled = drill(rt, alloc, 1, 1_000, &scripts, &SHUT);
+            is_stopped(&drilled, 0, 0, DrillWhy::HeldOut)
+        }
+        Err(_) => false,
+    }
 }
 
 #[test]
-fn drill_asks_the_gate(rt: HostRuntime) -> Result<(), Fail> {
-    let scripts = ring(rt.alloc(), 2)?;
-    let drilled = drill(&rt, rt.alloc(), 1, 1_000, &scripts, &SHUT);
-    assert!(rt; is_stopped(&drilled, 0, 0, DrillWhy::HeldOut));
-    Ok(())
+fn drill_asks_the_gate(rt: HostRuntime) {
+    assert!(rt; is_held_out(&rt, rt.alloc()));
+}
+
+/// Whether three workers exchange messages round a circle, where nobody is held back.
+fn goes_round<R: Threads + Wait + Sync>(rt: &R, alloc: Global) -> bool {
+    match ring(alloc, 3) {
+        Ok(scripts) => is_ring(&drill(rt, alloc, 1, 10_000_000, &scripts, &OPEN), 3),
+        Err(_) => false,
+    }
 }
 
 #[test]
-fn three_round_a_circle(rt: HostRuntime) -> Result<(), Fail> {
-    let scripts = ring(rt.alloc(), 3)?;
-    let drilled = drill(&rt, rt.alloc(), 1, 10_000_000, &scripts, &OPEN);
-    assert!(rt; is_ring(&drilled, 3));
-    Ok(())
+fn three_round_a_circle(rt: HostRuntime) {
+    assert!(rt; goes_round(&rt, rt.alloc()));
 }
 
 #[test]
-fn nothing_to_receive(rt: HostRuntime) -> Result<(), Fail> {
-    let scripts = waiting(rt.alloc())?;
-    assert!(rt; stops(&rt, rt.alloc(), &scripts, 0, 0, DrillWhy::WaitedOut));
-    Ok(())
+fn nothing_to_receive(rt: HostRuntime) {
+    assert!(rt; stops_in_vain(&rt, rt.alloc(), &waiting(rt.alloc()), 0));
 }
 
 #[test]
-fn no_slot_to_send(rt: HostRuntime) -> Result<(), Fail> {
-    let scripts = crowded(rt.alloc())?;
-    assert!(rt; stops(&rt, rt.alloc(), &scripts, 0, 1, DrillWhy::WaitedOut));
-    Ok(())
+fn no_slot_to_send(rt: HostRuntime) {
+    assert!(rt; stops_in_vain(&rt, rt.alloc(), &crowded(rt.alloc()), 1));
 }
 
 #[test]
-fn lowest_worker_is_named(rt: HostRuntime) -> Result<(), Fail> {
-    let scripts = both_waiting(rt.alloc())?;
-    assert!(rt; stops(&rt, rt.alloc(), &scripts, 0, 0, DrillWhy::WaitedOut));
-    Ok(())
+fn lowest_worker_is_named(rt: HostRuntime) {
+    assert!(rt; stops_in_vain(&rt, rt.alloc(), &both_waiting(rt.alloc()), 0));
 }
 
 #[test]
-fn no_such_process(rt: HostRuntime) -> Result<(), Fail> {
-    let scripts = second(rt.alloc(), send(2, 7)?)?;
-    assert!(rt; stops(&rt, rt.alloc(), &scripts, 1, 1, DrillWhy::NoSuchProcess));
-    Ok(())
+fn no_such_process(rt: HostRuntime) {
+    assert!(rt; stops_second(&rt, rt.alloc(), send(2, 7), DrillWhy::NoSuchProcess));
 }
 
 #[test]
-fn to_itself(rt: HostRuntime) -> Result<(), Fail> {
-    let scripts = second(rt.alloc(), receive(1)?)?;
-    assert!(rt; stops(&rt, rt.alloc(), &scripts, 1, 1, DrillWhy::ToSelf));
-    Ok(())
+fn to_itself(rt: HostRuntime) {
+    assert!(rt; stops_second(&rt, rt.alloc(), receive(1), DrillWhy::ToSelf));
+}
+
+/// Whether a check that is too long stops the second worker.
+fn stops_at_length<R: Threads + Wait + Sync>(rt: &R, alloc: Global) -> bool {
+    match check(alloc, &[7; 4_097]) {
+        Ok(order) => stops_second(rt, alloc, order, DrillWhy::StateTooLong),
+        Err(_) => false,
+    }
 }
 
 #[test]
-fn a_long_state(rt: HostRuntime) -> Result<(), Fail> {
-    let scripts = second(rt.alloc(), check(rt.alloc(), &[7; 4_097])?)?;
-    assert!(rt; stops(&rt, rt.alloc(), &scripts, 1, 1, DrillWhy::StateTooLong));
-    Ok(())
+fn a_long_state(rt: HostRuntime) {
+    assert!(rt; stops_at_length(&rt, rt.alloc()));
 }
 
 /// Whether a drill of so many workers without orders, at this capacity, is refused for that reason.
@@ -209,32 +255,35 @@ fn refuses<R: Threads + Wait + Sync>(
     n: u32,
     capacity: usize,
     why: DrillWhy,
-) -> Result<bool, Fail> {
-    let scripts = idle(alloc, n)?;
-    Ok(is_refused(&drill(rt, alloc, capacity, 1, &scripts, &OPEN), why))
+) -> bool {
+    match idle(alloc, n) {
+        Ok(scripts) => is_refused(&drill(rt, alloc, capacity, 1, &scripts, &OPEN), why),
+        Err(_) => false,
+    }
 }
 
 #[test]
-fn counts_of_scripts(rt: HostRuntime) -> Result<(), Fail> {
-    assert!(rt; refuses(&rt, rt.alloc(), 0, 1, DrillWhy::BadCount)?);
-    assert!(rt; refuses(&rt, rt.alloc(), 65, 1, DrillWhy::BadCount)?);
-    Ok(())
+fn counts_of_scripts(rt: HostRuntime) {
+    assert!(rt; refuses(&rt, rt.alloc(), 0, 1, DrillWhy::BadCount));
+    assert!(rt; refuses(&rt, rt.alloc(), 65, 1, DrillWhy::BadCount));
 }
 
 #[test]
-fn capacities(rt: HostRuntime) -> Result<(), Fail> {
-    assert!(rt; refuses(&rt, rt.alloc(), 1, 0, DrillWhy::BadCapacity)?);
-    assert!(rt; refuses(&rt, rt.alloc(), 1, 1_025, DrillWhy::BadCapacity)?);
-    Ok(())
+fn capacities(rt: HostRuntime) {
+    assert!(rt; refuses(&rt, rt.alloc(), 1, 0, DrillWhy::BadCapacity));
+    assert!(rt; refuses(&rt, rt.alloc(), 1, 1_025, DrillWhy::BadCapacity));
 }
 
 /// Whether a value reads so.
-fn reads<D: Display>(alloc: Global, value: &D, words: &str) -> Result<bool, AllocError> {
-    Ok(format!(in alloc; "{value}")?.as_str() == words)
+fn reads<D: Display + Drop>(alloc: Global, value: D, words: &str) -> bool {
+    match format!(in alloc; "{value}") {
+        Ok(text) => text.as_str() == words,
+        Err(_) => false,
+    }
 }
 
 #[test]
-fn faults_in_words(rt: HostRuntime) -> Result<(), Fail> {
+fn faults_in_words(rt: HostRuntime) {
     let waited = DrillError {
         worker: Some(1),
         order: Some(2),
@@ -246,8 +295,7 @@ fn faults_in_words(rt: HostRuntime) -> Result<(), Fail> {
         why: DrillWhy::NoThread,
     };
     let count = "the number of scripts is not from 1 to 64";
-    assert!(rt; reads(rt.alloc(), &waited, "worker 1 order 2: 30 WaitedOut")?);
-    assert!(rt; reads(rt.alloc(), &none, "39 NoThread")?);
-    assert!(rt; reads(rt.alloc(), &DrillWhy::BadCount, count)?);
-    Ok(())
+    assert!(rt; reads(rt.alloc(), waited, "worker 1 order 2: 30 WaitedOut"));
+    assert!(rt; reads(rt.alloc(), none, "39 NoThread"));
+    assert!(rt; reads(rt.alloc(), DrillWhy::BadCount, count));
 }
