@@ -25,6 +25,10 @@ use std::marker::Model;
 // takes but for the events is little beside them.
 const EVENTS_BETWEEN: usize = 4096;
 
+// How many events come for each message that the ledger keeps before it settles again, which asks
+// for each of them anew.
+const EVENTS_FOR_A_MESSAGE: usize = 2;
+
 // A ledger settles so many events later where events are added and no room is made. So who makes
 // room for each few events settles as room is made, and takes no memory as events are added.
 const EVENTS_LATER: usize = 16;
@@ -201,7 +205,8 @@ impl Ledger {
         move_places(&self.history, line, &mut self.places);
         self.starts = starts;
         self.left = kept;
-        let wait = self.left.len().saturating_add(EVENTS_BETWEEN);
+        let paid = self.left.len().saturating_mul(EVENTS_FOR_A_MESSAGE);
+        let wait = paid.saturating_add(EVENTS_BETWEEN);
         self.due = wait.saturating_add(EVENTS_LATER);
         self.credit = credit.saturating_add(wait);
     }
