@@ -91,7 +91,8 @@ pub fn candidates(
         AreCandidates history.now.processes line.now ends.now places.now left.now rows.items) }
 {
     let n = history.n();
-    let mut rows = empty_rows(alloc, n)?;
+    // As much room for each as what was kept takes, if all sent alike.
+    let mut rows = empty_rows(alloc, n, left.len() / n as usize)?;
     if are_none(ends) {
         return Ok(rows);
     }

@@ -27,13 +27,13 @@ impl Model for Numbers {
 }
 
 impl Numbers {
-    /// No number.
-    pub fn new(alloc: Global) -> Numbers
-        ensures { result ≡ [] }
+    /// No number, and room for so many.
+    pub fn with_capacity(alloc: Global, room: usize) -> Result<Numbers, AllocError>
+        ensures { IfOk result (λ numbers. numbers ≡ []) }
     {
-        Numbers {
-            numbers: Vec::new(alloc),
-        }
+        Ok(Numbers {
+            numbers: Vec::with_capacity(alloc, room)?,
+        })
     }
 
     /// The numbers.
@@ -60,13 +60,14 @@ impl Numbers {
     }
 }
 
-/// For each of `n` processes a row without a number.
-pub fn empty_rows(alloc: Global, n: u32) -> Result<Vec<Numbers>, AllocError>
+/// For each of `n` processes a row without a number, and with room for so many.
+pub fn empty_rows(alloc: Global, n: u32, room: usize) -> Result<Vec<Numbers>, AllocError>
     ensures { IfOk result (λ rows. rows.items ≡ replicate n []) }
 {
     let mut rows = Vec::with_capacity(alloc, n as usize)?;
     for _p in 0..n {
-        rows.push_reserved(Numbers::new(alloc));
+        let row = Numbers::with_capacity(alloc, room)?;
+        rows.push_reserved(row);
     }
     Ok(rows)
 }
