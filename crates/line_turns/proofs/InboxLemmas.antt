@@ -3,11 +3,11 @@ use Rattle.std.proofs.Common.{◌≡◌, ◌≢◌, ℕ, zero, suc, ◌+◌, ◌
 use denote.Ref.{Bor}
 use denote.Param.Members.{Mut}
 use Rattle.std.specs.Fn.{Called, ComputesKey}
-use Rattle.std.specs.Prelude.{◌==◌, ◌&&◌, AllPairs}
+use Rattle.std.specs.Prelude.{◌==◌, ◌&&◌, AllPairs, IsTrue}
 use Rattle.std.specs.List.{All, slice_range}
 use Rattle.std.specs.List.Sorted.{ties, IsNonDecreasingBy, IsPartitionPoint, IsStableByKey}
 use Rattle.std.specs.Ordering.{is_lt, nat_cmp}
-use Rattle.std.proofs.lemmas.Bool.{cases_lt, eq-eqb, leb-false, leb-true, ltb-false, ltb-true, ne_eqb}
+use Rattle.std.proofs.lemmas.Bool.{both_ways, cases_eq, cases_lt, eq-eqb, leb-false, leb-true, ltb-false, ltb-true, ne_eqb}
 use Rattle.std.proofs.lemmas.Bool.Decides.{nat_tests}
 use Rattle.std.proofs.lemmas.Fn.{always_returns_same}
 use Rattle.std.proofs.lemmas.List.{append-nil, length-take, length-drop, get_or-drop, get_or-take, get_or_default, take-append-drop}
@@ -15,7 +15,8 @@ use Rattle.std.proofs.lemmas.List.Elements.{All-head, All-push, All-tail, filter
 use Rattle.std.proofs.lemmas.List.Folds.{drop_split}
 use Rattle.std.proofs.lemmas.List.Quantifiers.{all_pairs_push}
 use Rattle.line_names.specs.declared.messages.MsgName.{MsgName}
-use Rattle.line_turns.specs.Inboxes.{held_for, messages_from, table_held, AreInboxes, InboxView, IsInbox}
+use Rattle.line_names.specs.Sets.{is_member}
+use Rattle.line_turns.specs.Inboxes.{held_for, messages_from, table_held, AreAmong, AreInboxes, InboxView, IsInbox}
 use Rattle.line_turns.specs.Tables.{between}
 use Rattle.line_turns.proofs.TableLemmas.{between-of, IsTable-of}
 
@@ -34,6 +35,28 @@ module _ {X : Type 0} (test : X → Bool) where
       ap (λ b. cond b (x ∷ filter test xs) (filter test xs))
       (All-head (λ y. test y ≡ true) x xs all)
       ∙ ap (λ (ys : List X). x ∷ ys) (filter-all xs (All-tail (λ y. test y ≡ true) x xs all))
+
+-- the sender of one message more is among those of a set with it
+pub among_more : (old new : List Bool) (messages : List MsgName) (i p : ℕ)
+    → ((k : ℕ) (d : MsgName) → k < i → IsTrue (is_member old (get_or messages k d).from))
+    → IsTrue (is_member new p) → ((q : ℕ) → q ≢ p → is_member new q ≡ is_member old q)
+    → ((d : MsgName) → (get_or messages i d).from ≡ p)
+    → (k : ℕ) (d : MsgName) → k < i + 1 → IsTrue (is_member new (get_or messages k d).from)
+among_more old new messages i p before member others own k d within =
+    elim (cases_eq (get_or messages k d).from p) [
+      | inl same ↦ ap (is_member new) same ∙ member
+      | inr apart ↦
+          let other : k ≢ i = λ e. apart (ap (λ (j : ℕ). (get_or messages j d).from) e ∙ own d) in
+          others (get_or messages k d).from apart ∙ before k d (omega (arith, within, other))
+    ]
+
+-- who is not among the senders sent none of them
+pub none_among : (set : List Bool) (messages : List MsgName) (p : ℕ) → AreAmong set messages
+    → is_member set p ≡ false → messages_from p messages ≡ []
+none_among set messages p among absent =
+    filter-none (λ (m : MsgName). m.from == p) messages (λ k d within.
+    ne_eqb (get_or messages k d).from p (λ e.
+    both_ways (is_member set p) absent (sym (ap (is_member set) e) ∙ among k d within)))
 
 -- neither of two numbers is less just where they are the same
 ties_at : (p q : ℕ) → (not (is_lt (nat_cmp p q)) && not (is_lt (nat_cmp q p))) ≡ (q == p)
@@ -154,6 +177,17 @@ inboxes_in_order inboxes ascend i j d l within = elim (cases_lt i j) [
   | inr above ↦ let same : i ≡ j =
       omega (arith, l, above) in omega (arith, ap (λ (k : ℕ). (get_or inboxes k d).to) same)
 ]
+
+-- the inbox of a process that stands at some place is the one that is found
+pub held_here : (inboxes : List InboxView) (place to : ℕ) (inbox : InboxView)
+    → AllPairs (λ (a b : InboxView). a.to < b.to) inboxes → place < length inboxes
+    → inbox ≡ get_or inboxes place inbox → inbox.to ≡ to → held_for inboxes to ≡ inbox.messages
+held_here inboxes place to inbox ascend within is same =
+    let own : (get_or inboxes place inbox).to ≡ to = ap (λ (i : InboxView). i.to) (sym is) ∙ same in
+    held_for-at inboxes place to inbox within
+    (λ k below e. let less = ascend k place inbox below within in
+    absurd (omega (arith, less, own, e))) own
+    ∙ ap (λ (i : InboxView). i.messages) (sym is)
 
 -- what a search finds at the place where the inboxes of the processes below end
 module _ (inboxes : List InboxView) (to place : ℕ)

@@ -1,9 +1,10 @@
 -- What is kept of a table of what is in transit: the messages by receiver, and of these by sender.
 use Rattle.std.specs.Prelude.{◌≡◌, ◌≢◌, ℕ, ◌<◌, Bool, ◌==◌, if◌then◌else◌, List, [], ◌∷◌}
-use Rattle.std.specs.Prelude.{All, AllPairs, length, filter, slice_index_or, Some}
+use Rattle.std.specs.Prelude.{All, AllPairs, IsTrue, length, filter, slice_index_or, Some}
 use Rattle.std.specs.List.Sorted.{IsNonDecreasingBy}
 use Rattle.std.specs.Option.{option_eq}
 use Rattle.line_names.specs.declared.messages.MsgName.{MsgName}
+use Rattle.line_names.specs.Sets.{is_member}
 use Rattle.line_tape.specs.History.{Process}
 use Rattle.line_tape.specs.Transit.{addressee}
 use Rattle.line_turns.specs.Tables.{table_of}
@@ -33,6 +34,10 @@ ComeBySender messages = IsNonDecreasingBy (λ (message : MsgName). message.from)
 -- all of the messages are from some of n processes
 abbrev pub AreFrom : ℕ → List MsgName → Type 0
 AreFrom n messages = All (λ (message : MsgName). message.from < n) messages
+
+-- the senders of the messages are among the processes of a set
+abbrev pub AreAmong : List Bool → List MsgName → Type 0
+AreAmong set messages = All (λ (message : MsgName). IsTrue (is_member set message.from)) messages
 
 -- an inbox that is kept of n processes: it has a message, and all by sender
 pub record IsInbox (n : ℕ) (inbox : InboxView) : Type 0 where

@@ -1,26 +1,39 @@
 //! What is in transit to one process.
 ghost use Rattle.std.specs.Prelude.{◌≡◌, ◌↔◌, ℕ, IfOk, IsTrue, length};
-ghost use Rattle.line_turns.specs.Inboxes.{messages_from, AreFrom, ComeBySender};
+ghost use Rattle.line_turns.specs.Inboxes.{messages_from, AreAmong, AreFrom, ComeBySender};
 
-use line_names::{MsgName, ProcId};
+use line_names::{MsgName, ProcId, ProcSet};
 use std::alloc::{AllocError, Global};
 use std::marker::Model;
+
+/// The senders of messages.
+fn senders_of(messages: &[MsgName]) -> ProcSet
+    ensures { AreAmong result messages.now }
+{
+    let mut senders = ProcSet::empty();
+    'each: for i in 0..messages.len() {
+        senders = senders.with(messages[i].from);
+    }
+    senders
+}
 
 /// What is in transit to one process, by sender, so that what one of them sent is a part of it.
 #[derive(Drop)]
 pub(crate) struct Inbox {
     to: ProcId,
+    /// The processes that sent something of it, so that others are passed over at a look.
+    senders: ProcSet,
     messages: Vec<MsgName>,
 }
 
 impl Model for Inbox {
-    ghost use Rattle.line_turns.specs.Inboxes.{ComeBySender, InboxView};
+    ghost use Rattle.line_turns.specs.Inboxes.{AreAmong, ComeBySender, InboxView};
 
     ghost Value = { InboxView };
 
     ghost view = { λ i. record { to = i.to; messages = i.messages.items } };
 
-    ghost invariant = { λ i. ComeBySender i.messages.items };
+    ghost invariant = { λ i. ComeBySender i.messages.items × AreAmong i.senders i.messages.items };
 }
 
 impl Inbox {
@@ -39,7 +52,12 @@ impl Inbox {
     {
         let mut messages = Vec::from_slice(alloc, messages)?;
         messages.sort_by_key(|message| message.from.get())?;
-        Ok(Inbox { to, messages })
+        let senders = senders_of(&messages);
+        Ok(Inbox {
+            to,
+            senders,
+            messages,
+        })
     }
 
     /// The process that they go to.
@@ -49,10 +67,13 @@ impl Inbox {
         self.to
     }
 
-    /// Those of one sender. It searches for them by halves.
+    /// Those of one sender. It searches for them by halves if there are any.
     pub(crate) fn from(&self, p: ProcId) -> &[MsgName]
         ensures { result.now ≡ messages_from p self.now.messages }
     {
+        if !self.senders.has(p) {
+            return &[];
+        }
         let messages = self.messages.as_slice();
         let start = messages.partition_point(|message| message.from.get() < p.get());
         let end = messages.partition_point(|message| message.from.get() <= p.get());

@@ -6,7 +6,7 @@ use Rattle.line_turns.proofs.channels.Channels.between.Goals as goal
 
 pub returns : goal.returns
 returns c =
-    c.held.ensures
+    c.held_at.ensures
     ∙ ap (λ (inboxes : List InboxView). messages_from c.args.from (held_for inboxes c.args.to))
     c.deref.ensures.value
     ∙ between_held c.self.inside.n c.self.inside.inboxes.items c.args.self.now c.args.from c.args.to

@@ -3,15 +3,21 @@ use Rattle.std.proofs.Common.{ℕ, leb, ltb, List, sym, ap, ◌∙◌, subst, ru
 use Rattle.std.proofs.lemmas.List.Sorted.{IsPartitionPoint-from_clause, IsPartitionedBy-leb, IsPartitionedBy-ltb}
 use Rattle.line_names.specs.declared.messages.MsgName.{MsgName}
 use Rattle.line_turns.specs.Inboxes.{messages_from, ComeBySender, InboxView}
-use Rattle.line_turns.proofs.InboxLemmas.{part_ascends, part_sent}
+use Rattle.line_turns.proofs.InboxLemmas.{none_among, part_ascends, part_sent}
 use Rattle.line_turns.proofs.inboxes.Inbox.from.Goals as goal
+
+pub returns-then-not-has : goal.returns-then-not-has
+returns-then-not-has c =
+    let none = none_among c.self.inside.senders c.self.inside.messages.items c.args.p
+    c.self.invariant.1 (search rules) in
+    sym none ∙ ap (λ (i : InboxView). messages_from c.args.p i.messages) c.self.view_is
 
 pub slice_bounds-result-count : goal.slice_bounds-result-count
 slice_bounds-result-count c =
     let messages : List MsgName = c.as_slice-messages.result.now in
     let p : ℕ = c.args.p in
     let by_sender : ComeBySender messages =
-    subst ComeBySender (sym c.as_slice-messages.ensures.value) c.self.invariant in
+    subst ComeBySender (sym c.as_slice-messages.ensures.value) c.self.invariant.0 in
     let first = IsPartitionPoint-from_clause (λ (m : MsgName). ltb m.from p) _ _
     c.partition_point-start.ensures.partitioned
     (IsPartitionedBy-ltb (λ (m : MsgName). m.from) messages p by_sender)
@@ -28,7 +34,7 @@ slice_bounds-result-start c =
     let messages : List MsgName = c.as_slice-messages.result.now in
     let p : ℕ = c.args.p in
     let by_sender : ComeBySender messages =
-    subst ComeBySender (sym c.as_slice-messages.ensures.value) c.self.invariant in
+    subst ComeBySender (sym c.as_slice-messages.ensures.value) c.self.invariant.0 in
     let first = IsPartitionPoint-from_clause (λ (m : MsgName). ltb m.from p) _ _
     c.partition_point-start.ensures.partitioned
     (IsPartitionedBy-ltb (λ (m : MsgName). m.from) messages p by_sender)
@@ -45,7 +51,7 @@ returns c =
     let messages : List MsgName = c.as_slice-messages.result.now in
     let p : ℕ = c.args.p in
     let by_sender : ComeBySender messages =
-    subst ComeBySender (sym c.as_slice-messages.ensures.value) c.self.invariant in
+    subst ComeBySender (sym c.as_slice-messages.ensures.value) c.self.invariant.0 in
     let first = IsPartitionPoint-from_clause (λ (m : MsgName). ltb m.from p) _ _
     c.partition_point-start.ensures.partitioned
     (IsPartitionedBy-ltb (λ (m : MsgName). m.from) messages p by_sender)
