@@ -60,21 +60,21 @@ repeated_marked n tape (x ∷ xs) from r h e = elim (cases_eq x.number r) [
 ]
 
 -- what the marker of a round does to what is recorded, where the tape has the check of it
-pub marked_by : (n me floor room more : ℕ) (tape : List Event) (rounds new : List RecordedRound) (from r : ℕ) (result : Result Effect MarkerError) → IsRecorded n floor tape rounds → from < n
+pub marked_by : (n me floor room : ℕ) (tape : List Event) (rounds new : List RecordedRound) (from r : ℕ) (result : Result Effect MarkerError) → IsRecorded n floor tape rounds → from < n
     → has_check_of r tape ≡ true → (result ≡ Err OutOfMemory → ⊥) → (IsErrOf result MarkerRepeated ↔ IsRepeated rounds from r)
-    → IfOk result (λ effect. effect ≡ effect_of (record { n = n; me = me; floor = floor; rounds = rounds; room = room; round_room = more }) r)
-    → IfOk result (λ effect. new ≡ rounds_after effect (record { n = n; me = me; floor = floor; rounds = rounds; room = room; round_room = more }) from r)
+    → IfOk result (λ effect. effect ≡ effect_of (record { n = n; me = me; floor = floor; rounds = rounds; room = room }) r)
+    → IfOk result (λ effect. new ≡ rounds_after effect (record { n = n; me = me; floor = floor; rounds = rounds; room = room }) from r)
     → OnErr result (new ≡ rounds) → new ≡ with_marker rounds from r
-marked_by n me floor room more tape rounds new from r (Err OutOfMemory) h lt t ample again effect after err = absurd (ample refl)
-marked_by n me floor room more tape rounds new from r (Err MarkerRepeated) h lt t ample again effect after err =
+marked_by n me floor room tape rounds new from r (Err OutOfMemory) h lt t ample again effect after err = absurd (ample refl)
+marked_by n me floor room tape rounds new from r (Err MarkerRepeated) h lt t ample again effect after err =
     err ∙ sym (marked-again n tape rounds from r lt h.each (repeated_marked n tape rounds from r h.each (again.0 refl)))
-marked_by n me floor room more tape rounds new from r (Ok Closed) h lt t ample again effect after err = after
-marked_by n me floor room more tape rounds new from r (Ok Ignored) h lt t ample again effect after err =
+marked_by n me floor room tape rounds new from r (Ok Closed) h lt t ample again effect after err = after
+marked_by n me floor room tape rounds new from r (Ok Ignored) h lt t ample again effect after err =
     after ∙ sym (elim (round_of rounds r) as (λ o. round_of rounds r ≡ o → with_marker rounds from r ≡ rounds) [
       | None ↦ λ e. marked-none rounds from r e
       | (Some x) ↦ λ e. (let f : Ignored ≡ Closed = effect ∙ ap (λ o. effect_by o (nat_lt (latest floor rounds) r)) e in cc f)
     ] refl)
-marked_by n me floor room more tape rounds new from r (Ok Forced) h lt t ample again effect after err =
+marked_by n me floor room tape rounds new from r (Ok Forced) h lt t ample again effect after err =
     let w = h.within r t in
     elim (round_of rounds r) as (λ o. round_of rounds r ≡ o → new ≡ with_marker rounds from r) [
       | None ↦ λ e. (let f : Forced ≡ Ignored = effect ∙ (ap (λ o. effect_by o (nat_lt (latest floor rounds) r)) e ∙ ap (λ b. effect_by None b) (le-ltb (latest floor rounds) r w)) in cc f)
@@ -82,12 +82,12 @@ marked_by n me floor room more tape rounds new from r (Ok Forced) h lt t ample a
     ] refl
 
 -- and where it has not, so that the check comes first
-pub forced_by : (n me floor room more : ℕ) (tape : List Event) (rounds new : List RecordedRound) (from r : ℕ) (state : List ℕ) (result : Result Effect MarkerError) → IsRecorded n floor tape rounds → from < n
+pub forced_by : (n me floor room : ℕ) (tape : List Event) (rounds new : List RecordedRound) (from r : ℕ) (state : List ℕ) (result : Result Effect MarkerError) → IsRecorded n floor tape rounds → from < n
     → has_check_of r tape ≡ false → (result ≡ Err OutOfMemory → ⊥) → (IsErrOf result MarkerRepeated ↔ IsRepeated rounds from r)
-    → IfOk result (λ effect. effect ≡ effect_of (record { n = n; me = me; floor = floor; rounds = rounds; room = room; round_room = more }) r)
-    → IfOk result (λ effect. new ≡ rounds_after effect (record { n = n; me = me; floor = floor; rounds = rounds; room = room; round_room = more }) from r)
+    → IfOk result (λ effect. effect ≡ effect_of (record { n = n; me = me; floor = floor; rounds = rounds; room = room }) r)
+    → IfOk result (λ effect. new ≡ rounds_after effect (record { n = n; me = me; floor = floor; rounds = rounds; room = room }) from r)
     → OnErr result (new ≡ rounds) → new ≡ with_marker (rounds_by n floor rounds (Check state (Some r))) from r
-forced_by n me floor room more tape rounds new from r state result h lt f ample again effect after err = by_result result ample again effect after err where
+forced_by n me floor room tape rounds new from r state result h lt f ample again effect after err = by_result result ample again effect after err where
   none : round_of rounds r ≡ None
   none = elim (round_of rounds r) as (λ o. round_of rounds r ≡ o → round_of rounds r ≡ None) [
     | None ↦ λ e. e
@@ -95,8 +95,8 @@ forced_by n me floor room more tape rounds new from r state result h lt f ample 
   ] refl
 
   by_result : (result : Result Effect MarkerError) → (result ≡ Err OutOfMemory → ⊥) → (IsErrOf result MarkerRepeated ↔ IsRepeated rounds from r)
-      → IfOk result (λ effect. effect ≡ effect_of (record { n = n; me = me; floor = floor; rounds = rounds; room = room; round_room = more }) r)
-      → IfOk result (λ effect. new ≡ rounds_after effect (record { n = n; me = me; floor = floor; rounds = rounds; room = room; round_room = more }) from r)
+      → IfOk result (λ effect. effect ≡ effect_of (record { n = n; me = me; floor = floor; rounds = rounds; room = room }) r)
+      → IfOk result (λ effect. new ≡ rounds_after effect (record { n = n; me = me; floor = floor; rounds = rounds; room = room }) from r)
       → OnErr result (new ≡ rounds) → new ≡ with_marker (rounds_by n floor rounds (Check state (Some r))) from r
   by_result (Err OutOfMemory) ample again effect after err = absurd (ample refl)
   by_result (Err MarkerRepeated) ample again effect after err = (let t = repeated_marked n tape rounds from r h.each (again.0 refl) in
@@ -154,14 +154,14 @@ pub heard_by_marker : (old new : MarkerView) (floor : ℕ) (tape : List Event) (
     → IfOk result (λ effect. effect ≡ effect_of old r) → IfOk result (λ effect. new.rounds ≡ rounds_after effect old from r) → OnErr result (new.rounds ≡ old.rounds)
     → new.rounds ≡ with_marker old.rounds from r
 heard_by_marker old new floor tape from r result h lt t ample again effect after err =
-    marked_by old.n old.me old.floor old.room old.round_room tape old.rounds new.rounds from r result (floor_moved old.n floor old.floor tape old.rounds h.0 h.1) lt t ample again effect after err
+    marked_by old.n old.me old.floor old.room tape old.rounds new.rounds from r result (floor_moved old.n floor old.floor tape old.rounds h.0 h.1) lt t ample again effect after err
 
 pub forced_by_marker : (old new : MarkerView) (floor : ℕ) (tape : List Event) (from r : ℕ) (state : List ℕ) (result : Result Effect MarkerError) → (old.floor ≡ floor) × IsRecorded old.n floor tape old.rounds → from < old.n
     → has_check_of r tape ≡ false → (result ≡ Err OutOfMemory → ⊥) → (IsErrOf result MarkerRepeated ↔ IsRepeated old.rounds from r)
     → IfOk result (λ effect. effect ≡ effect_of old r) → IfOk result (λ effect. new.rounds ≡ rounds_after effect old from r) → OnErr result (new.rounds ≡ old.rounds)
     → new.rounds ≡ with_marker (rounds_by old.n floor old.rounds (Check state (Some r))) from r
 forced_by_marker old new floor tape from r state result h lt f ample again effect after err =
-    forced_by old.n old.me old.floor old.room old.round_room tape old.rounds new.rounds from r state result (floor_moved old.n floor old.floor tape old.rounds h.0 h.1) lt f ample again effect after err
+    forced_by old.n old.me old.floor old.room tape old.rounds new.rounds from r state result (floor_moved old.n floor old.floor tape old.rounds h.0 h.1) lt f ample again effect after err
     ∙ ap (λ v. with_marker (rounds_by old.n v old.rounds (Check state (Some r))) from r) h.0
 
 -- a tape without rounds, of which nothing is recorded

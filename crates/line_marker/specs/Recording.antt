@@ -18,14 +18,13 @@ pub record RecordedRound : Type 0 where
   pub channels : List Channel
 
 -- what process `me` of `n` has recorded, rounds up to the floor being old; with room, the next call
--- takes no memory, and with room for a round, the next `begin` or `on_marker`
+-- takes no memory
 pub record MarkerView : Type 0 where
   pub n : ℕ
   pub me : ℕ
   pub floor : ℕ
   pub rounds : List RecordedRound
   pub room : ℕ
-  pub round_room : ℕ
 
 -- a channel on which nothing was noted, with no marker yet
 abbrev pub open_channel : Channel

@@ -1,7 +1,7 @@
 //! What one process has recorded.
 ghost use Rattle.std.specs.Prelude.{◌≡◌, ◌≢◌, ℕ, ◌<◌, ◌≤◌, ◌↔◌, [], length, map, slice_index_or};
 ghost use Rattle.std.specs.Prelude.{Some, None, MatchOption, IfOk, OnOk, OnErr, IsErrOf, IsOk};
-ghost use Rattle.std.specs.Prelude.{IsTrue, false};
+ghost use Rattle.std.specs.Prelude.{IsTrue};
 ghost use Rattle.line_marker.specs.Recording.{channel_at, effect_of, latest, messages_by};
 ghost use Rattle.line_marker.specs.Recording.{rounds_with_message};
 ghost use Rattle.line_marker.specs.Recording.{round_of, rounds_after, with_marker, with_round};
@@ -65,8 +65,6 @@ impl Model for Marker {
       rounds = map (recorded_of (names_of m.logs)) m.rounds.items;
       room = min (least_room m.logs)
           (min (vec_capacity m.rounds - vec_len m.rounds) (vec_capacity m.row + 1 - length m.logs));
-      round_room =
-          min (vec_capacity m.rounds - vec_len m.rounds) (vec_capacity m.row + 1 - length m.logs);
     } };
 
     ghost invariant = { λ m. (m.row.items ≡ [])
@@ -208,7 +206,6 @@ impl Marker {
         ensures err { OnErr result (self.new.rounds ≡ self.old.rounds) }
         ensures same { IsSameProcess self.old self.new }
         ensures room { 0 < self.old.room → IsOk result }
-        ensures round_room { 0 < self.old.round_room → IsOk result }
     {
         let n = self.logs.len();
         let place = self.rounds.len();
@@ -235,7 +232,6 @@ impl Marker {
         ensures not_new { IsErrOf result BeginError.RoundNotNew
             ↔ (round ≤ latest self.old.floor self.old.rounds) }
         ensures room { 0 < self.old.room → result ≢ Err BeginError.OutOfMemory }
-        ensures round_room { 0 < self.old.round_room → result ≢ Err BeginError.OutOfMemory }
     {
         if round <= self.latest() {
             return Err(BeginError::RoundNotNew);
@@ -259,7 +255,6 @@ impl Marker {
         ensures repeated { IsErrOf result MarkerError.MarkerRepeated
             ↔ IsRepeated self.old.rounds from round }
         ensures room { 0 < self.old.room → result ≢ Err MarkerError.OutOfMemory }
-        ensures round_room { 0 < self.old.round_room → result ≢ Err MarkerError.OutOfMemory }
     {
         match self.place(round) {
             Some(i) => {
@@ -277,32 +272,6 @@ impl Marker {
                 self.close(place, from);
                 Ok(Effect::Forced)
             }
-        }
-    }
-
-    /// The marker of a recorded round has come from another process: what `on_marker` does then. It
-    /// tells whether the marker is the first one from there; else, and where the round is not
-    /// recorded, nothing changes.
-    ///
-    /// It takes no memory, and so wants no room.
-    pub fn close_channel(&mut self, from: ProcId, round: u32) -> bool
-        requires { from < self.old.n }
-        ensures first { IsTrue result
-            ↔ MatchOption (round_of self.old.rounds round) ⊥
-            (λ (recorded : RecordedRound). (channel_at recorded from).is_closed ≡ false) }
-        ensures closed { IsTrue result → self.new.rounds ≡ with_marker self.old.rounds from round }
-        ensures unchanged { result ≡ false → self.new.rounds ≡ self.old.rounds }
-        ensures same { IsSameProcess self.old self.new }
-    {
-        match self.place(round) {
-            Some(at) => {
-                if self.has_marker(at, from) {
-                    return false;
-                }
-                self.close(at, from);
-                true
-            }
-            None => false,
         }
     }
 
@@ -357,25 +326,6 @@ impl Marker {
         }
     }
 
-    /// Makes room: the next call of `begin` or `on_marker` takes no memory. A further one may use
-    /// it up.
-    ///
-    /// It looks at no log of messages: who notes none before the next round makes room by this call
-    /// alone.
-    pub fn reserve_round(&mut self) -> Result<(), AllocError>
-        ensures rounds { self.new.rounds ≡ self.old.rounds }
-        ensures same { IsSameProcess self.old self.new }
-        ensures ok { OnOk result (0 < self.new.round_room) }
-        ensures succeeds { 0 < self.old.round_room → IsOk result }
-        ensures room { 0 < self.old.room → IsOk result }
-        ensures kept { (self.old.room ≤ self.new.room)
-            × (self.old.round_room ≤ self.new.round_room) }
-    {
-        let processes = self.logs.len();
-        self.row.reserve(processes)?;
-        self.rounds.reserve(1)
-    }
-
     /// Makes room: the next call of `begin`, `on_marker` or `note` takes no memory. A further one
     /// may use it up.
     pub fn reserve(&mut self) -> Result<(), AllocError>
@@ -384,9 +334,10 @@ impl Marker {
         ensures ok { OnOk result (0 < self.new.room) }
         ensures succeeds { 0 < self.old.room → IsOk result }
         ensures room { self.old.room ≤ self.new.room }
-        ensures round_room { self.old.round_room ≤ self.new.round_room }
     {
-        self.reserve_round()?;
+        let processes = self.logs.len();
+        self.row.reserve(processes)?;
+        self.rounds.reserve(1)?;
         self.logs.reserve()
     }
 }

@@ -29,7 +29,7 @@ pub record OpenView : Type 0 where
 
 -- what a process has recorded where there is none
 abbrev pub no_marker : MarkerView
-no_marker = record { n = 0; me = 0; floor = 0; rounds = []; room = 0; round_room = 0 }
+no_marker = record { n = 0; me = 0; floor = 0; rounds = []; room = 0 }
 
 -- what process q has recorded
 abbrev pub marker_at : List MarkerView → ℕ → MarkerView

@@ -130,7 +130,6 @@ impl Model for Recorder {
       floor = 0;
       rounds = rounds_noted r.round r.n r.closed r.noted.items;
       room = 0;
-      round_room = 0;
     } };
 
     ghost invariant = { λ r. IsUnheard r.round r.closed r.noted.items
