@@ -1,5 +1,5 @@
 -- What one process has recorded of one round, as each call leaves it.
-use Rattle.std.proofs.Common.{◌≡◌, ◌≢◌, ℕ, ◌<◌, Bool, true, false, cond, List, [], ◌∷◌, ◌++◌, length, get_or, set, map, replicate, Option, Some, None, refl, sym, ap, ◌∙◌, subst, arith, inl, inr}
+use Rattle.std.proofs.Common.{◌≡◌, ◌≢◌, ℕ, ◌<◌, Bool, true, false, cond, List, [], ◌∷◌, ◌++◌, ◌≤◌, length, get_or, set, map, replicate, Option, Some, None, refl, sym, ap, ◌∙◌, subst, arith, inl, inr}
 use Rattle.std.specs.Option.{unwrap_or}
 use Rattle.std.specs.Prelude.{IsTrue, MatchOption}
 use Rattle.std.specs.List.{range_with_len}
@@ -133,6 +133,15 @@ names_silent (Some s) r n p closed noted silent = elim (cases_eq s r) [
         ∙ ap (λ (c : Channel). c.messages) (get_or_past (channels n closed noted) p open_channel (omega (arith, past, length-map-range_with_len (channel_noted closed noted) 0 n)))
   ]
   | inr apart ↦ names_elsewhere s r n p closed noted apart
+]
+
+-- and where nothing is told of any channel, nothing was noted
+pub told_silent : (round : Option ℕ) (n : ℕ) (closed : List Bool) (noted : List (List MsgName)) → IsUnheard round closed noted → length noted ≤ n
+    → ((r p : ℕ) → unwrap_or (messages_by (round_of (rounds_noted round n closed noted) r) p) [] ≡ []) → (q : ℕ) → get_or noted q [] ≡ []
+told_silent None n closed noted unheard few silent q = ap (λ (ns : List (List MsgName)). get_or ns q []) unheard.0 ∙ get_or_past [] q [] (omega arith)
+told_silent (Some s) n closed noted unheard few silent q = elim (cases_lt q n) [
+  | inl within ↦ sym (names_here s s n q closed noted refl within) ∙ silent s q
+  | inr past ↦ get_or_past noted q [] (omega (arith, past, few))
 ]
 
 -- what a test asks of the round that is recorded

@@ -30,6 +30,7 @@ impl Model for Noted {
 fn make_list(alloc: Global, noted: &mut Vec<Noted>, from: ProcId) -> Result<(), AllocError>
     ensures same { (q : ℕ)
         → slice_index_or noted.new.items q [] ≡ slice_index_or noted.old.items q [] }
+    ensures few { (n : ℕ) → from < n → length noted.old.items ≤ n → length noted.new.items ≤ n }
     ensures ok { OnOk result (from < length noted.new.items) }
 {
     for _q in noted.len()..from.get() as usize + 1 {
@@ -47,6 +48,8 @@ fn put(alloc: Global, noted: &mut Vec<Noted>, message: MsgName) -> Result<(), Al
         ≡ slice_index_or noted.old.items message.from [] ++ message ∷ []) }
     ensures others { (q : ℕ) → q ≢ message.from
         → slice_index_or noted.new.items q [] ≡ slice_index_or noted.old.items q [] }
+    ensures few { (n : ℕ) → message.from < n → length noted.old.items ≤ n
+        → length noted.new.items ≤ n }
     ensures err { OnErr result
         (slice_index_or noted.new.items message.from []
         ≡ slice_index_or noted.old.items message.from []) }
@@ -69,7 +72,7 @@ fn names_of(noted: &[Noted], from: ProcId) -> &[MsgName]
 
 /// Whether no message is noted. It looks at each list.
 fn are_empty(noted: &[Noted]) -> bool
-    ensures { result ≡ true → (q : ℕ) → slice_index_or noted.now q [] ≡ [] }
+    ensures { IsTrue result ↔ ((q : ℕ) → slice_index_or noted.now q [] ≡ []) }
 {
     'each: for q in 0..noted.len() {
         let own = &noted[q];
@@ -117,7 +120,7 @@ pub(crate) struct Recorder {
 const _: () = prove!(size_of::<Recorder>() == 72);
 
 impl Model for Recorder {
-    ghost use Rattle.std.specs.Prelude.{◌≤◌};
+    ghost use Rattle.std.specs.Prelude.{◌≤◌, length};
     ghost use Rattle.line_names.specs.declared.limits.TheConstants.{MOST_PROCESSES};
     ghost use Rattle.line_marker.specs.Recording.{MarkerView};
     ghost use Rattle.line_moves.specs.Recorders.{rounds_noted, IsUnheard};
@@ -133,7 +136,7 @@ impl Model for Recorder {
     } };
 
     ghost invariant = { λ r. IsUnheard r.round r.closed r.noted.items
-        × (r.n ≤ MOST_PROCESSES) };
+        × (r.n ≤ MOST_PROCESSES) × (length r.noted.items ≤ r.n) };
 }
 
 impl Recorder {
@@ -247,8 +250,8 @@ impl Recorder {
 
     /// Whether no channel has a message. It looks at the lists that there are.
     pub(crate) fn is_silent(&self) -> bool
-        ensures { result ≡ true → (round p : ℕ)
-            → unwrap_or (messages_by (round_of self.now.rounds round) p) [] ≡ [] }
+        ensures { IsTrue result ↔ ((round p : ℕ)
+            → unwrap_or (messages_by (round_of self.now.rounds round) p) [] ≡ []) }
     {
         are_empty(&self.noted)
     }
