@@ -1,12 +1,14 @@
 -- What is left of the markers of a round once those are out that recorded nothing.
-use Rattle.std.proofs.Common.{◌≡◌, ◌≢◌, ℕ, zero, suc, ◌+◌, ◌<◌, ◌≤◌, cond, List, [], ◌∷◌, length, refl, sym, ap, ◌∙◌, subst, arith, inl, inr}
+use Rattle.std.proofs.Common.{◌≡◌, ◌≢◌, ℕ, zero, suc, ◌+◌, ◌<◌, ◌≤◌, true, false, cond, ltb, List, [], ◌∷◌, length, get_or, refl, sym, ap, ◌∙◌, subst, arith, inl, inr}
 use Rattle.std.specs.Prelude.{All, remove}
+use Rattle.std.specs.List.Sorted.{IsNonDecreasingBy, IsPartitionPoint}
 use Rattle.std.specs.Option.{unwrap_or}
-use Rattle.std.proofs.lemmas.Bool.{cases_eq, eq-eqb, ne_eqb}
+use Rattle.std.proofs.lemmas.Bool.{cases_eq, cases_lt, eq-eqb, ltb-false, ltb-true, ne_eqb}
+use Rattle.std.proofs.lemmas.List.{get_or_default}
 use Rattle.std.proofs.lemmas.List.Elements.{All-nil, All-cons, All-head, All-tail}
 use Rattle.line_marker.specs.Recording.{MarkerView, messages_by, round_of}
 use Rattle.line_names.specs.declared.messages.MsgName.{MsgName}
-use Rattle.line_moves.specs.Openings.{kept_channel, marker_at, marker_of, no_marker, recorded_channel, AreMarkers}
+use Rattle.line_moves.specs.Openings.{kept_channel, marker_at, marker_of, no_marker, recorded_channel, AreByProcess, AreMarkers}
 
 -- the markers are of later and later processes, the first of them of this one or a later one
 abbrev pub Ascend : ℕ → List MarkerView → Type 0
@@ -16,6 +18,27 @@ Ascend low (marker ∷ rest) = (low ≤ marker.me) × Ascend (suc marker.me) res
 Ascend-weaker : (low least : ℕ) (markers : List MarkerView) → least ≤ low → Ascend low markers → Ascend least markers
 Ascend-weaker low least [] most is = tt
 Ascend-weaker low least (marker ∷ rest) most is = (omega (arith, most, is.0), is.1)
+
+-- so they stand by process
+least : (low : ℕ) (markers : List MarkerView) → Ascend low markers → (i : ℕ) (d : MarkerView) → i < length markers → low ≤ (get_or markers i d).me
+least low [] is i d within = absurd (omega (arith, within))
+least low (marker ∷ rest) is zero d within = is.0
+least low (marker ∷ rest) is (suc i) d within =
+    let above = least (suc marker.me) rest is.1 i d (omega (arith, within)) in
+    omega (arith, above, is.0)
+
+pub by_process : (low : ℕ) (markers : List MarkerView) → Ascend low markers → AreByProcess markers
+by_process low [] is i j d less within = absurd (omega (arith, within))
+by_process low (marker ∷ rest) is zero zero d less within = absurd (omega (arith, less))
+by_process low (marker ∷ rest) is zero (suc j) d less within = least (suc marker.me) rest is.1 j d (omega (arith, within))
+by_process low (marker ∷ rest) is (suc i) zero d less within = absurd (omega (arith, less))
+by_process low (marker ∷ rest) is (suc i) (suc j) d less within = by_process (suc marker.me) rest is.1 i j d (omega (arith, less)) (omega (arith, within))
+
+pub in_order : (markers : List MarkerView) → AreByProcess markers → IsNonDecreasingBy (λ (marker : MarkerView). marker.me) markers
+in_order markers ascend i j d le within = elim (cases_lt i j) [
+  | inl less ↦ let more = ascend i j d less within in omega (arith, more)
+  | inr past ↦ let same : i ≡ j = omega (arith, le, past) in omega (arith, ap (λ (k : ℕ). (get_or markers k d).me) same)
+]
 
 -- so none is of an earlier one
 none_before : (low q : ℕ) (markers : List MarkerView) → q < low → Ascend low markers → marker_of markers q ≡ no_marker
@@ -50,6 +73,34 @@ found_nowhere [] q none = refl
 found_nowhere (marker ∷ rest) q none =
     ap (λ b. cond b marker (marker_of rest q)) (ne_eqb marker.me q (none 0 (omega arith)))
     ∙ found_nowhere rest q (λ k within. none (suc k) (omega (arith, within)))
+
+-- what a search finds at the place where those of the processes before end
+module _ (markers : List MarkerView) (to place : ℕ)
+    (point : IsPartitionPoint (λ (marker : MarkerView). ltb marker.me to ≡ true) (λ (marker : MarkerView). ltb marker.me to ≡ false) markers place) where
+  before_place : (k : ℕ) → k < place → (marker_at markers k).me < to
+  before_place k below = ltb-true (marker_at markers k).me to (point.0 k no_marker (omega arith) below)
+
+  module _ (marker : MarkerView) (within : place < length markers) (is : marker ≡ get_or markers place marker) where
+    own : marker ≡ marker_at markers place
+    own = is ∙ get_or_default markers place marker no_marker within
+
+    pub search_found : marker.me ≡ to → marker_of markers to ≡ marker
+    search_found same =
+        found_at markers place to within (λ k below e. absurd (omega (arith, before_place k below, e))) (ap (λ (m : MarkerView). m.me) (sym own) ∙ same)
+        ∙ sym own
+
+    pub search_lost : AreByProcess markers → marker.me ≢ to → marker_of markers to ≡ no_marker
+    search_lost ascend other = found_nowhere markers to (λ k k_within. elim (cases_lt k place) [
+      | inl below ↦ λ e. absurd (omega (arith, before_place k below, e))
+      | inr above ↦
+          let here : marker.me ≡ (marker_at markers place).me = ap (λ (m : MarkerView). m.me) own in
+          let high = ltb-false (marker_at markers place).me to (point.1 place no_marker (omega arith) within) in
+          let behind = in_order markers ascend place k no_marker above k_within in
+          λ e. absurd (other (omega (arith, here, high, behind, e)))
+    ])
+
+  pub search_past : length markers ≤ place → marker_of markers to ≡ no_marker
+  search_past past = found_nowhere markers to (λ k k_within e. absurd (omega (arith, before_place k (omega (arith, k_within, past)), e)))
 
 -- of the markers of all processes each is found at its place
 pub found_all : (n r p q : ℕ) (markers : List MarkerView) → AreMarkers n markers → q < n → kept_channel markers r p q ≡ recorded_channel markers r p q

@@ -3,7 +3,7 @@ use Rattle.std.specs.Option.{unwrap_or}
 use Rattle.std.specs.List.{count_by, sum_by}
 use Rattle.std.specs.Prelude.{◌≡◌, ◌≢◌, ◌==◌, ℕ, suc, ◌<◌, ◌≤◌, ◌+◌, ◌-◌, ◌*◌, Bool, true, false}
 use Rattle.std.specs.Prelude.{if◌then◌else◌, List, [], ◌∷◌, ◌++◌, length, slice_index_or, Option}
-use Rattle.std.specs.Prelude.{Some, None, All}
+use Rattle.std.specs.Prelude.{Some, None, All, AllPairs}
 use Rattle.line_marker.specs.Recording.{Channel, MarkerView, RecordedRound, channel_at, messages_by}
 use Rattle.line_marker.specs.Recording.{round_of}
 use Rattle.line_names.specs.declared.choices.Choice.{Choice}
@@ -207,10 +207,15 @@ abbrev pub channels_kept : Option (List (List (List MsgName))) → ℕ → List 
 channels_kept None n markers r = recorded_table n markers r
 channels_kept (Some table) n markers r = channel_table n (between table)
 
+-- what processes recorded, by process
+abbrev pub AreByProcess : List MarkerView → Type 0
+AreByProcess markers = AllPairs (λ (a b : MarkerView). a.me < b.me) markers
+
 -- they are there for each two of n processes; what was recorded is of n processes, and may be left
 -- out where nothing was
 abbrev pub AreChannels : Option (List (List (List MsgName))) → ℕ → List MarkerView → Type 0
-AreChannels None n markers = All (λ (marker : MarkerView). marker.n ≡ n) markers
+AreChannels None n markers =
+    All (λ (marker : MarkerView). marker.n ≡ n) markers × AreByProcess markers
 AreChannels (Some table) n markers = IsTable n table
 
 -- a table of channels has, from each process to each other, what is in transit at a line

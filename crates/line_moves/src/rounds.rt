@@ -13,7 +13,8 @@ ghost use Rattle.line_moves.specs.Listings.{IsBelow};
 ghost use Rattle.line_marker.specs.Recording.{MarkerView, messages_by, round_of};
 ghost use Rattle.std.specs.Option.{unwrap_or};
 ghost use Rattle.line_moves.specs.Openings.{kept_channel, recorded_channel, recording_of};
-ghost use Rattle.line_moves.specs.Openings.{AreFoundAt, AreInTransit, AreMarkers, IsRecording};
+ghost use Rattle.line_moves.specs.Openings.{AreByProcess, AreFoundAt, AreInTransit, AreMarkers};
+ghost use Rattle.line_moves.specs.Openings.{IsRecording};
 
 use crate::recorders::Recorder;
 use line_names::{Choice, Line, MOST_PROCESSES, MsgName, ProcId};
@@ -189,19 +190,23 @@ impl Round {
 }
 
 /// What process `to` recorded of the channel from process `from` in a round; nothing if it is not
-/// among these. It looks for it from the first on.
+/// among these. It searches for it by halves.
 fn recorded(markers: &[Recorder], round: u32, from: ProcId, to: ProcId) -> &[MsgName]
-    requires { All (λ (marker : MarkerView). from < marker.n) markers.now }
+    requires from { All (λ (marker : MarkerView). from < marker.n) markers.now }
+    requires ascend { AreByProcess markers.now }
     ensures { result.now ≡ kept_channel markers.now round from to }
 {
-    let count = markers.len();
-    'each: for i in 0..count {
-        let marker = &markers[i];
-        if marker.me().get() == to.get() {
-            return marker.names(from, round);
+    let place = markers.partition_point(|marker| marker.me().get() < to.get());
+    match markers.get(place) {
+        Some(marker) => {
+            if marker.me().get() == to.get() {
+                marker.names(from, round)
+            } else {
+                &[]
+            }
         }
+        None => &[],
     }
-    &[]
 }
 
 /// What was recorded of a round, without the processes that nothing was on a channel to. It takes
@@ -210,6 +215,7 @@ fn without_silence(alloc: Global, n: u32, markers: Vec<Recorder>, round: u32) ->
     requires few { n ≤ MOST_PROCESSES }
     requires markers { AreMarkers n markers.items }
     ensures n { All (λ (marker : MarkerView). marker.n ≡ n) result.items }
+    ensures ascend { AreByProcess result.items }
     ensures same { (p q : ℕ) → p < n → q < n
         → kept_channel result.items round p q ≡ recorded_channel markers.items round p q }
 {

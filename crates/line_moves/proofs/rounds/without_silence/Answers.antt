@@ -4,7 +4,7 @@ use Rattle.std.specs.Prelude.{All, remove}
 use Rattle.std.proofs.lemmas.List.{get_or_default}
 use Rattle.line_marker.specs.Recording.{MarkerView}
 use Rattle.line_moves.specs.Openings.{kept_channel, marker_at, no_marker}
-use Rattle.line_moves.proofs.KeptMarkers.{aligned_ascend, found_all, kept_removed, told, All-removed, Ascend, Ascend-removed}
+use Rattle.line_moves.proofs.KeptMarkers.{aligned_ascend, by_process, found_all, kept_removed, told, All-removed, Ascend, Ascend-removed}
 use Rattle.line_moves.proofs.rounds.without_silence.Goals as goal
 
 pub each-init : goal.each-init
@@ -28,6 +28,9 @@ each-preserved-then-is_silent c =
       subst (Ascend 0) (sym removed) (Ascend-removed 0 old q c.each.invariant.2),
       λ p to p_within to_within.
           ap (λ (ms : List MarkerView). kept_channel ms c.args.round p to) removed
-          ∙ kept_removed c.args.round p to 0 old q c.each.invariant.2 within (ap (told c.args.round p to) (sym own) ∙ c.is_silent.ensures c.if-is_silent.true c.args.round p)
+          ∙ kept_removed c.args.round p to 0 old q c.each.invariant.2 within (ap (told c.args.round p to) (sym own) ∙ c.is_silent.ensures.0 c.if-is_silent.true c.args.round p)
           ∙ c.each.invariant.3 p to p_within to_within,
     )
+
+pub returns-clause-ascend : goal.returns-clause-ascend
+returns-clause-ascend c = by_process 0 c.each.kept.items c.each.invariant.2

@@ -1,11 +1,11 @@
 -- What its receiver has recorded of it, or what was counted.
-use Rattle.std.proofs.Common.{◌≡◌, ◌<◌, ℕ, List, [], length, get_or, Option, sym, ap, ◌∙◌, subst, arith}
+use Rattle.std.proofs.Common.{◌≡◌, ◌<◌, ℕ, List, [], length, get_or, Option, None, sym, ap, ◌∙◌, subst, arith}
 use Rattle.std.specs.Prelude.{All}
 use Rattle.line_marker.specs.Recording.{MarkerView}
 use Rattle.line_names.specs.declared.messages.MsgName.{MsgName}
 use Rattle.line_turns.specs.Tables.{between}
 use Rattle.line_moves.specs.Listed.{ListedRound, channel_in}
-use Rattle.line_moves.specs.Openings.{channels_kept, kept_channel, AreChannels}
+use Rattle.line_moves.specs.Openings.{channels_kept, kept_channel, AreByProcess, AreChannels}
 use Rattle.line_moves.proofs.OpeningLemmas.{table_cell}
 use Rattle.line_moves.proofs.rounds.Round.channel.Goals as goal
 
@@ -21,14 +21,21 @@ returns-in-Some c =
     ∙ ap kept (sym c.in-Some.is)
     ∙ ap (λ (v : ListedRound). channel_in v c.args.from c.args.to) c.self.view_is
 
-pub recorded-requires : goal.recorded-requires
-recorded-requires c = λ k d within.
+pub recorded-requires-clause-from : goal.recorded-requires-clause-from
+recorded-requires-clause-from c = λ k d within.
     let markers : List MarkerView = c.self.inside.markers.items in
     let indices : List ℕ = c.self.inside.checks.items in
     let count : length indices ≡ length c.args.self.now.checks = ap (λ (v : ListedRound). length v.checks) c.self.view_is in
-    let are : All (λ (marker : MarkerView). marker.n ≡ length indices) markers = subst (λ (o : Option (List (List (List MsgName)))). AreChannels o (length indices) markers) c.in-None.is c.self.invariant in
-    let all : All (λ (marker : MarkerView). c.args.from < marker.n) markers = λ i e i_within. omega (arith, c.requires.from, count, are i e i_within) in
+    let are : AreChannels None (length indices) markers = subst (λ (o : Option (List (List (List MsgName)))). AreChannels o (length indices) markers) c.in-None.is c.self.invariant in
+    let all : All (λ (marker : MarkerView). c.args.from < marker.n) markers = λ i e i_within. omega (arith, c.requires.from, count, are.0 i e i_within) in
     subst (λ (ms : List MarkerView). All (λ (marker : MarkerView). c.args.from < marker.n) ms) (sym c.deref.ensures.value) all k d within
+
+pub recorded-requires-clause-ascend : goal.recorded-requires-clause-ascend
+recorded-requires-clause-ascend c =
+    let markers : List MarkerView = c.self.inside.markers.items in
+    let indices : List ℕ = c.self.inside.checks.items in
+    let are : AreChannels None (length indices) markers = subst (λ (o : Option (List (List (List MsgName)))). AreChannels o (length indices) markers) c.in-None.is c.self.invariant in
+    subst AreByProcess (sym c.deref.ensures.value) are.1
 
 pub returns-in-None : goal.returns-in-None
 returns-in-None c =

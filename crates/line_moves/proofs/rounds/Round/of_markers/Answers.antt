@@ -28,5 +28,7 @@ returns c =
     told ∙ completed_is history c.args.turning markers kept c.requires.markers c.requires.recording c.requires.completed same
 
 pub invariant_of-result : goal.invariant_of-result
-invariant_of-result c = λ k d within.
-    c.without_silence-markers.ensures.n k d within ∙ c.n-n.ensures.value ∙ sym c.requires.recording.turning.count ∙ sym (ap (λ (v : List ℕ). length v) c.into_checks.ensures)
+invariant_of-result c = (
+      λ k d within. c.without_silence-markers.ensures.n k d within ∙ c.n-n.ensures.value ∙ sym c.requires.recording.turning.count ∙ sym (ap (λ (v : List ℕ). length v) c.into_checks.ensures),
+      c.without_silence-markers.ensures.ascend,
+    )
