@@ -4,7 +4,7 @@ ghost use Rattle.line_tape.specs.History.{tape_at};
 ghost use Rattle.line_moves.specs.declared.modes.Mode.TheVariants.{Unordered};
 ghost use Rattle.line_world.specs.declared.steps.Step.TheVariants.{Send, Check, Begin, Turn};
 ghost use Rattle.line_world.specs.Refusals.{first_cause, link_causes, may_turn, refusal_of};
-ghost use Rattle.line_world.specs.Refusals.{has_stranger, is_bad_pick, is_full};
+ghost use Rattle.line_world.specs.Refusals.{has_stranger, is_bad_pick};
 ghost use Rattle.line_world.specs.Machine.{is_open, items_on};
 
 use super::World;
@@ -24,15 +24,6 @@ pub(super) fn lacks_room(history: &History, p: ProcId, events: usize) -> bool
 }
 
 impl World {
-    /// Whether the tape of a process has no room for so many events.
-    fn is_full(&self, p: ProcId, events: usize) -> bool
-        requires process { p < length self.now.history }
-        requires few { events ≤ MOST_EVENTS }
-        ensures { result ≡ is_full self.now p events }
-    {
-        lacks_room(self.catalogue.history(), p, events)
-    }
-
     /// Why a process may not send to another now.
     pub(super) fn send_refusal(&self, from: ProcId, to: ProcId) -> Option<StepError>
         ensures { (body : List ℕ) → result ≡ refusal_of self.now (Send from to body) }
@@ -44,7 +35,7 @@ impl World {
         if from == to {
             return Some(StepError::ToSelf);
         }
-        if self.is_full(from, 1) {
+        if lacks_room(self.catalogue.history(), from, 1) {
             return Some(StepError::TapeFull);
         }
         None
@@ -102,7 +93,7 @@ impl World {
         if state.len() > MOST_STATE {
             return Some(StepError::StateTooLong);
         }
-        if self.is_full(at, 1) {
+        if lacks_room(self.catalogue.history(), at, 1) {
             return Some(StepError::TapeFull);
         }
         None
@@ -131,7 +122,7 @@ impl World {
         if self.last_round >= LAST_ROUND {
             return Some(StepError::NoMoreRounds);
         }
-        if self.is_full(at, 1) {
+        if lacks_room(self.catalogue.history(), at, 1) {
             return Some(StepError::TapeFull);
         }
         None
@@ -168,7 +159,7 @@ impl World {
         if !self.may_turn(at) {
             return Some(StepError::NothingToTurn);
         }
-        if self.is_full(at, 1) {
+        if lacks_room(self.catalogue.history(), at, 1) {
             return Some(StepError::TapeFull);
         }
         None
