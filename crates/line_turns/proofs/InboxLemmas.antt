@@ -16,7 +16,7 @@ use Rattle.std.proofs.lemmas.List.Folds.{drop_split}
 use Rattle.std.proofs.lemmas.List.Quantifiers.{all_pairs_push}
 use Rattle.line_names.specs.declared.messages.MsgName.{MsgName}
 use Rattle.line_names.specs.Sets.{is_member}
-use Rattle.line_turns.specs.Inboxes.{held_for, messages_from, table_held, AreAmong, AreInboxes, InboxView, IsInbox}
+use Rattle.line_turns.specs.Inboxes.{held_for, messages_from, table_held, AreSentBy, AreInboxes, InboxView, IsInbox}
 use Rattle.line_turns.specs.Tables.{between}
 use Rattle.line_turns.proofs.TableLemmas.{between-of, IsTable-of}
 
@@ -51,7 +51,7 @@ among_more old new messages i p before member others own k d within =
     ]
 
 -- who is not among the senders sent none of them
-pub none_among : (set : List Bool) (messages : List MsgName) (p : ℕ) → AreAmong set messages
+pub none_among : (set : List Bool) (messages : List MsgName) (p : ℕ) → AreSentBy set messages
     → is_member set p ≡ false → messages_from p messages ≡ []
 none_among set messages p among absent =
     filter-none (λ (m : MsgName). m.from == p) messages (λ k d within.

@@ -35,9 +35,9 @@ ComeBySender messages = IsNonDecreasingBy (λ (message : MsgName). message.from)
 abbrev pub AreFrom : ℕ → List MsgName → Type 0
 AreFrom n messages = All (λ (message : MsgName). message.from < n) messages
 
--- the senders of the messages are among the processes of a set
-abbrev pub AreAmong : List Bool → List MsgName → Type 0
-AreAmong set messages = All (λ (message : MsgName). IsTrue (is_member set message.from)) messages
+-- all of the messages are sent by processes of a set
+abbrev pub AreSentBy : List Bool → List MsgName → Type 0
+AreSentBy set messages = All (λ (message : MsgName). IsTrue (is_member set message.from)) messages
 
 -- an inbox that is kept of n processes: it has a message, and all by sender
 pub record IsInbox (n : ℕ) (inbox : InboxView) : Type 0 where

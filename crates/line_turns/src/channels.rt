@@ -77,7 +77,7 @@ fn held(inboxes: &[Inbox], from: ProcId, to: ProcId) -> &[MsgName]
     }
 }
 
-/// What process `from` sent of what is in the inbox of process `to`. It looks first where that inbox
+/// What process `from` sent of what is in the inbox of process `to`. It looks first where the inbox
 /// stands if each process before has one.
 fn held_at(inboxes: &[Inbox], from: ProcId, to: ProcId) -> &[MsgName]
     requires { AllPairs (λ (a b : InboxView). a.to < b.to) inboxes.now }

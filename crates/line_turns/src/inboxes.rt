@@ -1,6 +1,6 @@
 //! What is in transit to one process.
 ghost use Rattle.std.specs.Prelude.{◌≡◌, ◌↔◌, ℕ, IfOk, IsTrue, length};
-ghost use Rattle.line_turns.specs.Inboxes.{messages_from, AreAmong, AreFrom, ComeBySender};
+ghost use Rattle.line_turns.specs.Inboxes.{messages_from, AreSentBy, AreFrom, ComeBySender};
 
 use line_names::{MsgName, ProcId, ProcSet};
 use std::alloc::{AllocError, Global};
@@ -8,7 +8,7 @@ use std::marker::Model;
 
 /// The senders of messages.
 fn senders_of(messages: &[MsgName]) -> ProcSet
-    ensures { AreAmong result messages.now }
+    ensures { AreSentBy result messages.now }
 {
     let mut senders = ProcSet::empty();
     'each: for i in 0..messages.len() {
@@ -27,13 +27,13 @@ pub(crate) struct Inbox {
 }
 
 impl Model for Inbox {
-    ghost use Rattle.line_turns.specs.Inboxes.{AreAmong, ComeBySender, InboxView};
+    ghost use Rattle.line_turns.specs.Inboxes.{AreSentBy, ComeBySender, InboxView};
 
     ghost Value = { InboxView };
 
     ghost view = { λ i. record { to = i.to; messages = i.messages.items } };
 
-    ghost invariant = { λ i. ComeBySender i.messages.items × AreAmong i.senders i.messages.items };
+    ghost invariant = { λ i. ComeBySender i.messages.items × AreSentBy i.senders i.messages.items };
 }
 
 impl Inbox {

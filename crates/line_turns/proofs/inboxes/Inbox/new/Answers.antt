@@ -2,7 +2,7 @@
 use Rattle.std.proofs.Common.{◌<◌, ◌∙◌, sym, ap, subst, rules}
 use Rattle.std.proofs.lemmas.List.Sorted.{All-permutation, IsNonDecreasingBy-from_sort_by_key}
 use Rattle.line_names.specs.declared.messages.MsgName.{MsgName}
-use Rattle.line_turns.specs.Inboxes.{messages_from, AreAmong, AreFrom}
+use Rattle.line_turns.specs.Inboxes.{messages_from, AreSentBy, AreFrom}
 use Rattle.line_turns.proofs.InboxLemmas.{stable_sent}
 use Rattle.line_turns.proofs.inboxes.Inbox.new.Goals as goal
 
@@ -10,7 +10,7 @@ pub invariant_of-result : goal.invariant_of-result
 invariant_of-result c = (
       IsNonDecreasingBy-from_sort_by_key (λ (m : MsgName). m.from) _
           c.in_ok-sort_by_key.ensures.sorted (λ a r q k. search rules),
-      subst (AreAmong c.senders_of-senders.result) c.deref.ensures.value
+      subst (AreSentBy c.senders_of-senders.result) c.deref.ensures.value
           c.senders_of-senders.ensures,
     )
 
