@@ -1,6 +1,6 @@
 //! What is in transit to one process.
 ghost use Rattle.std.specs.Prelude.{◌≡◌, ◌↔◌, ℕ, IfOk, IsTrue, length};
-ghost use Rattle.line_turns.specs.Inboxes.{messages_from, AreSentBy, AreFrom, ComeBySender};
+ghost use Rattle.line_turns.specs.Inboxes.{messages_from, AreFrom, AreSentBy, ComeBySender};
 
 use line_names::{MsgName, ProcId, ProcSet};
 use std::alloc::{AllocError, Global};
