@@ -25,8 +25,8 @@ use Rattle.line_world.specs.declared.replies.StepError.TheVariants as errors
 use Rattle.line_world.specs.declared.replies.Answer.TheVariants as answers
 use Rattle.line_world.specs.Runs.{Takes}
 use Rattle.line_world.specs.Codes.{refusal_code}
-use Rattle.line_replies.specs.Replies.{reply_records, refusal_record as refused_record}
-use Rattle.line_replies.specs.Rounds.{rounds_records}
+use Rattle.line_answers.specs.Replies.{reply_records, refusal_record as refused_record}
+use Rattle.line_answers.specs.Rounds.{rounds_records}
 use Rattle.line_answers.specs.declared.halts.Halt.TheVariants as halts
 use Rattle.line_answers.specs.Answers.{Answers, CommandAnswer, Answered, Refused, Listing, Shown, Claimed, IsClaimFor, command_answer_records, is_refused, Tells, TellsAll, text_of, refusals, DoesCommand, DoesFront}
 

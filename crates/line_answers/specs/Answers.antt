@@ -23,8 +23,8 @@ use Rattle.line_world.specs.Runs.{Takes}
 use Rattle.line_world.specs.Steps.{IsPlan}
 use Rattle.line_scripts.specs.declared.commands.Command.{Command}
 use Rattle.line_scripts.specs.declared.commands.Command.TheVariants as commands
-use Rattle.line_replies.specs.Replies.{answer_records, refusal_record}
-use Rattle.line_replies.specs.Rounds.{rounds_records}
+use Rattle.line_answers.specs.Replies.{answer_records, refusal_record}
+use Rattle.line_answers.specs.Rounds.{rounds_records}
 use Rattle.line_devices.specs.Devices.{PutsButEnd, PutsFront}
 
 -- what a command is told: the machine's answer, the number of its refusal before any step, rounds

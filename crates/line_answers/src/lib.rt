@@ -1,9 +1,13 @@
-//! Commands one by one: each is done, and what it is told is written.
+//! What is answered: the records of replies, refusals and listed rounds, and commands one by one,
+//! each of which is done, and what it is told is written.
 #![tactic(auto)]
 
 mod commands;
 mod halts;
 mod listings;
+mod replies;
+mod rounds;
 
 pub use commands::do_command;
 pub use halts::Halt;
+pub use replies::{put_refusal, put_reply, write_reply};

@@ -5,12 +5,12 @@ ghost use Rattle.std.specs.List.{flat_map};
 ghost use Rattle.line_devices.specs.Devices.{Outputs};
 ghost use Rattle.line_fields.specs.Texts.{records_text};
 ghost use Rattle.line_names.specs.declared.limits.TheConstants.{MOST_PROCESSES};
-ghost use Rattle.line_replies.specs.Rounds as records;
+ghost use Rattle.line_answers.specs.Rounds as records;
 
+use crate::rounds::{put_channel_message, put_round, put_rounds_head};
 use line_devices::{DeviceFault, Sink};
 use line_fields::RecordWriter;
 use line_names::{MOST_PROCESSES, MsgName, ProcId};
-use line_replies::{put_channel_message, put_round, put_rounds_head};
 use line_world::Round;
 
 // Writes the messages of a channel.

@@ -69,7 +69,7 @@ pub use Rattle.line_scripts.specs.Ranges as ScriptRanges
 pub use Rattle.line_scripts.specs.Reads as ScriptReads
 pub use Rattle.line_scripts.specs.Records as ScriptRecords
 pub use Rattle.line_scripts.specs.Scripts
-pub use Rattle.line_replies.specs.Replies
+pub use Rattle.line_answers.specs.Replies
 pub use Rattle.line_text.specs.Inputs
 pub use Rattle.line_text.specs.Judgings
 pub use Rattle.line_text.specs.Runs as TextRuns

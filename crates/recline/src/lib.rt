@@ -55,6 +55,7 @@ pub mod world {
 /// `WriteSink`; with `read_script`, `read_history` or `read_check_text`; or with `write_history` or
 /// `write_check_text`. `RecordReader` and `RecordWriter` are for records of your own.
 pub mod text {
+    pub use line_answers::{put_refusal, put_reply, write_reply};
     pub use line_claims::{
         CheckText, Claim, TextFault, claims_are_read_again, histories_are_read_again, name_of,
         put_check_text, read_certificate, read_check_text, read_history, version_2_reads_version_1,
@@ -66,7 +67,6 @@ pub mod text {
     pub use line_fields::{
         Fault, FieldRow, ReadError, RecordReader, RecordWriter, hex, is_plain, number,
     };
-    pub use line_replies::{put_refusal, put_reply, write_reply};
     pub use line_scripts::{
         Command, Script, read_script, scripts_are_read_again, version_2_reads_scripts_of_version_1,
     };

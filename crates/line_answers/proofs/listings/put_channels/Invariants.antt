@@ -1,6 +1,6 @@
 use Rattle.std.proofs.Common.{drop}
 use Rattle.std.specs.List.{flat_map, range_with_len}
-use Rattle.line_replies.specs.Rounds.{channels_from, channels_records}
+use Rattle.line_answers.specs.Rounds.{channels_from, channels_records}
 use Rattle.line_devices.proofs.OutputLemmas.{IsOut}
 use Rattle.line_fields.specs.Texts.{records_text}
 use Rattle.line_answers.proofs.listings.put_channels.Given as goal

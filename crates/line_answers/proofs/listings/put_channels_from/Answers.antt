@@ -1,7 +1,7 @@
 use Rattle.std.proofs.Common.{◌<◌, ◌≤◌, length, arith}
 use Rattle.line_devices.proofs.OutputLemmas.{out_all, out_front, out_more, out_none}
 use Rattle.line_fields.proofs.OutletLemmas.{next_number, no_number}
-use Rattle.line_replies.specs.Rounds.{channel_records}
+use Rattle.line_answers.specs.Rounds.{channel_records}
 use Rattle.line_answers.proofs.listings.put_channels_from.Goals as goal
 
 pub loop-value-init : goal.loop-value-init

@@ -1,7 +1,7 @@
 use Rattle.std.proofs.Common.{◌<◌, ◌≤◌, length, arith}
 use Rattle.line_devices.proofs.OutputLemmas.{out_all, out_front, out_more, out_none}
 use Rattle.line_fields.proofs.OutletLemmas.{next_item, no_item}
-use Rattle.line_replies.specs.Rounds.{round_records}
+use Rattle.line_answers.specs.Rounds.{round_records}
 use Rattle.line_answers.proofs.listings.put_each.Goals as goal
 
 pub loop-i-init : goal.loop-i-init

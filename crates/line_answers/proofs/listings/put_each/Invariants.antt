@@ -1,6 +1,6 @@
 use Rattle.std.proofs.Common.{drop}
 use Rattle.std.specs.List.{flat_map}
-use Rattle.line_replies.specs.Rounds.{round_records}
+use Rattle.line_answers.specs.Rounds.{round_records}
 use Rattle.line_devices.proofs.OutputLemmas.{IsOut}
 use Rattle.line_fields.specs.Texts.{records_text}
 use Rattle.line_answers.proofs.listings.put_each.Given as goal

@@ -1,7 +1,7 @@
 use Rattle.std.proofs.Common.{◌<◌, ◌≤◌, length, arith}
 use Rattle.line_devices.proofs.OutputLemmas.{out_all, out_front, out_more, out_none}
 use Rattle.line_fields.proofs.OutletLemmas.{item_left, no_item_left}
-use Rattle.line_replies.specs.Rounds.{channel_record}
+use Rattle.line_answers.specs.Rounds.{channel_record}
 use Rattle.line_answers.proofs.listings.put_messages.Goals as goal
 
 pub loop-i-init : goal.loop-i-init

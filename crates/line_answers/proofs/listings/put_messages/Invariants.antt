@@ -1,6 +1,6 @@
 use Rattle.std.proofs.Common.{drop}
 use Rattle.std.specs.Prelude.{map}
-use Rattle.line_replies.specs.Rounds.{channel_record}
+use Rattle.line_answers.specs.Rounds.{channel_record}
 use Rattle.line_devices.proofs.OutputLemmas.{IsOut}
 use Rattle.line_fields.specs.Texts.{records_text}
 use Rattle.line_answers.proofs.listings.put_messages.Given as goal

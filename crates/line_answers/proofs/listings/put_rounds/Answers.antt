@@ -1,6 +1,6 @@
 use Rattle.std.proofs.Common.{refl, length}
 use Rattle.std.specs.List.{flat_map}
-use Rattle.line_replies.specs.Rounds.{round_records, rounds_record}
+use Rattle.line_answers.specs.Rounds.{round_records, rounds_record}
 use Rattle.line_devices.proofs.OutputLemmas.{outputs_front, outputs_on}
 use Rattle.line_fields.specs.Texts.{record_text, records_text}
 use Rattle.line_answers.proofs.listings.put_rounds.Goals as goal

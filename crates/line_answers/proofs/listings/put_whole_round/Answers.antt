@@ -1,5 +1,5 @@
 use Rattle.std.proofs.Common.{refl}
-use Rattle.line_replies.specs.Rounds.{channels_records, round_record}
+use Rattle.line_answers.specs.Rounds.{channels_records, round_record}
 use Rattle.line_devices.proofs.OutputLemmas.{outputs_front, outputs_on}
 use Rattle.line_fields.specs.Texts.{record_text, records_text}
 use Rattle.line_answers.proofs.listings.put_whole_round.Goals as goal

@@ -1,0 +1,225 @@
+//! The records that are written for a recovery.
+
+ghost use Rattle.std.specs.Prelude.{◌≡◌, ◌<◌, ◌++◌, ◌∷◌, [], None, codes, decimal, length};
+ghost use Rattle.std.specs.Prelude.{slice_index_or};
+ghost use Rattle.line_claims.specs.Records.{choice_text};
+ghost use Rattle.line_devices.specs.Devices.{Outputs};
+ghost use Rattle.line_names.specs.Lines.{choice_at};
+ghost use Rattle.line_fields.specs.Outlets.{field_text};
+ghost use Rattle.line_fields.specs.Texts.{record_text, records_text};
+ghost use Rattle.line_answers.specs.Replies as spec;
+
+use line_claims::{numbers_of, put_pass};
+use line_devices::{DeviceFault, Sink};
+use line_fields::{Field, RecordWriter, put_ending, put_fields, put_numbers};
+use line_names::{Choice, MsgName, Passed};
+use line_plan::Plan;
+use line_tape::State;
+
+// Writes `recovered,SWEEPS,ENTRIES,REPLAYS`.
+fn put_recovered<K: Sink>(
+    sink: &mut K,
+    writer: &mut RecordWriter,
+    sweeps: u32,
+    entries: usize,
+    replays: usize,
+) -> Result<(), DeviceFault>
+    ensures { Outputs result (K.taken sink.old) (K.taken sink.new) (K.faults sink.old)
+        (K.faults sink.new) writer.new
+        (writer.old ++ record_text (spec.recovered_record sweeps entries replays)) }
+{
+    let numbers = [sweeps as u64, entries as u64, replays as u64];
+    put_numbers(sink, writer, b"recovered", &numbers)
+}
+
+// The incarnation of a process.
+fn incarnation_at(incarnations: &[u16], p: usize) -> u64
+    ensures { result ≡ slice_index_or incarnations.now p 0 }
+{
+    match incarnations.get(p) {
+        Some(inc) => u64::from(*inc),
+        None => 0,
+    }
+}
+
+// The state that a process goes on from, or `-`.
+fn state_field<'a>(states: &'a [Option<State>], p: usize) -> Field<'a>
+    ensures { field_text result ≡ spec.state_text (slice_index_or states.now p None) }
+{
+    match states.get(p) {
+        Some(Some(state)) => Field::Bytes(state.bytes()),
+        Some(None) => Field::Word(b"-"),
+        None => Field::Word(b"-"),
+    }
+}
+
+// The choice of a process.
+fn choice_of(choices: &[Choice], p: usize) -> Choice
+    requires { p < length choices.now }
+    ensures { result ≡ choice_at choices.now p }
+{
+    choices[p]
+}
+
+// Writes `line,P,now,INC,HEX`.
+#[cold]
+#[inline(never)]
+fn put_now<K: Sink>(
+    sink: &mut K,
+    writer: &mut RecordWriter,
+    p: usize,
+    inc: u64,
+    state: Field<'_>,
+) -> Result<(), DeviceFault>
+    ensures { Outputs result (K.taken sink.old) (K.taken sink.new) (K.faults sink.old)
+        (K.faults sink.new) writer.new
+        (writer.old
+        ++ record_text
+        (codes "line" ∷ decimal p ∷ choice_text Choice.Now ∷ decimal inc
+        ∷ field_text state.entry ∷ [])) }
+{
+    let fields = [
+        Field::Number(p as u64),
+        Field::Word(b"now"),
+        Field::Number(inc),
+        state,
+    ];
+    put_fields(sink, writer, b"line", &fields)
+}
+
+// Writes `line,P,CHOICE,INC,HEX`.
+fn put_line<K: Sink>(
+    sink: &mut K,
+    writer: &mut RecordWriter,
+    choices: &[Choice],
+    incarnations: &[u16],
+    states: &[Option<State>],
+    p: usize,
+) -> Result<(), DeviceFault>
+    requires { p < length choices.now }
+    ensures { Outputs result (K.taken sink.old) (K.taken sink.new) (K.faults sink.old)
+        (K.faults sink.new) writer.new
+        (writer.old ++ record_text (spec.process_of choices.now incarnations.now states.now p)) }
+{
+    let inc = incarnation_at(incarnations, p);
+    let state = state_field(states, p);
+    match choice_of(choices, p) {
+        Choice::Check(check) => {
+            let numbers = [p as u64, check as u64, inc];
+            put_ending(sink, writer, b"line", &numbers, state)
+        }
+        Choice::Now => put_now(sink, writer, p, inc, state),
+    }
+}
+
+// Writes the line records of all processes.
+fn put_lines<K: Sink>(
+    sink: &mut K,
+    writer: &mut RecordWriter,
+    choices: &[Choice],
+    incarnations: &[u16],
+    states: &[Option<State>],
+) -> Result<(), DeviceFault>
+    ensures { Outputs result (K.taken sink.old) (K.taken sink.new) (K.faults sink.old)
+        (K.faults sink.new) writer.new
+        (writer.old ++ records_text
+        (spec.process_records choices.now incarnations.now states.now)) }
+{
+    for p in 0..choices.len() {
+        put_line(sink, writer, choices, incarnations, states, p)?;
+    }
+    Ok(())
+}
+
+// Writes the pass records of a certificate.
+fn put_passes<K: Sink>(
+    sink: &mut K,
+    writer: &mut RecordWriter,
+    entries: &[Passed],
+) -> Result<(), DeviceFault>
+    ensures { Outputs result (K.taken sink.old) (K.taken sink.new) (K.faults sink.old)
+        (K.faults sink.new) writer.new
+        (writer.old ++ records_text (spec.pass_records entries.now)) }
+{
+    for entry in entries {
+        put_pass(sink, writer, entry)?;
+    }
+    Ok(())
+}
+
+// Writes the records of the messages that are replayed.
+fn put_replays<K: Sink>(
+    sink: &mut K,
+    writer: &mut RecordWriter,
+    replays: &[MsgName],
+) -> Result<(), DeviceFault>
+    ensures { Outputs result (K.taken sink.old) (K.taken sink.new) (K.faults sink.old)
+        (K.faults sink.new) writer.new
+        (writer.old ++ records_text (spec.replay_records replays.now)) }
+{
+    for i in 0..replays.len() {
+        put_numbers(sink, writer, b"replay", &numbers_of(replays[i]))?;
+    }
+    Ok(())
+}
+
+// Writes a certificate and replays.
+fn put_rest<K: Sink>(
+    sink: &mut K,
+    writer: &mut RecordWriter,
+    entries: &[Passed],
+    replays: &[MsgName],
+) -> Result<(), DeviceFault>
+    ensures { Outputs result (K.taken sink.old) (K.taken sink.new) (K.faults sink.old)
+        (K.faults sink.new) writer.new
+        (writer.old ++ records_text
+        (spec.pass_records entries.now ++ spec.replay_records replays.now)) }
+{
+    put_passes(sink, writer, entries)?;
+    put_replays(sink, writer, replays)
+}
+
+// Writes the lines of a recovery, its certificate and its replays.
+fn put_line_and_rest<K: Sink>(
+    sink: &mut K,
+    writer: &mut RecordWriter,
+    choices: &[Choice],
+    incarnations: &[u16],
+    states: &[Option<State>],
+    entries: &[Passed],
+    replays: &[MsgName],
+) -> Result<(), DeviceFault>
+    ensures { Outputs result (K.taken sink.old) (K.taken sink.new) (K.faults sink.old)
+        (K.faults sink.new) writer.new
+        (writer.old
+        ++ records_text
+        (spec.process_records choices.now incarnations.now states.now
+        ++ (spec.pass_records entries.now ++ spec.replay_records replays.now))) }
+{
+    put_lines(sink, writer, choices, incarnations, states)?;
+    put_rest(sink, writer, entries, replays)
+}
+
+// Writes the records of a recovery.
+pub(super) fn put_recovery<K: Sink>(
+    sink: &mut K,
+    writer: &mut RecordWriter,
+    plan: &Plan,
+    incarnations: &Vec<u16>,
+    states: &Vec<Option<State>>,
+) -> Result<(), DeviceFault>
+    ensures { Outputs result (K.taken sink.old) (K.taken sink.new) (K.faults sink.old)
+        (K.faults sink.new) writer.new
+        (writer.old
+        ++ records_text
+        (spec.recovery_records plan.now.sweeps plan.now.certificate.items plan.now.replays.items
+        plan.now.line incarnations.now.items states.now.items)) }
+{
+    let entries = plan.certificate.as_slice();
+    let replays = plan.replays.as_slice();
+    let choices = plan.line.choices();
+    let incs = incarnations.as_slice();
+    let stored = states.as_slice();
+    put_recovered(sink, writer, plan.sweeps, entries.len(), replays.len())?;
+    put_line_and_rest(sink, writer, choices, incs, stored, entries, replays)
+}
