@@ -7,7 +7,11 @@ use Rattle.line_scripts.specs.declared.commands.Command.{Command}
 use Rattle.line_claims.specs.declared.faults.TextFault.{TextFault}
 use Rattle.line_claims.specs.declared.faults.TextError.{TextError}
 use Rattle.line_claims.specs.declared.faults.TextError.TheVariants as errors
-use Rattle.line_claims.specs.Reads.{FailsText, at_record}
+use Rattle.line_fields.specs.declared.faults.Fault.{Fault}
+use Rattle.line_fields.specs.declared.faults.ReadError.{ReadError}
+use Rattle.line_fields.specs.declared.faults.ReadError.TheVariants as memory
+use Rattle.line_fields.specs.Fields.{Fails}
+use Rattle.line_claims.specs.Reads.{FailsText, at_record, error_at}
 use Rattle.line_scripts.specs.Pieces.{with_commands}
 use Rattle.line_scripts.specs.Scripts.{command_in, commands_from}
 
@@ -47,3 +51,8 @@ pub stopped : (front : List Command) (n i : ℕ) (rows : List Record) (r : Recor
 stopped front n i rows r rest errors.OutOfMemory total s h k = tt
 stopped front n i rows r rest (errors.Fault f) total s h k =
     k ∙ ap (λ (rs : List Record). with_commands front (commands_from n i rs)) s ∙ ap (with_commands front) (stops_at n i r rest f h)
+
+-- why the command of a record was not read, with the number of the record
+pub fails_at : (i : ℕ) (e : ReadError) (read : Result Command Fault) → Fails e read → FailsText (error_at i e) (at_record i read)
+fails_at i memory.OutOfMemory read h = tt
+fails_at i (memory.Fault fault) read h = ap (at_record i) h

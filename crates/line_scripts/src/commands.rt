@@ -1,22 +1,23 @@
 //! What one record of a script says.
 
-ghost use Rattle.std.specs.Prelude.{◌≡◌, ◌≤◌, ◌==◌, Bool, ℕ, List, drop, length, take, IfOk};
+ghost use Rattle.std.specs.Prelude.{◌≡◌, ◌≤◌, length, take, IfOk};
 ghost use Rattle.line_names.specs.declared.limits.TheConstants.{MOST_PROCESSES};
-ghost use Rattle.line_fields.specs.declared.faults.Fault.TheVariants as faults;
-ghost use Rattle.line_fields.specs.Faults.{code_of};
-ghost use Rattle.line_fields.specs.Fields.{Gives, hex};
-ghost use Rattle.line_world.specs.declared.steps.Step.{Step};
-ghost use Rattle.line_scripts.specs.Keeping.{HasShortMessage, behind, long_of, of_found};
+ghost use Rattle.line_fields.specs.Fields.{Gives};
+ghost use Rattle.line_scripts.specs.Keeping.{HasShortMessage, behind, long_of};
 ghost use Rattle.line_scripts.specs.Keeping.{with_bytes};
 ghost use Rattle.line_scripts.specs.Scripts as spec;
 
-use crate::keeping::{Kept, delivery, in_byte};
+use crate::keeping::Kept;
+use crate::kinds::{
+    deliver_of, kept_bar, kept_begin, kept_bundle, kept_check, kept_damage, kept_history,
+    kept_recover, kept_rounds, kept_turn, send_of,
+};
 use crate::names::{Name, name_in};
-use line_claims::{LAST_VERSION, failed_of, most_in, plain, want};
-use line_fields::{Fault, FieldRow, ReadError, hex_behind, number};
-use line_names::{MOST_BODY, ProcId, ProcSet};
+use line_claims::{LAST_VERSION, most_in, plain, want};
+use line_fields::{Fault, FieldRow, ReadError};
+use line_names::ProcSet;
 use line_world::{Mode, Step, StepRef};
-use std::alloc::{AllocError, Global};
+use std::alloc::Global;
 
 /// What a record of a script asks for.
 #[derive(Debug, Drop)]
@@ -53,23 +54,6 @@ pub enum CommandRef<'a> {
     Refused(u32),
 }
 
-// A command that is refused, before any step, of which so many bytes were spelled.
-fn refused(fault: Fault, long: usize) -> Kept
-    ensures { result ≡ Kept.Refused (code_of fault) long }
-{
-    Kept::Refused {
-        code: fault.code(),
-        long,
-    }
-}
-
-// A command of a process that there is not.
-fn no_process(long: usize) -> Kept
-    ensures { result ≡ Kept.Refused (code_of faults.NoSuchProcess) long }
-{
-    refused(Fault::NoSuchProcess, long)
-}
-
 fn mode_named(text: &[u8]) -> Result<Mode, Fault>
     ensures { result ≡ spec.mode_named text.now }
 {
@@ -99,154 +83,10 @@ pub fn world_of(row: &FieldRow) -> Result<(u32, Mode), Fault>
     Ok((n, mode))
 }
 
-// How many bytes a list has from a place on.
-fn long_from(bytes: &Vec<u8>, start: usize) -> usize
-    requires { start ≤ length bytes.now.items }
-    ensures { result ≡ length (drop start bytes.now.items) }
-{
-    bytes.len() - start
-}
-
-// Puts the bytes that a field spells after those that a list has, and tells how many these are.
-#[inline(always)]
-#[tactic(auto, using(crate::proofs::BehindLemmas::given_behind))]
-fn spell_behind(bytes: &mut Vec<u8>, text: &[u8]) -> Result<usize, ReadError>
-    ensures exact { Gives (λ _. behind bytes.old.items bytes.new.items) result (hex text.now) }
-    ensures long { IfOk result
-        (λ long. long ≡ length (behind bytes.old.items bytes.new.items)) }
-    ensures kept { take (length bytes.old.items) bytes.new.items ≡ bytes.old.items }
-{
-    if text.is_empty() {
-        return Ok(0);
-    }
-    let start = bytes.len();
-    match hex_behind(bytes, text) {
-        Ok(()) => Ok(long_from(bytes, start)),
-        Err(error) => Err(error),
-    }
-}
-
-#[tactic(auto, unfolding(crate::specs::Scripts::send_of, line_fields::specs::Shapes::three))]
-fn send_of(n: u32, row: &FieldRow, bytes: &mut Vec<u8>) -> Result<Kept, ReadError>
-    requires { n ≤ MOST_PROCESSES }
-    ensures exact { Gives (λ kept. with_bytes kept (behind bytes.old.items bytes.new.items)) result
-        (spec.send_of n row.now) }
-    ensures long { IfOk result
-        (λ kept. long_of kept ≡ length (behind bytes.old.items bytes.new.items)) }
-    ensures short { IfOk result HasShortMessage }
-    ensures kept { take (length bytes.old.items) bytes.new.items ≡ bytes.old.items }
-{
-    want(row.len() == 4, Fault::BadRecord)?;
-    let from = plain(row, 1)?;
-    let to = plain(row, 2)?;
-    let long = spell_behind(bytes, row.field(3))?;
-    let Ok(from) = ProcId::try_new(from, n) else {
-        return Ok(no_process(long));
-    };
-    let Ok(to) = ProcId::try_new(to, n) else {
-        return Ok(no_process(long));
-    };
-    if long > MOST_BODY {
-        return Ok(refused(Fault::BodyTooLong, long));
-    }
-    Ok(Kept::Send {
-        from: in_byte(from),
-        to: in_byte(to),
-        long,
-    })
-}
-
-#[tactic(auto, unfolding(crate::specs::Scripts::deliver_of, line_fields::specs::Shapes::four))]
-fn deliver_of(alloc: Global, n: u32, row: &FieldRow, bytes: &mut Vec<u8>) -> Result<Kept, ReadError>
-    requires { n ≤ MOST_PROCESSES }
-    ensures exact { Gives (λ kept. with_bytes kept (behind bytes.old.items bytes.new.items)) result
-        (spec.deliver_of n row.now) }
-    ensures long { IfOk result
-        (λ kept. long_of kept ≡ length (behind bytes.old.items bytes.new.items)) }
-    ensures short { IfOk result HasShortMessage }
-    ensures kept { take (length bytes.old.items) bytes.new.items ≡ bytes.old.items }
-{
-    want(row.len() == 5, Fault::BadRecord)?;
-    let from = plain(row, 1)?;
-    let to = plain(row, 2)?;
-    let pick = number(row.field(3), 0, u64::MAX)?;
-    let long = spell_behind(bytes, row.field(4))?;
-    let Ok(from) = ProcId::try_new(from, n) else {
-        return Ok(no_process(long));
-    };
-    let Ok(to) = ProcId::try_new(to, n) else {
-        return Ok(no_process(long));
-    };
-    let delivery = delivery(alloc, from, to, pick, long)?;
-    Ok(delivery)
-}
-
-// The process of a record with a state, whose bytes the list then has after the others; none where
-// there is no such process.
-#[tactic(auto, unfolding(crate::specs::Scripts::with_state, line_fields::specs::Shapes::two))]
-fn with_state(n: u32, row: &FieldRow, bytes: &mut Vec<u8>) -> Result<Option<ProcId>, ReadError>
-    requires { n ≤ MOST_PROCESSES }
-    ensures exact { (step : ℕ → List ℕ → Step)
-        → Gives (of_found (λ at. Command.Do (step at (behind bytes.old.items bytes.new.items))))
-        result (spec.with_state step n row.now) }
-    ensures kept { take (length bytes.old.items) bytes.new.items ≡ bytes.old.items }
-{
-    want(row.len() == 3, Fault::BadRecord)?;
-    let at = plain(row, 1)?;
-    spell_behind(bytes, row.field(2))?;
-    Ok(ProcId::try_new(at, n).ok())
-}
-
-// The process and the check of a record; none where there is no such process.
-#[tactic(auto, unfolding(crate::specs::Scripts::with_check, line_fields::specs::Shapes::two))]
-fn with_check(n: u32, row: &FieldRow) -> Result<Option<(ProcId, u32)>, ReadError>
-    requires { n ≤ MOST_PROCESSES }
-    ensures { (step : ℕ → ℕ → Step)
-        → Gives (of_found (λ found. Command.Do (step found.0 found.1))) result
-        (spec.with_check step n row.now) }
-{
-    want(row.len() == 3, Fault::BadRecord)?;
-    let at = plain(row, 1)?;
-    let check = plain(row, 2)?;
-    match ProcId::try_new(at, n) {
-        Ok(at) => Ok(Some((at, check))),
-        Err(_) => Ok(None),
-    }
-}
-
-// A set in memory of its own.
-fn boxed(alloc: Global, failed: ProcSet) -> Result<Box<ProcSet>, AllocError>
-    ensures { IfOk result (λ set. set.value ≡ failed) }
-{
-    let set = Box::new(alloc, failed).map_err(AllocError::from)?;
-    Ok(set)
-}
-
-// The fault says that there is no such process.
-fn is_of_process(fault: Fault) -> bool
-    ensures { result ≡ (code_of fault == code_of faults.NoSuchProcess) }
-{
-    fault.code() == Fault::NoSuchProcess.code()
-}
-
-// The processes of a record; none where there is no such process.
-fn with_failed(alloc: Global, n: u32, row: &FieldRow) -> Result<Option<Box<ProcSet>>, ReadError>
-    requires { n ≤ MOST_PROCESSES }
-    ensures { (command : List Bool → Command)
-        → Gives (of_found (λ failed. command failed.value)) result
-        (spec.with_failed command n row.now) }
-{
-    match failed_of(n, row) {
-        Ok(failed) => Ok(Some(boxed(alloc, failed)?)),
-        Err(fault) if is_of_process(fault) => Ok(None),
-        Err(fault) => Err(ReadError::Fault(fault)),
-    }
-}
-
 /// The command that a record after the first spells, or its first fault. The bytes that the command
 /// carries are put after those that a list has; of one that is refused they may be there too.
 #[inline(always)]
-#[tactic(auto, unfolding(crate::specs::Scripts::command_in, line_fields::specs::Shapes::alone))]
+#[tactic(auto, unfolding(crate::specs::Scripts::command_in))]
 pub(crate) fn command_in(
     alloc: Global,
     n: u32,
@@ -261,63 +101,20 @@ pub(crate) fn command_in(
     ensures short { IfOk result HasShortMessage }
     ensures kept { take (length bytes.old.items) bytes.new.items ≡ bytes.old.items }
 {
-    let start = bytes.len();
     let Some(name) = name_in(row.field(0)) else {
         return Err(ReadError::Fault(Fault::BadRecord));
     };
     match name {
         Name::Send => send_of(n, row, bytes),
         Name::Deliver => deliver_of(alloc, n, row, bytes),
-        Name::Check => match with_state(n, row, bytes)? {
-            Some(at) => Ok(Kept::Check {
-                at: in_byte(at),
-                long: long_from(bytes, start),
-            }),
-            None => Ok(no_process(long_from(bytes, start))),
-        },
-        Name::Begin => match with_state(n, row, bytes)? {
-            Some(at) => Ok(Kept::Begin {
-                at: in_byte(at),
-                long: long_from(bytes, start),
-            }),
-            None => Ok(no_process(long_from(bytes, start))),
-        },
-        Name::Turn => match with_state(n, row, bytes)? {
-            Some(at) => Ok(Kept::Turn {
-                at: in_byte(at),
-                long: long_from(bytes, start),
-            }),
-            None => Ok(no_process(long_from(bytes, start))),
-        },
-        Name::Damage => match with_check(n, row)? {
-            Some((at, check)) => Ok(Kept::Damage {
-                at: in_byte(at),
-                check,
-            }),
-            None => Ok(no_process(0)),
-        },
-        Name::Bar => match with_check(n, row)? {
-            Some((at, check)) => Ok(Kept::Bar {
-                at: in_byte(at),
-                check,
-            }),
-            None => Ok(no_process(0)),
-        },
-        Name::Recover => match with_failed(alloc, n, row)? {
-            Some(failed) => Ok(Kept::Recover(failed)),
-            None => Ok(no_process(0)),
-        },
-        Name::Rounds => {
-            want(row.len() == 1, Fault::BadRecord)?;
-            Ok(Kept::Rounds)
-        }
-        Name::History => {
-            want(row.len() == 1, Fault::BadRecord)?;
-            Ok(Kept::History)
-        }
-        Name::Bundle => match with_failed(alloc, n, row)? {
-            Some(failed) => Ok(Kept::Bundle(failed)),
-            None => Ok(no_process(0)),
-        },
+        Name::Check => kept_check(n, row, bytes),
+        Name::Begin => kept_begin(n, row, bytes),
+        Name::Turn => kept_turn(n, row, bytes),
+        Name::Damage => kept_damage(n, row),
+        Name::Bar => kept_bar(n, row),
+        Name::Recover => kept_recover(alloc, n, row),
+        Name::Rounds => kept_rounds(row),
+        Name::History => kept_history(row),
+        Name::Bundle => kept_bundle(alloc, n, row),
     }
 }

@@ -1,7 +1,7 @@
 //! Commands that wait to be done: 16 bytes for each, and one list of the bytes that they carry.
 
-ghost use Rattle.std.specs.Prelude.{◌≡◌, ◌≤◌, ◌∷◌, ◌++◌, [], ℕ, List, drop, length, IfNone};
-ghost use Rattle.std.specs.Prelude.{IfOk, IfSome, OnOk};
+ghost use Rattle.std.specs.Prelude.{◌≡◌, ◌<◌, ◌≤◌, ◌∷◌, [], ℕ, List, drop, length, IfNone, IfOk};
+ghost use Rattle.std.specs.Prelude.{IfSome};
 ghost use Rattle.line_scripts.specs.Keeping.{ArePacked, HasShortMessage, commands_of_kept};
 ghost use Rattle.line_scripts.specs.Keeping.{with_bytes};
 ghost use Rattle.line_scripts.specs.Keeping as spec;
@@ -119,15 +119,6 @@ pub(crate) fn delivery(
     }
     let far = Box::new(alloc, Far { pick, long }).map_err(AllocError::from)?;
     Ok(Kept::DeliverFar { from, to, far })
-}
-
-/// Puts a command after the others.
-pub(crate) fn keep(kept: &mut Vec<Kept>, command: Kept) -> Result<(), AllocError>
-    ensures { OnOk result (kept.new.items ≡ kept.old.items ++ command ∷ []) }
-{
-    kept.reserve(1)?;
-    kept.push_reserved(command);
-    Ok(())
 }
 
 /// How many bytes a command carries.
@@ -288,14 +279,12 @@ impl Commands {
         Some(lent(first, own))
     }
 
-    /// Lets the first one go, if there is one.
+    /// Lets the first one go, which there must be.
     pub fn drop_first(&mut self)
+        requires { 0 < length self.old }
         ensures { self.new ≡ drop 1 self.old }
     {
-        let Some(first) = self.kept.get(self.gone) else {
-            return;
-        };
-        self.at += long_of(first);
+        self.at += long_of(&self.kept[self.gone]);
         self.gone += 1;
         if self.gone >= self.kept.len() - self.gone {
             shrink(self);

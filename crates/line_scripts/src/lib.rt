@@ -3,6 +3,7 @@
 
 mod commands;
 mod keeping;
+mod kinds;
 mod laws;
 mod names;
 mod pieces;

@@ -1,21 +1,19 @@
 //! Scripts whose texts come in pieces of whole lines.
 
 ghost use Rattle.std.specs.Prelude.{◌≡◌, ◌+◌, ◌^◌, ◌≤◌, ◌<◌, ◌++◌, [], ℕ, List, None, Ok, Err};
-ghost use Rattle.std.specs.Prelude.{length, take, IfErr, IfOk, IfSome, IsTrue, OnErr, OnOk};
+ghost use Rattle.std.specs.Prelude.{length, IfErr, IfOk, IfSome, IsTrue, OnErr, OnOk};
 ghost use Rattle.line_names.specs.declared.limits.TheConstants.{MOST_PROCESSES};
 ghost use Rattle.line_fields.specs.Bytes.{is_input_text};
 ghost use Rattle.line_fields.specs.Records.{records_of_text};
 ghost use Rattle.line_claims.specs.Reads as reads;
 ghost use Rattle.line_claims.specs.Reads.{Yields};
-ghost use Rattle.line_scripts.specs.Keeping.{ArePacked, HasShortMessage, behind, long_of};
-ghost use Rattle.line_scripts.specs.Keeping.{commands_of_kept};
-ghost use Rattle.line_scripts.specs.Keeping.{with_bytes};
+ghost use Rattle.line_scripts.specs.Keeping.{ArePacked, commands_of_kept};
 ghost use Rattle.line_scripts.specs.Pieces as spec;
 ghost use Rattle.line_scripts.specs.Reads.{IsOfScript, kept_script_view};
-ghost use Rattle.line_scripts.specs.Scripts.{command_in, commands_from, world_of};
+ghost use Rattle.line_scripts.specs.Scripts.{commands_from, world_of};
 
 use crate::commands::{command_in, world_of};
-use crate::keeping::{Commands, Kept, keep};
+use crate::keeping::{Commands, Kept};
 use crate::scripts::KeptScript;
 use line_claims::{TextError, TextFault, error_at, fault_at};
 use line_fields::{Fault, FieldRow, RecordReader, is_plain};
@@ -31,29 +29,6 @@ fn world_at(row: &FieldRow) -> Result<(u32, Mode), TextError>
     match world_of(row) {
         Ok(world) => Ok(world),
         Err(fault) => Err(fault_at(1, fault)),
-    }
-}
-
-// What the record with that number asks for; the bytes that it carries are put after those that a
-// list has.
-fn command_at(
-    alloc: Global,
-    n: u32,
-    record_number: u64,
-    row: &FieldRow,
-    bytes: &mut Vec<u8>,
-) -> Result<Kept, TextError>
-    requires { n ≤ MOST_PROCESSES }
-    ensures exact { Yields (λ kept. with_bytes kept (behind bytes.old.items bytes.new.items)) result
-        (reads.at_record record_number (command_in n row.now)) }
-    ensures long { IfOk result
-        (λ kept. long_of kept ≡ length (behind bytes.old.items bytes.new.items)) }
-    ensures short { IfOk result HasShortMessage }
-    ensures kept { take (length bytes.old.items) bytes.new.items ≡ bytes.old.items }
-{
-    match command_in(alloc, n, row, bytes) {
-        Ok(kept) => Ok(kept),
-        Err(error) => Err(error_at(record_number, error)),
     }
 }
 
@@ -79,9 +54,12 @@ fn keep_all(
         if !records.next_row(row)? {
             return Ok(());
         }
+        kept.reserve(1)?;
         let record_number = kept.len() as u64 + 2;
-        let command = command_at(alloc, n, record_number, row, bytes)?;
-        keep(kept, command)?;
+        match command_in(alloc, n, row, bytes) {
+            Ok(command) => kept.push_reserved(command),
+            Err(error) => return Err(error_at(record_number, error)),
+        }
     }
 }
 
@@ -131,31 +109,15 @@ fn take_records(
     keep_all(alloc, n, &mut records, row, kept, bytes)
 }
 
-// Takes the records of a piece, and where that is refused lets go all that was taken.
-fn take_or_let_go(
-    alloc: Global,
-    piece: &[u8],
-    row: &mut FieldRow,
-    world: &mut Option<(u32, Mode)>,
-    kept: &mut Vec<Kept>,
-    bytes: &mut Vec<u8>,
-) -> Result<(), TextError>
-    requires input { IsTrue (is_input_text piece.now) }
-    requires kept { spec.AreKept world.old kept.old.items bytes.old.items }
-    ensures exact { Yields (λ _. spec.script_kept world.new kept.new.items bytes.new.items) result
-        (spec.begun_on (spec.script_kept world.old kept.old.items bytes.old.items)
-        (records_of_text piece.now)) }
-    ensures kept { spec.AreKept world.new kept.new.items bytes.new.items }
+// Lets go all that was taken.
+#[cold]
+#[inline(never)]
+fn let_go(alloc: Global, world: &mut Option<(u32, Mode)>, kept: &mut Vec<Kept>, bytes: &mut Vec<u8>)
+    ensures { spec.AreKept world.new kept.new.items bytes.new.items }
 {
-    match take_records(alloc, piece, row, world, kept, bytes) {
-        Ok(()) => Ok(()),
-        Err(error) => {
-            *world = None;
-            *kept = Vec::new(alloc);
-            *bytes = Vec::new(alloc);
-            Err(error)
-        }
-    }
+    *world = None;
+    *kept = Vec::new(alloc);
+    *bytes = Vec::new(alloc);
 }
 
 /// Reads a script whose text comes in pieces of whole lines, the last of which may lack its line
@@ -222,7 +184,7 @@ impl ScriptReader {
         if self.fault.is_some() {
             return Ok(());
         }
-        match take_or_let_go(
+        match take_records(
             self.alloc,
             piece,
             &mut self.row,
@@ -231,11 +193,16 @@ impl ScriptReader {
             &mut self.bytes,
         ) {
             Ok(()) => Ok(()),
-            Err(TextError::Fault(fault)) => {
-                self.fault = Some(fault);
-                Ok(())
+            Err(error) => {
+                let_go(self.alloc, &mut self.world, &mut self.kept, &mut self.bytes);
+                match error {
+                    TextError::Fault(fault) => {
+                        self.fault = Some(fault);
+                        Ok(())
+                    }
+                    TextError::OutOfMemory => Err(AllocError),
+                }
             }
-            Err(TextError::OutOfMemory) => Err(AllocError),
         }
     }
 

@@ -1,8 +1,7 @@
 //! Scripts that are run: a text in, the text of the replies out.
 
-ghost use Rattle.std.specs.Prelude.{◌≡◌, ◌≢◌, ◌<◌, ◌≤◌, ◌+◌, ◌^◌, ◌⊎◌, ℕ, List, [], ◌∷◌, true};
-ghost use Rattle.std.specs.Prelude.{false, Err, Ok, if◌then◌else◌, length, IfOk, IfErr, OnOk};
-ghost use Rattle.line_answers.specs.Answers.{DoesFront};
+ghost use Rattle.std.specs.Prelude.{◌≡◌, ◌≢◌, ◌<◌, ◌≤◌, ◌+◌, ◌^◌, ◌⊎◌, ℕ, List, [], Err, Ok};
+ghost use Rattle.std.specs.Prelude.{length, IfOk, IfErr, OnOk};
 ghost use Rattle.line_devices.specs.Devices.{Puts, PutsButEnd, one_more};
 ghost use Rattle.line_devices.specs.Reads.{GivesAll, IsTooLong};
 ghost use Rattle.line_names.specs.declared.limits.TheConstants.{MOST_PROCESSES};
@@ -19,7 +18,7 @@ use line_answers::{Halt, do_command};
 use line_claims::TextFault;
 use line_devices::{Sink, Source};
 use line_fields::RecordWriter;
-use line_scripts::{Command, Commands, KeptScript, ScriptReader};
+use line_scripts::{Commands, KeptScript, ScriptReader};
 use line_tape::CountError;
 use line_world::World;
 use std::alloc::Global;
@@ -38,55 +37,6 @@ enum RunStop {
 pub struct Done {
     /// How many commands were refused.
     pub refused: u64,
-}
-
-// Counts a command that was refused.
-fn count(refused: &mut u64, told: bool)
-    requires { refused.old < 18446744073709551615 }
-    ensures { refused.new ≡ refused.old + (if told then 1 else 0) }
-{
-    if told {
-        *refused += 1;
-    }
-}
-
-// Does the first command, as `do_command` does, where it stands, and then lets it go. It answers
-// false where there is none.
-fn do_next<K: Sink>(
-    alloc: Global,
-    world: &mut World,
-    commands: &mut Commands,
-    sink: &mut K,
-    writer: &mut RecordWriter,
-    refused: &mut u64,
-) -> Result<bool, Halt>
-    requires { refused.old < 18446744073709551615 }
-    ensures ok { IfOk result
-        (λ more. more ≡ true → (first : Command) × (commands.old ≡ first ∷ commands.new)
-        × spec.DoesOne world.old first world.new (K.taken sink.old) (K.taken sink.new) writer.old
-        refused.old writer.new refused.new) }
-    ensures none { IfOk result
-        (λ more. more ≡ false → (commands.old ≡ []) × (commands.new ≡ []) × (world.new ≡ world.old)
-        × (sink.new ≡ sink.old) × (writer.new ≡ writer.old) × (refused.new ≡ refused.old)) }
-    ensures memory { IfErr result
-        (λ halt. halt ≡ Halt.Memory
-        → (first : Command) × (rest : List Command) × (commands.old ≡ first ∷ rest)
-        × (world.new ≡ world.old) × (sink.new ≡ sink.old) × (writer.new ≡ writer.old)) }
-    ensures write { IfErr result
-        (λ halt. halt ≡ Halt.Write
-        → (first : Command) × (rest : List Command) × (commands.old ≡ first ∷ rest)
-        × DoesFront world.old first world.new (K.taken sink.old) (K.taken sink.new) writer.old) }
-    ensures sound { OnOk result (K.faults sink.new ≡ K.faults sink.old) }
-    ensures failed { IfErr result
-        (λ halt. halt ≡ Halt.Write → K.faults sink.new ≡ one_more (K.faults sink.old)) }
-{
-    let Some(command) = commands.first() else {
-        return Ok(false);
-    };
-    let told = do_command(alloc, world, sink, writer, &command)?;
-    count(refused, told);
-    commands.drop_first();
-    Ok(true)
 }
 
 // Does the commands one after another, and puts the text of what they are told but for an end,
@@ -113,14 +63,15 @@ fn do_commands<K: Sink>(
     let mut refused = 0u64;
     let mut done = 0u64;
     'commands: loop {
-        let more = match do_next(alloc, world, commands, sink, writer, &mut refused) {
-            Ok(more) => more,
+        let Some(command) = commands.first() else {
+            return Ok(refused);
+        };
+        match do_command(alloc, world, sink, writer, &command) {
+            Ok(told) => refused += told as u64,
             Err(Halt::Memory) => return Err(RunStop::Memory(done + 2)),
             Err(Halt::Write) => return Err(RunStop::Write),
-        };
-        if !more {
-            return Ok(refused);
         }
+        commands.drop_first();
         done += 1;
     }
 }

@@ -2,7 +2,7 @@
 //! beginning of a line waits for more.
 
 ghost use Rattle.std.specs.Prelude.{◌≡◌, ◌≢◌, ◌++◌, ◌+◌, ◌<◌, ◌≤◌, ◌⊎◌, ℕ, List, [], IfErr, IfOk};
-ghost use Rattle.std.specs.Prelude.{IfSome, OnErr, OnOk, drop, length, slice_index_or, take};
+ghost use Rattle.std.specs.Prelude.{OnErr, OnOk, length, take};
 ghost use Rattle.line_claims.specs.Reads.{no_memory};
 ghost use Rattle.line_devices.specs.Devices.{IsDone, ends_after, one_more};
 ghost use Rattle.line_devices.specs.Reads.{GivesAll, IsTooLong};
@@ -58,14 +58,6 @@ struct Window {
     held: usize,
 }
 
-// Where the last line feed of some bytes stands, if there is one.
-fn last_feed(bytes: &[u8]) -> Option<usize>
-    ensures { IfSome result
-        (λ at. (at < length bytes.now) × (slice_index_or bytes.now at 0 ≡ 10)) }
-{
-    memrchr(b'\n', bytes)
-}
-
 // A window in which nothing waits.
 fn open_window(alloc: Global) -> Result<Window, AllocError>
     ensures none { IfOk result (λ window. window.held ≡ 0) }
@@ -109,28 +101,8 @@ fn make_room(window: &mut Window) -> Result<(), AllocError>
     window.bytes.resize(window.held + CHUNK, 0)
 }
 
-// Takes the bytes up to a place, which are whole lines, and moves those after it to the front.
-fn take_front<R: LineReader>(
-    window: &mut Window,
-    end: usize,
-    reader: &mut R,
-) -> Result<(), AllocError>
-    requires some { 0 < end }
-    requires within { end ≤ window.old.held }
-    requires room { window.old.held ≤ length window.old.bytes.items }
-    ensures taken { OnOk result ((front : List ℕ) → EndsLine front → R.has_taken reader.old front
-        → R.has_taken reader.new (front ++ take end (waiting window.old))) }
-    ensures rest { OnOk result (waiting window.new ≡ drop end (waiting window.old)) }
-    ensures room { OnOk result (window.new.held < length window.new.bytes.items) }
-{
-    reader.take_piece(&window.bytes[..end])?;
-    window.bytes.copy_within(end..window.held, 0);
-    window.held -= end;
-    Ok(())
-}
-
 // Takes the lines that end within the bytes that came last, so many, the first of which may have
-// begun before them.
+// begun before them, and moves what comes after them to the front.
 fn take_lines<R: LineReader>(
     window: &mut Window,
     count: usize,
@@ -145,10 +117,14 @@ fn take_lines<R: LineReader>(
     ensures room { OnOk result (window.new.held < length window.new.bytes.items) }
 {
     let begin = window.held - count;
-    let Some(at) = last_feed(&window.bytes[begin..window.held]) else {
+    let Some(at) = memrchr(b'\n', &window.bytes[begin..window.held]) else {
         return make_room(window);
     };
-    take_front(window, begin + at + 1, reader)
+    let end = begin + at + 1;
+    reader.take_piece(&window.bytes[..end])?;
+    window.bytes.copy_within(end..window.held, 0);
+    window.held -= end;
+    Ok(())
 }
 
 // Takes what waits where nothing more comes: the last line, which may lack its line feed.

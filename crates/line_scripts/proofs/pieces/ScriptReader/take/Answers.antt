@@ -14,8 +14,8 @@ returns-then-is_some c = λ front ends is.
     let plain : is_input_text c.args.piece.now ≡ true = sym c.is_plain.ensures ∙ c.if-not-is_plain.false in
     sym c.self.view_is ∙ fault_held _ _ front _ on ends plain (c.self.view_is ∙ is)
 
-pub invariant_of-self-in-Err-Fault : goal.invariant_of-self-in-Err-Fault
-invariant_of-self-in-Err-Fault c = (c.take_or_let_go.ensures.kept, fault_is_of_script _ _ _ (rw c.in-Err-Fault.field-0-is at c.in-Err-Fault.ensures.exact))
+pub invariant_of-self-in-Fault : goal.invariant_of-self-in-Fault
+invariant_of-self-in-Fault c = (c.let_go.ensures, fault_is_of_script _ _ _ (rw c.in-Fault.is at c.in-Err.ensures.exact))
 
 pub returns-in-Ok : goal.returns-in-Ok
 returns-in-Ok c = λ front ends is.
@@ -23,8 +23,8 @@ returns-in-Ok c = λ front ends is.
     let plain : is_input_text c.args.piece.now ≡ true = sym c.is_plain.ensures ∙ c.if-not-is_plain.false in
     piece_taken c.self.inside.fault _ _ front _ off ends plain c.in-Ok.ensures.exact (c.self.view_is ∙ is)
 
-pub returns-in-Err-Fault : goal.returns-in-Err-Fault
-returns-in-Err-Fault c = λ front ends is.
+pub returns-in-Fault : goal.returns-in-Fault
+returns-in-Fault c = λ front ends is.
     let off : is_some c.self.inside.fault ≡ false = sym c.is_some.ensures ∙ c.if-is_some.false in
     let plain : is_input_text c.args.piece.now ≡ true = sym c.is_plain.ensures ∙ c.if-not-is_plain.false in
-    fault_found c.self.inside.fault _ _ front _ off ends plain (rw c.in-Err-Fault.field-0-is at c.in-Err-Fault.ensures.exact) (c.self.view_is ∙ is)
+    fault_found c.self.inside.fault _ _ front _ off ends plain (rw c.in-Fault.is at c.in-Err.ensures.exact) (c.self.view_is ∙ is)

@@ -1,6 +1,6 @@
 use Rattle.std.proofs.Common.{◌∙◌, sym}
 use Rattle.line_scripts.proofs.FailedLemmas.{failed_found, failed_not_read, failed_refused}
-use Rattle.line_scripts.proofs.commands.with_failed.Goals as goal
+use Rattle.line_scripts.proofs.kinds.with_failed.Goals as goal
 
 pub returns-in_ok-boxed-in-Ok : goal.returns-in_ok-boxed-in-Ok
 returns-in_ok-boxed-in-Ok c command =
