@@ -8,6 +8,7 @@ mod laws;
 mod limits;
 mod lines;
 mod outcomes;
+mod records;
 mod seats;
 mod services;
 mod turns;

@@ -2,7 +2,7 @@ use Rattle.std.proofs.lemmas.Result.{err_from_is_err_and}
 use Rattle.line_service.proofs.ByteLemmas.{first_front, other_answers, other_front}
 use Rattle.line_service.proofs.HeardLemmas.{none_answered}
 use Rattle.line_service.proofs.PlainLemmas.{no_feed_whole, row_is}
-use Rattle.line_service.proofs.hearings.answer_plain.Goals as goal
+use Rattle.line_service.proofs.records.answer_plain.Goals as goal
 
 pub returns-then-end-bytes-clause-ok : goal.returns-then-end-bytes-clause-ok
 returns-then-end-bytes-clause-ok g c = (no_feed_whole _ _ c.in-Ok.ensures.line c.if-end-bytes.true, none_answered _ _)

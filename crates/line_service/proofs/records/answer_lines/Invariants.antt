@@ -1,7 +1,7 @@
 use Rattle.std.proofs.Common.{◌≡◌, length, true}
 use Rattle.line_fields.specs.Bytes.{is_input_text}
 use Rattle.line_service.specs.Progress.{AnswersWhole, spot}
-use Rattle.line_service.proofs.hearings.answer_lines.Given as goal
+use Rattle.line_service.proofs.records.answer_lines.Given as goal
 
 abbrev pub invariant-lines : goal.invariant-lines
 invariant-lines g l = record {

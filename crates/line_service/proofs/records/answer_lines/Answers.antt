@@ -3,7 +3,7 @@ use Rattle.std.proofs.lemmas.Result.{err_from_is_err_and}
 use Rattle.line_devices.proofs.PutLemmas.{slice_from}
 use Rattle.line_service.proofs.ByteLemmas.{whole_end, whole_front, whole_none, whole_on}
 use Rattle.line_service.proofs.PlainLemmas.{allowed_to}
-use Rattle.line_service.proofs.hearings.answer_lines.Goals as goal
+use Rattle.line_service.proofs.records.answer_lines.Goals as goal
 
 pub lines-init : goal.lines-init
 lines-init g c = record { answered = whole_none _ _ _; input = λ e. sym c.is_plain-plain.ensures ∙ e; sound = refl }

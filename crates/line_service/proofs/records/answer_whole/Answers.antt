@@ -3,7 +3,7 @@ use Rattle.std.proofs.lemmas.Result.{on_err_weaker, on_ok_weaker}
 use Rattle.line_service.proofs.ByteLemmas.{other_answers, other_front}
 use Rattle.line_service.proofs.LineLemmas.{dropped_record, kept_record}
 use Rattle.line_service.proofs.HeardLemmas.{bad_record}
-use Rattle.line_service.proofs.hearings.answer_whole.Goals as goal
+use Rattle.line_service.proofs.records.answer_whole.Goals as goal
 
 pub returns-then-line-gt-MOST_LINE-clause-ok : goal.returns-then-line-gt-MOST_LINE-clause-ok
 returns-then-line-gt-MOST_LINE-clause-ok g c =

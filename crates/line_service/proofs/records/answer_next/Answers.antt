@@ -1,6 +1,6 @@
 use Rattle.std.proofs.lemmas.Result.{err_from_is_err_and}
 use Rattle.line_service.proofs.ByteLemmas.{first_front}
-use Rattle.line_service.proofs.hearings.answer_next.Goals as goal
+use Rattle.line_service.proofs.records.answer_next.Goals as goal
 
 pub returns-in_err-answer_whole-in-Some-clause-err : goal.returns-in_err-answer_whole-in-Some-clause-err
 returns-in_err-answer_whole-in-Some-clause-err g c =
