@@ -10,14 +10,13 @@ ghost use Rattle.std.specs.Prelude.{◌≡◌, ◌≤◌};
 ghost use Rattle.line_cli.specs.Status.{status_of_service};
 ghost use Rattle.line_statuses.specs.Status.{status_of};
 
-use line_check::CertFault;
 use line_devices::{Sink, put_all};
 use line_drill_texts::drill_text;
 use line_posts::MOST_WORKERS;
-use line_service::{Outcome, ServeError};
+use line_service::Outcome;
 use line_statuses::{status_of_drill, status_of_fault};
 use line_streams::{ReadSource, WriteSink};
-use line_text::{Done, TextFault, check_text, run_text};
+use line_text::{TextFault, check_text, run_text};
 use line_words::{Job, WordsFault, command_of, fault_of_reading};
 use std::alloc::{AllocError, Global};
 use std::process::ExitCode;
@@ -39,27 +38,15 @@ fn tell(rt: &impl Eprint, fault: &TextFault) -> u8
     status_of_fault(fault.code)
 }
 
-/// What comes of the script on standard input.
-fn run_input(rt: &(impl Input + Print), alloc: Global) -> Result<Done, TextFault> {
-    let mut source = ReadSource::new(rt.reader());
-    let mut sink = WriteSink::new(io::writer(rt));
-    run_text(alloc, &mut source, &mut sink)
-}
-
 /// Runs the script on standard input, and says how that went.
 fn run(rt: &(impl Input + Print + Eprint), alloc: Global) -> u8 {
-    match run_input(rt, alloc) {
+    let mut source = ReadSource::new(rt.reader());
+    let mut sink = WriteSink::new(io::writer(rt));
+    match run_text(alloc, &mut source, &mut sink) {
         Ok(done) if done.refused == 0 => 0,
         Ok(_) => 1,
         Err(fault) => tell(rt, &fault),
     }
-}
-
-/// What comes of answering the records on standard input as they come.
-fn serve_input(rt: &(impl Input + Print), alloc: Global) -> Result<Outcome, ServeError> {
-    let mut source = ReadSource::new(rt.reader());
-    let mut sink = WriteSink::new(io::writer(rt));
-    line_service::serve(alloc, &mut source, &mut sink)
 }
 
 /// The status that goes with what a service answered: 0 where all was done, 1 where a command was
@@ -76,7 +63,9 @@ fn status_of_service(outcome: Outcome) -> u8
 
 /// Answers the records on standard input as they come, and says how that went.
 fn serve(rt: &(impl Input + Print + Eprint), alloc: Global) -> u8 {
-    match serve_input(rt, alloc) {
+    let mut source = ReadSource::new(rt.reader());
+    let mut sink = WriteSink::new(io::writer(rt));
+    match line_service::serve(alloc, &mut source, &mut sink) {
         Ok(outcome) => status_of_service(outcome),
         Err(error) => {
             let code = error.code();
@@ -86,16 +75,11 @@ fn serve(rt: &(impl Input + Print + Eprint), alloc: Global) -> u8 {
     }
 }
 
-/// The first fault of the claim on standard input, if it has one.
-fn check_input(rt: &(impl Input + Print), alloc: Global) -> Result<Option<CertFault>, TextFault> {
-    let mut source = ReadSource::new(rt.reader());
-    let mut sink = WriteSink::new(io::writer(rt));
-    check_text(alloc, &mut source, &mut sink)
-}
-
 /// Judges the claim on standard input, and says how that went.
 fn check(rt: &(impl Input + Print + Eprint), alloc: Global) -> u8 {
-    match check_input(rt, alloc) {
+    let mut source = ReadSource::new(rt.reader());
+    let mut sink = WriteSink::new(io::writer(rt));
+    match check_text(alloc, &mut source, &mut sink) {
         Ok(None) => 0,
         Ok(Some(_)) => 1,
         Err(fault) => tell(rt, &fault),

@@ -2,7 +2,6 @@
 ghost use Rattle.std.specs.Prelude.{◌≡◌, ◌≢◌, IfErr, None};
 ghost use Rattle.std.specs.Io.{ReadsAtMost};
 ghost use Rattle.std.specs.IoError.{error_kind};
-ghost use Rattle.line_devices.specs.Devices.{ends_after};
 
 use crate::tries::TRIES;
 use line_devices::{DeviceFault, Source};
@@ -22,15 +21,6 @@ fn read_again<R: Read>(reader: &mut R, into: &mut [u8]) -> io::Result<usize>
         }
     }
     Err(io::Error::from(ErrorKind::TimedOut))
-}
-
-/// Counts an end, where a call gave nothing.
-fn count_end(ends: &mut u64, count: usize)
-    ensures { ends.new ≡ ends_after count ends.old }
-{
-    if count == 0 {
-        *ends = ends.saturating_add(1);
-    }
 }
 
 /// The bytes of a reader, which are counted. A reader that gave 2^64 bytes has failed.
@@ -79,7 +69,9 @@ impl<R: Read> Source for ReadSource<R> {
         if let Ok(count) = read_again(&mut self.reader, into) {
             if let Some(given) = self.given.checked_add(count as u64) {
                 self.given = given;
-                count_end(&mut self.ends, count);
+                if count == 0 {
+                    self.ends = self.ends.saturating_add(1);
+                }
                 return Ok(count);
             }
         }
