@@ -1,3 +1,4 @@
+pub mod ApartLemmas
 pub mod CsvLemmas
 pub mod DigitLemmas
 pub mod EndLemmas

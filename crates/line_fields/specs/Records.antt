@@ -1,6 +1,6 @@
 -- The records of a text, each the list of its fields.
-use Rattle.std.specs.Prelude.{ℕ, List, [], ◌∷◌, Bool, true, false, ◌==◌, if◌then◌else◌, map, filter}
-use Rattle.std.specs.Prelude.{slice_index_or}
+use Rattle.std.specs.Prelude.{◌≡◌, ◌⊎◌, ◌++◌, ℕ, List, [], ◌∷◌, Bool, true, false, ◌==◌}
+use Rattle.std.specs.Prelude.{if◌then◌else◌, map, filter, slice_index_or}
 
 -- the fields of a record, each the list of its bytes
 abbrev pub Record : Type 0
@@ -35,6 +35,10 @@ records_of_lines lines = map (parts 44) (filter has_byte lines)
 -- the records of a text: its lines are parted by line feeds, and carriage returns don't count
 abbrev pub records_of_text : List ℕ → List Record
 records_of_text text = records_of_lines (parts 10 (without 13 text))
+
+-- a text is empty, or ends with a line feed
+abbrev pub EndsLine : List ℕ → Type 0
+EndsLine text = (text ≡ []) ⊎ ((front : List ℕ) × (text ≡ front ++ 10 ∷ []))
 
 -- the field at a place, and past the last an empty one
 abbrev pub field : Record → ℕ → List ℕ
