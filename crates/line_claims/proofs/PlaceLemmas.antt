@@ -19,7 +19,7 @@ use Rattle.line_claims.specs.Readings.{CheckPlace, EndsBefore, place_left, stage
 use Rattle.line_claims.specs.Reads.{FailsText, Yields, fault_of_record}
 use Rattle.line_claims.specs.Stages.{claim_left, no_claim, tapes_left, whole_front}
 use Rattle.line_claims.specs.Texts.{Check, certificate_of, certificate_of_text, check_of_text, check_text_of, history_of, history_of_text, records_in}
-use Rattle.line_claims.proofs.ApartLemmas.{input_apart, records_apart}
+use Rattle.line_claims.proofs.ApartLemmas.{input_before, records_before}
 
 -- ---- where a text begins
 
@@ -111,15 +111,15 @@ bad_text place text bad = rw bad refl
 
 pub bad_piece : (old new : CheckPlace) (piece rest : List ℕ) → EndsBefore piece rest → is_input_text piece ≡ false → new.fault ≡ Some bad_byte → text_left old (piece ++ rest) ≡ text_left new rest
 bad_piece old new piece rest ends bad is =
-    bad_text old (piece ++ rest) (input_apart piece rest ends ∙ ap (λ (b : Bool). b && is_input_text rest) bad) ∙ sym (bad_stays new rest is)
+    bad_text old (piece ++ rest) (input_before piece rest ends ∙ ap (λ (b : Bool). b && is_input_text rest) bad) ∙ sym (bad_stays new rest is)
 
 -- the records of a piece stand before those behind it
 behind_piece : (place : CheckPlace) (piece rest : List ℕ) → EndsBefore piece rest → is_input_text piece ≡ true
     → text_left place (piece ++ rest) ≡ (records_in rest >>= λ records. unless_fault place.fault (place_left place.begun place.number (records_of_text piece ++ records)))
 unfolding text_left
 behind_piece place piece rest ends plain =
-    let both : is_input_text (piece ++ rest) ≡ is_input_text rest = input_apart piece rest ends ∙ ap (λ (b : Bool). b && is_input_text rest) plain in
-    let joined : records_of_text (piece ++ rest) ≡ records_of_text piece ++ records_of_text rest = records_apart piece rest ends in
+    let both : is_input_text (piece ++ rest) ≡ is_input_text rest = input_before piece rest ends ∙ ap (λ (b : Bool). b && is_input_text rest) plain in
+    let joined : records_of_text (piece ++ rest) ≡ records_of_text piece ++ records_of_text rest = records_before piece rest ends in
     elim (cases_Bool (is_input_text rest)) [ inl e ↦ rw (both, e, joined) refl | inr e ↦ rw (both, e) refl ]
 
 next_same : (read : Result (List Record) TextFault) (old new : List Record → Result Check TextFault) → ((records : List Record) → old records ≡ new records) → (read >>= old) ≡ (read >>= new)

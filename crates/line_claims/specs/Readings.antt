@@ -1,8 +1,8 @@
 -- What a check text still spells, the first records of which were taken.
-use Rattle.std.specs.Prelude.{◌≡◌, ◌≤◌, ◌⊎◌, ℕ, ◌++◌, List, [], ◌∷◌, length, Option, Some, None}
+use Rattle.std.specs.Prelude.{◌≡◌, ◌≤◌, ◌⊎◌, ℕ, List, [], ◌∷◌, length, Option, Some, None}
 use Rattle.std.specs.Prelude.{Result, Ok, Err}
 use Rattle.line_fields.specs.Fields.{◌>>=◌}
-use Rattle.line_fields.specs.Records.{Record}
+use Rattle.line_fields.specs.Records.{EndsLine, Record}
 use Rattle.line_claims.specs.declared.claims.ClaimStage.{ClaimStage}
 use Rattle.line_claims.specs.declared.faults.TextFault.{TextFault}
 use Rattle.line_claims.specs.declared.readers.BegunCheck as made
@@ -13,18 +13,18 @@ use Rattle.line_claims.specs.Texts.{Check, check_text_of, check_view, records_in
 -- were begun: its claim from that part on, or its tapes and the claim
 abbrev pub stage_left : Option ClaimStage → ℕ → ℕ → ℕ → Check → ℕ → List Record
     → Result Check TextFault
-stage_left None version n begun check i records = do
-  front ← tapes_left n begun check.history i records
+stage_left None version n tapes check i records = do
+  front ← tapes_left n tapes check.history i records
   claim ← damage_left version n check.claim front.number front.left
   Ok (record { history = front.value; claim = claim })
-stage_left (Some stage) version n begun check i records = do
+stage_left (Some stage) version n tapes check i records = do
   claim ← claim_left stage version n check.claim i records
   Ok (record { history = check.history; claim = claim })
 
 -- what was begun, as lists
 pub record Begun : Type 0 where
   pub version : ℕ
-  pub begun : ℕ
+  pub tapes : ℕ
   pub stage : Option ClaimStage
   pub check : Check
 
@@ -32,7 +32,7 @@ abbrev pub begun_view : made.BegunCheck → Begun
 begun_view begun =
     record {
       version = begun.version;
-      begun = begun.begun;
+      tapes = begun.tapes;
       stage = begun.stage;
       check = check_view begun.text;
     }
@@ -41,7 +41,7 @@ begun_view begun =
 abbrev pub place_left : Option Begun → ℕ → List Record → Result Check TextFault
 place_left None i records = check_text_of records
 place_left (Some begun) i records =
-    stage_left begun.stage begun.version (length begun.check.history) begun.begun begun.check i
+    stage_left begun.stage begun.version (length begun.check.history) begun.tapes begun.check i
     records
 
 abbrev pub begun_left : made.BegunCheck → ℕ → List Record → Result Check TextFault
@@ -57,7 +57,7 @@ left_of begun i records = place_left (begun_if_any begun) i records
 
 -- no more tapes were begun than there are, and there are marks of each process
 pub record IsBegun (begun : made.BegunCheck) : Type 0 where
-  pub few : begun.begun ≤ length begun.text.history.processes
+  pub few : begun.tapes ≤ length begun.text.history.processes
   pub whole : length begun.text.claim.marks.damaged ≡ length begun.text.history.processes
 
 -- what is read, unless there was a fault before
@@ -78,7 +78,6 @@ text_left place text =
     records_in text >>= λ records. unless_fault place.fault
     (place_left place.begun place.number records)
 
--- a text ends with a line feed, or is empty, or nothing stands after it
+-- whole lines stand before a text, or nothing does after them
 abbrev pub EndsBefore : List ℕ → List ℕ → Type 0
-EndsBefore text rest =
-    (rest ≡ []) ⊎ (text ≡ []) ⊎ ((front : List ℕ) × (text ≡ front ++ 10 ∷ []))
+EndsBefore text rest = (rest ≡ []) ⊎ EndsLine text

@@ -79,15 +79,15 @@ open_tape (suc p) history i records = many is_event (event_at p) history i recor
 -- the history of n processes that these records go on with, so many tapes of which were begun
 abbrev pub tapes_left : ℕ → ℕ → List Process → ℕ → List Record
     → Result (Part (List Process)) TextFault
-tapes_left n begun history i records = do
-  tape ← open_tape begun history i records
-  tapes_from begun (n - begun) tape.value tape.number tape.left
+tapes_left n tapes history i records = do
+  tape ← open_tape tapes history i records
+  tapes_from tapes (n - tapes) tape.value tape.number tape.left
 
 -- a record was of the tapes, or the history is whole and ends before it
 abbrev pub with_tape : Bool → ℕ → ℕ → List Process → ℕ → Record → List Record
     → Result (Part (List Process)) TextFault
-with_tape true n begun history i r rest = tapes_left n begun history (i + 1) rest
-with_tape false n begun history i r rest =
+with_tape true n tapes history i r rest = tapes_left n tapes history (i + 1) rest
+with_tape false n tapes history i r rest =
     Ok (record { value = history; number = i; left = r ∷ rest })
 
 -- a history that ends here

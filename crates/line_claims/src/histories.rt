@@ -185,11 +185,11 @@ fn event_at(
 }
 
 // The kind of event that a record spells, where a tape was begun that it may be of.
-fn event_kind(begun: u32, row: &FieldRow) -> Option<Kind>
-    ensures { MatchOption result ((begun ≡ 0) ⊎ (is_event row.now ≡ false))
-        (λ kind. (0 < begun) × (is_event row.now ≡ true) × (field row.now 0 ≡ kind_text kind)) }
+fn event_kind(tapes: u32, row: &FieldRow) -> Option<Kind>
+    ensures { MatchOption result ((tapes ≡ 0) ⊎ (is_event row.now ≡ false))
+        (λ kind. (0 < tapes) × (is_event row.now ≡ true) × (field row.now 0 ≡ kind_text kind)) }
 {
-    if begun == 0 {
+    if tapes == 0 {
         return None;
     }
     kind_of(row)
@@ -199,24 +199,24 @@ fn event_kind(begun: u32, row: &FieldRow) -> Option<Kind>
 fn take_event(
     alloc: Global,
     history: &mut History,
-    begun: u32,
+    tapes: u32,
     kind: Kind,
     number: u64,
     row: &FieldRow,
     bytes: &mut Vec<u8>,
 ) -> Result<bool, TextError>
-    requires some { 0 < begun }
-    requires there { begun ≤ length history.old.processes }
+    requires some { 0 < tapes }
+    requires there { tapes ≤ length history.old.processes }
     requires event { is_event row.now ≡ true }
     requires kind { field row.now 0 ≡ kind_text kind }
     ensures exact { Goes result
-        (tapes_left (length history.old.processes) begun history.old.processes number)
-        (λ more. with_tape more (length history.old.processes) begun history.new.processes number
+        (tapes_left (length history.old.processes) tapes history.old.processes number)
+        (λ more. with_tape more (length history.old.processes) tapes history.new.processes number
         row.now)
         row.now }
     ensures same { length history.new.processes ≡ length history.old.processes }
 {
-    let Ok(at) = ProcId::try_new(begun - 1, history.n()) else {
+    let Ok(at) = ProcId::try_new(tapes - 1, history.n()) else {
         unreachable!()
     };
     match event_at(alloc, history, at, kind, row, bytes) {
@@ -229,25 +229,25 @@ fn take_event(
 // begun.
 fn take_next_tape(
     history: &mut History,
-    begun: &mut u32,
+    tapes: &mut u32,
     number: u64,
     row: &FieldRow,
 ) -> Result<bool, TextError>
-    requires { begun.old ≤ length history.old.processes }
+    requires { tapes.old ≤ length history.old.processes }
     ensures exact { Goes result
-        (tapes_from begun.old (length history.old.processes - begun.old) history.old.processes
+        (tapes_from tapes.old (length history.old.processes - tapes.old) history.old.processes
         number)
-        (λ more. with_tape more (length history.old.processes) begun.new history.new.processes
+        (λ more. with_tape more (length history.old.processes) tapes.new history.new.processes
         number row.now)
         row.now }
     ensures same { length history.new.processes ≡ length history.old.processes }
-    ensures there { begun.new ≤ length history.old.processes }
+    ensures there { tapes.new ≤ length history.old.processes }
 {
     let n = history.n();
-    if *begun == n {
+    if *tapes == n {
         return Ok(false);
     }
-    let Ok(at) = ProcId::try_new(*begun, n) else {
+    let Ok(at) = ProcId::try_new(*tapes, n) else {
         unreachable!()
     };
     if !is_named(row, b"tape") {
@@ -255,7 +255,7 @@ fn take_next_tape(
     }
     match tape_of(history, at, row) {
         Ok(()) => {
-            *begun += 1;
+            *tapes += 1;
             Ok(true)
         }
         Err(fault) => Err(fault_at(number, fault)),
@@ -267,34 +267,34 @@ fn take_next_tape(
 pub(crate) fn take_of_tapes(
     alloc: Global,
     history: &mut History,
-    begun: &mut u32,
+    tapes: &mut u32,
     number: u64,
     row: &FieldRow,
     bytes: &mut Vec<u8>,
 ) -> Result<bool, TextError>
-    requires { begun.old ≤ length history.old.processes }
+    requires { tapes.old ≤ length history.old.processes }
     ensures exact { Goes result
-        (tapes_left (length history.old.processes) begun.old history.old.processes number)
-        (λ more. with_tape more (length history.old.processes) begun.new history.new.processes
+        (tapes_left (length history.old.processes) tapes.old history.old.processes number)
+        (λ more. with_tape more (length history.old.processes) tapes.new history.new.processes
         number row.now)
         row.now }
     ensures same { length history.new.processes ≡ length history.old.processes }
-    ensures there { begun.new ≤ length history.old.processes }
+    ensures there { tapes.new ≤ length history.old.processes }
 {
-    match event_kind(*begun, row) {
-        Some(kind) => take_event(alloc, history, *begun, kind, number, row, bytes),
-        None => take_next_tape(history, begun, number, row),
+    match event_kind(*tapes, row) {
+        Some(kind) => take_event(alloc, history, *tapes, kind, number, row, bytes),
+        None => take_next_tape(history, tapes, number, row),
     }
 }
 
 /// Refuses a history that ends before its last tape; the record that is missing has that number.
-pub(crate) fn close_tapes(history: &History, begun: u32, number: u64) -> Result<(), TextError>
-    requires { begun ≤ length history.now.processes }
+pub(crate) fn close_tapes(history: &History, tapes: u32, number: u64) -> Result<(), TextError>
+    requires { tapes ≤ length history.now.processes }
     ensures { Yields (λ _. record { value = history.now.processes; number = number; left = [] })
         result
-        (tapes_left (length history.now.processes) begun history.now.processes number []) }
+        (tapes_left (length history.now.processes) tapes history.now.processes number []) }
 {
-    if begun < history.n() {
+    if tapes < history.n() {
         return Err(fault_at(number, Fault::BadRecord));
     }
     Ok(())

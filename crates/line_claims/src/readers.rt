@@ -23,7 +23,7 @@ use std::marker::Model;
 struct BegunCheck {
     version: u32,
     // How many of its tapes were begun.
-    begun: u32,
+    tapes: u32,
     // Which part of the claim the next record may be of; none while the tapes go on.
     stage: Option<ClaimStage>,
     text: CheckText,
@@ -39,7 +39,7 @@ fn begin_check(alloc: Global, row: &FieldRow) -> Result<BegunCheck, TextError>
     let claim = begin_claim(alloc, n)?;
     Ok(BegunCheck {
         version,
-        begun: 0,
+        tapes: 0,
         stage: None,
         text: CheckText { history, claim },
     })
@@ -74,7 +74,7 @@ fn take_in_claim(
     requires { IsBegun begun.old }
     ensures exact { Goes result
         (spec.stage_left (Some stage) begun.old.version
-        (length begun.old.text.history.processes) begun.old.begun (check_view begun.old.text)
+        (length begun.old.text.history.processes) begun.old.tapes (check_view begun.old.text)
         number)
         (λ _. spec.begun_left begun.new (number + 1)) row.now }
     ensures kept { IsBegun begun.new }
@@ -100,7 +100,7 @@ fn take_in_tapes(
     ensures kept { IsBegun begun.new }
 {
     let history = &mut begun.text.history;
-    if take_of_tapes(alloc, history, &mut begun.begun, number, row, bytes)? {
+    if take_of_tapes(alloc, history, &mut begun.tapes, number, row, bytes)? {
         return Ok(());
     }
     take_in_claim(begun, ClaimStage::Damage, number, row)
@@ -185,7 +185,7 @@ fn close_check(begun: &BegunCheck, number: u64) -> Result<(), TextError>
     match begun.stage {
         Some(stage) => close_claim(stage, number),
         None => {
-            close_tapes(&begun.text.history, begun.begun, number)?;
+            close_tapes(&begun.text.history, begun.tapes, number)?;
             close_claim(ClaimStage::Damage, number)
         }
     }

@@ -63,15 +63,15 @@ fn take_tapes(
         (tapes_left (length history.old.processes) 0 history.old.processes 2 records.old)) }
 {
     let mut bytes = Vec::new(alloc);
-    let mut begun = 0u32;
+    let mut tapes = 0u32;
     let mut number = 2u64;
     'records: while records.next_row(row)? {
-        if !take_of_tapes(alloc, history, &mut begun, number, row, &mut bytes)? {
+        if !take_of_tapes(alloc, history, &mut tapes, number, row, &mut bytes)? {
             return Err(fault_at(number, Fault::BadRecord));
         }
         number += 1;
     }
-    close_tapes(history, begun, number)
+    close_tapes(history, tapes, number)
 }
 
 #[tactic(auto, unfolding(crate::specs::Texts::history_of))]
