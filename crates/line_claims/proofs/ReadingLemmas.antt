@@ -1,6 +1,7 @@
 -- The parts of a text, taken record by record.
 use Rattle.std.proofs.Common.{◌≡◌, ◌<◌, ◌≤◌, ℕ, zero, suc, ◌+◌, ◌-◌, Bool, true, false, List, [], ◌∷◌, Result, Ok, Err, ◌⊎◌, inl, inr, refl, sym, subst, ap, ◌∙◌, arith}
-use Rattle.std.specs.Prelude.{codes}
+use Rattle.std.specs.Prelude.{◌++◌, IfErr, IfOk, MatchBool, codes}
+use Rattle.std.proofs.lemmas.List.{append-nil}
 use Rattle.line_fields.specs.declared.faults.Fault.{Fault}
 use Rattle.line_fields.specs.declared.faults.Fault.TheVariants as faults
 use Rattle.line_fields.specs.declared.faults.ReadError.{ReadError}
@@ -203,3 +204,17 @@ tapes_whole n b history i le =
 
 pub tape_none : (n b : ℕ) (history : List Process) (i : ℕ) → b < n → tapes_left n b history i [] ≡ Err (fault_of_record i faults.BadRecord)
 tape_none n b history i lt = nothing_open n b history i ∙ tapes_first n b history i [] lt ∙ one_none (codes "tape") (tape_of b history) i _
+
+-- ---- records behind which nothing stands
+
+pub nothing_behind : {A : Type 0} (result : Result Bool TextError) (P Q R : Type 0) (old more last : List Record → A) (front left : List Record)
+    → IfOk result (λ found. MatchBool found (P × Q × ((rest : List Record) → old (front ++ rest) ≡ more (left ++ rest))) (R × ((rest : List Record) → old (front ++ rest) ≡ last rest)))
+    → IfOk result (λ found. MatchBool found (P × Q × (old front ≡ more left)) (R × (old front ≡ last [])))
+nothing_behind (Ok true) P Q R old more last front left h = (h.0, h.1, sym (ap old (append-nil front)) ∙ h.2 [] ∙ ap more (append-nil left))
+nothing_behind (Ok false) P Q R old more last front left h = (h.0, sym (ap old (append-nil front)) ∙ h.1 [])
+nothing_behind (Err e) P Q R old more last front left h = tt
+
+pub fails_alone : {A : Type 0} (result : Result Bool TextError) (old : List Record → Result A TextFault) (front : List Record)
+    → IfErr result (λ error. (rest : List Record) → FailsText error (old (front ++ rest))) → IfErr result (λ error. FailsText error (old front))
+fails_alone (Ok found) old front h = tt
+fails_alone (Err e) old front h = subst (λ (records : List Record). FailsText e (old records)) (append-nil front) (h [])

@@ -1,11 +1,12 @@
 -- What a check text still spells, the first records of which were taken.
-use Rattle.std.specs.Prelude.{◌≡◌, ◌≤◌, ◌⊎◌, ℕ, List, [], ◌∷◌, length, Option, Some, None}
+use Rattle.std.specs.Prelude.{◌≡◌, ◌≤◌, ◌⊎◌, ℕ, List, [], ◌∷◌, false, length, Option, Some, None}
 use Rattle.std.specs.Prelude.{Result, Ok, Err}
 use Rattle.line_fields.specs.Fields.{◌>>=◌}
 use Rattle.line_fields.specs.Records.{EndsLine, Record}
 use Rattle.line_claims.specs.declared.claims.ClaimStage.{ClaimStage}
 use Rattle.line_claims.specs.declared.faults.TextFault.{TextFault}
 use Rattle.line_claims.specs.declared.readers.BegunCheck as made
+use Rattle.line_claims.specs.Events.{is_event}
 use Rattle.line_claims.specs.Stages.{claim_left, damage_left, tapes_left}
 use Rattle.line_claims.specs.Texts.{Check, check_text_of, check_view, records_in}
 
@@ -59,6 +60,10 @@ left_of begun i records = place_left (begun_if_any begun) i records
 pub record IsBegun (begun : made.BegunCheck) : Type 0 where
   pub few : begun.tapes ≤ length begun.text.history.processes
   pub whole : length begun.text.claim.marks.damaged ≡ length begun.text.history.processes
+
+-- a record is no event of the tape that was begun last, while the tapes go on
+abbrev pub IsBeyondTape : made.BegunCheck → Record → Type 0
+IsBeyondTape begun r = begun.stage ≡ None → (begun.tapes ≡ 0) ⊎ (is_event r ≡ false)
 
 -- what is read, unless there was a fault before
 abbrev pub unless_fault : Option TextFault → Result Check TextFault → Result Check TextFault

@@ -1,8 +1,8 @@
 //! Histories, taken record by record.
 
-ghost use Rattle.std.specs.Prelude.{◌≡◌, ◌≤◌, ◌<◌, ◌-◌, ◌⊎◌, true, false, [], ◌∷◌, List};
-ghost use Rattle.std.specs.Prelude.{Ok, Err, codes, length, replicate, IfErr, IfOk, MatchOption};
-ghost use Rattle.std.specs.Prelude.{OnOk, nat_lt};
+ghost use Rattle.std.specs.Prelude.{◌≡◌, ◌≤◌, ◌<◌, ◌+◌, ◌^◌, ◌++◌, ◌⊎◌, false, [], ◌∷◌};
+ghost use Rattle.std.specs.Prelude.{List, Ok, Err, codes, length, replicate, IfErr, IfOk};
+ghost use Rattle.std.specs.Prelude.{MatchBool, MatchOption, OnOk, nat_lt};
 ghost use Rattle.line_names.specs.declared.limits.TheConstants.{MOST_PROCESSES};
 ghost use Rattle.line_fields.specs.declared.faults.Fault.TheVariants as faults;
 ghost use Rattle.line_fields.specs.Fields as fields;
@@ -11,8 +11,7 @@ ghost use Rattle.line_tape.specs.History.{fresh, tape_at};
 ghost use Rattle.line_tape.specs.Views.{room_at};
 ghost use Rattle.line_claims.specs.Events.{is_event, kind_text};
 ghost use Rattle.line_claims.specs.Histories as spec;
-ghost use Rattle.line_claims.specs.Histories.{tapes_from};
-ghost use Rattle.line_claims.specs.Reads.{Steps, Yields};
+ghost use Rattle.line_claims.specs.Reads.{FailsText, Steps, Yields, error_at};
 ghost use Rattle.line_claims.specs.Stages.{Goes, tapes_left, with_tape};
 
 use crate::events::{Kind, check_event_of, kind_of, mark_event_of, recv_event_of, send_event_of};
@@ -20,7 +19,7 @@ use crate::faults::{TextError, error_at, fault_at};
 use crate::numbers::{incarnation, plain, want};
 use crate::parts::is_named;
 use crate::versions::{LAST_VERSION, most_in};
-use line_fields::{Fault, FieldRow, ReadError};
+use line_fields::{Fault, FieldRow, ReadError, RecordReader};
 use line_names::ProcId;
 use line_tape::{CountError, Event, History, MOST_EVENTS};
 use std::alloc::Global;
@@ -184,59 +183,114 @@ fn event_at(
     }
 }
 
-// The kind of event that a record spells, where a tape was begun that it may be of.
-fn event_kind(tapes: u32, row: &FieldRow) -> Option<Kind>
-    ensures { MatchOption result ((tapes ≡ 0) ⊎ (is_event row.now ≡ false))
-        (λ kind. (0 < tapes) × (is_event row.now ≡ true) × (field row.now 0 ≡ kind_text kind)) }
-{
-    if tapes == 0 {
-        return None;
-    }
-    kind_of(row)
-}
-
-// Takes an event of the tape that was begun last.
-fn take_event(
+// Takes the events of the tape that was begun last, from the one in the row on, and says whether
+// the row then has a record that is none. It runs for each event: a fault has no number yet.
+fn take_events(
     alloc: Global,
+    records: &mut RecordReader<'_>,
     history: &mut History,
     tapes: u32,
-    kind: Kind,
-    number: u64,
-    row: &FieldRow,
+    number: &mut u64,
+    row: &mut FieldRow,
     bytes: &mut Vec<u8>,
-) -> Result<bool, TextError>
+) -> Result<bool, ReadError>
     requires some { 0 < tapes }
     requires there { tapes ≤ length history.old.processes }
-    requires event { is_event row.now ≡ true }
-    requires kind { field row.now 0 ≡ kind_text kind }
-    ensures exact { Goes result
-        (tapes_left (length history.old.processes) tapes history.old.processes number)
-        (λ more. with_tape more (length history.old.processes) tapes history.new.processes number
-        row.now)
-        row.now }
+    requires room { number.old + length records.old + 1 < 2 ^ 64 }
+    ensures ok { IfOk result (λ more. MatchBool more
+        ((is_event row.new ≡ false)
+        × (number.new + length records.new ≤ number.old + length records.old)
+        × ((rest : List Record)
+        → tapes_left (length history.old.processes) tapes history.old.processes number.old
+        (row.old ∷ (records.old ++ rest))
+        ≡ tapes_left (length history.old.processes) tapes history.new.processes number.new
+        (row.new ∷ (records.new ++ rest))))
+        ((number.new ≤ number.old + length records.old + 1)
+        × ((rest : List Record)
+        → tapes_left (length history.old.processes) tapes history.old.processes number.old
+        (row.old ∷ (records.old ++ rest))
+        ≡ tapes_left (length history.old.processes) tapes history.new.processes number.new rest))) }
+    ensures err { IfErr result (λ error. (rest : List Record)
+        → FailsText (error_at number.new error)
+        (tapes_left (length history.old.processes) tapes history.old.processes number.old
+        (row.old ∷ (records.old ++ rest)))) }
+    ensures count { number.old ≤ number.new }
     ensures same { length history.new.processes ≡ length history.old.processes }
 {
     let Ok(at) = ProcId::try_new(tapes - 1, history.n()) else {
         unreachable!()
     };
-    match event_at(alloc, history, at, kind, row, bytes) {
-        Ok(()) => Ok(true),
-        Err(error) => Err(error_at(number, error)),
+    'events: loop {
+        let Some(kind) = kind_of(row) else {
+            return Ok(true);
+        };
+        match event_at(alloc, history, at, kind, row, bytes) {
+            Ok(()) => {}
+            Err(error) => return Err(error),
+        }
+        *number += 1;
+        match records.next_row(row) {
+            Ok(true) => {}
+            Ok(false) => return Ok(false),
+            Err(_) => return Err(ReadError::OutOfMemory),
+        }
     }
 }
 
-// Takes the record with which the next tape begins, where another one follows those that were
-// begun.
-fn take_next_tape(
+/// Takes the events of the tape that was begun last, if one was, from the record in the row on, and
+/// says whether the row then has a record that is none.
+pub(crate) fn take_open_tape(
+    alloc: Global,
+    records: &mut RecordReader<'_>,
+    history: &mut History,
+    tapes: u32,
+    number: &mut u64,
+    row: &mut FieldRow,
+    bytes: &mut Vec<u8>,
+) -> Result<bool, TextError>
+    requires there { tapes ≤ length history.old.processes }
+    requires room { number.old + length records.old + 1 < 2 ^ 64 }
+    ensures ok { IfOk result (λ more. MatchBool more
+        (((tapes ≡ 0) ⊎ (is_event row.new ≡ false))
+        × (number.new + length records.new ≤ number.old + length records.old)
+        × ((rest : List Record)
+        → tapes_left (length history.old.processes) tapes history.old.processes number.old
+        (row.old ∷ (records.old ++ rest))
+        ≡ tapes_left (length history.old.processes) tapes history.new.processes number.new
+        (row.new ∷ (records.new ++ rest))))
+        ((number.new ≤ number.old + length records.old + 1)
+        × ((rest : List Record)
+        → tapes_left (length history.old.processes) tapes history.old.processes number.old
+        (row.old ∷ (records.old ++ rest))
+        ≡ tapes_left (length history.old.processes) tapes history.new.processes number.new rest))) }
+    ensures err { IfErr result (λ error. (rest : List Record)
+        → FailsText error
+        (tapes_left (length history.old.processes) tapes history.old.processes number.old
+        (row.old ∷ (records.old ++ rest)))) }
+    ensures count { number.old ≤ number.new }
+    ensures same { length history.new.processes ≡ length history.old.processes }
+{
+    if tapes == 0 {
+        return Ok(true);
+    }
+    match take_events(alloc, records, history, tapes, number, row, bytes) {
+        Ok(more) => Ok(more),
+        Err(error) => Err(error_at(*number, error)),
+    }
+}
+
+/// Takes the record with which the next tape begins, where another one follows those that were
+/// begun, and answers false where the record stands after the last tape.
+pub(crate) fn take_next_tape(
     history: &mut History,
     tapes: &mut u32,
     number: u64,
     row: &FieldRow,
 ) -> Result<bool, TextError>
-    requires { tapes.old ≤ length history.old.processes }
+    requires there { tapes.old ≤ length history.old.processes }
+    requires other { (tapes.old ≡ 0) ⊎ (is_event row.now ≡ false) }
     ensures exact { Goes result
-        (tapes_from tapes.old (length history.old.processes - tapes.old) history.old.processes
-        number)
+        (tapes_left (length history.old.processes) tapes.old history.old.processes number)
         (λ more. with_tape more (length history.old.processes) tapes.new history.new.processes
         number row.now)
         row.now }
@@ -259,31 +313,6 @@ fn take_next_tape(
             Ok(true)
         }
         Err(fault) => Err(fault_at(number, fault)),
-    }
-}
-
-/// Takes the next record of the tapes of a history, so many of which were begun, and answers false
-/// where it stands after the last one. The bytes of messages take the place of those of a list.
-pub(crate) fn take_of_tapes(
-    alloc: Global,
-    history: &mut History,
-    tapes: &mut u32,
-    number: u64,
-    row: &FieldRow,
-    bytes: &mut Vec<u8>,
-) -> Result<bool, TextError>
-    requires { tapes.old ≤ length history.old.processes }
-    ensures exact { Goes result
-        (tapes_left (length history.old.processes) tapes.old history.old.processes number)
-        (λ more. with_tape more (length history.old.processes) tapes.new history.new.processes
-        number row.now)
-        row.now }
-    ensures same { length history.new.processes ≡ length history.old.processes }
-    ensures there { tapes.new ≤ length history.old.processes }
-{
-    match event_kind(*tapes, row) {
-        Some(kind) => take_event(alloc, history, *tapes, kind, number, row, bytes),
-        None => take_next_tape(history, tapes, number, row),
     }
 }
 

@@ -1,9 +1,11 @@
 //! Check texts that come in pieces of whole lines.
 
-ghost use Rattle.std.specs.Prelude.{◌≡◌, ◌≤◌, ◌<◌, ◌+◌, ◌^◌, ◌++◌, ◌≢◌, ℕ, List, length};
-ghost use Rattle.std.specs.Prelude.{IfErr, IfOk, IfSome, IsTrue, OnOk, [], None, Some};
+ghost use Rattle.std.specs.Prelude.{◌≡◌, ◌≤◌, ◌<◌, ◌+◌, ◌^◌, ◌++◌, ◌∷◌, ◌≢◌, ◌⊎◌, ℕ, List, false};
+ghost use Rattle.std.specs.Prelude.{length, IfErr, IfOk, IfSome, IsTrue, MatchBool, Ok, OnOk, []};
+ghost use Rattle.std.specs.Prelude.{None, Some, true};
 ghost use Rattle.line_fields.specs.Bytes.{is_input_text};
 ghost use Rattle.line_fields.specs.Records.{Record, records_of_text};
+ghost use Rattle.line_claims.specs.Events.{is_event};
 ghost use Rattle.line_claims.specs.Readings.{IsBegun};
 ghost use Rattle.line_claims.specs.Readings as spec;
 ghost use Rattle.line_claims.specs.Reads.{FailsText, Reads, Yields};
@@ -12,7 +14,7 @@ ghost use Rattle.line_claims.specs.Texts.{check_of_text, check_text_of, check_vi
 
 use crate::claims::{ClaimStage, begin_claim, close_claim, take_of_claim};
 use crate::faults::{TextError, TextFault, told};
-use crate::histories::{begin_history, close_tapes, head_at, take_of_tapes};
+use crate::histories::{begin_history, close_tapes, head_at, take_next_tape, take_open_tape};
 use crate::texts::CheckText;
 use line_fields::{Fault, FieldRow, RecordReader, is_plain};
 use std::alloc::{AllocError, Global};
@@ -85,55 +87,44 @@ fn take_in_claim(
     Ok(())
 }
 
-// Takes a record of the tapes of a check text, or the first one of its claim.
-fn take_in_tapes(
-    alloc: Global,
-    begun: &mut BegunCheck,
-    number: u64,
-    row: &FieldRow,
-    bytes: &mut Vec<u8>,
-) -> Result<(), TextError>
+// Takes the record with which the next tape of a check text begins, or the first one of its claim.
+fn take_in_tapes(begun: &mut BegunCheck, number: u64, row: &FieldRow) -> Result<(), TextError>
     requires kept { IsBegun begun.old }
     requires tapes { begun.old.stage ≡ None }
+    requires other { (begun.old.tapes ≡ 0) ⊎ (is_event row.now ≡ false) }
     ensures exact { Goes result (spec.begun_left begun.old number)
         (λ _. spec.begun_left begun.new (number + 1)) row.now }
     ensures kept { IsBegun begun.new }
 {
-    let history = &mut begun.text.history;
-    if take_of_tapes(alloc, history, &mut begun.tapes, number, row, bytes)? {
+    if take_next_tape(&mut begun.text.history, &mut begun.tapes, number, row)? {
         return Ok(());
     }
     take_in_claim(begun, ClaimStage::Damage, number, row)
 }
 
-// Takes a record of a check text after the first.
-fn take_of_check(
-    alloc: Global,
-    begun: &mut BegunCheck,
-    number: u64,
-    row: &FieldRow,
-    bytes: &mut Vec<u8>,
-) -> Result<(), TextError>
-    requires { IsBegun begun.old }
+// Takes a record of a check text after the first that is no event.
+fn take_of_check(begun: &mut BegunCheck, number: u64, row: &FieldRow) -> Result<(), TextError>
+    requires kept { IsBegun begun.old }
+    requires other { spec.IsBeyondTape begun.old row.now }
     ensures exact { Goes result (spec.begun_left begun.old number)
         (λ _. spec.begun_left begun.new (number + 1)) row.now }
     ensures kept { IsBegun begun.new }
 {
     match begun.stage {
-        None => take_in_tapes(alloc, begun, number, row, bytes),
+        None => take_in_tapes(begun, number, row),
         Some(stage) => take_in_claim(begun, stage, number, row),
     }
 }
 
-// Takes a record of a check text.
+// Takes a record of a check text that is no event.
 fn take_row(
     alloc: Global,
     begun: &mut Option<BegunCheck>,
     number: u64,
     row: &FieldRow,
-    bytes: &mut Vec<u8>,
 ) -> Result<(), TextError>
     requires kept { IfSome begun.old IsBegun }
+    requires other { IfSome begun.old (λ begun. spec.IsBeyondTape begun row.now) }
     requires first { begun.old ≡ None → number ≡ 1 }
     ensures exact { Goes result (spec.left_of begun.old number)
         (λ _. spec.left_of begun.new (number + 1)) row.now }
@@ -142,8 +133,79 @@ fn take_row(
     ensures none { begun.new ≡ None → begun.old ≡ None }
 {
     match begun {
-        Some(begun) => take_of_check(alloc, begun, number, row, bytes),
+        Some(begun) => take_of_check(begun, number, row),
         None => begin_with(alloc, begun, row),
+    }
+}
+
+// Takes the events of the tape that was begun last, from the record in the row on, while the tapes
+// of a check text go on, and says whether the row then has a record that is none.
+fn take_events_of(
+    alloc: Global,
+    records: &mut RecordReader<'_>,
+    begun: &mut BegunCheck,
+    number: &mut u64,
+    row: &mut FieldRow,
+    bytes: &mut Vec<u8>,
+) -> Result<bool, TextError>
+    requires kept { IsBegun begun.old }
+    requires room { number.old + length records.old + 1 < 2 ^ 64 }
+    ensures ok { IfOk result (λ more. MatchBool more
+        ((spec.IsBeyondTape begun.new row.new)
+        × (number.new + length records.new ≤ number.old + length records.old)
+        × ((rest : List Record)
+        → spec.begun_left begun.old number.old (row.old ∷ (records.old ++ rest))
+        ≡ spec.begun_left begun.new number.new (row.new ∷ (records.new ++ rest))))
+        ((number.new ≤ number.old + length records.old + 1)
+        × ((rest : List Record)
+        → spec.begun_left begun.old number.old (row.old ∷ (records.old ++ rest))
+        ≡ spec.begun_left begun.new number.new rest))) }
+    ensures err { IfErr result (λ error. (rest : List Record)
+        → FailsText error
+        (spec.begun_left begun.old number.old (row.old ∷ (records.old ++ rest)))) }
+    ensures count { number.old ≤ number.new }
+    ensures kept { IsBegun begun.new }
+{
+    if begun.stage.is_some() {
+        return Ok(true);
+    }
+    let history = &mut begun.text.history;
+    take_open_tape(alloc, records, history, begun.tapes, number, row, bytes)
+}
+
+// Takes the records of a check text that are events of the tape that was begun last, from the one
+// in the row on, and says whether the row then has another record.
+fn go_on(
+    alloc: Global,
+    records: &mut RecordReader<'_>,
+    begun: &mut Option<BegunCheck>,
+    number: &mut u64,
+    row: &mut FieldRow,
+    bytes: &mut Vec<u8>,
+) -> Result<bool, TextError>
+    requires kept { IfSome begun.old IsBegun }
+    requires room { number.old + length records.old + 1 < 2 ^ 64 }
+    ensures ok { IfOk result (λ more. MatchBool more
+        ((IfSome begun.new (λ begun. spec.IsBeyondTape begun row.new))
+        × (number.new + length records.new ≤ number.old + length records.old)
+        × ((rest : List Record)
+        → spec.left_of begun.old number.old (row.old ∷ (records.old ++ rest))
+        ≡ spec.left_of begun.new number.new (row.new ∷ (records.new ++ rest))))
+        ((number.new ≤ number.old + length records.old + 1)
+        × ((rest : List Record)
+        → spec.left_of begun.old number.old (row.old ∷ (records.old ++ rest))
+        ≡ spec.left_of begun.new number.new rest))) }
+    ensures err { IfErr result (λ error. (rest : List Record)
+        → FailsText error
+        (spec.left_of begun.old number.old (row.old ∷ (records.old ++ rest)))) }
+    ensures count { number.old ≤ number.new }
+    ensures kept { IfSome begun.new IsBegun }
+    ensures none { begun.new ≡ None → begun.old ≡ None }
+    ensures first { begun.old ≡ None → (number.new ≡ number.old) × (result ≡ Ok true) }
+{
+    match begun {
+        Some(begun) => take_events_of(alloc, records, begun, number, row, bytes),
+        None => Ok(true),
     }
 }
 
@@ -171,7 +233,10 @@ fn take_records(
 {
     let mut records = RecordReader::open(alloc, piece);
     'records: while records.next_row(row)? {
-        take_row(alloc, begun, *number, row, bytes)?;
+        if !go_on(alloc, &mut records, begun, number, row, bytes)? {
+            return Ok(());
+        }
+        take_row(alloc, begun, *number, row)?;
         *number += 1;
     }
     Ok(())
