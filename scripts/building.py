@@ -3,6 +3,8 @@
 import contextlib
 import fcntl
 import pathlib
+import shutil
+import subprocess
 import sys
 import tempfile
 import time
@@ -171,4 +173,14 @@ def build_bench(
     if kept.parent.parent.is_dir():
         with alone():
             workspace.put_out(crate / "out", kept)
+    return program
+
+
+def build_plain(room: pathlib.Path, source: pathlib.Path, *options: str) -> pathlib.Path | None:
+    """Builds a program in plain Rust; answers where it is, or none where there is no rustc."""
+    if not shutil.which("rustc"):
+        return None
+    program = room / source.stem
+    words = ["rustc", "--edition", "2021", *options, "-o", str(program), str(source)]
+    subprocess.run(words, check=True)
     return program
