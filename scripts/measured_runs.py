@@ -10,12 +10,14 @@ from collections.abc import Callable, Collection, Iterable
 from typing import NamedTuple
 
 MB = 1_000_000
-# Runs a program alone and tells its greatest memory in KiB, in a process that itself has little.
+# Runs a program alone, in a process that itself has little, and tells its greatest memory in KiB,
+# and how many pages it touched first.
 MEMORY_OF = """
 import os, sys
 nowhere = [(os.POSIX_SPAWN_OPEN, told, os.devnull, os.O_WRONLY, 0) for told in (1, 2)]
 child = os.posix_spawn(sys.argv[1], sys.argv[1:], os.environ, file_actions=nowhere)
-print(os.wait4(child, 0)[2].ru_maxrss)
+used = os.wait4(child, 0)[2]
+print(used.ru_maxrss, used.ru_minflt)
 """
 # A program, or the text of its path.
 Program = str | os.PathLike[str]
@@ -29,6 +31,13 @@ class Took(NamedTuple):
     status: int
 
 
+class Held(NamedTuple):
+    """The greatest memory of a run, in MB, and how many pages it touched first."""
+
+    megabytes: float
+    pages: int
+
+
 def timed(program: Program, command: str, path: pathlib.Path) -> Took:
     """Runs a command of the program on a text, and tells what that took."""
     with open(path, "rb") as source, open(os.devnull, "wb") as sink:
@@ -40,12 +49,18 @@ def timed(program: Program, command: str, path: pathlib.Path) -> Took:
     return Took(took, used.ru_utime + used.ru_stime, child.returncode)
 
 
-def memory(program: Program, command: str, path: pathlib.Path) -> float:
-    """The greatest memory of a run, in MB; no less than a small Python process has."""
+def held(program: Program, command: str, path: pathlib.Path) -> Held:
+    """What memory a run takes; no less than a small Python process has."""
     with open(path, "rb") as source:
         words = [sys.executable, "-I", "-S", "-c", MEMORY_OF, str(program), command]
         told = subprocess.run(words, stdin=source, capture_output=True, check=True)
-    return int(told.stdout) * 1024 / MB
+    kilobytes, pages = told.stdout.split()
+    return Held(int(kilobytes) * 1024 / MB, int(pages))
+
+
+def memory(program: Program, command: str, path: pathlib.Path) -> float:
+    """The greatest memory of a run, in MB; no less than a small Python process has."""
+    return held(program, command, path).megabytes
 
 
 def row(cells: Iterable[str]) -> None:
