@@ -14,7 +14,7 @@ use Rattle.line_tape.specs.History.{Process, fresh, process_at, tape_at, incarna
 use Rattle.line_tape.proofs.FrontLemmas.{slice_get-append_left}
 use Rattle.line_tape.proofs.LineLemmas.{tape_at-past}
 use Rattle.line_catalogue.specs.Agreement.{NameAgrees, EventAgrees, Agrees, IsSentAsNow}
-use Rattle.line_tape.proofs.SpentLemmas.{tape_start}
+use Rattle.line_tape.proofs.EventLemmas.{tape_start}
 
 -- a name that agrees with a process
 abbrev pub ProcessAgrees : Process → ℕ → ℕ → Type 0

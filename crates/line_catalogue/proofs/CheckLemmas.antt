@@ -13,14 +13,12 @@ use Rattle.line_tape.specs.declared.events.Event.{Event}
 use Rattle.line_tape.specs.declared.events.Event.TheVariants.{Send, Recv, Check, Mark}
 use Rattle.line_tape.specs.Event.{is_check, checks, incarnation_of, incarnations_sent, sends}
 use Rattle.line_tape.specs.Front.{check_place, place}
-use Rattle.line_tape.proofs.FrontLemmas.{check_place-le}
-use Rattle.line_tape.proofs.RowLemmas.{checks-push, check_place-append, check_place-push, check_place-last}
+use Rattle.line_tape.proofs.FrontLemmas.{check_place-le, check_place-mono}
+use Rattle.line_tape.proofs.RowLemmas.{checks-push, check_place-append, check_place-push, check_place-last, checks_front}
 use Rattle.line_tape.specs.Event.{NamesBelow}
 use Rattle.line_tape.specs.Front.{front, HasChoice}
 use Rattle.line_tape.specs.Restart.{restarted_event, is_kept}
 use Rattle.line_tape.proofs.CutLemmas.{checks_left, sent_left}
-use Rattle.line_tape.proofs.FrontLemmas.{check_place-mono}
-use Rattle.line_tape.proofs.RowLemmas.{checks_front}
 use Rattle.line_tape.proofs.StayLemmas.{front_restarted, front_take}
 use Rattle.line_vectors.specs.Reach.{reach_of_event, reach_of}
 use Rattle.line_vectors.proofs.ReachLemmas.{reach-deaf, reach-none, reach-recv, reach_of-left}

@@ -14,8 +14,7 @@ use Rattle.line_tape.specs.Fit.{IsSentTo}
 use Rattle.line_tape.specs.History.{Process, tape_at}
 use Rattle.line_tape.specs.Line.{events_before}
 use Rattle.line_tape.specs.Transit.{has_received, addressees}
-use Rattle.line_tape.proofs.CopyLemmas.{length_addressees}
-use Rattle.line_tape.proofs.SentLemmas.{name_of}
+use Rattle.line_tape.proofs.EventLemmas.{length_addressees, name_of}
 use Rattle.line_catalogue.specs.Known.{AreKnown, AreMarkRows, AreReceived, IsReceived}
 use Rattle.line_catalogue.specs.Left.{open_first, start_at}
 use Rattle.line_catalogue.proofs.OpenLemmas.{open-step, sent_whole}

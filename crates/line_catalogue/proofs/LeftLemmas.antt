@@ -19,16 +19,14 @@ use Rattle.line_tape.specs.History.{Process, tape_at, with_event}
 use Rattle.line_tape.specs.Line.{events_before, IsLine}
 use Rattle.line_tape.specs.Restart.{restarted_history}
 use Rattle.line_tape.specs.Transit.{Letter, letters, is_open_letter, open_letters, in_transit, has_received, names_received, addressee_of, addressees}
-use Rattle.line_tape.proofs.ChainLemmas.{choice-past}
-use Rattle.line_tape.proofs.CopyLemmas.{length_addressees, slice_get_front}
+use Rattle.line_tape.proofs.ChoiceLemmas.{choice-past}
+use Rattle.line_tape.proofs.EventLemmas.{length_addressees, tape_grows}
+use Rattle.line_tape.proofs.ListLemmas.{slice_get_front}
 use Rattle.line_tape.proofs.CutLemmas.{contains_nothing, cons_cases, sends_take}
 use Rattle.line_tape.proofs.FrontLemmas.{Contains-take_more, place_le}
-use Rattle.line_tape.proofs.LetterLemmas.{addressees_restarted}
+use Rattle.line_tape.proofs.StayLemmas.{addressees_restarted, tape_restarted, incs_restarted, length_restarted, names_restarted}
 use Rattle.line_tape.proofs.LineLemmas.{tape_at-past, front-empty}
-use Rattle.line_tape.proofs.LinkLemmas.{tape_restarted}
 use Rattle.line_tape.proofs.ReceivedLemmas.{length-letters}
-use Rattle.line_tape.proofs.SpentLemmas.{tape_grows, incs_restarted, length_restarted}
-use Rattle.line_tape.proofs.StayLemmas.{names_restarted}
 use Rattle.line_tape.proofs.TransitLemmas.{letter_of, has_received-iff, names_contain}
 use Rattle.line_catalogue.specs.Left.{open_first, place_at, start_at, numbers_at, AreEnds, AreLeft, AreCandidates, AreSettledUpTo, HasOpen, HaveLeft}
 use Rattle.line_catalogue.proofs.OpenLemmas.{letter_at}

@@ -16,11 +16,11 @@ use Rattle.line_tape.specs.Front.{place}
 use Rattle.line_tape.specs.History.{Process, tape_at}
 use Rattle.line_tape.specs.Line.{events_before}
 use Rattle.line_tape.specs.Transit.{Letter, letters, is_open_letter, open_letters, has_received, addressee_of, addressees}
-use Rattle.line_tape.proofs.CopyLemmas.{length_addressees, slice_get_front}
+use Rattle.line_tape.proofs.EventLemmas.{length_addressees, name_of}
+use Rattle.line_tape.proofs.ListLemmas.{slice_get_front}
 use Rattle.line_tape.proofs.FrontLemmas.{slice_get-append_left}
 use Rattle.line_tape.proofs.ReceivedLemmas.{length-letters}
-use Rattle.line_tape.proofs.SentLemmas.{name_of}
-use Rattle.line_tape.proofs.SpentLemmas.{holds_whole}
+use Rattle.line_tape.proofs.StayLemmas.{holds_whole}
 use Rattle.line_tape.proofs.TransitLemmas.{letter_of}
 use Rattle.line_catalogue.specs.Left.{HasOpen, open_first}
 

@@ -12,8 +12,8 @@ use Rattle.line_tape.specs.Chain.{next_lower, first_ceilings, lowered_ceilings, 
 use Rattle.line_tape.specs.Height.{height}
 use Rattle.line_tape.specs.History.{Process, IsHistory}
 use Rattle.line_tape.specs.Views.{MarksView}
-use Rattle.line_tape.proofs.ChainLemmas.{first-length}
-use Rattle.line_tape.proofs.LedLemmas.{LeadsTo-push, height-lowered, height-first}
+use Rattle.line_laws.proofs.ChainLemmas.{first-length}
+use Rattle.line_laws.proofs.LedLemmas.{LeadsTo-push, height-lowered, height-first}
 use Rattle.line_tape.proofs.LineLemmas.{Contains-past}
 use Rattle.line_check.specs.declared.faults.FaultCode.{FaultCode}
 use Rattle.line_check.specs.Shape.{HasShape}

@@ -12,8 +12,8 @@ use Rattle.line_tape.specs.declared.events.Event.{Event}
 use Rattle.line_tape.specs.declared.events.Event.TheVariants.{Send as SendEvent, Recv, Check as CheckEvent}
 use Rattle.line_tape.specs.Fit.{IsFitFifo}
 use Rattle.line_tape.specs.History.{Process, fresh, tape_at, incarnation_at}
-use Rattle.line_tape.proofs.NextLemmas.{slice_get_push}
-use Rattle.line_tape.proofs.SpentLemmas.{tape_start}
+use Rattle.line_tape.proofs.ListLemmas.{slice_get_push}
+use Rattle.line_tape.proofs.EventLemmas.{tape_start}
 use Rattle.line_posts.specs.Gathered.{AreGathered, gathered_tape}
 use Rattle.line_posts.specs.Generations.{own_history, AreSamePosts, IsSamePost}
 use Rattle.line_marker.specs.Recording.{latest, RecordedRound}

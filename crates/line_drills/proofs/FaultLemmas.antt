@@ -4,7 +4,7 @@ use Rattle.std.specs.Prelude.{◌==◌, ◌≢◌, slice_get, false}
 use Rattle.std.proofs.lemmas.Option.{same_Some}
 use Rattle.line_tape.specs.declared.events.Event.{Event}
 use Rattle.line_tape.specs.History.{fresh, incarnation_at, tape_at}
-use Rattle.line_tape.proofs.SpentLemmas.{tape_start}
+use Rattle.line_tape.proofs.EventLemmas.{tape_start}
 use Rattle.line_posts.specs.Generations.{AreInOrder}
 use Rattle.line_posts.specs.Openings.{HasSlots, IsOpening}
 use Rattle.line_posts.specs.Parcels.{parcels_sent}

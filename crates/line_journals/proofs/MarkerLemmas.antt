@@ -11,8 +11,8 @@ use Rattle.line_marker.specs.declared.errors.MarkerError.TheVariants.{OutOfMemor
 use Rattle.line_tape.specs.declared.events.Event.{Event}
 use Rattle.line_tape.specs.declared.events.Event.TheVariants.{Check, Mark}
 use Rattle.line_tape.specs.Rounds.{has_check_of, has_mark_of, rounds_checked}
-use Rattle.line_tape.proofs.CompletionLemmas.{contains_round}
-use Rattle.line_tape.proofs.GrowthLemmas.{has_check_push}
+use Rattle.line_laws.proofs.CompletionLemmas.{contains_round}
+use Rattle.line_laws.proofs.GrowthLemmas.{has_check_push}
 use Rattle.line_journals.specs.Journals.{rounds_by, IsRoundOn, IsRecorded, MayCome}
 use Rattle.line_journals.proofs.RecordLemmas.{or-true, channel_is, recorded_next, found_checked}
 

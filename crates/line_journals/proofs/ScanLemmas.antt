@@ -6,7 +6,7 @@ use Rattle.line_marker.specs.Recording.{RecordedRound, round_of, messages_by}
 use Rattle.line_tape.specs.declared.events.Event.{Event}
 use Rattle.line_tape.specs.Rounds.{has_check_of, is_check_of}
 use Rattle.std.proofs.lemmas.Option.{same_Some}
-use Rattle.line_tape.proofs.GrowthLemmas.{has_check_push}
+use Rattle.line_laws.proofs.GrowthLemmas.{has_check_push}
 use Rattle.line_journals.specs.Journals.{IsRecorded}
 use Rattle.line_journals.proofs.RecordLemmas.{or-true, found_checked}
 

@@ -13,9 +13,9 @@ use Rattle.line_tape.specs.declared.items.Item.TheVariants.{Message, Marker}
 use Rattle.line_tape.specs.Event.{sends}
 use Rattle.line_tape.specs.Fit.{link, IsNextFifo, items_put, items_got}
 use Rattle.line_tape.specs.History.{Process, process_at, tape_at, with_event}
-use Rattle.line_tape.proofs.NextLemmas.{stays_fit, link_after}
+use Rattle.line_laws.proofs.NextLemmas.{stays_fit, link_after}
 use Rattle.line_tape.specs.Rounds.{has_check_of}
-use Rattle.line_tape.proofs.CompletionLemmas.{contains_round}
+use Rattle.line_laws.proofs.CompletionLemmas.{contains_round}
 use Rattle.line_moves.specs.Queues.{with_on_each, with_on_others}
 use Rattle.line_turns.specs.Tables.{between, with_list}
 use Rattle.line_moves.specs.Worlds.{AreQueues, IsOrderedWorld}

@@ -7,8 +7,8 @@ use Rattle.line_names.specs.declared.choices.Choice.{Choice}
 use Rattle.line_names.specs.declared.choices.Choice.TheVariants.{Now, Check as AtCheck}
 use Rattle.line_names.specs.Lines.{choice_at}
 use Rattle.line_tape.specs.Restart.{is_kept}
-use Rattle.line_tape.proofs.CompletionLemmas.{all_range}
-use Rattle.line_tape.proofs.RoundLines.{in_range}
+use Rattle.line_laws.proofs.CompletionLemmas.{all_range}
+use Rattle.line_laws.proofs.RoundLines.{in_range}
 use Rattle.line_moves.specs.Listed.{ListedRound, check_in, stays}
 use Rattle.line_moves.specs.Listings.{IsBelow, Climb}
 

@@ -10,10 +10,10 @@ use Rattle.line_tape.specs.declared.events.Event.{Event}
 use Rattle.line_tape.specs.declared.events.Event.TheVariants.{Recv, Check, Mark}
 use Rattle.line_tape.specs.History.{Process, tape_at, with_event}
 use Rattle.line_tape.specs.Rounds.{has_check_of, is_check_of, checks_of, channel_fifo, is_closed_at, is_completed_fifo}
-use Rattle.line_tape.proofs.CompletionLemmas.{closed_from, closed_parts}
+use Rattle.line_laws.proofs.CompletionLemmas.{closed_from, closed_parts}
 use Rattle.line_moves.proofs.FateLemmas.{same_test}
-use Rattle.line_tape.proofs.RoundLines.{closed_has_check, completed_checked}
-use Rattle.line_tape.proofs.NextLemmas.{tape_same, tape_other}
+use Rattle.line_laws.proofs.RoundLines.{closed_has_check, completed_checked}
+use Rattle.line_tape.proofs.EventLemmas.{tape_same, tape_other}
 use Rattle.line_moves.specs.declared.modes.Mode.TheVariants.{Fifo}
 use Rattle.line_moves.specs.Listed.{ListedRound, channel, channel_table, listed_round}
 use Rattle.line_turns.specs.Turning.{TurningView, IsTurning}

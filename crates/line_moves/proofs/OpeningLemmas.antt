@@ -18,13 +18,13 @@ use Rattle.line_tape.specs.History.{Process, tape_at, with_event}
 use Rattle.line_tape.specs.Rounds.{has_check_of, is_check_of, is_mark_of, names_from}
 use Rattle.line_tape.specs.Colours.{AreColoured}
 use Rattle.line_tape.specs.Fit.{IsFitFifo, IsFitUnordered}
-use Rattle.line_tape.proofs.ColourRounds.{colour_snapshot}
+use Rattle.line_laws.proofs.ColourRounds.{colour_snapshot}
 use Rattle.line_tape.specs.Transit.{names_received}
-use Rattle.line_tape.proofs.CompletionLemmas.{no_check_restarted, check_stays, checked_idle, completed_idle}
-use Rattle.line_tape.proofs.GrowthLemmas.{has_check_push, checked_event, completed_event}
-use Rattle.line_tape.proofs.NextLemmas.{tape_same, tape_other}
-use Rattle.line_tape.proofs.RoundLines.{in_range, checked_has, completed_checked, marker_snapshot}
-use Rattle.line_tape.proofs.SnapshotLemmas.{snapshot_event, snapshot_restarted}
+use Rattle.line_laws.proofs.CompletionLemmas.{no_check_restarted, check_stays, checked_idle, completed_idle}
+use Rattle.line_laws.proofs.GrowthLemmas.{has_check_push, checked_event, completed_event}
+use Rattle.line_tape.proofs.EventLemmas.{tape_same, tape_other}
+use Rattle.line_laws.proofs.RoundLines.{in_range, checked_has, completed_checked, marker_snapshot}
+use Rattle.line_laws.proofs.SnapshotLemmas.{snapshot_event, snapshot_restarted}
 use Rattle.line_turns.specs.Tables.{between}
 use Rattle.line_turns.proofs.TableLemmas.{between-of}
 use Rattle.line_moves.specs.declared.modes.Mode.{Mode}

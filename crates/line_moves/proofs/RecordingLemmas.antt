@@ -10,7 +10,7 @@ use Rattle.line_tape.specs.declared.events.Event.{Event}
 use Rattle.line_tape.specs.declared.events.Event.TheVariants.{Recv, Check, Mark}
 use Rattle.line_tape.specs.Rounds.{has_check_of, has_mark_of, channel_on, is_check_of, is_mark_of, names_from}
 use Rattle.line_tape.specs.Transit.{names_received}
-use Rattle.line_tape.proofs.GrowthLemmas.{channel_opened, channel_push, has_check_push, has_mark_push}
+use Rattle.line_laws.proofs.GrowthLemmas.{channel_opened, channel_push, has_check_push, has_mark_push}
 use Rattle.line_moves.specs.Openings.{channel_on_tape, IsRecordedRound, IsRoundOrNone, IsMarkerOf}
 
 pub or-false : (b : Bool) → (b || false) ≡ b

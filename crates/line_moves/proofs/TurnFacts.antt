@@ -12,10 +12,10 @@ use Rattle.line_tape.specs.declared.events.Event.TheVariants.{Check}
 use Rattle.line_tape.specs.Colours.{is_completed_unordered}
 use Rattle.line_tape.specs.History.{Process, tape_at, with_event}
 use Rattle.line_tape.specs.Rounds.{check_line, checks_of, has_check_of, round_line, IsSnapshot}
-use Rattle.line_tape.proofs.CompletionLemmas.{checked_from}
-use Rattle.line_tape.proofs.NextLemmas.{tape_same, tape_other}
-use Rattle.line_tape.proofs.RoundLines.{checked_has}
-use Rattle.line_tape.proofs.RoundTransit.{round_transit}
+use Rattle.line_laws.proofs.CompletionLemmas.{checked_from}
+use Rattle.line_tape.proofs.EventLemmas.{tape_same, tape_other}
+use Rattle.line_laws.proofs.RoundLines.{checked_has}
+use Rattle.line_laws.proofs.RoundTransit.{round_transit}
 use Rattle.line_turns.proofs.ChannelLemmas.{channel-at, IsTable-at}
 use Rattle.line_turns.proofs.CompletedLemmas.{line_choice}
 use Rattle.line_turns.proofs.TurningLemmas.{IsTurning-checked}

@@ -20,17 +20,17 @@ use Rattle.line_tape.specs.History.{Process, tape_at, incarnation_at, with_event
 use Rattle.line_tape.specs.Line.{IsConsistent}
 use Rattle.line_tape.specs.Restart.{restarted_history}
 use Rattle.line_tape.specs.Rounds.{has_check_of}
-use Rattle.line_tape.proofs.CompletionLemmas.{marker_checked}
-use Rattle.line_tape.proofs.NextLemmas.{tape_same}
+use Rattle.line_laws.proofs.CompletionLemmas.{marker_checked}
+use Rattle.line_tape.proofs.EventLemmas.{tape_same}
 use Rattle.line_moves.proofs.OpeningLemmas.{is_checked_now}
 use Rattle.line_tape.specs.Spent.{next_name}
 use Rattle.line_tape.specs.Transit.{addressees, has_received, in_transit_between}
-use Rattle.line_tape.proofs.CopyLemmas.{unordered_event, unordered_restarted, copy_addressed}
-use Rattle.line_tape.proofs.ForcedLemmas.{receipt_waits}
-use Rattle.line_tape.proofs.LinkLemmas.{In-append_right, restart_fit, restart_link}
-use Rattle.line_tape.proofs.OrderLemmas.{messages_sent, sent_is}
-use Rattle.line_tape.proofs.SentLemmas.{messages, In}
-use Rattle.line_tape.proofs.SpentLemmas.{length_restarted}
+use Rattle.line_laws.proofs.CopyLemmas.{unordered_event, unordered_restarted, copy_addressed}
+use Rattle.line_laws.proofs.ForcedLemmas.{receipt_waits}
+use Rattle.line_laws.proofs.LinkLemmas.{In-append_right, restart_fit, restart_link}
+use Rattle.line_laws.proofs.OrderLemmas.{messages_sent, sent_is}
+use Rattle.line_laws.proofs.SentLemmas.{messages, In}
+use Rattle.line_tape.proofs.StayLemmas.{length_restarted}
 use Rattle.line_moves.specs.declared.fates.Fate.TheVariants.{Taken, Stale, Repeated}
 use Rattle.line_moves.specs.declared.modes.Mode.{Mode}
 use Rattle.line_moves.specs.declared.modes.Mode.TheVariants.{Fifo, Unordered}

@@ -9,8 +9,8 @@ use Rattle.line_tape.specs.declared.events.Event.TheVariants.{Send, Recv, Check,
 use Rattle.line_tape.specs.Event.{sends, incarnations_sent, incarnation_of, Holds}
 use Rattle.line_tape.specs.Fit.{IsFitFifo}
 use Rattle.line_tape.specs.History.{Process, tape_at}
-use Rattle.line_tape.proofs.CopyLemmas.{slice_get_front}
-use Rattle.line_tape.proofs.OrderLemmas.{ordered_fit}
+use Rattle.line_tape.proofs.ListLemmas.{slice_get_front}
+use Rattle.line_laws.proofs.OrderLemmas.{ordered_fit}
 use Rattle.line_catalogue.specs.Agreement.{NameAgrees, EventAgrees, Agrees}
 use Rattle.line_posts.specs.Gathering.{IsBetween}
 

@@ -12,7 +12,7 @@ use Rattle.line_tape.specs.Line.{events_before, IsConsistent}
 use Rattle.line_tape.specs.Survival.{is_allowed, survives, IsRecoverable}
 use Rattle.line_tape.specs.Views.{bar_at, MarksView}
 use Rattle.line_tape.proofs.ChoiceLemmas.{survives_within}
-use Rattle.line_tape.proofs.SnapshotLemmas.{consistent_same, front_more}
+use Rattle.line_laws.proofs.SnapshotLemmas.{consistent_same, front_more}
 use Rattle.line_rings.proofs.EndLemmas.{prefix_self, prefix_then}
 use Rattle.line_posts.specs.Extension.{Extends}
 

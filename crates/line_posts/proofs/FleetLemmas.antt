@@ -6,8 +6,8 @@ use Rattle.std.proofs.lemmas.Option.{slice_get_within}
 use Rattle.line_marker.specs.Recording.{RecordedRound}
 use Rattle.line_tape.specs.declared.events.Event.{Event}
 use Rattle.line_tape.specs.History.{Process, fresh, tape_at}
-use Rattle.line_tape.proofs.SpentLemmas.{tape_start}
-use Rattle.line_tape.proofs.NextLemmas.{slice_get_push}
+use Rattle.line_tape.proofs.EventLemmas.{tape_start}
+use Rattle.line_tape.proofs.ListLemmas.{slice_get_push}
 use Rattle.line_rings.specs.Ends.{End, items_at, items_of, ring_at, row_at, slots_at, AreFresh, AreLinked, HaveSlots}
 use Rattle.line_posts.specs.declared.parcels.Packet.{Packet}
 use Rattle.line_posts.specs.declared.parcels.Parcel.{Parcel}

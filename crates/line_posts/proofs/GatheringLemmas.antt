@@ -11,8 +11,8 @@ use Rattle.line_tape.specs.declared.events.Event.TheVariants.{Send, Recv, Check,
 use Rattle.line_tape.specs.declared.limits.TheConstants.{MOST_EVENTS}
 use Rattle.line_tape.specs.Event.{sends, incarnations_sent, incarnation_of, Holds, HasLongState, IsShort, NamesBelow}
 use Rattle.line_tape.specs.History.{Process, process_at, tape_at, incarnation_at, with_event, IsProcess}
-use Rattle.line_tape.proofs.NextLemmas.{tape_same, tape_other}
-use Rattle.line_tape.proofs.SpentLemmas.{incarnation_event, tape_grows}
+use Rattle.line_tape.proofs.EventLemmas.{tape_same, tape_other, tape_grows}
+use Rattle.line_laws.proofs.SpentLemmas.{incarnation_event}
 use Rattle.line_catalogue.specs.Agreement.{AgreesNext, IsSentAsNow}
 use Rattle.line_rings.specs.Ends.{row_at}
 use Rattle.line_posts.specs.Posts.{opening_tape, IsPost, PostView}

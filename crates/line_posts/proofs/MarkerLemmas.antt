@@ -16,8 +16,8 @@ use Rattle.line_tape.specs.declared.items.Item.{Item}
 use Rattle.line_tape.specs.declared.items.Item.TheVariants.{Marker as item_marker}
 use Rattle.line_tape.specs.Fit.{item_received}
 use Rattle.line_tape.specs.Rounds.{has_check_of, rounds_checked, is_check_of}
-use Rattle.line_tape.proofs.CompletionLemmas.{contains_round}
-use Rattle.line_tape.proofs.GrowthLemmas.{has_check_push}
+use Rattle.line_laws.proofs.CompletionLemmas.{contains_round}
+use Rattle.line_laws.proofs.GrowthLemmas.{has_check_push}
 use Rattle.line_posts.specs.declared.parcels.Parcel.{Parcel}
 use Rattle.line_posts.specs.declared.parcels.Parcel.TheVariants.{Marker}
 use Rattle.line_posts.specs.Parcels.{items_of_packets}

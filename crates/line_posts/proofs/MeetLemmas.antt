@@ -4,7 +4,7 @@ use Rattle.std.specs.Prelude.{slice_get}
 use Rattle.std.proofs.lemmas.Bool.{cases_lt}
 use Rattle.std.proofs.lemmas.List.{set-get_or}
 use Rattle.std.proofs.lemmas.Option.{slice_get_read, same_Some}
-use Rattle.line_tape.proofs.NextLemmas.{slice_get_push}
+use Rattle.line_tape.proofs.ListLemmas.{slice_get_push}
 use Rattle.line_posts.specs.Posts.{PostView}
 use Rattle.line_posts.specs.Generations.{AreLinkedTwo, IsGeneration}
 use Rattle.line_posts.specs.Gathering.{AreMet, AreMetTwo}

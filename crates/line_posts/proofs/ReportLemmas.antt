@@ -8,7 +8,7 @@ use Rattle.line_tape.specs.declared.limits.TheConstants.{MOST_EVENTS}
 use Rattle.line_tape.specs.Event.{HasLongState, NamesBelow}
 use Rattle.line_catalogue.specs.Agreement.{AgreesNext}
 use Rattle.line_tape.specs.History.{Process, fresh, tape_at, incarnation_at, with_event}
-use Rattle.line_tape.proofs.NextLemmas.{tape_same, tape_other}
+use Rattle.line_tape.proofs.EventLemmas.{tape_same, tape_other}
 use mathlib.Core.List.{IsPrefix}
 use Rattle.line_catalogue.specs.declared.refusals.AddError.{AddError}
 use Rattle.line_catalogue.specs.declared.refusals.AddError.TheVariants.{OutOfMemory, NoSuchProcess, StateTooLong, TapeFull, NamesDisagree}

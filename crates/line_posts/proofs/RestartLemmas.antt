@@ -18,8 +18,9 @@ use Rattle.line_tape.specs.Survival.{is_allowed, survives, IsLatest}
 use Rattle.line_tape.specs.Transit.{in_transit_between}
 use Rattle.line_tape.specs.Views.{bar_at, MarksView}
 use Rattle.line_tape.proofs.ChoiceLemmas.{survives_within}
-use Rattle.line_tape.proofs.LinkLemmas.{no_rounds, restart_fit, restart_link, tape_restarted}
-use Rattle.line_tape.proofs.SnapshotLemmas.{consistent_same, front_more, transit_same}
+use Rattle.line_laws.proofs.LinkLemmas.{no_rounds, restart_fit, restart_link}
+use Rattle.line_tape.proofs.StayLemmas.{tape_restarted}
+use Rattle.line_laws.proofs.SnapshotLemmas.{consistent_same, front_more, transit_same}
 use Rattle.line_posts.specs.Gathered.{HasOwn}
 use Rattle.line_posts.specs.Openings.{parcels_left, ArePlain}
 use Rattle.line_posts.specs.Parcels.{items_of_parcels}

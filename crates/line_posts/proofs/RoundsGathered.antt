@@ -11,15 +11,15 @@ use Rattle.line_tape.specs.History.{Process, tape_at}
 use Rattle.line_tape.specs.Line.{events_before}
 use Rattle.line_tape.specs.Rounds.{channel_fifo, channel_on, check_line, check_index, checks_of, has_check_of, has_mark_of, is_check_of, is_mark_of, is_completed_fifo, names_from, IsSnapshot}
 use Rattle.line_tape.specs.Transit.{names_received}
-use Rattle.line_tape.proofs.CompletionLemmas.{check_of_push, closed_parts, closed_from, completed_closed, completed_from}
-use Rattle.line_tape.proofs.GrowthLemmas.{has_check_push, has_mark_push, channel_push}
-use Rattle.line_tape.proofs.RoundLines.{completed_checked, round_is_line, marker_snapshot}
+use Rattle.line_laws.proofs.CompletionLemmas.{check_of_push, closed_parts, closed_from, completed_closed, completed_from}
+use Rattle.line_laws.proofs.GrowthLemmas.{has_check_push, has_mark_push, channel_push}
+use Rattle.line_laws.proofs.RoundLines.{completed_checked, round_is_line, marker_snapshot}
 use Rattle.line_tape.specs.Survival.{survives, IsLatest}
 use Rattle.line_tape.specs.Views.{MarksView}
 use Rattle.line_names.specs.declared.choices.Choice.{Choice}
 use Rattle.line_names.specs.Lines.{IsNowhereLater}
-use Rattle.line_tape.proofs.SnapshotLemmas.{transit_same, consistent_same, front_more, check_there, latest_reached}
-use Rattle.line_tape.proofs.StayLemmas.{choice_of_checks}
+use Rattle.line_laws.proofs.SnapshotLemmas.{transit_same, consistent_same, front_more, check_there, latest_reached}
+use Rattle.line_laws.proofs.KeptLemmas.{choice_of_checks}
 use Rattle.line_posts.specs.Gathered.{HasOwn}
 
 checked_more : (r : ℕ) (xs ys : List Event) → has_check_of r xs ≡ true → has_check_of r (xs ++ ys) ≡ true

@@ -2,7 +2,7 @@
 use Rattle.std.proofs.Common.{cond, Bool, true, false, ◌≡◌, ◌∙◌, ◌++◌, ◌∷◌, [], ◌+◌, ℕ, List, Some, get_or, refl, sym, ap, inl, inr, arith, subst}
 use Rattle.std.specs.Prelude.{Result, Ok, Err, IfOk, IfErr, OnErr}
 use Rattle.std.proofs.lemmas.List.{length_push}
-use Rattle.line_tape.proofs.NextLemmas.{slice_get_push}
+use Rattle.line_tape.proofs.ListLemmas.{slice_get_push}
 use Rattle.std.proofs.lemmas.Option.{slice_get_within, slice_get-get_or}
 use Rattle.line_names.specs.declared.messages.MsgName.{MsgName}
 use Rattle.line_rings.specs.Ends.{ring_at}

@@ -14,7 +14,8 @@ use Rattle.line_tape.specs.declared.items.Item.{Item}
 use Rattle.line_tape.specs.Event.{sends, incarnations_sent, incarnation_of, Holds, NamesBelow}
 use Rattle.line_tape.specs.Fit.{sent_between, item_received}
 use Rattle.line_tape.specs.Rounds.{rounds_checked, checked_round, has_check_of}
-use Rattle.line_tape.proofs.NextLemmas.{rounds_push, marks_push, slice_get_push}
+use Rattle.line_laws.proofs.NextLemmas.{rounds_push, marks_push}
+use Rattle.line_tape.proofs.ListLemmas.{slice_get_push}
 use Rattle.line_rings.specs.Ends.{End, items_at, row_at, with_item}
 use Rattle.line_rings.proofs.EndLemmas.{length_item, items_same, items_other}
 use Rattle.line_posts.specs.declared.parcels.Parcel.TheVariants.{Message}

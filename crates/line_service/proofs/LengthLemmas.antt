@@ -10,7 +10,7 @@ use Rattle.line_scripts.specs.declared.commands.Command.TheVariants as commands
 use Rattle.line_tape.specs.declared.events.Event.{Event}
 use Rattle.line_tape.specs.declared.events.Event.TheVariants.{Send as SendEvent, Check as CheckEvent}
 use Rattle.line_tape.specs.History.{Process, incarnation_at, with_event}
-use Rattle.line_tape.proofs.SpentLemmas.{length_restarted}
+use Rattle.line_tape.proofs.StayLemmas.{length_restarted}
 use Rattle.line_world.specs.declared.replies.Answer.{Answer}
 use Rattle.line_world.specs.declared.replies.Answer.TheVariants as answers
 use Rattle.line_world.specs.declared.replies.Reply.{Reply}

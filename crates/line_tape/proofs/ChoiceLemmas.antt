@@ -1,9 +1,11 @@
 -- The latest surviving choice, and the next lower one.
-use Rattle.std.proofs.Common.{◌≡◌, ◌≢◌, ℕ, zero, suc, ◌-◌, ◌≤◌, Bool, true, false, not, ◌&&◌, leb, cond, List, refl, sym, ap, ◌∙◌, arith, ◌⊎◌, inl, inr}
+use Rattle.std.proofs.Common.{◌≡◌, ◌≢◌, ℕ, zero, suc, ◌-◌, ◌≤◌, Bool, true, false, not, ◌&&◌, leb, cond, List, length, refl, sym, ap, ◌∙◌, arith, ◌⊎◌, inl, inr}
 use Rattle.std.proofs.lemmas.Bool.{false≢true, cases_eq}
 use Rattle.std.proofs.lemmas.Bool.Decides.{nat_tests}
+use Rattle.std.proofs.lemmas.List.{get_or_past}
 use Rattle.line_names.specs.declared.choices.Choice.{Choice}
 use Rattle.line_names.specs.declared.choices.Choice.TheVariants.{Check as AtCheck, Now}
+use Rattle.line_names.specs.Lines.{choice_at}
 use Rattle.line_names.specs.Order.{IsNoLater}
 use Rattle.line_tape.specs.Event.{checks}
 use Rattle.line_tape.specs.History.{Process, tape_at}
@@ -113,3 +115,7 @@ module _ (history : List Process) (marks : MarksView) (failed : List Bool) (p : 
       let down : suc c ≤ suc c - 1 = IsNoLater-trans (AtCheck (suc c)) (latest_check (survives history marks failed p) (suc c - 1)) (AtCheck (suc c - 1)) h (latest_check-le (survives history marks failed p) (suc c - 1)) in
       omega arith
   next_lower-before Now apart h = IsNoLater-trans Now (latest_check (survives history marks failed p) (checks (tape_at history p))) (AtCheck (checks (tape_at history p))) h (latest_check-le (survives history marks failed p) (checks (tape_at history p)))
+
+-- a line is at no process past its end
+pub choice-past : (line : List Choice) (p : ℕ) → length line ≤ p → choice_at line p ≡ AtCheck 0
+choice-past line p h = get_or_past line p (AtCheck 0) h

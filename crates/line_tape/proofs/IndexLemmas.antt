@@ -16,12 +16,11 @@ use Rattle.line_tape.specs.History.{IsTape}
 use Rattle.line_tape.specs.Kept.{IsCheckRow, AreCheckRows, HaveCheckPlaces, IsSettled, AreSettled}
 use Rattle.line_tape.specs.Restart.{restarted_event}
 use Rattle.line_tape.specs.Transit.{addressee_of, addressees, names_received}
-use Rattle.line_tape.proofs.CopyLemmas.{length_addressees}
+use Rattle.line_tape.proofs.EventLemmas.{length_addressees}
 use Rattle.line_tape.proofs.CutLemmas.{checks_left, checks_take, comes_from, sent_left}
 use Rattle.line_tape.proofs.FrontLemmas.{check_place-le}
-use Rattle.line_tape.proofs.LetterLemmas.{addressees_restarted}
+use Rattle.line_tape.proofs.StayLemmas.{addressees_restarted, front_restarted, names_restarted}
 use Rattle.line_tape.proofs.RowLemmas.{check_place-append, check_place-last, checks-push, sent_front, told_front}
-use Rattle.line_tape.proofs.StayLemmas.{front_restarted, names_restarted}
 
 -- a row serves the first events too, if its check is among them
 IsRow-take : (events : List Event) (n c : ℕ) (row : CheckRow) → c < checks (take n events) → IsCheckRow events c row → IsCheckRow (take n events) c row

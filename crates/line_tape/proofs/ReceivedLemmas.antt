@@ -22,11 +22,11 @@ use Rattle.line_tape.specs.Line.{events_before}
 use Rattle.line_tape.specs.Received.{with_seen, seen_below, IsTold, AreTold}
 use Rattle.line_tape.specs.Transit.{Letter, letters, is_open_letter, received_name, names_received, has_received, addressee_of, addressees}
 use Rattle.line_tape.proofs.FrontLemmas.{slice_get-append_left}
-use Rattle.line_tape.proofs.GrowthLemmas.{any_push}
+use Rattle.line_tape.proofs.ListLemmas.{any_push}
 use Rattle.line_tape.proofs.LineLemmas.{tape_at-past, front-empty}
 use Rattle.line_tape.proofs.RowLemmas.{told-none, told-some}
-use Rattle.line_tape.proofs.SentLemmas.{name_of}
-use Rattle.line_tape.proofs.SpentLemmas.{holds_whole}
+use Rattle.line_tape.proofs.EventLemmas.{name_of}
+use Rattle.line_tape.proofs.StayLemmas.{holds_whole}
 use Rattle.line_tape.proofs.TransitLemmas.{has_received-iff, letter_of}
 
 -- the same is told of what is seen alike

@@ -1,25 +1,52 @@
--- What is in transit at checks that a restart keeps stays in transit there.
-use Rattle.std.proofs.Common.{◌≡◌, ℕ, zero, suc, ◌≤◌, cond, not, List, [], ◌∷◌, length, take, map, get_or, None, refl, sym, ap, ◌∙◌, arith}
-use Rattle.std.specs.Prelude.{◌==◌, IsTrue}
-use Rattle.std.specs.List.{filter_map, filter, list_any}
-use Rattle.std.proofs.lemmas.List.Elements.{filter_agree}
+-- What a restart leaves of a tape.
+use Rattle.std.proofs.Common.{◌≡◌, ℕ, zero, suc, cond, List, [], ◌∷◌, length, take, drop, None, refl, ap, ◌∙◌, subst, arith, ◌≤◌}
+use Rattle.std.specs.Prelude.{IsTrue}
+use Rattle.std.specs.List.{filter_map}
+use Rattle.std.proofs.lemmas.List.{take-append-drop}
 use Rattle.std.proofs.lemmas.Bool.{leb-true}
 use Rattle.line_names.specs.declared.messages.MsgName.{MsgName}
 use Rattle.line_names.specs.declared.choices.Choice.{Choice}
-use Rattle.line_names.specs.declared.choices.Choice.TheVariants.{Check as AtCheck, Now}
 use Rattle.line_tape.specs.declared.events.Event.{Event}
 use Rattle.line_tape.specs.declared.events.Event.TheVariants.{Send, Recv, Check, Mark}
 use Rattle.line_names.specs.Lines.{choice_at}
-use Rattle.line_names.specs.Names.{is_name}
-use Rattle.line_tape.specs.Event.{is_check}
-use Rattle.line_tape.specs.Front.{check_place, front}
+use Rattle.line_tape.specs.Event.{incarnations_sent, Holds, is_check}
+use Rattle.line_tape.specs.Front.{place, front, check_place}
 use Rattle.line_tape.specs.History.{Process, tape_at}
 use Rattle.line_tape.specs.Line.{events_before}
-use Rattle.line_tape.specs.Restart.{is_kept, restarted_history, restarted_event}
-use Rattle.line_tape.specs.Transit.{Letter, letters, is_open_letter, has_received, open_letters, names_received, in_transit_between}
+use Rattle.line_tape.specs.Restart.{restarted_history, restarted_event, is_kept}
+use Rattle.line_tape.specs.Transit.{names_received, addressees}
+use Rattle.line_tape.proofs.EventLemmas.{holds_more}
+use Rattle.line_names.specs.declared.choices.Choice.TheVariants.{Check as AtCheck, Now}
 use Rattle.line_tape.proofs.FrontLemmas.{check_place-mono, check_place-le}
-use Rattle.line_tape.proofs.SentLemmas.{name_of}
-use Rattle.line_tape.proofs.LinkLemmas.{tape_restarted}
+use Rattle.line_tape.proofs.CutLemmas.{sent_left}
+
+-- what is left of a tape
+pub tape_restarted : (history : List Process) (line : List Choice) (p : ℕ) → length line ≡ length history → tape_at (restarted_history history line) p ≡ filter_map restarted_event (events_before history line p)
+tape_restarted [] [] p e = refl
+tape_restarted [] (choice ∷ line) p e = absurd (omega arith)
+tape_restarted (process ∷ rest) [] p e = absurd (omega arith)
+tape_restarted (process ∷ rest) (choice ∷ line) zero e = refl
+tape_restarted (process ∷ rest) (choice ∷ line) (suc p) e = tape_restarted rest line p (omega arith)
+
+pub length_restarted : (history : List Process) (line : List Choice) → length line ≡ length history → length (restarted_history history line) ≡ length history
+length_restarted [] line e = refl
+length_restarted (process ∷ rest) [] e = absurd (omega arith)
+length_restarted (process ∷ rest) (choice ∷ line) e = ap suc (length_restarted rest line (omega arith))
+
+-- and whom they went to
+pub addressees_restarted : (es : List Event) → addressees (filter_map restarted_event es) ≡ addressees es
+addressees_restarted [] = refl
+addressees_restarted (Send to inc body ∷ es) = ap (λ (v : List ℕ). to ∷ v) (addressees_restarted es)
+addressees_restarted (Recv m ∷ es) = addressees_restarted es
+addressees_restarted (Check state round ∷ es) = addressees_restarted es
+addressees_restarted (Mark from round ∷ es) = addressees_restarted es
+
+pub names_restarted : (es : List Event) → names_received (filter_map restarted_event es) ≡ names_received es
+names_restarted [] = refl
+names_restarted (Send to inc body ∷ es) = names_restarted es
+names_restarted (Recv m ∷ es) = ap (λ (v : List MsgName). m ∷ v) (names_restarted es)
+names_restarted (Check state r ∷ es) = names_restarted es
+names_restarted (Mark from r ∷ es) = names_restarted es
 
 pub front_restarted : (es : List Event) (c : ℕ) → front (filter_map restarted_event es) (AtCheck c) ≡ filter_map restarted_event (front es (AtCheck c))
 front_restarted es zero = refl
@@ -40,44 +67,12 @@ pub front_kept : (es : List Event) (choice : Choice) (c : ℕ) → IsTrue (is_ke
 front_kept es (AtCheck k) c h = front_take es (check_place es k) c (check_place-mono es c k (leb-true c k h))
 front_kept es Now c h = front_take es (length es) c (check_place-le es c)
 
-pub letters_restarted : (p k : ℕ) (es : List Event) → letters p k (filter_map restarted_event es) ≡ letters p k es
-letters_restarted p k [] = refl
-letters_restarted p k (Send to inc body ∷ es) = ap (λ (v : List Letter). record { message = name_of p inc k; to = to } ∷ v) (letters_restarted p (suc k) es)
-letters_restarted p k (Recv m ∷ es) = letters_restarted p k es
-letters_restarted p k (Check state r ∷ es) = letters_restarted p k es
-letters_restarted p k (Mark from r ∷ es) = letters_restarted p k es
+pub incs_restarted : (history : List Process) (line : List Choice) (p : ℕ) → length line ≡ length history → incarnations_sent (tape_at (restarted_history history line) p) ≡ incarnations_sent (events_before history line p)
+incs_restarted history line p e = ap incarnations_sent (tape_restarted history line p e) ∙ sent_left (events_before history line p)
 
-pub names_restarted : (es : List Event) → names_received (filter_map restarted_event es) ≡ names_received es
-names_restarted [] = refl
-names_restarted (Send to inc body ∷ es) = names_restarted es
-names_restarted (Recv m ∷ es) = ap (λ (v : List MsgName). m ∷ v) (names_restarted es)
-names_restarted (Check state r ∷ es) = names_restarted es
-names_restarted (Mark from r ∷ es) = names_restarted es
-
-pub choice_of_checks : (cs : List ℕ) (p : ℕ) → choice_at (map (λ c. AtCheck c) cs) p ≡ AtCheck (get_or cs p 0)
-choice_of_checks [] p = refl
-choice_of_checks (c ∷ cs) zero = refl
-choice_of_checks (c ∷ cs) (suc p) = choice_of_checks cs p
-
-module _ (history : List Process) (line : List Choice) (cs : List ℕ) (e : length line ≡ length history) (kept : (p : ℕ) → IsTrue (is_kept (choice_at line p) (get_or cs p 0))) where
-  -- the front of a kept check is the restarted one
-  pub kept_front : (p : ℕ) → events_before (restarted_history history line) (map (λ c. AtCheck c) cs) p ≡ filter_map restarted_event (events_before history (map (λ c. AtCheck c) cs) p)
-  kept_front p =
-      let c : ℕ = get_or cs p 0 in
-      ap (front (tape_at (restarted_history history line) p)) (choice_of_checks cs p)
-      ∙ ap (λ (v : List Event). front v (AtCheck c)) (tape_restarted history line p e)
-      ∙ front_restarted (events_before history line p) c
-      ∙ ap (filter_map restarted_event) (front_kept (tape_at history p) (choice_at line p) c (kept p) ∙ ap (front (tape_at history p)) (sym (choice_of_checks cs p)))
-
-  pub kept_open : (letter : Letter) → is_open_letter (restarted_history history line) (map (λ c. AtCheck c) cs) letter ≡ is_open_letter history (map (λ c. AtCheck c) cs) letter
-  kept_open letter =
-      ap (λ (v : List Event). not (has_received v letter.message)) (kept_front letter.to)
-      ∙ ap (λ (v : List MsgName). not (list_any (is_name letter.message) v)) (names_restarted (events_before history (map (λ c. AtCheck c) cs) letter.to))
-
-  pub kept_transit : (p q : ℕ) → in_transit_between (restarted_history history line) (map (λ c. AtCheck c) cs) p q ≡ in_transit_between history (map (λ c. AtCheck c) cs) p q
-  kept_transit p q =
-      let same : open_letters (restarted_history history line) (map (λ c. AtCheck c) cs) p ≡ open_letters history (map (λ c. AtCheck c) cs) p =
-      ap (λ (v : List Event). filter (is_open_letter (restarted_history history line) (map (λ c. AtCheck c) cs)) (letters p 0 v)) (kept_front p)
-      ∙ ap (filter (is_open_letter (restarted_history history line) (map (λ c. AtCheck c) cs))) (letters_restarted p 0 (events_before history (map (λ c. AtCheck c) cs) p))
-      ∙ filter_agree (is_open_letter (restarted_history history line) (map (λ c. AtCheck c) cs)) (is_open_letter history (map (λ c. AtCheck c) cs)) kept_open (letters p 0 (events_before history (map (λ c. AtCheck c) cs) p)) in
-      ap (λ (v : List Letter). map (λ (letter : Letter). letter.message) (filter (λ (letter : Letter). letter.to == q) v)) same
+-- what stands before a choice is the tape's
+pub holds_whole : (history : List Process) (line : List Choice) (p inc k : ℕ) → Holds (events_before history line p) inc k → Holds (tape_at history p) inc k
+holds_whole history line p inc k held =
+    let tape : List Event = tape_at history p in
+    let n : ℕ = place tape (choice_at line p) in
+    subst (λ (es : List Event). Holds es inc k) (take-append-drop n tape) (holds_more (take n tape) (drop n tape) inc k held)

@@ -11,8 +11,8 @@ use Rattle.line_tape.specs.Front.{HasChoice}
 use Rattle.line_tape.specs.History.{Process, tape_at, with_event}
 use Rattle.line_tape.specs.Line.{IsLine}
 use Rattle.line_tape.specs.Rounds.{has_check_of, check_index}
-use Rattle.line_tape.proofs.RoundLines.{check_of_within}
-use Rattle.line_tape.proofs.RoundTransit.{round_transit}
+use Rattle.line_laws.proofs.RoundLines.{check_of_within}
+use Rattle.line_laws.proofs.RoundTransit.{round_transit}
 use Rattle.line_turns.specs.Channels.{channels_at}
 use Rattle.line_turns.specs.Tables.{between}
 use Rattle.line_turns.specs.Turning.{TurningView, IsTurning, IsLastLine}

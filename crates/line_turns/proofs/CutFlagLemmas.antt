@@ -21,15 +21,13 @@ use Rattle.line_tape.specs.History.{Process, tape_at}
 use Rattle.line_tape.specs.Line.{events_before}
 use Rattle.line_tape.specs.Restart.{restarted_history}
 use Rattle.line_tape.specs.Transit.{Letter, letters, is_open_letter, open_letters, in_transit, in_transit_between, has_received, addressee_of, addressees, goes_between}
-use Rattle.line_tape.proofs.CopyLemmas.{held_before}
+use Rattle.line_laws.proofs.CopyLemmas.{held_before}
 use Rattle.line_tape.proofs.CutLemmas.{cons_cases, contains_nothing, sends_take}
 use Rattle.line_tape.proofs.FrontLemmas.{slice_get-append_left}
-use Rattle.line_tape.proofs.LetterLemmas.{IsLetterOf, addressees_restarted, letter_sent, open_restarted, parts, All-flat_map}
-use Rattle.line_tape.proofs.LinkLemmas.{tape_restarted}
+use Rattle.line_laws.proofs.LetterLemmas.{IsLetterOf, letter_sent, open_restarted, parts, All-flat_map}
+use Rattle.line_tape.proofs.StayLemmas.{addressees_restarted, tape_restarted, incs_restarted, length_restarted, names_restarted}
 use Rattle.line_tape.proofs.ReceivedLemmas.{sent_within}
-use Rattle.line_tape.proofs.SentLemmas.{name_of}
-use Rattle.line_tape.proofs.SpentLemmas.{incs_restarted, length_restarted}
-use Rattle.line_tape.proofs.StayLemmas.{names_restarted}
+use Rattle.line_tape.proofs.EventLemmas.{name_of}
 use Rattle.line_tape.proofs.TransitLemmas.{has_received-iff, letter_of}
 use Rattle.line_turns.specs.Flags.{flags_of, flag_at, names_send, AreFlagged}
 use Rattle.line_turns.proofs.FlagLemmas.{flag_kept, flag_written, with_flag}

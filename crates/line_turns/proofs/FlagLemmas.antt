@@ -15,13 +15,10 @@ use Rattle.line_tape.specs.Event.{incarnation_of, incarnations_sent, sends}
 use Rattle.line_tape.specs.Fit.{IsSentTo, IsFitUnordered}
 use Rattle.line_tape.specs.History.{Process, fresh, tape_at, with_event}
 use Rattle.line_tape.specs.Transit.{received_name, names_received, has_received, addressee, addressee_of, addressees}
-use Rattle.line_tape.proofs.CopyLemmas.{length_addressees, slice_get_front}
-use Rattle.line_tape.proofs.GrowthLemmas.{any_push}
-use Rattle.line_tape.proofs.NextLemmas.{tape_same, tape_other}
+use Rattle.line_tape.proofs.EventLemmas.{length_addressees, tape_same, tape_other, name_of, tape_grows, tape_start}
+use Rattle.line_tape.proofs.ListLemmas.{slice_get_front, any_push}
 use Rattle.line_tape.proofs.ReceivedLemmas.{sent_within}
 use Rattle.line_tape.proofs.RowLemmas.{told-none, told-some}
-use Rattle.line_tape.proofs.SentLemmas.{name_of}
-use Rattle.line_tape.proofs.SpentLemmas.{tape_grows, tape_start}
 use Rattle.line_tape.proofs.TransitLemmas.{has_received-iff}
 use Rattle.line_turns.specs.Flags.{flags_of, flag_at, AreFlagged}
 

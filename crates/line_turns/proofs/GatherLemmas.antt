@@ -10,7 +10,7 @@ use Rattle.line_names.specs.declared.choices.Choice.{Choice}
 use Rattle.line_names.specs.declared.messages.MsgName.{MsgName}
 use Rattle.line_tape.specs.History.{Process}
 use Rattle.line_tape.specs.Transit.{addressee, goes_between, in_transit, in_transit_between}
-use Rattle.line_tape.proofs.LetterLemmas.{open_are, parts}
+use Rattle.line_laws.proofs.LetterLemmas.{open_are, parts}
 use Rattle.line_turns.specs.Channels.{channels_at}
 use Rattle.line_turns.specs.Inboxes.{goes_to, held_for, messages_from, table_held, AreFrom, AreByAddressee, AreInboxes, InboxView, IsInbox}
 use Rattle.line_turns.specs.Tables.{table_of}

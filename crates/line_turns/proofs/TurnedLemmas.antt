@@ -15,10 +15,10 @@ use Rattle.line_tape.specs.History.{Process, fresh, tape_at, with_event}
 use Rattle.line_tape.specs.Restart.{restarted_history}
 use Rattle.line_tape.specs.Rounds.{checked_round}
 use Rattle.line_tape.specs.Turns.{Turn, turns_of, colour_by}
-use Rattle.line_tape.proofs.ColourLemmas.{colour-check, colour-other, colour_restarted, rounds_ascend}
-use Rattle.line_tape.proofs.NextLemmas.{tape_same, tape_other}
-use Rattle.line_tape.proofs.SpentLemmas.{length_restarted}
-use Rattle.line_tape.proofs.TurnLemmas.{turns_idle, turns_push, turns_restarted, colour_of_message, turn_rounds_rise, turn_sends_rise, colour_before_turns, colour_at_turn}
+use Rattle.line_laws.proofs.ColourLemmas.{colour-check, colour-other, colour_restarted, rounds_ascend}
+use Rattle.line_tape.proofs.EventLemmas.{tape_same, tape_other}
+use Rattle.line_tape.proofs.StayLemmas.{length_restarted}
+use Rattle.line_laws.proofs.TurnLemmas.{turns_idle, turns_push, turns_restarted, colour_of_message, turn_rounds_rise, turn_sends_rise, colour_before_turns, colour_at_turn}
 use Rattle.line_turns.specs.Kept.{ProcessTurns, no_turns, turns_at, IsTurned, AreTurned}
 
 -- processes that have done nothing yet

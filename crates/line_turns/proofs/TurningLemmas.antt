@@ -8,10 +8,10 @@ use Rattle.line_tape.specs.declared.events.Event.TheVariants.{Check}
 use Rattle.line_tape.specs.Event.{checks}
 use Rattle.line_tape.specs.History.{Process, tape_at, with_event}
 use Rattle.line_tape.specs.Rounds.{is_check_of, has_check_of, check_index, checks_of, is_checked}
-use Rattle.line_tape.proofs.CompletionLemmas.{check_of_new, check_of_push, check_stays}
-use Rattle.line_tape.proofs.GrowthLemmas.{has_check_push}
-use Rattle.line_tape.proofs.NextLemmas.{tape_same, tape_other}
-use Rattle.line_tape.proofs.RoundLines.{checked_has}
+use Rattle.line_laws.proofs.CompletionLemmas.{check_of_new, check_of_push, check_stays}
+use Rattle.line_laws.proofs.GrowthLemmas.{has_check_push}
+use Rattle.line_tape.proofs.EventLemmas.{tape_same, tape_other}
+use Rattle.line_laws.proofs.RoundLines.{checked_has}
 use Rattle.line_turns.specs.Turning.{TurningView, check_or_none, IsTurning}
 
 -- a tape has its check where its index isn't 0

@@ -17,9 +17,7 @@ use Rattle.line_tape.specs.History.{Process, tape_at}
 use Rattle.line_tape.specs.Line.{events_before}
 use Rattle.line_tape.specs.Restart.{restarted_history, restarted_event, is_kept}
 use Rattle.line_tape.proofs.CutLemmas.{cons_cases, contains_nothing}
-use Rattle.line_tape.proofs.LinkLemmas.{tape_restarted}
-use Rattle.line_tape.proofs.SpentLemmas.{length_restarted}
-use Rattle.line_tape.proofs.StayLemmas.{front_restarted, front_kept}
+use Rattle.line_tape.proofs.StayLemmas.{tape_restarted, length_restarted, front_restarted, front_kept}
 use Rattle.line_vectors.specs.declared.limits.TheConstants.{LAST_NUMBER}
 use Rattle.line_vectors.specs.Reach.{number_past, reach_of_event, reach_from, IsReceivedFrom, IsReach, nearest, kept_lane, reach_of, reach_before, sent_count, sents_of}
 use Rattle.line_vectors.specs.Vectors.{lanes_with_message}

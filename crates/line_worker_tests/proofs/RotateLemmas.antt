@@ -2,7 +2,7 @@
 use Rattle.std.proofs.Common.{◌≡◌, ◌<◌, ◌++◌, ◌∷◌, [], zero, suc, ℕ, List, Some, length, ap, sym, subst, inl, inr, arith}
 use Rattle.std.proofs.lemmas.List.{length_push}
 use Rattle.std.specs.Prelude.{slice_get}
-use Rattle.line_tape.proofs.NextLemmas.{slice_get_push}
+use Rattle.line_tape.proofs.ListLemmas.{slice_get_push}
 use Rattle.line_posts.specs.Collected.{CollectorView}
 use Rattle.line_posts.specs.Generations.{AreLined, IsGeneration}
 use Rattle.line_posts.specs.Posts.{PostView}

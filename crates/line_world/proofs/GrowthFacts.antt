@@ -11,10 +11,10 @@ use Rattle.line_tape.specs.declared.events.Event.TheVariants.{Check}
 use Rattle.line_tape.specs.History.{Process, tape_at, with_event}
 use Rattle.line_tape.specs.Restart.{restarted_history}
 use Rattle.line_tape.specs.Rounds.{has_check_of, is_check_of}
-use Rattle.line_tape.proofs.CompletionLemmas.{checked_from, completed_from, no_check_restarted}
-use Rattle.line_tape.proofs.GrowthLemmas.{any_push}
-use Rattle.line_tape.proofs.SnapshotLemmas.{snapshot_event}
-use Rattle.line_tape.proofs.SpentLemmas.{length_restarted}
+use Rattle.line_laws.proofs.CompletionLemmas.{checked_from, completed_from, no_check_restarted}
+use Rattle.line_tape.proofs.ListLemmas.{any_push}
+use Rattle.line_laws.proofs.SnapshotLemmas.{snapshot_event}
+use Rattle.line_tape.proofs.StayLemmas.{length_restarted}
 use Rattle.line_moves.specs.declared.modes.Mode.{Mode}
 use Rattle.line_moves.specs.declared.modes.Mode.TheVariants.{Fifo, Unordered}
 use Rattle.line_moves.specs.Listed.{ListedRound, channel_in, is_begun, is_completed, listed_round, newly_listed, stays, IsSnapshotOf}

@@ -9,9 +9,9 @@ use Rattle.line_tape.specs.declared.events.Event.TheVariants.{Check, Mark}
 use Rattle.line_tape.specs.Fit.{IsFitFifo}
 use Rattle.line_tape.specs.History.{Process, tape_at, with_event}
 use Rattle.line_tape.specs.Rounds.{has_check_of}
-use Rattle.line_tape.proofs.NextLemmas.{tape_same}
-use Rattle.line_tape.proofs.RoundLines.{checked_has, completed_checked}
-use Rattle.line_tape.proofs.SnapshotLemmas.{snapshot_event}
+use Rattle.line_tape.proofs.EventLemmas.{tape_same}
+use Rattle.line_laws.proofs.RoundLines.{checked_has, completed_checked}
+use Rattle.line_laws.proofs.SnapshotLemmas.{snapshot_event}
 use Rattle.line_turns.specs.Turning.{IsTurning}
 use Rattle.line_moves.specs.declared.modes.Mode.{Mode}
 use Rattle.line_moves.specs.declared.modes.Mode.TheVariants.{Fifo, Unordered}

@@ -10,7 +10,7 @@ use Rattle.line_tape.specs.Event.{incarnation_of}
 use Rattle.line_tape.specs.History.{Process, incarnation_at, with_event}
 use Rattle.line_tape.specs.Restart.{restarted_history}
 use Rattle.line_tape.specs.Spent.{next_name, IsSpentName, HasNoLaterSend}
-use Rattle.line_tape.proofs.SpentLemmas.{next_unspent, sent_spent, spent_event, spent_restarted, no_later_event, no_later_restarted}
+use Rattle.line_laws.proofs.SpentLemmas.{next_unspent, sent_spent, spent_event, spent_restarted, no_later_event, no_later_restarted}
 use Rattle.line_moves.specs.declared.fates.Fate.{Fate}
 use Rattle.line_moves.specs.declared.fates.Fate.TheVariants.{Taken, Stale as IsStale, Repeated as IsRepeated}
 use Rattle.line_world.specs.declared.replies.Answer.{Answer}

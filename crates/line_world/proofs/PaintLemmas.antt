@@ -8,7 +8,7 @@ use Rattle.line_tape.specs.Colours.{colour, message_colour, AreColoured, IsNextC
 use Rattle.line_tape.specs.Fit.{IsFitUnordered, IsNextUnordered}
 use Rattle.line_tape.specs.History.{Process, tape_at, incarnation_at, with_event}
 use Rattle.line_tape.specs.Rounds.{checked_round}
-use Rattle.line_tape.proofs.ColourRounds.{coloured_event}
+use Rattle.line_laws.proofs.ColourRounds.{coloured_event}
 use Rattle.line_turns.specs.Kept.{ProcessTurns, AreTurned}
 use Rattle.line_turns.proofs.TurnedLemmas.{AreTurned-kept}
 use Rattle.line_moves.specs.declared.fates.Fate.TheVariants.{Taken}

@@ -21,11 +21,11 @@ use Rattle.line_tape.specs.Rounds.{has_check_of}
 use Rattle.line_tape.specs.Spent.{next_name}
 use Rattle.line_tape.specs.Transit.{in_transit_between}
 use Rattle.line_tape.specs.Views.{MarksView}
-use Rattle.line_tape.proofs.ColourRounds.{colour_before, coloured_event, coloured_restarted, coloured_start, split_at_check}
-use Rattle.line_tape.proofs.CopyLemmas.{transit_copies}
-use Rattle.line_tape.proofs.ForcedLemmas.{colour_less, colour_most, forced_next, forced_open, message_colour_reached, receipt_waits}
+use Rattle.line_laws.proofs.ColourRounds.{colour_before, coloured_event, coloured_restarted, coloured_start, split_at_check}
+use Rattle.line_laws.proofs.CopyLemmas.{transit_copies}
+use Rattle.line_laws.proofs.ForcedLemmas.{colour_less, colour_most, forced_next, forced_open, message_colour_reached, receipt_waits}
 use Rattle.line_tape.proofs.LineLemmas.{tape_at-past}
-use Rattle.line_tape.proofs.SnapshotLemmas.{latest_reached}
+use Rattle.line_laws.proofs.SnapshotLemmas.{latest_reached}
 use Rattle.line_turns.specs.Tables.{between, table_of, with_list, IsTable}
 use Rattle.line_turns.proofs.TableLemmas.{between-of, IsTable-of}
 use Rattle.line_moves.specs.declared.fates.Fate.{Fate}

@@ -9,7 +9,7 @@ use Rattle.line_tape.specs.declared.events.Event.{Event}
 use Rattle.line_tape.specs.declared.items.Item.{Item}
 use Rattle.line_tape.specs.Fit.{items_sent, item_received, IsPrefix, AreDistinct, MarksFollow}
 use Rattle.line_tape.specs.History.{Process, fresh, tape_at}
-use Rattle.line_tape.proofs.CopyLemmas.{unordered_start}
+use Rattle.line_laws.proofs.CopyLemmas.{unordered_start}
 use Rattle.line_tape.specs.Rounds.{has_check_of, rounds_checked}
 use Rattle.line_moves.specs.declared.modes.Mode.{Mode}
 use Rattle.line_moves.specs.declared.modes.Mode.TheVariants.{Fifo, Unordered}

@@ -14,13 +14,13 @@ use Rattle.line_tape.specs.Fit.{IsSentTo}
 use Rattle.line_tape.specs.History.{Process, tape_at, with_event}
 use Rattle.line_tape.specs.Rounds.{has_check_of, check_line, check_index, checks_of, is_check_of, is_checked}
 use Rattle.line_tape.specs.Transit.{in_transit_between}
-use Rattle.line_tape.proofs.ColourRounds.{colour_before, split_at_check}
-use Rattle.line_tape.proofs.CompletionLemmas.{check_of_push, checked_idle}
-use Rattle.line_tape.proofs.CopyLemmas.{sent_to_event}
-use Rattle.line_tape.proofs.ForcedLemmas.{colour_less, colour_most, forced_new, forced_next, forced_open, receipt_waits}
-use Rattle.line_tape.proofs.NextLemmas.{tape_same, tape_other}
-use Rattle.line_tape.proofs.RoundLines.{checked_has, round_is_line}
-use Rattle.line_tape.proofs.SnapshotLemmas.{event_transit}
+use Rattle.line_laws.proofs.ColourRounds.{colour_before, split_at_check}
+use Rattle.line_laws.proofs.CompletionLemmas.{check_of_push, checked_idle}
+use Rattle.line_laws.proofs.CopyLemmas.{sent_to_event}
+use Rattle.line_laws.proofs.ForcedLemmas.{colour_less, colour_most, forced_new, forced_next, forced_open, receipt_waits}
+use Rattle.line_tape.proofs.EventLemmas.{tape_same, tape_other}
+use Rattle.line_laws.proofs.RoundLines.{checked_has, round_is_line}
+use Rattle.line_laws.proofs.SnapshotLemmas.{event_transit}
 use Rattle.line_turns.specs.Kept.{ProcessTurns, AreTurned}
 use Rattle.line_turns.specs.Turning.{TurningView, IsTurning}
 use Rattle.line_moves.specs.declared.fates.Fate.TheVariants.{Taken}

@@ -32,7 +32,7 @@ pub mod plan {
 /// Begin with `check_certificate` or `check_consistent`. The laws say what a certificate shows.
 pub mod check {
     pub use line_check::{CertFault, FaultCode, LineFault, check_certificate, check_consistent};
-    pub use line_tape::{chain_makes_latest, chain_passes_each, latest_is_unique, now_is_latest};
+    pub use line_laws::{chain_makes_latest, chain_passes_each, latest_is_unique, now_is_latest};
 }
 
 /// Drive a world: processes that send, receive, take checkpoints, make snapshots in rounds, fail

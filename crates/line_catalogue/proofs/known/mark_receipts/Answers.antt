@@ -6,7 +6,7 @@ use Rattle.line_tape.specs.Front.{front}
 use Rattle.line_tape.specs.History.{Process, tape_at}
 use Rattle.line_tape.specs.Line.{events_before}
 use Rattle.line_tape.specs.Shown.{event_of_ref}
-use Rattle.line_tape.proofs.ColourRounds.{contains_at}
+use Rattle.line_tape.proofs.ListLemmas.{contains_at}
 use Rattle.line_catalogue.proofs.known.mark_receipts.Goals as goal
 
 pub loop-i-preserved : goal.loop-i-preserved

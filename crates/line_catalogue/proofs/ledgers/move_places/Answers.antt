@@ -7,7 +7,7 @@ use Rattle.line_names.specs.Lines.{choice_at}
 use Rattle.line_tape.specs.declared.events.Event.{Event}
 use Rattle.line_tape.specs.Front.{place}
 use Rattle.line_tape.specs.History.{Process, tape_at}
-use Rattle.line_tape.proofs.ChainLemmas.{choice-past}
+use Rattle.line_tape.proofs.ChoiceLemmas.{choice-past}
 use Rattle.line_catalogue.proofs.ledgers.move_places.Goals as goal
 
 pub loop-q-init : goal.loop-q-init

@@ -7,7 +7,7 @@ use Rattle.line_names.specs.declared.messages.MsgName.{MsgName}
 use Rattle.line_tape.specs.declared.events.Event.{Event}
 use Rattle.line_tape.specs.Event.{incarnations_sent}
 use Rattle.line_tape.specs.History.{Process, tape_at}
-use Rattle.line_tape.proofs.SentLemmas.{name_of}
+use Rattle.line_tape.proofs.EventLemmas.{name_of}
 use Rattle.line_catalogue.proofs.settlings.add_sent.Goals as goal
 
 pub returns-in_ok-push-in-Some-clause-kept : goal.returns-in_ok-push-in-Some-clause-kept

@@ -13,9 +13,8 @@ use Rattle.line_tape.specs.Front.{place}
 use Rattle.line_tape.specs.History.{Process, tape_at}
 use Rattle.line_tape.specs.Line.{events_before}
 use Rattle.line_tape.specs.Transit.{has_received, addressees}
-use Rattle.line_tape.proofs.CopyLemmas.{length_addressees}
+use Rattle.line_tape.proofs.EventLemmas.{length_addressees, name_of}
 use Rattle.line_tape.proofs.CutLemmas.{sends_take}
-use Rattle.line_tape.proofs.SentLemmas.{name_of}
 use Rattle.line_catalogue.specs.Left.{open_first}
 use Rattle.line_catalogue.proofs.OpenLemmas.{open-told}
 use Rattle.line_catalogue.proofs.transits.add_if_open.Goals as goal

@@ -1,7 +1,7 @@
 -- A claim that has a fault is not valid.
 use Rattle.std.proofs.Common.{◌∙◌, refl, sym, Result, Ok, Err, IsOk, IsErr}
 use Rattle.std.proofs.lemmas.Bool.{false≢true}
-use Rattle.line_tape.proofs.ChainLemmas.{latest_from_chain}
+use Rattle.line_laws.proofs.ChainLemmas.{latest_from_chain}
 use Rattle.line_check.specs.Verdict.{IsFirstFault, misshapen, other_line, inconsistent}
 use Rattle.line_check.specs.declared.faults.CertFault.{CertFault}
 use Rattle.line_check.proofs.FollowLemmas.{fault-chain, led-to}

@@ -3,7 +3,7 @@ use Rattle.std.proofs.Common.{◌≡◌, ◌+◌, List, take, sym, subst, refl, 
 use Rattle.std.proofs.lemmas.Option.{slice_get_read}
 use Rattle.line_names.specs.declared.choices.Choice.{Choice}
 use Rattle.line_tape.specs.Chain.{lowered_ceilings, IsLed}
-use Rattle.line_tape.proofs.LedLemmas.{IsLine-led}
+use Rattle.line_laws.proofs.LedLemmas.{IsLine-led}
 use Rattle.line_check.specs.Verdict.{wrong_entry}
 use Rattle.line_check.proofs.FollowLemmas.{few-led, led-more}
 use Rattle.line_check.proofs.checker.follow.Goals as goal

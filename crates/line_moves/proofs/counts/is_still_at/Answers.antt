@@ -7,7 +7,7 @@ use Rattle.line_tape.specs.declared.events.Event.{Event}
 use Rattle.line_tape.specs.Front.{HasChoice}
 use Rattle.line_tape.specs.History.{Process, tape_at}
 use Rattle.line_tape.specs.Rounds.{check_line}
-use Rattle.line_tape.proofs.StayLemmas.{choice_of_checks}
+use Rattle.line_laws.proofs.KeptLemmas.{choice_of_checks}
 use Rattle.line_moves.proofs.StillLemmas.{still_as, still_transit, IsStill}
 use Rattle.line_moves.proofs.counts.is_still_at.Goals as goal
 

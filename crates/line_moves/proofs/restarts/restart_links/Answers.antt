@@ -6,7 +6,7 @@ use Rattle.line_tape.specs.declared.items.Item.{Item}
 use Rattle.line_tape.specs.declared.items.Item.TheVariants.{Message}
 use Rattle.line_tape.specs.History.{Process}
 use Rattle.line_tape.specs.Transit.{goes_between}
-use Rattle.line_tape.proofs.LetterLemmas.{open_are, parts}
+use Rattle.line_laws.proofs.LetterLemmas.{open_are, parts}
 use Rattle.line_moves.proofs.restarts.restart_links.Goals as goal
 
 pub returns-clause-put : goal.returns-clause-put

@@ -15,7 +15,7 @@ use Rattle.line_tape.specs.Line.{IsLine}
 use Rattle.line_tape.specs.Views.{MarksView}
 use Rattle.line_tape.specs.Height.{height}
 use Rattle.line_tape.proofs.ChoiceLemmas.{next_lower-le}
-use Rattle.line_tape.proofs.LedLemmas.{LeadsTo-push, height-lowered, IsLine-led}
+use Rattle.line_laws.proofs.LedLemmas.{LeadsTo-push, height-lowered, IsLine-led}
 use Rattle.line_vectors.specs.Reach.{sents_of}
 use Rattle.line_vectors.proofs.ReachLemmas.{length-sents}
 use Rattle.line_plan.proofs.SearchLemmas.{sents-set}

@@ -8,10 +8,10 @@ use Rattle.line_names.specs.Sets.{is_member}
 use Rattle.line_tape.specs.Chain.{IsLed}
 use Rattle.line_tape.specs.Height.{height}
 use Rattle.line_tape.specs.Views.{MarksView}
-use Rattle.line_tape.proofs.ChainLemmas.{latest_from_chain}
+use Rattle.line_laws.proofs.ChainLemmas.{latest_from_chain}
 use Rattle.line_tape.proofs.LineLemmas.{IsConsistent-below}
 use Rattle.line_tape.specs.History.{Process}
-use Rattle.line_tape.proofs.LedLemmas.{height-first, IsLine-led}
+use Rattle.line_laws.proofs.LedLemmas.{height-first, IsLine-led}
 use Rattle.line_plan.proofs.planner.plan.Goals as goal
 
 pub overflow_add-sweeps : goal.overflow_add-sweeps

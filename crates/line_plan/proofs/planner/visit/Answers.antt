@@ -1,5 +1,5 @@
 use Rattle.std.proofs.Common.{rules, min, sym, ap, ◌∙◌, subst, arith}
-use Rattle.line_tape.proofs.LedLemmas.{IsLine-led}
+use Rattle.line_laws.proofs.LedLemmas.{IsLine-led}
 use Rattle.line_plan.specs.Search.{AreFirstSent}
 use Rattle.line_plan.proofs.SearchLemmas.{first-sent-on, same-on}
 use Rattle.line_plan.proofs.planner.visit.Goals as goal

@@ -11,7 +11,7 @@ use Rattle.line_tape.specs.History.{Process, tape_at}
 use Rattle.line_tape.specs.Line.{events_before, AreSentBefore, IsLine}
 use Rattle.line_tape.proofs.CutLemmas.{sends_take}
 use Rattle.line_tape.proofs.RowLemmas.{sends_le}
-use Rattle.line_tape.proofs.LedLemmas.{IsLine-led}
+use Rattle.line_laws.proofs.LedLemmas.{IsLine-led}
 use Rattle.line_plan.specs.Search.{AreCleanBut, AreHearersDirty}
 use Rattle.line_plan.proofs.SearchLemmas.{clean-lowered}
 use Rattle.line_plan.proofs.planner.visit_dirty.Goals as goal

@@ -4,7 +4,7 @@ use Rattle.std.proofs.lemmas.List.{length-replicate}
 use Rattle.std.proofs.lemmas.Result.{OkIff-at_ok}
 use Rattle.line_tape.specs.History.{fresh}
 use Rattle.line_tape.specs.Rounds.{rounds_checked}
-use Rattle.line_tape.proofs.SpentLemmas.{tape_start}
+use Rattle.line_tape.proofs.EventLemmas.{tape_start}
 use Rattle.line_posts.proofs.FleetLemmas.{journals_more}
 use Rattle.line_posts.proofs.fleets.fresh_journals.Goals as goal
 

@@ -13,8 +13,8 @@ use Rattle.line_tape.specs.Rounds.{rounds_checked}
 use Rattle.line_tape.specs.Transit.{goes_between, in_transit, in_transit_between}
 use Rattle.line_tape.proofs.EachLemmas.{restarted-each}
 use Rattle.line_tape.proofs.HistoryCuts.{IsHistory-restarted}
-use Rattle.line_tape.proofs.LetterLemmas.{open_are, parts}
-use Rattle.line_tape.proofs.SpentLemmas.{length_restarted}
+use Rattle.line_laws.proofs.LetterLemmas.{open_are, parts}
+use Rattle.line_tape.proofs.StayLemmas.{length_restarted}
 use Rattle.line_rings.specs.Ends.{row_at}
 use Rattle.line_rings.proofs.RowLemmas.{row_seen}
 use Rattle.line_posts.specs.Openings.{parcels_left}

@@ -7,8 +7,8 @@ use Rattle.line_tape.specs.Front.{front, HasChoice}
 use Rattle.line_tape.specs.History.{tape_at}
 use Rattle.line_tape.specs.Restart.{restarted_history, restarted_event}
 use Rattle.line_tape.specs.Rounds.{rounds_checked}
-use Rattle.line_tape.proofs.LinkLemmas.{no_rounds, tape_restarted}
-use Rattle.line_tape.proofs.SpentLemmas.{length_restarted}
+use Rattle.line_laws.proofs.LinkLemmas.{no_rounds}
+use Rattle.line_tape.proofs.StayLemmas.{tape_restarted, length_restarted}
 use Rattle.line_posts.proofs.FleetLemmas.{journals_more}
 use Rattle.line_posts.proofs.restarts.journals_at.Goals as goal
 

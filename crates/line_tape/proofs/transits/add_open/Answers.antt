@@ -12,11 +12,10 @@ use Rattle.line_tape.specs.Front.{place}
 use Rattle.line_tape.specs.History.{Process, tape_at}
 use Rattle.line_tape.specs.Line.{events_before}
 use Rattle.line_tape.specs.Transit.{Letter, letters, is_open_letter, addressees}
-use Rattle.line_tape.proofs.CopyLemmas.{length_addressees}
+use Rattle.line_tape.proofs.EventLemmas.{length_addressees, name_of}
 use Rattle.line_tape.proofs.CutLemmas.{sends_take}
 use Rattle.line_tape.proofs.ReceivedLemmas.{length-letters, open_first, open-next}
 use Rattle.line_tape.proofs.RowLemmas.{sends_le, sent_at}
-use Rattle.line_tape.proofs.SentLemmas.{name_of}
 use Rattle.line_tape.proofs.transits.add_open.Goals.{then-not-index+in_ok-push, else-not-index}
 use Rattle.line_tape.proofs.transits.add_open.Goals as goal
 

@@ -3,7 +3,7 @@ use Rattle.std.proofs.Common.{◌≡◌, List, length, sym, ap, ◌∙◌}
 use Rattle.line_names.specs.declared.choices.Choice.{Choice}
 use Rattle.line_tape.specs.History.{Process}
 use Rattle.line_tape.specs.Views.{HistoryView}
-use Rattle.line_tape.proofs.SpentLemmas.{length_restarted}
+use Rattle.line_tape.proofs.StayLemmas.{length_restarted}
 use Rattle.line_catalogue.proofs.LeftLemmas.{AreLeft-anew}
 use Rattle.line_catalogue.proofs.ledgers.Ledger.restart_anew.Goals as goal
 

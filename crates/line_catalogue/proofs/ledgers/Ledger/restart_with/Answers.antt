@@ -7,7 +7,7 @@ use Rattle.line_tape.specs.Restart.{restarted_history}
 use Rattle.line_tape.specs.Transit.{in_transit}
 use Rattle.line_tape.specs.Views.{HistoryView}
 use Rattle.line_catalogue.specs.Left.{AreLeft}
-use Rattle.line_tape.proofs.SpentLemmas.{length_restarted}
+use Rattle.line_tape.proofs.StayLemmas.{length_restarted}
 use Rattle.line_catalogue.proofs.LeftLemmas.{AreLeft-restarted}
 use Rattle.line_catalogue.proofs.ledgers.Ledger.restart_with.Goals as goal
 

@@ -3,8 +3,8 @@ use Rattle.std.proofs.Common.{◌≡◌, ℕ, length, sym, ap, ◌∙◌, arith,
 use Rattle.std.proofs.lemmas.Bool.{both_ways, cases_lt, false_from_ne_true}
 use Rattle.line_names.specs.Lines.{choice_at}
 use Rattle.line_tape.specs.Restart.{is_kept}
-use Rattle.line_tape.proofs.CompletionLemmas.{all_range}
-use Rattle.line_tape.proofs.RoundLines.{in_range}
+use Rattle.line_laws.proofs.CompletionLemmas.{all_range}
+use Rattle.line_laws.proofs.RoundLines.{in_range}
 use Rattle.line_moves.specs.Listed.{check_in, stays}
 use Rattle.line_moves.proofs.rounds.Round.stays.Goals as goal
 

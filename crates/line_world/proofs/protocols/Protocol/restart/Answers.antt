@@ -2,7 +2,7 @@
 use Rattle.std.proofs.Common.{List, subst}
 use Rattle.line_names.specs.declared.choices.Choice.{Choice}
 use Rattle.line_tape.specs.History.{Process}
-use Rattle.line_tape.proofs.ColourRounds.{coloured_restarted}
+use Rattle.line_laws.proofs.ColourRounds.{coloured_restarted}
 use Rattle.line_world.specs.declared.protocols.Protocol.TheVariants.{Colours}
 use Rattle.line_world.specs.Protocols.{IsFollowing}
 use Rattle.line_world.proofs.protocols.Protocol.restart.Goals as goal

@@ -5,7 +5,7 @@ use Rattle.std.proofs.lemmas.List.Elements.{All-weaker}
 use Rattle.line_names.specs.declared.choices.Choice.{Choice}
 use Rattle.line_tape.specs.History.{Process}
 use Rattle.line_tape.specs.Views.{MarksView}
-use Rattle.line_tape.proofs.SnapshotLemmas.{latest_reached}
+use Rattle.line_laws.proofs.SnapshotLemmas.{latest_reached}
 use Rattle.line_moves.specs.Listed.{channel_in, IsReached, IsSnapshotOf}
 use Rattle.line_world.specs.Machine.{Machine}
 use Rattle.line_world.proofs.worlds.World.plan_for.Goals as goal

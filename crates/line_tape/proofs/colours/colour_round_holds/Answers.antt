@@ -1,6 +1,0 @@
--- The law, by the colours before each tape's check.
-use Rattle.line_tape.proofs.ColourRounds.{colour_snapshot}
-use Rattle.line_tape.proofs.colours.colour_round_holds.Goals as goal
-
-pub returns : goal.returns
-returns c = colour_snapshot

@@ -1,5 +1,0 @@
-use Rattle.line_tape.proofs.ChainLemmas.{latest_from_chain}
-use Rattle.line_tape.proofs.laws.chain_makes_latest.Goals as goal
-
-pub returns : goal.returns
-returns c = latest_from_chain

@@ -1,8 +1,0 @@
-use Rattle.line_tape.proofs.EntryLemmas.{chain_once, chain_above}
-use Rattle.line_tape.proofs.laws.chain_passes_each.Goals as goal
-
-pub returns-clause-each : goal.returns-clause-each
-returns-clause-each c = chain_once
-
-pub returns-clause-only : goal.returns-clause-only
-returns-clause-only c = chain_above

@@ -1,5 +1,0 @@
-use Rattle.line_tape.proofs.LatestLemmas.{latest_same}
-use Rattle.line_tape.proofs.laws.latest_is_unique.Goals as goal
-
-pub returns : goal.returns
-returns c = latest_same

@@ -1,6 +1,0 @@
--- The law, by its lemma.
-use Rattle.line_tape.proofs.StayLemmas.{kept_transit}
-use Rattle.line_tape.proofs.links.kept_checks.Goals as goal
-
-pub returns : goal.returns
-returns c = kept_transit

@@ -1,6 +1,0 @@
--- The law, by its lemma.
-use Rattle.line_tape.proofs.OrderLemmas.{ordered_fit}
-use Rattle.line_tape.proofs.links.ordered_fits.Goals as goal
-
-pub returns : goal.returns
-returns c = ordered_fit

@@ -1,6 +1,0 @@
--- The law, by its lemma.
-use Rattle.line_tape.proofs.SnapshotLemmas.{latest_reached}
-use Rattle.line_tape.proofs.rounds.latest_reaches.Goals as goal
-
-pub returns : goal.returns
-returns c = latest_reached

@@ -1,9 +1,0 @@
--- The law, by its two lemmas.
-use Rattle.line_tape.proofs.GrowthLemmas.{checked_event, completed_event}
-use Rattle.line_tape.proofs.rounds.rounds_stay.Goals as goal
-
-pub returns-clause-checked : goal.returns-clause-checked
-returns-clause-checked c = checked_event
-
-pub returns-clause-completed : goal.returns-clause-completed
-returns-clause-completed c = completed_event
