@@ -1,4 +1,3 @@
-mod ApartLemmas
 mod BehindLemmas
 pub mod AgainLemmas
 pub mod FailedLemmas

@@ -5,7 +5,7 @@ use Rattle.std.proofs.lemmas.Bool.{cases_Bool}
 use Rattle.line_fields.specs.declared.faults.Fault.TheVariants as faults
 use Rattle.line_fields.specs.Bytes.{is_input_text}
 use Rattle.line_fields.specs.Fields.{◌>>=◌}
-use Rattle.line_fields.specs.Records.{Record, records_of_text}
+use Rattle.line_fields.specs.Records.{EndsLine, Record, records_of_text}
 use Rattle.line_fields.proofs.TextLemmas.{empty_is_input, records_of_nothing}
 use Rattle.line_moves.specs.declared.modes.Mode.{Mode}
 use Rattle.line_claims.specs.declared.faults.TextFault.{TextFault}
@@ -14,11 +14,11 @@ use Rattle.line_claims.specs.declared.faults.TextError.TheVariants as errors
 use Rattle.line_claims.specs.Reads.{FailsText, Reads, Yields, fault_of_record, at_record}
 use Rattle.line_claims.specs.Texts.{records_in}
 use Rattle.line_scripts.specs.declared.commands.Command.{Command}
-use Rattle.line_scripts.specs.Pieces.{EndsLine, at_end, begun_in, begun_of, begun_on, found, script_or_none, script_with, with_commands}
+use Rattle.line_scripts.specs.Pieces.{at_end, begun_in, begun_of, begun_on, found, script_or_none, script_with, with_commands}
 use Rattle.line_scripts.specs.declared.scripts.KeptScript as kept
 use Rattle.line_scripts.specs.Reads.{kept_script_view}
 use Rattle.line_scripts.specs.Scripts.{Script, command_in, commands_from, script_of, script_of_text, world_of}
-use Rattle.line_scripts.proofs.ApartLemmas.{input_apart, records_apart}
+use Rattle.line_fields.proofs.ApartLemmas.{input_apart, records_apart}
 
 -- ---- the commands of records, and of those behind them
 

@@ -1,5 +1,5 @@
 -- What a script spells so far whose text comes in pieces of whole lines.
-use Rattle.std.specs.Prelude.{◌≡◌, ◌≤◌, ◌⊎◌, ℕ, ◌+◌, ◌++◌, List, [], ◌∷◌, length, Option, Some}
+use Rattle.std.specs.Prelude.{◌≡◌, ◌≤◌, ℕ, ◌+◌, ◌++◌, List, [], ◌∷◌, length, Option, Some}
 use Rattle.std.specs.Prelude.{None, Result, Ok, Err, IfNone, IfSome}
 use Rattle.line_names.specs.declared.limits.TheConstants.{MOST_PROCESSES}
 use Rattle.line_fields.specs.declared.faults.Fault.TheVariants as faults
@@ -13,10 +13,6 @@ use Rattle.line_scripts.specs.declared.commands.Command.{Command}
 use Rattle.line_scripts.specs.declared.keeping.Kept.{Kept}
 use Rattle.line_scripts.specs.Keeping.{ArePacked, commands_of_kept}
 use Rattle.line_scripts.specs.Scripts.{Script, commands_from, script_of}
-
--- a text is empty, or ends with a line feed
-abbrev pub EndsLine : List ℕ → Type 0
-EndsLine text = (text ≡ []) ⊎ ((front : List ℕ) × (text ≡ front ++ 10 ∷ []))
 
 -- the script that the records so far spell; before the first one there is none
 unfoldable pub begun_of : List Record → Result (Option Script) TextFault

@@ -4,7 +4,7 @@ ghost use Rattle.std.specs.Prelude.{◌≡◌, ◌+◌, ◌^◌, ◌≤◌, ◌<
 ghost use Rattle.std.specs.Prelude.{length, IfErr, IfOk, IfSome, IsTrue, OnErr, OnOk};
 ghost use Rattle.line_names.specs.declared.limits.TheConstants.{MOST_PROCESSES};
 ghost use Rattle.line_fields.specs.Bytes.{is_input_text};
-ghost use Rattle.line_fields.specs.Records.{records_of_text};
+ghost use Rattle.line_fields.specs.Records.{EndsLine, records_of_text};
 ghost use Rattle.line_claims.specs.Reads as reads;
 ghost use Rattle.line_claims.specs.Reads.{Yields};
 ghost use Rattle.line_scripts.specs.Keeping.{ArePacked, commands_of_kept};
@@ -171,7 +171,7 @@ impl ScriptReader {
     /// It takes time in proportion to the piece, and memory in proportion to the commands. Where
     /// memory is refused what was taken is gone.
     pub fn take(&mut self, piece: &[u8]) -> Result<(), AllocError>
-        ensures { OnOk result ((front : List ℕ) → spec.EndsLine front
+        ensures { OnOk result ((front : List ℕ) → EndsLine front
             → self.old ≡ spec.begun_in front → self.new ≡ spec.begun_in (front ++ piece.now)) }
     {
         if !is_plain(piece) {

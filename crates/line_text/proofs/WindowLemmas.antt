@@ -6,6 +6,7 @@ use Rattle.std.proofs.lemmas.Bool.{eqb-true}
 use Rattle.std.proofs.Math.Seq.{take-append-add}
 use Rattle.std.proofs.lemmas.List.{append-nil, get_or-drop, get_or-take, length-drop, length-take-le, take-append-drop, take-append-le, take_more}
 use Rattle.memchr.specs.Find.{IsLastByte, is_byte}
+use Rattle.line_fields.specs.Records.{EndsLine}
 use Rattle.line_claims.specs.declared.faults.TextFault.{TextFault}
 use Rattle.line_claims.specs.Reads.{IsOfText, Reads, no_memory}
 use Rattle.line_devices.specs.Devices.{Fills, IsDone, ends_after, one_more}
@@ -16,7 +17,7 @@ use Rattle.line_claims.specs.Readings.{CheckPlace, EndsBefore, text_left}
 use Rattle.line_claims.specs.Texts.{check_of_text, check_view}
 use Rattle.line_claims.proofs.FaultLemmas.{check_text_faults, reads_codes}
 use Rattle.line_scripts.specs.declared.scripts.KeptScript as kept
-use Rattle.line_scripts.specs.Pieces.{EndsLine, at_end, begun_in}
+use Rattle.line_scripts.specs.Pieces.{at_end, begun_in}
 use Rattle.line_scripts.specs.Reads.{kept_script_view}
 use Rattle.line_scripts.specs.Scripts.{Script, script_of_text}
 use Rattle.line_scripts.proofs.PieceLemmas.{ended_text}

@@ -1,11 +1,11 @@
 -- What a call that reads its whole input tells of the input's end, and how far a text was read.
 use Rattle.std.specs.Prelude.{◌≡◌, ◌≢◌, ◌⊎◌, ◌++◌, ℕ, List, length, take, Option, Result, Ok, Err}
+use Rattle.line_fields.specs.Records.{EndsLine}
 use Rattle.line_claims.specs.declared.faults.TextFault.{TextFault}
 use Rattle.line_claims.specs.Reads.{no_memory}
 use Rattle.line_devices.specs.Devices.{Fills, one_more}
 use Rattle.line_claims.specs.Readings.{CheckPlace, EndsBefore, text_left}
 use Rattle.line_claims.specs.Texts.{check_of_text}
-use Rattle.line_scripts.specs.Pieces.{EndsLine}
 use Rattle.line_text.specs.declared.ends.TheConstants.{READ_FAULT}
 use Rattle.line_text.specs.declared.windows.Window.{Window}
 

@@ -3,11 +3,12 @@
 
 ghost use Rattle.std.specs.Prelude.{◌≡◌, ◌≢◌, ◌++◌, ◌+◌, ◌<◌, ◌≤◌, ◌⊎◌, ℕ, List, [], IfErr, IfOk};
 ghost use Rattle.std.specs.Prelude.{OnErr, OnOk, length, take};
+ghost use Rattle.line_fields.specs.Records.{EndsLine};
 ghost use Rattle.line_claims.specs.Reads.{no_memory};
 ghost use Rattle.line_devices.specs.Devices.{IsDone, ends_after, one_more};
 ghost use Rattle.line_devices.specs.Reads.{GivesAll, IsTooLong};
 ghost use Rattle.line_devices.specs.declared.sources.TheConstants.{MOST_INPUT};
-ghost use Rattle.line_scripts.specs.Pieces.{EndsLine, begun_in};
+ghost use Rattle.line_scripts.specs.Pieces.{begun_in};
 ghost use Rattle.line_text.specs.declared.ends.TheConstants.{READ_FAULT};
 ghost use Rattle.line_text.specs.Inputs.{HasHeard, HearsEnd, IsReadTo, waiting};
 

@@ -29,6 +29,6 @@ returns c =
 
 pub invariant_of-result : goal.invariant_of-result
 invariant_of-result c = (
-      λ k d within. c.without_silence-markers.ensures.n k d within ∙ c.n-n.ensures.value ∙ sym c.requires.recording.turning.count ∙ sym (ap (λ (v : List ℕ). length v) c.into_checks.ensures),
-      c.without_silence-markers.ensures.ascend,
-    )
+  λ k d within. c.without_silence-markers.ensures.n k d within ∙ c.n-n.ensures.value ∙ sym c.requires.recording.turning.count ∙ sym (ap (λ (v : List ℕ). length v) c.into_checks.ensures),
+  c.without_silence-markers.ensures.ascend,
+)

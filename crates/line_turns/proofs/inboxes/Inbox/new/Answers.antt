@@ -8,11 +8,11 @@ use Rattle.line_turns.proofs.inboxes.Inbox.new.Goals as goal
 
 pub invariant_of-result : goal.invariant_of-result
 invariant_of-result c = (
-      IsNonDecreasingBy-from_sort_by_key (λ (m : MsgName). m.from) _
-          c.in_ok-sort_by_key.ensures.sorted (λ a r q k. search rules),
-      subst (AreSentBy c.senders_of-senders.result) c.deref.ensures.value
-          c.senders_of-senders.ensures,
-    )
+  IsNonDecreasingBy-from_sort_by_key (λ (m : MsgName). m.from) _
+      c.in_ok-sort_by_key.ensures.sorted (λ a r q k. search rules),
+  subst (AreSentBy c.senders_of-senders.result) c.deref.ensures.value
+      c.senders_of-senders.ensures,
+)
 
 pub returns-clause-same : goal.returns-clause-same
 returns-clause-same c = λ p.
