@@ -1,7 +1,6 @@
 //! Commands that wait to be done: 16 bytes for each, and one list of the bytes that they carry.
 
-ghost use Rattle.std.specs.Prelude.{◌≡◌, ◌<◌, ◌≤◌, ◌∷◌, [], ℕ, List, drop, length, IfNone, IfOk};
-ghost use Rattle.std.specs.Prelude.{IfSome};
+ghost use Rattle.std.specs.Prelude.{◌≡◌, ◌≤◌, ◌∷◌, [], ℕ, List, drop, length, IfNone, IfOk, IfSome};
 ghost use Rattle.line_scripts.specs.Keeping.{ArePacked, HasShortMessage, commands_of_kept};
 ghost use Rattle.line_scripts.specs.Keeping.{with_bytes};
 ghost use Rattle.line_scripts.specs.Keeping as spec;
@@ -279,12 +278,14 @@ impl Commands {
         Some(lent(first, own))
     }
 
-    /// Lets the first one go, which there must be.
+    /// Lets the first one go, if there is one.
     pub fn drop_first(&mut self)
-        requires { 0 < length self.old }
         ensures { self.new ≡ drop 1 self.old }
     {
-        self.at += long_of(&self.kept[self.gone]);
+        let Some(first) = self.kept.get(self.gone) else {
+            return;
+        };
+        self.at += long_of(first);
         self.gone += 1;
         if self.gone >= self.kept.len() - self.gone {
             shrink(self);
