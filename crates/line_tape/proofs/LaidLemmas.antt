@@ -1,5 +1,5 @@
 -- What is kept of events, as they come and go.
-use Rattle.std.proofs.Common.{◌≡◌, ℕ, suc, ◌+◌, ◌*◌, ◌≤◌, List, [], ◌∷◌, ◌++◌, length, take, drop, map, Option, Some, None, refl, sym, ap, ◌∙◌, subst, arith}
+use Rattle.std.proofs.Common.{◌≡◌, ℕ, suc, true, false, cond, ◌+◌, ◌*◌, ◌≤◌, List, [], ◌∷◌, ◌++◌, length, take, drop, map, Option, Some, None, refl, sym, ap, ◌∙◌, subst, arith}
 use Rattle.std.specs.List.{All, filter_map}
 use Rattle.std.proofs.lemmas.List.{append-nil, drop-append-le, drop-map, drop_at, get_or_append_left, get_or_push, length-append, length-drop, length-take-le, length_push, map-append, take-append-drop, take-append-le, take-map, take_all}
 use Rattle.std.proofs.lemmas.List.Elements.{All-nil, All-cons, All-head, All-tail}
@@ -8,17 +8,17 @@ use Rattle.line_names.specs.declared.messages.MsgName.{MsgName}
 use Rattle.line_tape.specs.declared.events.Event.{Event}
 use Rattle.line_tape.specs.declared.events.Event.TheVariants.{Send, Recv, Check, Mark}
 use Rattle.line_tape.specs.declared.logs.KeptEvent.{KeptEvent}
-use Rattle.line_tape.specs.declared.logs.KeptEvent.TheVariants.{Send as KeptSend, Recv as KeptRecv, Check as KeptCheck, BareCheck as KeptBareCheck, Mark as KeptMark}
+use Rattle.line_tape.specs.declared.logs.KeptEvent.TheVariants.{Send as KeptSend, Recv as KeptRecv, Check as KeptCheck, LargeCheck as KeptLargeCheck, Mark as KeptMark}
 use Rattle.line_tape.specs.Kept.{IsSettled}
-use Rattle.line_tape.specs.Laid.{IsKeptWithin, IsLaid, event_from_kept, first_byte, first_state, kept_as, restarted_kept, states_of}
+use Rattle.line_tape.specs.Laid.{IsKeptWithin, IsLaid, event_from_kept, first_byte, first_state, kept_check, restarted_kept}
 use Rattle.line_tape.specs.Restart.{restarted_event}
 
 -- what stands among so many bytes and states stands among more
 fits-more : (event : KeptEvent) (B S B' S' : ℕ) → B ≤ B' → S ≤ S' → IsKeptWithin B S event → IsKeptWithin B' S' event
 fits-more (KeptSend to start inc len) B S B' S' b s fits = omega (arith, b, fits)
 fits-more (KeptRecv message) B S B' S' b s fits = fits
-fits-more (KeptCheck before round) B S B' S' b s fits = omega (arith, s, fits)
-fits-more (KeptBareCheck round) B S B' S' b s fits = fits
+fits-more (KeptLargeCheck before round) B S B' S' b s fits = omega (arith, s, fits)
+fits-more (KeptCheck start round len of_round) B S B' S' b s fits = omega (arith, b, fits)
 fits-more (KeptMark from round) B S B' S' b s fits = fits
 
 -- how far events reach
@@ -55,23 +55,23 @@ laid-reaches (KeptRecv message ∷ rest) b s B S laid =
       fewer = omega (arith, far.fewer);
       fit = All-cons (IsKeptWithin B S) (KeptRecv message) rest _ far.fit;
     }
-laid-reaches (KeptCheck before round ∷ rest) b s B S laid =
+laid-reaches (KeptLargeCheck before round ∷ rest) b s B S laid =
     let far : Reaches rest b (suc s) B S = laid-reaches rest b (suc s) B S laid.1 in
     record {
       bytes = far.bytes;
       few = omega (arith, far.few);
       states = omega (arith, far.states);
       fewer = omega (arith, far.fewer);
-      fit = All-cons (IsKeptWithin B S) (KeptCheck before round) rest (omega (arith, laid.0, far.states)) far.fit;
+      fit = All-cons (IsKeptWithin B S) (KeptLargeCheck before round) rest (omega (arith, laid.0, far.states)) far.fit;
     }
-laid-reaches (KeptBareCheck round ∷ rest) b s B S laid =
-    let far : Reaches rest b s B S = laid-reaches rest b s B S laid in
+laid-reaches (KeptCheck start round len of_round ∷ rest) b s B S laid =
+    let far : Reaches rest (b + len) s B S = laid-reaches rest (b + len) s B S laid.2 in
     record {
-      bytes = far.bytes;
-      few = omega (arith, far.few);
+      bytes = omega (arith, far.bytes);
+      few = omega (arith, far.few, laid.1);
       states = far.states;
       fewer = omega (arith, far.fewer);
-      fit = All-cons (IsKeptWithin B S) (KeptBareCheck round) rest _ far.fit;
+      fit = All-cons (IsKeptWithin B S) (KeptCheck start round len of_round) rest (omega (arith, laid.0, far.bytes)) far.fit;
     }
 laid-reaches (KeptMark from round ∷ rest) b s B S laid =
     let far : Reaches rest b s B S = laid-reaches rest b s B S laid in
@@ -90,9 +90,10 @@ laid-append [] more b s B S B' S' laid next =
 laid-append (KeptSend to start inc len ∷ rest) more b s B S B' S' laid next =
     (laid.0, laid.1, laid-append rest more (b + len) s B S B' S' laid.2 next)
 laid-append (KeptRecv message ∷ rest) more b s B S B' S' laid next = laid-append rest more b s B S B' S' laid next
-laid-append (KeptCheck before round ∷ rest) more b s B S B' S' laid next =
+laid-append (KeptLargeCheck before round ∷ rest) more b s B S B' S' laid next =
     (laid.0, laid-append rest more b (suc s) B S B' S' laid.1 next)
-laid-append (KeptBareCheck round ∷ rest) more b s B S B' S' laid next = laid-append rest more b s B S B' S' laid next
+laid-append (KeptCheck start round len of_round ∷ rest) more b s B S B' S' laid next =
+    (laid.0, laid.1, laid-append rest more (b + len) s B S B' S' laid.2 next)
 laid-append (KeptMark from round ∷ rest) more b s B S B' S' laid next = laid-append rest more b s B S B' S' laid next
 
 -- how far the first events reach, and the others from there on
@@ -110,26 +111,30 @@ laid-parts (KeptSend to start inc len ∷ rest) more b s B S laid =
 laid-parts (KeptRecv message ∷ rest) more b s B S laid =
     let parts : Parted rest more b s B S = laid-parts rest more b s B S laid in
     record { byte = parts.byte; state = parts.state; first = parts.first; others = parts.others }
-laid-parts (KeptCheck before round ∷ rest) more b s B S laid =
+laid-parts (KeptLargeCheck before round ∷ rest) more b s B S laid =
     let parts : Parted rest more b (suc s) B S = laid-parts rest more b (suc s) B S laid.1 in
     record { byte = parts.byte; state = parts.state; first = (laid.0, parts.first); others = parts.others }
-laid-parts (KeptBareCheck round ∷ rest) more b s B S laid =
-    let parts : Parted rest more b s B S = laid-parts rest more b s B S laid in
-    record { byte = parts.byte; state = parts.state; first = parts.first; others = parts.others }
+laid-parts (KeptCheck start round len of_round ∷ rest) more b s B S laid =
+    let parts : Parted rest more (b + len) s B S = laid-parts rest more (b + len) s B S laid.2 in
+    record { byte = parts.byte; state = parts.state; first = (laid.0, laid.1, parts.first); others = parts.others }
 laid-parts (KeptMark from round ∷ rest) more b s B S laid =
     let parts : Parted rest more b s B S = laid-parts rest more b s B S laid in
     record { byte = parts.byte; state = parts.state; first = parts.first; others = parts.others }
 
 module _ (bodies more : List ℕ) (states others : List (List ℕ)) where
   -- further bytes and states change no event
-  event-same : (event : KeptEvent) → IsKeptWithin (length bodies) (length states) event → event_from_kept (bodies ++ more) (states ++ others) event ≡ event_from_kept bodies states event
-  event-same (KeptSend to start inc len) fits =
+  bytes-same : (start len : ℕ) → start + len ≤ length bodies → take len (drop start (bodies ++ more)) ≡ take len (drop start bodies)
+  bytes-same start len fits =
       let dropped : drop start (bodies ++ more) ≡ drop start bodies ++ more = drop-append-le start bodies more (omega (arith, fits)) in
-      ap (Send to inc) (ap (take len) dropped ∙ take-append-le len (drop start bodies) more (omega (arith, fits, length-drop start bodies)))
+      ap (take len) dropped ∙ take-append-le len (drop start bodies) more (omega (arith, fits, length-drop start bodies))
+
+  event-same : (event : KeptEvent) → IsKeptWithin (length bodies) (length states) event → event_from_kept (bodies ++ more) (states ++ others) event ≡ event_from_kept bodies states event
+  event-same (KeptSend to start inc len) fits = ap (Send to inc) (bytes-same start len fits)
   event-same (KeptRecv message) fits = refl
-  event-same (KeptCheck before round) fits =
+  event-same (KeptLargeCheck before round) fits =
       ap (λ (state : List ℕ). Check state round) (get_or_append_left states others [] before fits)
-  event-same (KeptBareCheck round) fits = refl
+  event-same (KeptCheck start round len of_round) fits =
+      ap (λ (state : List ℕ). Check state (cond of_round (Some round) None)) (bytes-same start len fits)
   event-same (KeptMark from round) fits = refl
 
   pub events-same : (events : List KeptEvent) → All (IsKeptWithin (length bodies) (length states)) events → map (event_from_kept (bodies ++ more) (states ++ others)) events ≡ map (event_from_kept bodies states) events
@@ -148,38 +153,36 @@ events-first bodies states B S events b s fits =
     ∙ ap (λ (xs : List ℕ). map (event_from_kept xs (take S states ++ drop S states)) events) (take-append-drop B bodies)
     ∙ ap (λ (xs : List (List ℕ)). map (event_from_kept bodies xs) events) (take-append-drop S states)
 
--- a body that comes next
-pub body-next : (bodies body : List ℕ) (to inc : ℕ) (states : List (List ℕ)) → event_from_kept (bodies ++ body) states (KeptSend to (length bodies) inc (length body)) ≡ Send to inc body
-body-next bodies body to inc states =
-    ap (Send to inc) (ap (take (length body)) (drop_at bodies body (length bodies) refl) ∙ take_all (length body) body (omega arith))
+-- the bytes that come next
+bytes-next : (bodies bytes : List ℕ) → take (length bytes) (drop (length bodies) (bodies ++ bytes)) ≡ bytes
+bytes-next bodies bytes = ap (take (length bytes)) (drop_at bodies bytes (length bodies) refl) ∙ take_all (length bytes) bytes (omega arith)
 
 -- what a restart leaves of the events
 pub events-restarted : (bodies : List ℕ) (states : List (List ℕ)) (events : List KeptEvent) → map (event_from_kept bodies states) (filter_map restarted_kept events) ≡ filter_map restarted_event (map (event_from_kept bodies states) events)
 events-restarted bodies states [] = refl
 events-restarted bodies states (KeptSend to start inc len ∷ rest) = ap (λ (es : List Event). event_from_kept bodies states (KeptSend to start inc len) ∷ es) (events-restarted bodies states rest)
 events-restarted bodies states (KeptRecv message ∷ rest) = ap (λ (es : List Event). Recv message ∷ es) (events-restarted bodies states rest)
-events-restarted bodies states (KeptCheck before round ∷ rest) = ap (λ (es : List Event). event_from_kept bodies states (KeptCheck before None) ∷ es) (events-restarted bodies states rest)
-events-restarted bodies states (KeptBareCheck round ∷ rest) = ap (λ (es : List Event). Check [] None ∷ es) (events-restarted bodies states rest)
+events-restarted bodies states (KeptLargeCheck before round ∷ rest) = ap (λ (es : List Event). event_from_kept bodies states (KeptLargeCheck before None) ∷ es) (events-restarted bodies states rest)
+events-restarted bodies states (KeptCheck start round len of_round ∷ rest) = ap (λ (es : List Event). event_from_kept bodies states (KeptCheck start round len false) ∷ es) (events-restarted bodies states rest)
 events-restarted bodies states (KeptMark from round ∷ rest) = events-restarted bodies states rest
 
 pub laid-restarted : (events : List KeptEvent) (b s B S : ℕ) → IsLaid events b s B S → IsLaid (filter_map restarted_kept events) b s B S
 laid-restarted [] b s B S laid = laid
 laid-restarted (KeptSend to start inc len ∷ rest) b s B S laid = (laid.0, laid.1, laid-restarted rest (b + len) s B S laid.2)
 laid-restarted (KeptRecv message ∷ rest) b s B S laid = laid-restarted rest b s B S laid
-laid-restarted (KeptCheck before round ∷ rest) b s B S laid = (laid.0, laid-restarted rest b (suc s) B S laid.1)
-laid-restarted (KeptBareCheck round ∷ rest) b s B S laid = laid-restarted rest b s B S laid
+laid-restarted (KeptLargeCheck before round ∷ rest) b s B S laid = (laid.0, laid-restarted rest b (suc s) B S laid.1)
+laid-restarted (KeptCheck start round len of_round ∷ rest) b s B S laid = (laid.0, laid.1, laid-restarted rest (b + len) s B S laid.2)
 laid-restarted (KeptMark from round ∷ rest) b s B S laid = laid-restarted rest b s B S laid
 
 -- what is kept of an event that is settled is settled
 settled-one : (bodies : List ℕ) (states : List (List ℕ)) (event : KeptEvent) → IsSettled (event_from_kept bodies states event) → restarted_kept event ≡ Some event
 settled-one bodies states (KeptSend to start inc len) settled = refl
 settled-one bodies states (KeptRecv message) settled = refl
-settled-one bodies states (KeptCheck before round) settled =
+settled-one bodies states (KeptLargeCheck before round) settled =
     let none : None ≡ round = cc settled in
-    ap (λ r. Some (KeptCheck before r)) none
-settled-one bodies states (KeptBareCheck round) settled =
-    let none : None ≡ round = cc settled in
-    ap (λ r. Some (KeptBareCheck r)) none
+    ap (λ r. Some (KeptLargeCheck before r)) none
+settled-one bodies states (KeptCheck start round len true) settled = absurd (cc settled)
+settled-one bodies states (KeptCheck start round len false) settled = refl
 settled-one bodies states (KeptMark from round) settled = absurd (cc settled)
 
 settled-each : (bodies : List ℕ) (states : List (List ℕ)) (events : List KeptEvent) → All IsSettled (map (event_from_kept bodies states) events) → All (λ event. restarted_kept event ≡ Some event) events
@@ -207,8 +210,8 @@ laid-byte : (events : List KeptEvent) (b s B S : ℕ) → IsLaid events b s B S 
 laid-byte [] b s B S laid = sym laid.0
 laid-byte (KeptSend to start inc len ∷ rest) b s B S laid = laid.0
 laid-byte (KeptRecv message ∷ rest) b s B S laid = laid-byte rest b s B S laid
-laid-byte (KeptCheck before round ∷ rest) b s B S laid = laid-byte rest b (suc s) B S laid.1
-laid-byte (KeptBareCheck round ∷ rest) b s B S laid = laid-byte rest b s B S laid
+laid-byte (KeptLargeCheck before round ∷ rest) b s B S laid = laid-byte rest b (suc s) B S laid.1
+laid-byte (KeptCheck start round len of_round ∷ rest) b s B S laid = laid.0
 laid-byte (KeptMark from round ∷ rest) b s B S laid = laid-byte rest b s B S laid
 
 -- and so do their states
@@ -216,8 +219,8 @@ laid-state : (events : List KeptEvent) (b s B S : ℕ) → IsLaid events b s B S
 laid-state [] b s B S laid = sym laid.1
 laid-state (KeptSend to start inc len ∷ rest) b s B S laid = laid-state rest (b + len) s B S laid.2
 laid-state (KeptRecv message ∷ rest) b s B S laid = laid-state rest b s B S laid
-laid-state (KeptCheck before round ∷ rest) b s B S laid = laid.0
-laid-state (KeptBareCheck round ∷ rest) b s B S laid = laid-state rest b s B S laid
+laid-state (KeptLargeCheck before round ∷ rest) b s B S laid = laid.0
+laid-state (KeptCheck start round len of_round ∷ rest) b s B S laid = laid-state rest (b + len) s B S laid.2
 laid-state (KeptMark from round ∷ rest) b s B S laid = laid-state rest b s B S laid
 
 -- what the log is, where it has these events
@@ -237,23 +240,27 @@ module _ (events : List KeptEvent) (bodies : List ℕ) (states : List (List ℕ)
         ∙ ap (λ (es : List Event). es ++ event_from_kept (bodies ++ body) (states ++ more) event ∷ []) (events-same bodies body states more events (laid_fit events (length bodies) (length states) laid));
   }
 
+  -- bytes that come next, and the event that has them
+  bytes-added : (event : KeptEvent) (body : List ℕ) (shown : Event) → IsLaid (event ∷ []) (length bodies) (length states) (length (bodies ++ body)) (length states) → event_from_kept (bodies ++ body) states event ≡ shown → IsLog (events ++ event ∷ []) (bodies ++ body) states (told ++ shown ∷ [])
+  bytes-added event body shown next is =
+      let log : IsLog (events ++ event ∷ []) (bodies ++ body) (states ++ []) (told ++ event_from_kept (bodies ++ body) (states ++ []) event ∷ []) = added event body [] (subst (λ k. IsLaid (event ∷ []) (length bodies) (length states) (length (bodies ++ body)) k) (sym (ap (λ (xs : List (List ℕ)). length xs) (append-nil states))) next) in
+      subst (λ (e : Event). IsLog (events ++ event ∷ []) (bodies ++ body) states (told ++ e ∷ [])) is
+      (subst (λ (xs : List (List ℕ)). IsLog (events ++ event ∷ []) (bodies ++ body) xs (told ++ event_from_kept (bodies ++ body) xs event ∷ [])) (append-nil states) log)
+
   pub send-added : (to inc : ℕ) (body : List ℕ) → length body ≤ MOST_BODY → IsLog (events ++ KeptSend to (length bodies) inc (length body) ∷ []) (bodies ++ body) states (told ++ Send to inc body ∷ [])
   send-added to inc body short =
-      let event : KeptEvent = KeptSend to (length bodies) inc (length body) in
-      let next : IsLog (events ++ event ∷ []) (bodies ++ body) (states ++ []) (told ++ event_from_kept (bodies ++ body) (states ++ []) event ∷ []) = added event body [] (refl, short, (sym (length-append bodies body), sym (ap (λ (xs : List (List ℕ)). length xs) (append-nil states)))) in
-      subst (λ (e : Event). IsLog (events ++ event ∷ []) (bodies ++ body) states (told ++ e ∷ [])) (body-next bodies body to inc states)
-      (subst (λ (xs : List (List ℕ)). IsLog (events ++ event ∷ []) (bodies ++ body) xs (told ++ event_from_kept (bodies ++ body) xs event ∷ [])) (append-nil states) next)
+      bytes-added (KeptSend to (length bodies) inc (length body)) body (Send to inc body) (refl, short, (sym (length-append bodies body), refl)) (ap (Send to inc) (bytes-next bodies body))
+
+  pub check-added : (state : List ℕ) (round : Option ℕ) → length state ≤ MOST_BODY → IsLog (events ++ kept_check (length bodies) (length state) round ∷ []) (bodies ++ state) states (told ++ Check state round ∷ [])
+  check-added state (Some round) small =
+      bytes-added (KeptCheck (length bodies) round (length state) true) state (Check state (Some round)) (refl, small, (sym (length-append bodies state), refl)) (ap (λ (bytes : List ℕ). Check bytes (Some round)) (bytes-next bodies state))
+  check-added state None small =
+      bytes-added (KeptCheck (length bodies) 0 (length state) false) state (Check state None) (refl, small, (sym (length-append bodies state), refl)) (ap (λ (bytes : List ℕ). Check bytes None) (bytes-next bodies state))
 
   pub recv-added : (message : MsgName) → IsLog (events ++ KeptRecv message ∷ []) bodies states (told ++ Recv message ∷ [])
   recv-added message = record {
     laid = laid-append events (KeptRecv message ∷ []) 0 0 (length bodies) (length states) (length bodies) (length states) laid (refl, refl);
     shows = map-append (event_from_kept bodies states) events (KeptRecv message ∷ []);
-  }
-
-  pub bare-added : (round : Option ℕ) → IsLog (events ++ KeptBareCheck round ∷ []) bodies states (told ++ Check [] round ∷ [])
-  bare-added round = record {
-    laid = laid-append events (KeptBareCheck round ∷ []) 0 0 (length bodies) (length states) (length bodies) (length states) laid (refl, refl);
-    shows = map-append (event_from_kept bodies states) events (KeptBareCheck round ∷ []);
   }
 
   pub mark-added : (from round : ℕ) → IsLog (events ++ KeptMark from round ∷ []) bodies states (told ++ Mark from round ∷ [])
@@ -262,17 +269,19 @@ module _ (events : List KeptEvent) (bodies : List ℕ) (states : List (List ℕ)
     shows = map-append (event_from_kept bodies states) events (KeptMark from round ∷ []);
   }
 
-  pub check-added : (state : List ℕ) (round : Option ℕ) → IsLog (events ++ KeptCheck (length states) round ∷ []) bodies (states ++ state ∷ []) (told ++ Check state round ∷ [])
-  check-added state round =
-      let event : KeptEvent = KeptCheck (length states) round in
+  pub large-added : (state : List ℕ) (round : Option ℕ) → IsLog (events ++ KeptLargeCheck (length states) round ∷ []) bodies (states ++ state ∷ []) (told ++ Check state round ∷ [])
+  large-added state round =
+      let event : KeptEvent = KeptLargeCheck (length states) round in
       let next : IsLog (events ++ event ∷ []) (bodies ++ []) (states ++ state ∷ []) (told ++ event_from_kept (bodies ++ []) (states ++ state ∷ []) event ∷ []) = added event [] (state ∷ []) (refl, (sym (ap (λ (xs : List ℕ). length xs) (append-nil bodies)), omega (arith, length_push states state))) in
       subst (λ (e : Event). IsLog (events ++ event ∷ []) bodies (states ++ state ∷ []) (told ++ e ∷ [])) (ap (λ (s : List ℕ). Check s round) (get_or_push states state [] (length states) refl))
       (subst (λ (xs : List ℕ). IsLog (events ++ event ∷ []) xs (states ++ state ∷ []) (told ++ event_from_kept xs (states ++ state ∷ []) event ∷ [])) (append-nil bodies) next)
 
-  -- a check more, with bytes or without
-  pub state-added : (state : List ℕ) (round : Option ℕ) → IsLog (events ++ kept_as (length bodies) (length states) (Check state round) ∷ []) bodies (states ++ states_of (Check state round)) (told ++ Check state round ∷ [])
-  state-added [] round = subst (λ (xs : List (List ℕ)). IsLog (events ++ KeptBareCheck round ∷ []) bodies xs (told ++ Check [] round ∷ [])) (sym (append-nil states)) (bare-added round)
-  state-added (byte ∷ state) round = check-added (byte ∷ state) round
+  -- the large states of the last events are not before the first of these
+  pub first-state-within : (first more : List KeptEvent) → events ≡ first ++ more → first_state more (length states) ≤ length states
+  first-state-within first more is =
+      let parts : Parted first more 0 0 (length bodies) (length states) = laid-parts first more 0 0 (length bodies) (length states) (subst (λ es. IsLaid es 0 0 (length bodies) (length states)) is laid) in
+      let far : Reaches more parts.byte parts.state (length bodies) (length states) = laid-reaches more parts.byte parts.state (length bodies) (length states) parts.others in
+      omega (arith, laid-state more parts.byte parts.state (length bodies) (length states) parts.others, far.states)
 
   -- the first events, where those behind them go with their bytes and states
   pub more-gone : (first more : List KeptEvent) → events ≡ first ++ more → IsLog first (take (first_byte more (length bodies)) bodies) (take (first_state more (length states)) states) (map (event_from_kept bodies states) first)
@@ -284,7 +293,7 @@ module _ (events : List KeptEvent) (bodies : List ℕ) (states : List (List ℕ)
       let b : ℕ = first_byte more (length bodies) in
       let s : ℕ = first_state more (length states) in
       let low : b ≤ length bodies = omega (arith, byte, far.bytes) in
-      let few : s ≤ length states = omega (arith, state, far.states) in
+      let few : s ≤ length states = first-state-within first more is in
       let before : IsLaid first 0 0 b s = subst (λ k. IsLaid first 0 0 b k) (sym state) (subst (λ k. IsLaid first 0 0 k parts.state) (sym byte) parts.first) in
       record {
         laid = subst (λ k. IsLaid first 0 0 (length (take b bodies)) k) (sym (length-take-le s states few)) (subst (λ k. IsLaid first 0 0 k s) (sym (length-take-le b bodies low)) before);

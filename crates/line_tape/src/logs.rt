@@ -1,11 +1,12 @@
 //! The events of a tape, as it keeps and shows them.
 ghost use Rattle.std.specs.Prelude.{◌≡◌, ◌<◌, ◌≤◌, ◌+◌, ◌-◌, ◌^◌, ◌↔◌, ℕ, Option, [], ◌∷◌, ◌++◌};
-ghost use Rattle.std.specs.Prelude.{All, IsOk, IsTrue, OnOk, Some, drop, length, slice_get, take};
+ghost use Rattle.std.specs.Prelude.{All, IsOk, IsTrue, None, OnOk, Some, drop, length, slice_get};
+ghost use Rattle.std.specs.Prelude.{if◌then◌else◌, take};
 ghost use Rattle.std.specs.Prelude.{vec_capacity, vec_len};
 ghost use Rattle.std.specs.List.{filter_map};
 ghost use Rattle.line_tape.specs.declared.events.Event.TheVariants.{Check, Mark, Recv, Send};
 ghost use Rattle.line_tape.specs.Kept.{IsSettled};
-ghost use Rattle.line_tape.specs.Laid.{kept_as, states_of};
+ghost use Rattle.line_tape.specs.Laid.{kept_check};
 ghost use Rattle.line_tape.specs.Restart.{restarted_event};
 ghost use Rattle.line_tape.specs.Shown.{event_of_ref};
 
@@ -22,6 +23,9 @@ use std::alloc::{AllocError, Global};
 use std::marker::Model;
 
 /// An event in sixteen bytes: those of a body or a state are kept beside it.
+///
+/// A state of at most `MOST_BODY` bytes is small: its bytes stand among those of the bodies. A
+/// large one stays in the memory that it came in.
 #[derive(Clone, Copy)]
 pub(crate) enum KeptEvent {
     /// A message of `len` bytes, which stand after `start` others.
@@ -35,13 +39,16 @@ pub(crate) enum KeptEvent {
     Recv {
         message: MsgName,
     },
-    /// A check, whose state stands after so many others.
+    /// A check that stores `len` bytes, which stand after `start` others.
     Check {
-        before: u32,
-        round: Option<u32>,
+        start: u32,
+        round: u32,
+        len: u8,
+        of_round: bool,
     },
-    /// A check that stores no bytes.
-    BareCheck {
+    /// A check whose state is large, and stands after so many others.
+    LargeCheck {
+        before: u32,
         round: Option<u32>,
     },
     /// The receipt of a marker.
@@ -54,33 +61,35 @@ pub(crate) enum KeptEvent {
 // What an event takes on a tape, beside its bytes.
 const _: () = prove!(size_of::<KeptEvent>() == 16);
 
-/// A check as it is kept after so many states: one that stores no bytes by itself.
-fn keep_check(before: u32, state: &State, round: Option<u32>) -> KeptEvent
-    ensures { (bytes : ℕ) → result ≡ kept_as bytes before (Check state.now round) }
+/// A check that stores so many bytes after others, as it is kept.
+fn keep_check(start: u32, len: u8, round: Option<u32>) -> KeptEvent
+    ensures { result ≡ kept_check start len round }
 {
-    if state.bytes().is_empty() {
-        KeptEvent::BareCheck { round }
-    } else {
-        KeptEvent::Check { before, round }
+    match round {
+        Some(round) => KeptEvent::Check {
+            start,
+            round,
+            len,
+            of_round: true,
+        },
+        None => KeptEvent::Check {
+            start,
+            round: 0,
+            len,
+            of_round: false,
+        },
     }
 }
 
-/// Keeps the state of a check after the others, in room that was made for it; one without bytes
-/// takes no place.
-fn keep_state(states: &mut Vec<State>, state: State)
-    requires room { vec_len states.old < vec_capacity states.old }
-    ensures states { (round : Option ℕ)
-        → states.new.items ≡ states.old.items ++ states_of (Check state round) }
-    ensures len { vec_len states.new ≤ vec_len states.old + 1 }
-    ensures capacity { vec_capacity states.old ≤ vec_capacity states.new }
+/// The round of a check that is kept so.
+fn round_of(round: u32, of_round: bool) -> Option<u32>
+    ensures { result ≡ (if of_round then Some round else None) }
 {
-    if !state.bytes().is_empty() {
-        states.push_reserved(state);
-    }
+    if of_round { Some(round) } else { None }
 }
 
-/// The events of a tape in their order, each in sixteen bytes, and beside them the bytes of bodies,
-/// one after another, and the states that have bytes.
+/// The events of a tape in their order, each in sixteen bytes, and beside them the bytes of bodies
+/// and of small states, one after another, and the large states.
 #[derive(Drop)]
 pub(crate) struct Log {
     events: Vec<KeptEvent>,
@@ -162,14 +171,14 @@ impl Log {
         self.events.capacity() - self.events.len()
     }
 
-    /// For how many further bodies there is room, whatever they are.
+    /// For how many further bodies and small states there is room, whatever they are.
     pub(crate) fn room_for_bodies(&self) -> usize
         ensures { result ≡ self.now.bodies }
     {
         (self.bodies.capacity() - self.bodies.len()) / MOST_BODY
     }
 
-    /// For how many further states there is room.
+    /// For how many further large states there is room.
     pub(crate) fn room_for_states(&self) -> usize
         ensures { result ≡ self.now.states }
     {
@@ -209,8 +218,27 @@ impl Log {
             .push_reserved(KeptEvent::Recv { message: *message });
     }
 
-    /// Adds a check at the end, in room that was made for it: its state goes after the others.
-    pub(crate) fn append_check(&mut self, state: State, round: Option<u32>)
+    /// Adds a check with a small state at the end, in room that was made for it: its bytes go after
+    /// the others.
+    fn append_small_check(&mut self, state: &[u8], round: Option<u32>)
+        requires room { 0 < self.old.room }
+        requires bodies { 0 < self.old.bodies }
+        requires few { length self.old.events < MOST_EVENTS }
+        requires small { length state.now ≤ MOST_BODY }
+        ensures events { self.new.events ≡ self.old.events ++ Check state.now round ∷ [] }
+        ensures room { self.old.room ≤ self.new.room + 1 }
+        ensures bodies { self.old.bodies ≤ self.new.bodies + 1 }
+        ensures states { self.new.states ≡ self.old.states }
+    {
+        let start = self.bodies.len() as u32;
+        let kept = keep_check(start, state.len() as u8, round);
+        self.bodies.extend_from_slice(state).unwrap();
+        self.events.push_reserved(kept);
+    }
+
+    /// Adds a check with a large state at the end, in room that was made for it: the state goes
+    /// after the others.
+    fn append_large_check(&mut self, state: State, round: Option<u32>)
         requires room { 0 < self.old.room }
         requires states { 0 < self.old.states }
         requires few { length self.old.events < MOST_EVENTS }
@@ -220,8 +248,27 @@ impl Log {
         ensures states { self.old.states ≤ self.new.states + 1 }
     {
         let before = self.states.len() as u32;
-        self.events.push_reserved(keep_check(before, &state, round));
-        keep_state(&mut self.states, state);
+        self.events
+            .push_reserved(KeptEvent::LargeCheck { before, round });
+        self.states.push_reserved(state);
+    }
+
+    /// Adds a check at the end, in room that was made for it.
+    pub(crate) fn append_check(&mut self, state: State, round: Option<u32>)
+        requires room { 0 < self.old.room }
+        requires bodies { 0 < self.old.bodies }
+        requires states { 0 < self.old.states }
+        requires few { length self.old.events < MOST_EVENTS }
+        ensures events { self.new.events ≡ self.old.events ++ Check state round ∷ [] }
+        ensures room { self.old.room ≤ self.new.room + 1 }
+        ensures bodies { self.old.bodies ≤ self.new.bodies + 1 }
+        ensures states { self.old.states ≤ self.new.states + 1 }
+    {
+        if state.bytes().len() <= MOST_BODY {
+            self.append_small_check(state.bytes(), round);
+        } else {
+            self.append_large_check(state, round);
+        }
     }
 
     /// Adds the receipt of a marker at the end, in room that was made for it.
@@ -235,8 +282,9 @@ impl Log {
         self.events.push_reserved(KeptEvent::Mark { from, round });
     }
 
-    /// Lets go of all but the first `end` events. Of those that go it looks only for the first send
-    /// and the first check, which tell where the bytes and the states that go begin.
+    /// Lets go of all but the first `end` events. Of those that go it looks only for the first that
+    /// has bytes, and, where there is a large state, for the first of a large one: they tell where
+    /// the bytes and the states that go begin.
     pub(crate) fn truncate(&mut self, end: usize)
         ensures events { self.new.events ≡ take end self.old.events }
         ensures room { self.old.room ≤ self.new.room }
@@ -327,12 +375,20 @@ impl<'a> Events<'a> {
                 }
             }
             KeptEvent::Recv { message } => EventRef::Recv { message: *message },
-            KeptEvent::Check { before, round } => EventRef::Check {
+            KeptEvent::Check {
+                start,
+                round,
+                len,
+                of_round,
+            } => {
+                let start = *start as usize;
+                EventRef::Check {
+                    state: &bodies[start..start + *len as usize],
+                    round: round_of(*round, *of_round),
+                }
+            }
+            KeptEvent::LargeCheck { before, round } => EventRef::Check {
                 state: states[*before as usize].bytes(),
-                round: *round,
-            },
-            KeptEvent::BareCheck { round } => EventRef::Check {
-                state: &[],
                 round: *round,
             },
             KeptEvent::Mark { from, round } => EventRef::Mark {

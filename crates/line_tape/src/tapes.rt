@@ -326,7 +326,7 @@ impl Tape {
     }
 
     /// The same events in memory of their own: as much as they take, with none for further ones.
-    /// What is kept beside them is copied as it is, and each state takes memory by itself.
+    /// What is kept beside them is copied as it is, and each large state takes memory by itself.
     pub fn copy(&self, alloc: Global) -> Result<Tape, AllocError>
         ensures { IfOk result (λ tape. tape.events ≡ self.now.events) }
     {

@@ -13,12 +13,12 @@ fn restart_event(event: &mut KeptEvent) -> bool
     match event {
         KeptEvent::Send { .. } => true,
         KeptEvent::Recv { .. } => true,
-        KeptEvent::Check { round, .. } => {
-            *round = None;
+        KeptEvent::Check { of_round, .. } => {
+            *of_round = false;
             true
         }
-        KeptEvent::BareCheck { .. } => {
-            *event = KeptEvent::BareCheck { round: None };
+        KeptEvent::LargeCheck { round, .. } => {
+            *round = None;
             true
         }
         KeptEvent::Mark { .. } => false,

@@ -76,13 +76,12 @@ pub(super) fn count_behind_send(spare: u32, log: &Log) -> u32
 pub(super) fn count_behind_check(spare: u32, log: &Log, checks: &Vec<CheckRow>) -> u32
     requires { 0 < spare }
     ensures less { result ≤ spare - 1 }
-    ensures least { min (spare - 1)
-        (min (vec_capacity checks.now - vec_len checks.now) log.now.states)
-        ≤ result }
-    ensures one_check { min 1 result
-        ≤ min (vec_capacity checks.now - vec_len checks.now) log.now.states }
+    ensures least { min (spare - 1) (min log.now.bodies
+        (min (vec_capacity checks.now - vec_len checks.now) log.now.states)) ≤ result }
+    ensures one_check { min 1 result ≤ min log.now.bodies
+        (min (vec_capacity checks.now - vec_len checks.now) log.now.states) }
 {
-    if checks.len() < checks.capacity() && log.room_for_states() > 0 {
+    if checks.len() < checks.capacity() && log.room_for_bodies() > 0 && log.room_for_states() > 0 {
         spare - 1
     } else {
         0

@@ -5,8 +5,19 @@ use Rattle.line_tape.specs.declared.events.Event.{Event}
 use Rattle.line_tape.specs.declared.logs.KeptEvent.{KeptEvent}
 use Rattle.line_tape.specs.Laid.{event_from_kept, first_byte, first_state}
 use Rattle.line_tape.specs.Views.{LogView}
-use Rattle.line_tape.proofs.LaidLemmas.{IsLog, events_of_first, more-gone}
+use Rattle.line_tape.proofs.LaidLemmas.{IsLog, events_of_first, first-state-within, more-gone}
 use Rattle.line_tape.proofs.logs.Log.truncate.Goals as goal
+
+pub states_before-states-requires : goal.states_before-states-requires
+states_before-states-requires c =
+    let events : List KeptEvent = c.self.inside.events.items in
+    let bodies : List ℕ = c.self.inside.bodies.items in
+    let states : List (List ℕ) = c.self.inside.states.items in
+    let gone : List KeptEvent = drop c.args.end events in
+    let slice : List KeptEvent = c.deref.result.now in
+    let rest : take (length slice - c.args.end) (drop c.args.end slice) ≡ gone = take_rest slice c.args.end ∙ ap (λ (xs : List KeptEvent). drop c.args.end xs) c.deref.ensures.value in
+    let many : c.len-3.result ≡ length states = omega (arith, c.len-3.ensures, c.self.inside.states.ok.0) in
+    rw (rest, many) (first-state-within events bodies states c.self.invariant (take c.args.end events) gone (sym (take-append-drop c.args.end events)))
 
 left : (c : goal.After-truncate-3) → IsLog c.truncate-3.new.self.items c.truncate.new.self.items c.truncate-2.new.self.items (map (event_from_kept c.self.inside.bodies.items c.self.inside.states.items) (take c.args.end c.self.inside.events.items))
 left c =

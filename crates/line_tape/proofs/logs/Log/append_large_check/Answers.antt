@@ -1,13 +1,13 @@
--- The check is kept behind the others, with its state, if it has bytes, behind theirs.
-use Rattle.std.proofs.Common.{◌≡◌, ◌<◌, ℕ, List, [], ◌∷◌, ◌++◌, length, map, sym, ap, ◌∙◌, arith}
+-- The check is kept behind the others, with its state behind theirs.
+use Rattle.std.proofs.Common.{◌≡◌, ◌<◌, ℕ, List, [], ◌∷◌, ◌++◌, length, map, sym, ap, arith}
 use Rattle.std.proofs.lemmas.List.{length-map}
 use Rattle.line_tape.specs.declared.events.Event.TheVariants.{Check}
 use Rattle.line_tape.specs.declared.logs.KeptEvent.{KeptEvent}
 use Rattle.line_tape.specs.declared.limits.TheConstants.{MOST_EVENTS}
-use Rattle.line_tape.specs.Laid.{event_from_kept, kept_as}
+use Rattle.line_tape.specs.Laid.{event_from_kept}
 use Rattle.line_tape.specs.Views.{LogView}
-use Rattle.line_tape.proofs.LaidLemmas.{IsLog, Reaches, laid-reaches, state-added}
-use Rattle.line_tape.proofs.logs.Log.append_check.Goals as goal
+use Rattle.line_tape.proofs.LaidLemmas.{IsLog, Reaches, laid-reaches, large-added}
+use Rattle.line_tape.proofs.logs.Log.append_large_check.Goals as goal
 
 pub overflow_cast-before : goal.overflow_cast-before
 overflow_cast-before c =
@@ -15,15 +15,14 @@ overflow_cast-before c =
     let far : Reaches c.self.inside.events.items 0 0 (length c.self.inside.bodies.items) (length c.self.inside.states.items) = laid-reaches c.self.inside.events.items 0 0 (length c.self.inside.bodies.items) (length c.self.inside.states.items) c.self.invariant in
     omega (arith, few, far.fewer, c.len-before.ensures, c.self.inside.states.ok.0)
 
-whole : (c : goal.After-keep_state) → IsLog c.push_reserved.new.self.items c.self.inside.bodies.items c.keep_state.new.states.items (c.args.self.now.events ++ Check c.args.state c.args.round ∷ [])
+whole : (c : goal.After-push_reserved-2) → IsLog c.push_reserved.new.self.items c.self.inside.bodies.items c.push_reserved-2.new.self.items (c.args.self.now.events ++ Check c.args.state c.args.round ∷ [])
 whole c =
     let events : List KeptEvent = c.self.inside.events.items in
     let bodies : List ℕ = c.self.inside.bodies.items in
     let states : List (List ℕ) = c.self.inside.states.items in
     let seen : c.args.self.now.events ≡ map (event_from_kept bodies states) events = sym (ap (λ (l : LogView). l.events) c.self.view_is) in
     let before : c.len-before.result ≡ length states = omega (arith, c.len-before.ensures, c.self.inside.states.ok.0) in
-    let kept : c.keep_check.result ≡ kept_as (length bodies) (length states) (Check c.args.state c.args.round) = c.keep_check.ensures (length bodies) ∙ ap (λ (n : ℕ). kept_as (length bodies) n (Check c.args.state c.args.round)) before in
-    rw (c.push_reserved.ensures.items, kept, c.keep_state.ensures.states c.args.round, seen) (state-added events bodies states c.self.invariant c.args.state c.args.round)
+    rw (c.push_reserved.ensures.items, c.push_reserved-2.ensures.items, before, seen) (large-added events bodies states c.self.invariant c.args.state c.args.round)
 
 pub invariant_of-self : goal.invariant_of-self
 invariant_of-self c = (whole c).laid
