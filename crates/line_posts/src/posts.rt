@@ -82,15 +82,11 @@ pub(crate) fn message_name(from: ProcId, inc: u16, number: u32) -> MsgName
 }
 
 /// A message as rings carry it.
-fn message(inc: u16, number: u32, body: &Body) -> Parcel
-    ensures { result ≡ Message (record { inc = inc; number = number; body = body.now }) }
+fn message(inc: u16, number: u32, body: Body) -> Parcel
+    ensures { result ≡ Message (record { inc = inc; number = number; body = body }) }
 {
     Parcel::Message {
-        packet: Packet {
-            inc,
-            number,
-            body: body.copy(),
-        },
+        packet: Packet { inc, number, body },
     }
 }
 
@@ -237,9 +233,9 @@ impl Post {
         }
         let inc = self.incarnation;
         let number = self.journal.sends();
-        let parcel = message(inc, number, &body);
-        push_known(&mut self.outs, to.get() as usize, parcel);
         self.journal.send(to, inc, &body);
+        let parcel = message(inc, number, body);
+        push_known(&mut self.outs, to.get() as usize, parcel);
         Ok(message_name(self.me, inc, number))
     }
 
