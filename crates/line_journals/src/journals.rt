@@ -15,6 +15,36 @@ use line_tape::{MOST_EVENTS, MOST_STATE, State, Tape};
 use std::alloc::{AllocError, Global};
 use std::marker::Model;
 
+// For how many events room is made at once. A list that no event of a worker uses, as that of
+// receipts where it only sends, has room for so many then, and not for the few that are asked for.
+const EVENTS_AHEAD: u32 = 32;
+
+/// Makes room on a tape for many further events, where there is memory for them.
+#[inline(never)]
+fn reserve_ahead(tape: &mut Tape)
+    ensures same { tape.new.events ≡ tape.old.events }
+    ensures room { tape.old.room ≤ tape.new.room }
+{
+    let _ = tape.reserve(EVENTS_AHEAD);
+}
+
+/// Makes room on a tape for so many further events, and for many before that where no further call
+/// is left that does without.
+fn reserve_on(tape: &mut Tape, calls: &mut u32, k: u32) -> Result<(), AllocError>
+    ensures same { tape.new.events ≡ tape.old.events }
+    ensures ok { OnOk result (k ≤ tape.new.room) }
+    ensures succeeds { k ≤ tape.old.room → IsOk result }
+    ensures room { tape.old.room ≤ tape.new.room }
+{
+    if *calls > 0 {
+        *calls -= 1;
+        return tape.reserve(k);
+    }
+    *calls = EVENTS_AHEAD - 1;
+    reserve_ahead(tape);
+    tape.reserve(k)
+}
+
 /// The tape of one process, and beside it what it has recorded of rounds.
 ///
 /// A contract sees the number of processes, its own, the floor (rounds up to it are old), the tape,
@@ -25,6 +55,8 @@ pub struct Journal {
     floor: u32,
     tape: Tape,
     marker: Marker,
+    // How many further calls for room ask the tape for no more than they need.
+    calls: u32,
 }
 
 impl Model for Journal {
@@ -68,6 +100,7 @@ impl Journal {
             floor,
             tape,
             marker,
+            calls: 0,
         })
     }
 
@@ -139,6 +172,9 @@ impl Journal {
 
     /// Makes room for so many further events on the tape, whatever is recorded of rounds. All else
     /// is as it was, also where memory is out. It costs a constant, but for a tape that grows.
+    ///
+    /// Now and then it asks the tape for many events at once, so that the tape seldom looks at its
+    /// lists; where memory for these is refused, it asks for so many alone.
     pub fn reserve_events(&mut self, k: u32) -> Result<(), AllocError>
         ensures tape { self.new.tape ≡ self.old.tape }
         ensures rounds { self.new.rounds ≡ self.old.rounds }
@@ -147,7 +183,7 @@ impl Journal {
         ensures kept { (self.old.room ≤ self.new.room) × (self.new.ready ≡ self.old.ready) }
         ensures succeeds { k ≤ self.old.room → IsOk result }
     {
-        self.tape.reserve(k)
+        reserve_on(&mut self.tape, &mut self.calls, k)
     }
 
     /// Makes room for so many further events on the tape, and for one call more in what is
@@ -211,7 +247,7 @@ impl Journal {
             inc: message.inc,
             number: message.number,
         };
-        self.tape.reserve(1)?;
+        reserve_on(&mut self.tape, &mut self.calls, 1)?;
         self.marker.note(message)?;
         self.tape.append_receipt(&name);
         Ok(())
