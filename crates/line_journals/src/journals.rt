@@ -28,20 +28,27 @@ fn reserve_ahead(tape: &mut Tape)
     let _ = tape.reserve(EVENTS_AHEAD);
 }
 
-/// Makes room on a tape for so many further events, and for many before that where no further call
-/// is left that does without.
+/// Makes room for many further events where no call is left that does without.
+fn look_ahead(tape: &mut Tape, calls: &mut u32)
+    ensures same { tape.new.events ≡ tape.old.events }
+    ensures room { tape.old.room ≤ tape.new.room }
+{
+    if *calls > 0 {
+        *calls -= 1;
+        return;
+    }
+    *calls = EVENTS_AHEAD - 1;
+    reserve_ahead(tape);
+}
+
+/// Makes room on a tape for so many further events, and now and then for many.
 fn reserve_on(tape: &mut Tape, calls: &mut u32, k: u32) -> Result<(), AllocError>
     ensures same { tape.new.events ≡ tape.old.events }
     ensures ok { OnOk result (k ≤ tape.new.room) }
     ensures succeeds { k ≤ tape.old.room → IsOk result }
     ensures room { tape.old.room ≤ tape.new.room }
 {
-    if *calls > 0 {
-        *calls -= 1;
-        return tape.reserve(k);
-    }
-    *calls = EVENTS_AHEAD - 1;
-    reserve_ahead(tape);
+    look_ahead(tape, calls);
     tape.reserve(k)
 }
 
@@ -229,6 +236,7 @@ impl Journal {
 
     /// A message was received. Each recorded round whose channel from its sender is not closed has
     /// it from now on. It makes the room that it takes; where memory is out, nothing was received.
+    #[inline]
     pub fn receive(&mut self, message: MsgName) -> Result<(), AllocError>
         requires few { length self.old.tape < MOST_EVENTS }
         requires process { message.from < self.old.n }
