@@ -96,12 +96,6 @@ out_front {A} {B} {e} {a} {b} {c} {f} {g} {h} {held} {now} {later} {total} {left
     let parts : total ≡ (before.done ++ part) ++ rest = before.parts ∙ ap (λ (t : List ℕ). before.done ++ t) next ∙ sym (append_assoc before.done part rest) in
     outputs_front r Q held other (before.done ++ part) rest total parts (outputs_on {A = B} held before.done part (before.done ++ part) refl before.out own) passed
 
--- the last part
-pub out_last : {A : Type 0} {r : Result A DeviceFault} {a b c : Option (List ℕ)} {f g h : ℕ} {held now later total left : List ℕ} (part : List ℕ) → left ≡ part
-    → IsOut a b f g held now total left → Outputs r b c g h later (now ++ part) → Outputs r a c f h later (held ++ total)
-out_last {A} {r} {a} {b} {c} {f} {g} {h} {held} {now} {later} {total} {left} part next before own =
-    outputs_on held before.done part total (before.parts ∙ ap (λ (t : List ℕ). before.done ++ t) next) before.out own
-
 -- all is written
 pub out_all : {A : Type 0} (x : A) {a b : Option (List ℕ)} {f g : ℕ} {held now total left : List ℕ} → left ≡ [] → IsOut a b f g held now total left → Outputs (Ok x) a b f g now (held ++ total)
 out_all {A} x {a} {b} {f} {g} {held} {now} {total} {left} none before =
