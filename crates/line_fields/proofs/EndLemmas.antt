@@ -1,5 +1,5 @@
 -- The fields of a line, by where each ends in it.
-use Rattle.std.proofs.Common.{◌≡◌, ◌≤◌, ◌<◌, ◌∙◌, ◌++◌, ◌∷◌, ◌+◌, ◌-◌, ℕ, List, [], Bool, true, false, All, length, take, map, get_or, refl, ap, sym, subst, arith, zero, suc}
+use Rattle.std.proofs.Common.{◌≡◌, ◌≤◌, ◌<◌, ◌==◌, ◌∙◌, ◌++◌, ◌∷◌, ◌+◌, ◌-◌, ℕ, List, [], true, false, All, length, take, map, get_or, refl, ap, sym, subst, arith, zero, suc}
 use Rattle.std.proofs.lemmas.List.{length-map}
 use Rattle.line_fields.specs.Records.{Record, field, parts}
 use Rattle.line_fields.specs.Rows.{IsLineEnd, IsFieldWithin, FieldSpan, begin_at, fields_held, fields_in, is_end, is_mark, part_of, spans_from}
@@ -120,7 +120,11 @@ past_last bytes start (first ∷ ends) (suc place) le = past_last bytes (first +
 pub no_field : (bytes ends : List ℕ) (place : ℕ) → length ends ≤ place → field (fields_in bytes ends) place ≡ []
 no_field bytes ends place le = past_last bytes 0 ends place le
 
--- a row that has the fields of a line has as many as that has ends
-pub held_of_line : (by_csv : Bool) (bytes ends : List ℕ) (held : Record) → by_csv ≡ false → length (fields_held by_csv bytes ends held) ≡ length ends
-held_of_line true bytes ends held off = cc off
-held_of_line false bytes ends held off = length-fields_in bytes ends
+-- a row with ends has as many fields as ends, and none past the last
+pub held_of_line : (bytes ends : List ℕ) (held : Record) → (length ends == 0) ≡ false → length (fields_held bytes ends held) ≡ length ends
+held_of_line bytes [] held some = cc some
+held_of_line bytes (end ∷ ends) held some = length-fields_in bytes (end ∷ ends)
+
+pub held_past : (bytes ends : List ℕ) (held : Record) (place : ℕ) → (length ends == 0) ≡ false → length ends ≤ place → field (fields_held bytes ends held) place ≡ []
+held_past bytes [] held place some le = cc some
+held_past bytes (end ∷ ends) held place some le = no_field bytes (end ∷ ends) place le

@@ -1,11 +1,11 @@
 -- What is left of a text, to the reader of lines or to `csv`.
-use Rattle.std.proofs.Common.{◌≡◌, ◌∙◌, ◌∷◌, [], ℕ, List, Bool, true, false, Option, Some, None, Bor, refl, sym, ap}
+use Rattle.std.proofs.Common.{◌≡◌, ◌==◌, ◌∙◌, ◌∷◌, [], ℕ, List, Bool, true, false, Option, Some, None, Bor, refl, sym, ap, length}
 use Rattle.std.specs.Global.{Box}
 use Rattle.std.specs.Prelude.{Err, IfOk, MatchBool, Ok, OnErr, Result, is_some}
 use Rattle.csv.specs.declared.reader.Reader.{Reader}
-use Rattle.line_fields.specs.Bytes.{is_input_text}
-use Rattle.line_fields.specs.Records.{Record, records_of_text}
-use Rattle.line_fields.specs.Rows.{IsLeft, IsReadingOn, records_left, rows_left_in}
+use Rattle.line_fields.specs.Bytes.{begins_with_feed, is_input_text}
+use Rattle.line_fields.specs.Records.{Record, has_byte, records_of_text}
+use Rattle.line_fields.specs.Rows.{IsLeft, IsReadingOn, begins_with_end, begins_with_return, records_left, rows_left_in}
 use Rattle.line_fields.proofs.TextLemmas.{empty_is_input, records_of_nothing}
 
 -- where nothing stands apart, what is left is what `csv` has left
@@ -20,10 +20,6 @@ is_left (Some r) rest none on = (on, none)
 pub rest_is_none : (o : Option (Box (Reader (Bor (List ℕ))))) (rest : List ℕ) → is_some o ≡ true → IsLeft o rest → rest ≡ []
 rest_is_none None rest on left = cc on
 rest_is_none (Some r) rest on left = left.1
-
-pub is_reading_on : (o : Option (Box (Reader (Bor (List ℕ))))) (rest : List ℕ) → IsLeft o rest → IsReadingOn o
-is_reading_on None rest left = tt
-is_reading_on (Some r) rest left = left.0
 
 -- where `csv` doesn't read, what is left is the text
 pub left_in_lines : (o : Option (Box (Reader (Bor (List ℕ))))) (rest : List ℕ) → is_some o ≡ false → records_left o rest ≡ records_of_text rest
@@ -49,3 +45,13 @@ told_refused (Err e) after new row a h = (a ∙ h.0, h.1)
 pub on_any_err : {A E : Type 0} (r : Result A E) (P : Type 0) → P → OnErr r P
 on_any_err (Ok found) P h = tt
 on_any_err (Err e) P h = h
+
+-- a text that is not empty begins with a byte
+pub byte_first : (text : List ℕ) → (length text == 0) ≡ false → has_byte text ≡ true
+byte_first [] some = cc some
+byte_first (byte ∷ rest) some = refl
+
+-- it begins with no end of a line where it begins with neither of the two
+pub no_end_first : (text : List ℕ) → begins_with_feed text ≡ false → begins_with_return text ≡ false → begins_with_end text ≡ false
+no_end_first [] feed return = refl
+no_end_first (byte ∷ rest) feed return = rw (feed, return) refl

@@ -20,6 +20,10 @@ begun held named all name numbers a b =
     b ∙ ap (λ (t : List ℕ). t ++ flat_map (λ n. 44 ∷ decimal n) numbers) a ∙ append_assoc held name (flat_map (λ n. 44 ∷ decimal n) numbers)
     ∙ ap (λ (t : List ℕ). held ++ t) (sym (join_more decimal name numbers))
 
+-- a record that was begun behind a text, and its end
+pub ended : (held begun all : List ℕ) (fields : List (List ℕ)) → begun ≡ held ++ join_with_byte 44 fields → all ≡ begun ++ 10 ∷ [] → all ≡ held ++ record_text fields
+ended held begun all fields a b = b ∙ ap (λ (t : List ℕ). t ++ 10 ∷ []) a ∙ append_assoc held (join_with_byte 44 fields) (10 ∷ [])
+
 -- a last field behind others
 pub join_last : (name : List ℕ) (fields : List (List ℕ)) (last : List ℕ) → join_with_byte 44 (name ∷ fields ++ last ∷ []) ≡ join_with_byte 44 (name ∷ fields) ++ 44 ∷ last
 join_last name [] last = refl
@@ -45,14 +49,6 @@ up_to_next {A} f items i d lt = up_to f items (i + 1) ∙ ap (λ (t : List ℕ).
 
 pub all_of : {A : Type 0} (f : A → List ℕ) (items : List A) (i : ℕ) → length items ≤ i → flat_map f items ≡ flat_map f (take i items)
 all_of {A} f items i le = ap (λ (xs : List A). flat_map f xs) (sym (take_all i items le))
-
--- the same of an item that is known
-pub item_more : {A : Type 0} (f : A → List ℕ) (items : List A) (i : ℕ) (item : A) → i < length items → item ≡ get_or items i item → flat_map f (take (i + 1) items) ≡ flat_map f (take i items) ++ f item
-item_more {A} f items i item lt is = one_more_of f items i item lt ∙ ap (λ (x : A). flat_map f (take i items) ++ f x) (sym is)
-
-pub up_to_item : {A : Type 0} (f : A → List ℕ) (items : List A) (i : ℕ) (item : A) → i < length items → item ≡ get_or items i item
-    → flat_map f items ≡ (flat_map f (take i items) ++ f item) ++ flat_map f (drop (i + 1) items)
-up_to_item {A} f items i item lt is = up_to f items (i + 1) ∙ ap (λ (t : List ℕ). t ++ flat_map f (drop (i + 1) items)) (item_more f items i item lt is)
 
 -- the records of items from one on: its own, and those behind it
 pub item_left : {A : Type 0} (f : A → Record) (items : List A) (i : ℕ) (item : A) → i < length items → item ≡ get_or items i item

@@ -43,9 +43,11 @@ pub record IsFieldWithin (bytes : List ℕ) (span : FieldSpan) : Type 0 where
 abbrev pub fields_in : List ℕ → List ℕ → Record
 fields_in bytes ends = map (part_of bytes) (spans_from 0 ends)
 
--- the fields that a row has: those that `csv` read, or those of a line
-abbrev pub fields_held : Bool → List ℕ → List ℕ → Record → Record
-fields_held by_csv bytes ends fields = if by_csv then fields else fields_in bytes ends
+-- the fields that a row has: those of a line by where they end, or those that `csv` read where
+-- there are none
+abbrev pub fields_held : List ℕ → List ℕ → Record → Record
+fields_held bytes [] fields = fields
+fields_held bytes (end ∷ ends) fields = fields_in bytes (end ∷ ends)
 
 -- a byte ends a line: a line feed, or the carriage return before one
 abbrev pub is_end : ℕ → Bool

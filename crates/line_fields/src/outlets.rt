@@ -4,7 +4,7 @@ ghost use Rattle.std.specs.Prelude.{◌≡◌, ◌≤◌, ◌<◌, ◌↔◌, �
 ghost use Rattle.std.specs.Prelude.{length, map, vec_capacity, vec_len};
 ghost use Rattle.std.specs.List.{flat_map, join_with_byte};
 ghost use Rattle.line_devices.specs.Devices.{Outputs};
-ghost use Rattle.line_fields.specs.Texts.{hex_pair, hex_text, record_text};
+ghost use Rattle.line_fields.specs.Texts.{hex_text, record_text};
 ghost use Rattle.line_fields.specs.Outlets.{field_text};
 
 use crate::RecordWriter;
@@ -204,7 +204,9 @@ fn push_field(text: &mut Vec<u8>, value: u64)
 #[inline(always)]
 fn push_numbers(text: &mut Vec<u8>, numbers: &[u64])
     requires { vec_len text.old + 41 * length numbers.now ≤ vec_capacity text.old }
-    ensures { text.new.items ≡ text.old.items ++ flat_map (λ n. 44 ∷ decimal n) numbers.now }
+    ensures text { text.new.items ≡ text.old.items ++ flat_map (λ n. 44 ∷ decimal n) numbers.now }
+    ensures len { vec_len text.new ≤ vec_len text.old + 41 * length numbers.now }
+    ensures capacity { vec_capacity text.old ≤ vec_capacity text.new }
 {
     if let [first, second, third] = numbers {
         push_field(text, *first);
@@ -298,10 +300,27 @@ pub fn close_record<K: Sink>(sink: &mut K, writer: &mut RecordWriter) -> Result<
     add(sink, &mut writer.text, b"\n")
 }
 
+// Writes a record of a name and some numbers, and asks for the room of each by itself.
+#[cold]
+#[inline(never)]
+fn put_numbers_far<K: Sink>(
+    sink: &mut K,
+    text: &mut Vec<u8>,
+    name: &[u8],
+    numbers: &[u64],
+) -> Result<(), DeviceFault>
+    ensures { Outputs result (K.taken sink.old) (K.taken sink.new)
+        (K.faults sink.old) (K.faults sink.new)
+        text.new.items (text.old.items ++ record_text (name.now ∷ map decimal numbers.now)) }
+{
+    begin_far(sink, text, name, numbers)?;
+    add(sink, text, b"\n")
+}
+
 /// Writes a record of a name and some numbers after what a writer holds, as `begin_record` does.
 ///
 /// It is put into its caller, where the name is known and how many numbers there are, so that it is
-/// compiled to few stores.
+/// compiled to few stores. It asks once for the room of all of it.
 #[inline(always)]
 pub fn put_numbers<K: Sink>(
     sink: &mut K,
@@ -313,8 +332,13 @@ pub fn put_numbers<K: Sink>(
         (K.faults sink.old) (K.faults sink.new)
         writer.new (writer.old ++ record_text (name.now ∷ map decimal numbers.now)) }
 {
-    begin_record(sink, writer, name, numbers)?;
-    close_record(sink, writer)
+    if !has_room_for_all(&writer.text, name, numbers) {
+        return put_numbers_far(sink, &mut writer.text, name, numbers);
+    }
+    push_word(&mut writer.text, name);
+    push_numbers(&mut writer.text, numbers);
+    writer.text.push_reserved(b'\n');
+    Ok(())
 }
 
 /// Writes a record of a name, some numbers and a last field after what a writer holds, as

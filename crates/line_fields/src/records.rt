@@ -5,10 +5,10 @@ ghost use Rattle.std.specs.Prelude.{IsTrue, MatchBool, OnErr, if◌then◌else�
 ghost use Rattle.std.specs.Prelude.{slice_index_or, take};
 ghost use Rattle.csv.specs.Records.{fields_of};
 ghost use Rattle.line_fields.specs.Bytes.{begins_with_feed, is_input_text, is_line_text};
-ghost use Rattle.line_fields.specs.Records.{field, has_byte, parts, records_of_text};
+ghost use Rattle.line_fields.specs.Records.{field, parts, records_of_text};
 ghost use Rattle.line_fields.specs.Rows.{IsLineEnd, IsReading, IsReadingOn, IsFieldWithin};
 ghost use Rattle.line_fields.specs.Rows.{begin_at};
-ghost use Rattle.line_fields.specs.Rows.{begins_with_end, begins_with_return, fields_in, rows_left};
+ghost use Rattle.line_fields.specs.Rows.{begins_with_return, fields_in, rows_left};
 ghost use Rattle.line_fields.specs.Rows.{rows_left_in, spans_from};
 
 use crate::bytes::is_plain_line;
@@ -23,9 +23,8 @@ pub struct FieldRow {
     // A line, and where each of its fields ends in it.
     bytes: Vec<u8>,
     ends: Vec<usize>,
-    // A record that `csv` read, and whether the row has its fields in place of the line's.
+    // A record that `csv` read, whose fields the row has where the line has none.
     record: ByteRecord,
-    by_csv: bool,
 }
 
 impl Model for FieldRow {
@@ -35,7 +34,7 @@ impl Model for FieldRow {
 
     ghost Value = { List (List ℕ) };
 
-    ghost view = { λ s. fields_held s.by_csv s.bytes.items s.ends.items (fields_of s.record) };
+    ghost view = { λ s. fields_held s.bytes.items s.ends.items (fields_of s.record) };
 
     ghost invariant = { λ s. All (IsFieldWithin s.bytes.items) (spans_from 0 s.ends.items) };
 }
@@ -54,18 +53,15 @@ fn begin_of(ends: &[usize], place: usize) -> usize
     ends[place - 1] + 1
 }
 
-// The field at a place of a line, whose fields end there, or an empty one past the last.
+// The field at a place of a line, whose fields end there.
 #[inline(always)]
-#[tactic(auto, using(crate::proofs::EndLemmas::end_within, crate::proofs::EndLemmas::field_there, crate::proofs::EndLemmas::no_field))]
+#[tactic(auto, using(crate::proofs::EndLemmas::end_within, crate::proofs::EndLemmas::field_there))]
 fn field_in<'a>(bytes: &'a [u8], ends: &[usize], place: usize) -> &'a [u8]
-    requires { All (IsFieldWithin bytes.now) (spans_from 0 ends.now) }
+    requires within { All (IsFieldWithin bytes.now) (spans_from 0 ends.now) }
+    requires some { place < length ends.now }
     ensures { result.now ≡ field (fields_in bytes.now ends.now) place }
 {
-    if place < ends.len() {
-        &bytes[begin_of(ends, place)..ends[place]]
-    } else {
-        b""
-    }
+    &bytes[begin_of(ends, place)..ends[place]]
 }
 
 // The field at a place of a record of `csv`, or an empty one past the last.
@@ -90,7 +86,6 @@ impl FieldRow {
             bytes: Vec::new(alloc),
             ends: Vec::new(alloc),
             record: ByteRecord::new(alloc),
-            by_csv: false,
         }
     }
 
@@ -99,7 +94,7 @@ impl FieldRow {
     pub fn len(&self) -> usize
         ensures { result ≡ length self.now }
     {
-        if self.by_csv {
+        if self.ends.is_empty() {
             self.record.len()
         } else {
             self.ends.len()
@@ -118,11 +113,13 @@ impl FieldRow {
     pub fn field(&self, place: usize) -> &[u8]
         ensures { result.now ≡ field self.now place }
     {
-        if self.by_csv {
-            field_of(&self.record, place)
-        } else {
-            field_in(self.bytes.as_slice(), self.ends.as_slice(), place)
+        if place < self.ends.len() {
+            return field_in(self.bytes.as_slice(), self.ends.as_slice(), place);
         }
+        if self.ends.is_empty() {
+            return field_of(&self.record, place);
+        }
+        b""
     }
 }
 
@@ -155,7 +152,7 @@ impl FieldRow {
         ensures { self.new ≡ [] }
     {
         self.ends.clear();
-        self.by_csv = false;
+        self.record.clear();
     }
 
     /// Puts the fields of the first line of a text in place of those of the row, or none where a
@@ -172,12 +169,12 @@ impl FieldRow {
         ensures ok { IfOk result (λ end. self.new ≡ parts 44 (take end text.now)) }
         ensures err { OnErr result (self.new ≡ []) }
     {
-        self.by_csv = false;
         if let Ok(end) = split(text, &mut self.bytes, &mut self.ends) {
             self.bytes.truncate(end);
             return Ok(end);
         }
         self.ends.clear();
+        self.record.clear();
         Err(AllocError)
     }
 
@@ -201,6 +198,7 @@ impl FieldRow {
 
     // Puts the next record of a reader of `csv` in place of the fields of the row, or none after
     // the last one and where it is refused.
+    #[tactic(auto, unfolding(crate::specs::Rows::spans_from))]
     fn read_record(&mut self, reader: &mut Reader<&[u8]>) -> Result<bool, AllocError>
         requires { IsReading reader.old }
         ensures ok { IfOk result
@@ -211,7 +209,7 @@ impl FieldRow {
     {
         match read(reader, &mut self.record) {
             Ok(true) => {
-                self.by_csv = true;
+                self.ends.clear();
                 Ok(true)
             }
             Ok(false) => {
@@ -248,21 +246,6 @@ fn begins_with_return(text: &[u8]) -> bool
     ensures { result ≡ begins_with_return text.now }
 {
     !text.is_empty() && text[0] == b'\r'
-}
-
-// Puts the fields of the first line of a text in place of those of a row, and answers what stands
-// from the end of that line on.
-fn read_first<'a>(text: &'a [u8], row: &mut FieldRow) -> Result<&'a [u8], AllocError>
-    requires input { is_input_text text.now ≡ true }
-    requires some { has_byte text.now ≡ true }
-    requires begins { begins_with_end text.now ≡ false }
-    ensures input { IfOk result (λ rest. is_input_text rest.now ≡ true) }
-    ensures ok { IfOk result
-        (λ rest. records_of_text text.now ≡ row.new ∷ records_of_text rest.now) }
-    ensures err { OnErr result (row.new ≡ []) }
-{
-    let end = row.take_line(text)?;
-    Ok(&text[end..])
 }
 
 // A reader of `csv` over a text: no header row, and records of any lengths.
@@ -381,7 +364,8 @@ impl<'a> RecordReader<'a> {
             self.reader = Some(reader);
             return read_or_close(&mut self.reader, row);
         }
-        self.rest = read_first(rest, row)?;
+        let end = row.take_line(rest)?;
+        self.rest = &rest[end..];
         Ok(true)
     }
 }

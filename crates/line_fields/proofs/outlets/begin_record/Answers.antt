@@ -8,4 +8,4 @@ use Rattle.line_fields.proofs.outlets.begin_record.Goals as goal
 pub returns : goal.returns
 returns g c =
     outputs_more tt _ _ _ _ (join_with_byte 44 (c.args.name.now ∷ map decimal c.args.numbers.now))
-    (rw c.writer.view_is at (begun _ _ _ c.args.name.now c.args.numbers.now c.push_word.ensures.text c.push_numbers.ensures))
+    (rw c.writer.view_is at (begun _ _ _ c.args.name.now c.args.numbers.now c.push_word.ensures.text c.push_numbers.ensures.text))

@@ -7,4 +7,6 @@ abbrev pub invariant-loop-i : goal.invariant-loop-i
 invariant-loop-i l = record {
   same : l.text.items ≡ l.fn.text.items ++ flat_map (λ n. 44 ∷ decimal n) (take l.i l.numbers);
   room : vec_len l.text + 41 * (length l.numbers - l.i) ≤ vec_capacity l.text;
+  len : vec_len l.text + 41 * (length l.numbers - l.i) ≤ vec_len l.fn.text + 41 * length l.numbers;
+  capacity : vec_capacity l.fn.text ≤ vec_capacity l.text;
 }

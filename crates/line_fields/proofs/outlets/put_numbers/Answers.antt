@@ -1,11 +1,12 @@
-use Rattle.std.proofs.Common.{◌∷◌, [], map, refl}
+use Rattle.std.proofs.Common.{◌∷◌, map}
 use Rattle.std.specs.Prelude.{decimal}
-use Rattle.std.specs.List.{join_with_byte}
-use Rattle.line_devices.proofs.OutputLemmas.{outputs_front, outputs_on}
+use Rattle.line_devices.proofs.OutputLemmas.{outputs_more}
+use Rattle.line_fields.specs.Texts.{record_text}
+use Rattle.line_fields.proofs.OutletLemmas.{begun, ended}
 use Rattle.line_fields.proofs.outlets.put_numbers.Goals as goal
 
-pub returns-in_err-begin_record : goal.returns-in_err-begin_record
-returns-in_err-begin_record g c = outputs_front _ _ _ _ (join_with_byte 44 (c.args.name.now ∷ map decimal c.args.numbers.now)) (10 ∷ []) _ refl c.in_err-begin_record.ensures c.from_residual.ensures.1
-
 pub returns : goal.returns
-returns g c = outputs_on _ (join_with_byte 44 (c.args.name.now ∷ map decimal c.args.numbers.now)) (10 ∷ []) _ refl c.in_ok-begin_record.ensures c.close_record.ensures
+returns g c =
+    outputs_more tt _ _ _ _ (record_text (c.args.name.now ∷ map decimal c.args.numbers.now))
+    (rw c.writer.view_is at (ended _ _ _ (c.args.name.now ∷ map decimal c.args.numbers.now)
+    (begun _ _ _ c.args.name.now c.args.numbers.now c.push_word.ensures.text c.push_numbers.ensures.text) c.push_reserved.ensures.items))
