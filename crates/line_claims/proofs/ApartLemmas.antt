@@ -1,5 +1,5 @@
 -- A text behind whole lines, or whole lines behind which there is none: its records and its bytes stand apart from theirs.
-use Rattle.std.proofs.Common.{◌≡◌, ◌&&◌, ◌++◌, Bool, List, [], false, inl, inr, refl, sym, ap, ◌∙◌, subst, true, ℕ}
+use Rattle.std.proofs.Common.{◌≡◌, ◌&&◌, ◌++◌, Bool, List, false, inl, inr, refl, sym, ap, ◌∙◌, subst, true, ℕ}
 use Rattle.std.proofs.lemmas.List.{append-nil}
 use Rattle.line_fields.specs.Bytes.{is_input_text}
 use Rattle.line_fields.specs.Records.{Record, records_of_text}

@@ -29,11 +29,6 @@ unfolding check_text_of
 check_headless errors.OutOfMemory records h = tt
 check_headless (errors.Fault f) records h = rw h refl
 
-pub history_headless : (e : TextError) (text : List ℕ) (records : List Record) → records_in text ≡ Ok records → FailsText e (head_in records) → FailsText e (history_of_text text)
-unfolding history_of
-history_headless errors.OutOfMemory text records is h = tt
-history_headless (errors.Fault f) text records is h = rw (is, h) refl
-
 -- nothing behind it was taken
 pub check_begun : (version n : ℕ) (r : Record) (rest : List Record) (check : Check) → head_in (r ∷ rest) ≡ Ok (version, n) → check.history ≡ replicate n fresh → check.claim ≡ no_claim n
     → check_text_of (r ∷ rest) ≡ stage_left None version (length check.history) 0 check 2 rest
@@ -89,16 +84,6 @@ nothing_taken number text = refl
 -- a byte that no text has
 abbrev pub bad_byte : TextFault
 bad_byte = fault_of_record 0 faults.BadRecord
-
-and_false : (a : Bool) → (a && false) ≡ false
-and_false true = refl
-and_false false = refl
-
-if_plain : (text : List ℕ) → is_input_text text ≡ true → records_in text ≡ Ok (records_of_text text)
-if_plain text plain = rw plain refl
-
-if_not_plain : (text : List ℕ) → is_input_text text ≡ false → records_in text ≡ Err bad_byte
-if_not_plain text bad = rw bad refl
 
 -- that fault comes before all else
 bad_stays : (place : CheckPlace) (text : List ℕ) → place.fault ≡ Some bad_byte → text_left place text ≡ Err bad_byte

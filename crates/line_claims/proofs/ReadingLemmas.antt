@@ -1,6 +1,6 @@
 -- The parts of a text, taken record by record.
 use Rattle.std.proofs.Common.{◌≡◌, ◌<◌, ◌≤◌, ℕ, zero, suc, ◌+◌, ◌-◌, Bool, true, false, List, [], ◌∷◌, Result, Ok, Err, ◌⊎◌, inl, inr, refl, sym, subst, ap, ◌∙◌, arith}
-use Rattle.std.specs.Prelude.{◌++◌, IfErr, IfOk, MatchBool, codes}
+use Rattle.std.specs.Prelude.{◌++◌, codes}
 use Rattle.std.proofs.lemmas.List.{append-nil}
 use Rattle.line_fields.specs.declared.faults.Fault.{Fault}
 use Rattle.line_fields.specs.declared.faults.Fault.TheVariants as faults
@@ -12,13 +12,14 @@ use Rattle.line_tape.specs.History.{Process}
 use Rattle.line_claims.specs.declared.claims.ClaimStage.{ClaimStage}
 use Rattle.line_claims.specs.declared.claims.ClaimStage.TheVariants as stages
 use Rattle.line_claims.specs.declared.faults.TextError.{TextError}
+use Rattle.line_claims.specs.declared.faults.TextError.TheVariants as text_errors
 use Rattle.line_claims.specs.declared.faults.TextFault.{TextFault}
 use Rattle.line_claims.specs.Claims.{Claim}
 use Rattle.line_claims.specs.Events.{is_event}
-use Rattle.line_claims.specs.Histories.{event_at, head_in, head_of, tape_from, tape_of, tapes_from}
+use Rattle.line_claims.specs.Histories.{event_at, tape_from, tape_of, tapes_from}
 use Rattle.line_claims.specs.Parts.{Part, begins, is_named, many, one}
-use Rattle.line_claims.specs.Reads.{FailsText, at_record, error_at, fault_of_record}
-use Rattle.line_claims.specs.Stages.{Goes, claim_left, open_tape, tapes_left}
+use Rattle.line_claims.specs.Reads.{FailsText, error_at, fault_of_record}
+use Rattle.line_claims.specs.Stages.{Goes, claim_left, open_tape, tapes_left, whole_front}
 
 pub first_more : {A : Type 0} (is : Record → Bool) (read : A → Record → Result A Fault) (before more : A) (i : ℕ) (r : Record) (rest : List Record)
     → is r ≡ true → read before r ≡ Ok more → many is read before i (r ∷ rest) ≡ many is read more (i + 1) rest
@@ -106,12 +107,6 @@ claim_open stages.Entries version n claim i other = refl
 claim_open stages.Nothing version n claim i other = absurd (other refl)
 
 -- ---- the first record of a text
-
-pub head_missing : (r : Record) (rest : List Record) → is_named (codes "history") r ≡ false → head_in (r ∷ rest) ≡ Err (fault_of_record 1 faults.NoWorld)
-head_missing r rest it = rw it refl
-
-pub head_same : (r : Record) (rest : List Record) → is_named (codes "history") r ≡ true → head_in (r ∷ rest) ≡ at_record 1 (head_of r)
-head_same r rest it = rw it refl
 
 -- ---- tapes
 
@@ -207,14 +202,15 @@ tape_none n b history i lt = nothing_open n b history i ∙ tapes_first n b hist
 
 -- ---- records behind which nothing stands
 
-pub nothing_behind : {A : Type 0} (result : Result Bool TextError) (P Q R : Type 0) (old more last : List Record → A) (front left : List Record)
-    → IfOk result (λ found. MatchBool found (P × Q × ((rest : List Record) → old (front ++ rest) ≡ more (left ++ rest))) (R × ((rest : List Record) → old (front ++ rest) ≡ last rest)))
-    → IfOk result (λ found. MatchBool found (P × Q × (old front ≡ more left)) (R × (old front ≡ last [])))
-nothing_behind (Ok true) P Q R old more last front left h = (h.0, h.1, sym (ap old (append-nil front)) ∙ h.2 [] ∙ ap more (append-nil left))
-nothing_behind (Ok false) P Q R old more last front left h = (h.0, sym (ap old (append-nil front)) ∙ h.1 [])
-nothing_behind (Err e) P Q R old more last front left h = tt
+pub nothing_behind : {A : Type 0} (old more : List Record → A) (front left : List Record) → ((rest : List Record) → old (front ++ rest) ≡ more (left ++ rest)) → old front ≡ more left
+nothing_behind old more front left same = sym (ap old (append-nil front)) ∙ same [] ∙ ap more (append-nil left)
 
-pub fails_alone : {A : Type 0} (result : Result Bool TextError) (old : List Record → Result A TextFault) (front : List Record)
-    → IfErr result (λ error. (rest : List Record) → FailsText error (old (front ++ rest))) → IfErr result (λ error. FailsText error (old front))
-fails_alone (Ok found) old front h = tt
-fails_alone (Err e) old front h = subst (λ (records : List Record). FailsText e (old records)) (append-nil front) (h [])
+-- a history that ends here has the fault of its tapes
+pub front_fails : (e : TextError) (read : Result (Part (List Process)) TextFault) → FailsText e read → FailsText e (whole_front read)
+front_fails text_errors.OutOfMemory read h = tt
+front_fails (text_errors.Fault fault) read h = rw h refl
+
+-- a record that stands behind the last tape
+pub front_left : (read : Result (Part (List Process)) TextFault) (history : List Process) (i : ℕ) (r : Record) (rest : List Record) → read ≡ Ok (record { value = history; number = i; left = r ∷ rest })
+    → whole_front read ≡ Err (fault_of_record i faults.BadRecord)
+front_left read history i r rest is = rw is refl

@@ -1,5 +1,5 @@
 -- What a check text still spells, the first records of which were taken.
-use Rattle.std.specs.Prelude.{◌≡◌, ◌≤◌, ◌⊎◌, ℕ, List, [], ◌∷◌, false, length, Option, Some, None}
+use Rattle.std.specs.Prelude.{◌≡◌, ◌≤◌, ◌⊎◌, ℕ, List, [], false, length, Option, Some, None}
 use Rattle.std.specs.Prelude.{Result, Ok, Err}
 use Rattle.line_fields.specs.Fields.{◌>>=◌}
 use Rattle.line_fields.specs.Records.{EndsLine, Record}

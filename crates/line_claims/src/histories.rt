@@ -2,7 +2,7 @@
 
 ghost use Rattle.std.specs.Prelude.{◌≡◌, ◌≤◌, ◌<◌, ◌+◌, ◌^◌, ◌++◌, ◌⊎◌, false, [], ◌∷◌};
 ghost use Rattle.std.specs.Prelude.{List, Ok, Err, codes, length, replicate, IfErr, IfOk};
-ghost use Rattle.std.specs.Prelude.{MatchBool, MatchOption, OnOk, nat_lt};
+ghost use Rattle.std.specs.Prelude.{MatchBool, OnOk, nat_lt};
 ghost use Rattle.line_names.specs.declared.limits.TheConstants.{MOST_PROCESSES};
 ghost use Rattle.line_fields.specs.declared.faults.Fault.TheVariants as faults;
 ghost use Rattle.line_fields.specs.Fields as fields;

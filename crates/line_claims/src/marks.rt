@@ -1,6 +1,6 @@
 //! The marks of a history, written record by record: its damaged checks and its bars.
 
-ghost use Rattle.std.specs.Prelude.{◌≡◌, ◌++◌, map};
+ghost use Rattle.std.specs.Prelude.{◌++◌, map};
 ghost use Rattle.line_devices.specs.Devices.{Outputs};
 ghost use Rattle.line_fields.specs.Texts.{record_text, records_text};
 ghost use Rattle.line_claims.specs.Records as spec;

@@ -143,41 +143,6 @@ fn take_row(
 fn take_events_of(
     alloc: Global,
     records: &mut RecordReader<'_>,
-    begun: &mut BegunCheck,
-    number: &mut u64,
-    row: &mut FieldRow,
-    bytes: &mut Vec<u8>,
-) -> Result<bool, TextError>
-    requires kept { IsBegun begun.old }
-    requires room { number.old + length records.old + 1 < 2 ^ 64 }
-    ensures ok { IfOk result (λ more. MatchBool more
-        ((spec.IsBeyondTape begun.new row.new)
-        × (number.new + length records.new ≤ number.old + length records.old)
-        × ((rest : List Record)
-        → spec.begun_left begun.old number.old (row.old ∷ (records.old ++ rest))
-        ≡ spec.begun_left begun.new number.new (row.new ∷ (records.new ++ rest))))
-        ((number.new ≤ number.old + length records.old + 1)
-        × ((rest : List Record)
-        → spec.begun_left begun.old number.old (row.old ∷ (records.old ++ rest))
-        ≡ spec.begun_left begun.new number.new rest))) }
-    ensures err { IfErr result (λ error. (rest : List Record)
-        → FailsText error
-        (spec.begun_left begun.old number.old (row.old ∷ (records.old ++ rest)))) }
-    ensures count { number.old ≤ number.new }
-    ensures kept { IsBegun begun.new }
-{
-    if begun.stage.is_some() {
-        return Ok(true);
-    }
-    let history = &mut begun.text.history;
-    take_open_tape(alloc, records, history, begun.tapes, number, row, bytes)
-}
-
-// Takes the records of a check text that are events of the tape that was begun last, from the one
-// in the row on, and says whether the row then has another record.
-fn go_on(
-    alloc: Global,
-    records: &mut RecordReader<'_>,
     begun: &mut Option<BegunCheck>,
     number: &mut u64,
     row: &mut FieldRow,
@@ -203,10 +168,14 @@ fn go_on(
     ensures none { begun.new ≡ None → begun.old ≡ None }
     ensures first { begun.old ≡ None → (number.new ≡ number.old) × (result ≡ Ok true) }
 {
-    match begun {
-        Some(begun) => take_events_of(alloc, records, begun, number, row, bytes),
-        None => Ok(true),
+    let Some(begun) = begun else {
+        return Ok(true);
+    };
+    if begun.stage.is_some() {
+        return Ok(true);
     }
+    let history = &mut begun.text.history;
+    take_open_tape(alloc, records, history, begun.tapes, number, row, bytes)
 }
 
 // Takes the records of a piece after those that were taken.
@@ -233,7 +202,7 @@ fn take_records(
 {
     let mut records = RecordReader::open(alloc, piece);
     'records: while records.next_row(row)? {
-        if !go_on(alloc, &mut records, begun, number, row, bytes)? {
+        if !take_events_of(alloc, &mut records, begun, number, row, bytes)? {
             return Ok(());
         }
         take_row(alloc, begun, *number, row)?;

@@ -1,12 +1,11 @@
 //! Texts: a history, a claim, or both.
 
-ghost use Rattle.std.specs.Prelude.{◌≡◌, ◌≤◌, ◌<◌, ◌+◌, ◌^◌, ◌⊎◌, ◌∷◌, [], drop, false, length};
-ghost use Rattle.std.specs.Prelude.{IfErr, IfOk, MatchBool, OnOk};
+ghost use Rattle.std.specs.Prelude.{◌≡◌, ◌≤◌, ◌<◌, ◌+◌, ◌^◌, ◌⊎◌, drop, length};
+ghost use Rattle.std.specs.Prelude.{IfErr, IfOk, OnOk};
 ghost use Rattle.line_names.specs.declared.limits.TheConstants.{MOST_PROCESSES};
 ghost use Rattle.line_claims.specs.Claims as claims;
-ghost use Rattle.line_claims.specs.Events.{is_event};
 ghost use Rattle.line_claims.specs.Histories.{head_in};
-ghost use Rattle.line_claims.specs.Reads.{FailsText, IsOfText, Reads, Yields, no_memory};
+ghost use Rattle.line_claims.specs.Reads.{IsOfText, Reads, Yields, no_memory};
 ghost use Rattle.line_claims.specs.Stages.{claim_left, tapes_left, whole_front};
 ghost use Rattle.line_claims.specs.Texts as spec;
 ghost use Rattle.line_claims.specs.Versions.{IsVersion};
@@ -52,39 +51,6 @@ fn take_head(records: &mut RecordReader<'_>, row: &mut FieldRow) -> Result<(u32,
     head_at(row)
 }
 
-// Takes the events of the tape that was begun last as `take_open_tape` does, where no record stands
-// after those that are left.
-fn take_last_events(
-    alloc: Global,
-    records: &mut RecordReader<'_>,
-    history: &mut History,
-    tapes: u32,
-    number: &mut u64,
-    row: &mut FieldRow,
-    bytes: &mut Vec<u8>,
-) -> Result<bool, TextError>
-    requires there { tapes ≤ length history.old.processes }
-    requires room { number.old + length records.old + 1 < 2 ^ 64 }
-    ensures ok { IfOk result (λ more. MatchBool more
-        (((tapes ≡ 0) ⊎ (is_event row.new ≡ false))
-        × (number.new + length records.new ≤ number.old + length records.old)
-        × (tapes_left (length history.old.processes) tapes history.old.processes number.old
-        (row.old ∷ records.old)
-        ≡ tapes_left (length history.old.processes) tapes history.new.processes number.new
-        (row.new ∷ records.new)))
-        ((number.new ≤ number.old + length records.old + 1)
-        × (tapes_left (length history.old.processes) tapes history.old.processes number.old
-        (row.old ∷ records.old)
-        ≡ tapes_left (length history.old.processes) tapes history.new.processes number.new []))) }
-    ensures err { IfErr result (λ error. FailsText error
-        (tapes_left (length history.old.processes) tapes history.old.processes number.old
-        (row.old ∷ records.old))) }
-    ensures count { number.old ≤ number.new }
-    ensures same { length history.new.processes ≡ length history.old.processes }
-{
-    take_open_tape(alloc, records, history, tapes, number, row, bytes)
-}
-
 // Takes the tapes of a history, which all records that are left are of.
 fn take_tapes(
     alloc: Global,
@@ -101,7 +67,7 @@ fn take_tapes(
     let mut tapes = 0u32;
     let mut number = 2u64;
     'records: while records.next_row(row)? {
-        if !take_last_events(alloc, records, history, tapes, &mut number, row, &mut bytes)? {
+        if !take_open_tape(alloc, records, history, tapes, &mut number, row, &mut bytes)? {
             return close_tapes(history, tapes, number);
         }
         if !take_next_tape(history, &mut tapes, number, row)? {
