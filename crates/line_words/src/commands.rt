@@ -1,7 +1,7 @@
 //! The command that `clap` reads the words by.
-ghost use Rattle.std.specs.Prelude.{◌≡◌, IfOk, IfErr, codes, false, true, map};
-ghost use Rattle.clap.specs.Words.{FailsBy, app_of, kind_of, new_app, rule_of, subcommand_of};
-ghost use Rattle.clap.specs.Words.{subcommand_rows_of, takes};
+ghost use Rattle.std.specs.Prelude.{◌≡◌, ◌∷◌, [], IfOk, IfErr, Some, codes, false, true, map};
+ghost use Rattle.clap.specs.Words.{FailsBy, app_of, kind_of, new_app, new_rule, rule_of};
+ghost use Rattle.clap.specs.Words.{subcommand_of, subcommand_rows_of, takes};
 ghost use Rattle.clap.specs.declared.builder.command.Command.TheViews.{out-Command};
 ghost use Rattle.line_words.specs.Words.{as_program, drill_subcommand, option, recline};
 ghost use Rattle.line_words.specs.Words.{refusals_of};
@@ -11,6 +11,24 @@ use crate::helps;
 use clap::error::ErrorKind;
 use clap::{Arg, ArgMatches, Command, Error};
 use std::alloc::{AllocError, Global};
+
+/// An option by its name alone.
+fn named_option<'a>(alloc: Global, name: &'a str) -> Arg<'a>
+    ensures rule { rule_of result
+        ≡ record (new_rule name.entry.now) { long = Some name.entry.now } }
+    ensures local { result.global ≡ false }
+{
+    Arg::new(alloc, name).long(name)
+}
+
+/// An option with the one value that it is to have, and the one that it has where it isn't given.
+fn with_value<'a>(named: Arg<'a>, value: &'a str, default: &'a str) -> Arg<'a>
+    ensures rule { rule_of result
+        ≡ record (rule_of named.entry) { value_names = 1; defaults = default.entry.now ∷ [] } }
+    ensures local { result.global ≡ named.entry.global }
+{
+    named.value_name(value).default_value(default)
+}
 
 /// An option with one value, which it has also where it isn't given.
 fn option_of<'a>(
@@ -23,11 +41,7 @@ fn option_of<'a>(
     ensures rule { rule_of result ≡ option name.entry.now default.entry.now }
     ensures local { result.global ≡ false }
 {
-    Arg::new(alloc, name)
-        .long(name)
-        .value_name(value)
-        .default_value(default)
-        .help(help)
+    with_value(named_option(alloc, name), value, default).help(help)
 }
 
 /// The subcommand for scripts.
