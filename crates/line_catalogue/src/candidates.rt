@@ -91,11 +91,12 @@ pub fn candidates(
         AreCandidates history.now.processes line.now ends.now places.now left.now rows.items) }
 {
     let n = history.n();
+    if are_none(ends) {
+        let blank = empty_rows(alloc, n, 0)?;
+        return Ok(blank);
+    }
     // As much room for each as what was kept takes, if all sent alike.
     let mut rows = empty_rows(alloc, n, left.len() / n as usize)?;
-    if are_none(ends) {
-        return Ok(rows);
-    }
     add_names(left, ends, &mut rows)?;
     for receiver in 0..n {
         let q = ProcId::try_new(receiver, n).unwrap();

@@ -25,8 +25,8 @@ use std::marker::Model;
 // takes but for the events is little beside them.
 const EVENTS_BETWEEN: usize = 4096;
 
-// How many events come for each message that the ledger keeps before it settles again, which asks
-// for each of them anew.
+// How many events come for each message that a settling kept before the next one, which asks for
+// each of them anew. Where a line was kept, or a settling was refused memory, one comes for each.
 const EVENTS_FOR_A_MESSAGE: usize = 2;
 
 // A ledger settles so many events later where events are added and no room is made. So who makes

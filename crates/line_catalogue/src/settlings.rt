@@ -177,7 +177,7 @@ pub fn find_settled(
     let mut rows = candidates(history, ends, places, left, &ProcSet::empty(), alloc, line)?;
     let received = find_known(history, ends, places, alloc, line);
     let mut moved = Vec::with_capacity(alloc, n as usize)?;
-    let mut messages = Vec::new(alloc);
+    let mut messages = Vec::with_capacity(alloc, left.len())?;
     for sender in 0..n {
         let p = ProcId::try_new(sender, n).unwrap();
         let start = settle_sender(

@@ -197,7 +197,7 @@ pub fn find_transit(
     let ends = bounds.as_slice();
     let mut rows = candidates(history, ends, places, left, strangers, alloc, line)?;
     let received = find_known(history, ends, places, alloc, line);
-    let mut messages = Vec::new(alloc);
+    let mut messages = Vec::with_capacity(alloc, left.len())?;
     add_all_open(history, line, ends, &mut rows, &received, &mut messages)?;
     Ok(messages)
 }

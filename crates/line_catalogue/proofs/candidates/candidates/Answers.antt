@@ -17,7 +17,7 @@ use Rattle.line_catalogue.proofs.candidates.candidates.Goals as goal
 
 pub returns-then-are_none : goal.returns-then-are_none
 returns-then-are_none c = record {
-  count = ap (λ (xs : List (List ℕ)). length xs) c.in_ok-rows.ensures ∙ length-replicate c.n-n.result [] ∙ c.n-n.ensures.value;
+  count = ap (λ (xs : List (List ℕ)). length xs) c.in_ok-blank.ensures ∙ length-replicate c.n-n.result [] ∙ c.n-n.ensures.value;
   before = λ m among low inside. absurd (omega (arith, low, c.are_none.ensures c.if-are_none.true m.from));
   behind = λ q l m among low inside. absurd (omega (arith, low, c.are_none.ensures c.if-are_none.true m.from));
 }

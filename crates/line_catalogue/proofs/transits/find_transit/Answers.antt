@@ -17,4 +17,4 @@ add_all_open-requires-clause-held c = λ p inside.
     has-open history line c.args.starts.now ends c.args.places.now c.args.left.now c.in_ok-rows.rows.items p c.requires.left are c.in_ok-rows.ensures inside
 
 pub returns : goal.returns
-returns c = c.in_ok-add_all_open.ensures ∙ ap (λ (xs : List MsgName). xs ++ in_transit c.args.history.now.processes c.args.line.now) c.new-messages.ensures.items
+returns c = c.in_ok-add_all_open.ensures ∙ ap (λ (xs : List MsgName). xs ++ in_transit c.args.history.now.processes c.args.line.now) c.in_ok-messages.ensures.items
