@@ -17,6 +17,7 @@ impl Catalogue {
     /// Adds an event that may come next, in room that was made for it: what `add` does where it is
     /// not refused, for a caller that has made those tests. It needs no memory. Where no room was
     /// made for long, now and then it keeps the messages that are in transit, as `reserve` does.
+    #[inline(always)]
     #[tactic(auto, using(crate::proofs::CatalogueLemmas::lesser_at))]
     pub fn append(&mut self, p: ProcId, event: Event)
         requires process { p < length self.old.processes }
