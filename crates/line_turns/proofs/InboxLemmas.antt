@@ -1,21 +1,22 @@
 -- What one process sent is a part of an inbox, and what is in an inbox is found where it stands.
-use Rattle.std.proofs.Common.{◌≡◌, ◌≢◌, ℕ, zero, suc, ◌+◌, ◌-◌, ◌<◌, ◌≤◌, Bool, true, false, not, cond, leb, ltb, List, [], ◌∷◌, ◌++◌, length, take, drop, get_or, filter, refl, sym, ap, ◌∙◌, arith, inl, inr}
+use Rattle.std.proofs.Common.{◌≡◌, ◌≢◌, ℕ, zero, suc, ◌+◌, ◌-◌, ◌*◌, ◌%◌, ◌^◌, ◌<◌, ◌≤◌, Bool, true, false, not, cond, leb, ltb, List, [], ◌∷◌, ◌++◌, length, take, drop, get_or, filter, refl, sym, ap, ◌∙◌, arith, inl, inr, bit_or, w64}
 use denote.Ref.{Bor}
 use denote.Param.Members.{Mut}
 use Rattle.std.specs.Fn.{Called, ComputesKey}
-use Rattle.std.specs.Prelude.{◌==◌, ◌&&◌, AllPairs, IsTrue}
+use Rattle.std.specs.Prelude.{◌==◌, ◌&&◌, AllPairs}
+use Rattle.std.specs.Int.{bit_at}
 use Rattle.std.specs.List.{All, slice_range}
 use Rattle.std.specs.List.Sorted.{ties, IsNonDecreasingBy, IsPartitionPoint, IsStableByKey}
 use Rattle.std.specs.Ordering.{is_lt, nat_cmp}
-use Rattle.std.proofs.lemmas.Bool.{both_ways, cases_eq, cases_lt, eq-eqb, leb-false, leb-true, ltb-false, ltb-true, ne_eqb}
+use Rattle.std.proofs.lemmas.Bool.{cases_eq, cases_lt, eq-eqb, leb-false, leb-true, ltb-false, ltb-true, ne_eqb}
 use Rattle.std.proofs.lemmas.Bool.Decides.{nat_tests}
 use Rattle.std.proofs.lemmas.Fn.{always_returns_same}
 use Rattle.std.proofs.lemmas.List.{append-nil, length-take, length-drop, get_or-drop, get_or-take, get_or_default, take-append-drop}
 use Rattle.std.proofs.lemmas.List.Elements.{All-head, All-push, All-tail, filter-append, filter_agree}
 use Rattle.std.proofs.lemmas.List.Folds.{drop_split}
 use Rattle.std.proofs.lemmas.List.Quantifiers.{all_pairs_push}
+use Rattle.std.proofs.lemmas.Nat.Bits.{bit_at_set_same, bit_at_set_other}
 use Rattle.line_names.specs.declared.messages.MsgName.{MsgName}
-use Rattle.line_names.specs.Sets.{is_member}
 use Rattle.line_turns.specs.Inboxes.{held_for, messages_from, table_held, AreSentBy, AreInboxes, InboxView, IsInbox}
 use Rattle.line_turns.specs.Tables.{between}
 use Rattle.line_turns.proofs.TableLemmas.{between-of, IsTable-of}
@@ -36,27 +37,31 @@ module _ {X : Type 0} (test : X → Bool) where
       (All-head (λ y. test y ≡ true) x xs all)
       ∙ ap (λ (ys : List X). x ∷ ys) (filter-all xs (All-tail (λ y. test y ≡ true) x xs all))
 
--- the sender of one message more is among those of a set with it
-pub among_more : (old new : List Bool) (messages : List MsgName) (i p : ℕ)
-    → ((k : ℕ) (d : MsgName) → k < i → IsTrue (is_member old (get_or messages k d).from))
-    → IsTrue (is_member new p) → ((q : ℕ) → q ≢ p → is_member new q ≡ is_member old q)
+-- a bit for the sender of one message more
+pub bits_more : (old : ℕ) (messages : List MsgName) (i p : ℕ)
+    → ((k : ℕ) (d : MsgName) → k < i → bit_at old ((get_or messages k d).from % 64) ≡ 1)
     → ((d : MsgName) → (get_or messages i d).from ≡ p)
-    → (k : ℕ) (d : MsgName) → k < i + 1 → IsTrue (is_member new (get_or messages k d).from)
-among_more old new messages i p before member others own k d within =
-    elim (cases_eq (get_or messages k d).from p) [
-      | inl same ↦ ap (is_member new) same ∙ member
+    → (k : ℕ) (d : MsgName) → k < i + 1
+    → bit_at (bit_or old (1 * 2 ^ (p % 64) % 2 ^ 64)) ((get_or messages k d).from % 64) ≡ 1
+bits_more old messages i p before own k d within =
+    let bit : ℕ = (get_or messages k d).from % 64 in
+    elim (cases_eq bit (p % 64)) [
+      | inl same ↦ ap (bit_at (bit_or old (1 * 2 ^ (p % 64) % 2 ^ 64))) same
+          ∙ bit_at_set_same w64 old (p % 64) (omega arith)
       | inr apart ↦
-          let other : k ≢ i = λ e. apart (ap (λ (j : ℕ). (get_or messages j d).from) e ∙ own d) in
-          others (get_or messages k d).from apart ∙ before k d (omega (arith, within, other))
+          let other : k ≢ i = λ e. apart (ap (λ (j : ℕ). (get_or messages j d).from % 64) e
+          ∙ ap (λ (q : ℕ). q % 64) (own d)) in
+          bit_at_set_other w64 old (p % 64) (omega arith) bit apart
+          ∙ before k d (omega (arith, within, other))
     ]
 
--- who is not among the senders sent none of them
-pub none_among : (set : List Bool) (messages : List MsgName) (p : ℕ) → AreSentBy set messages
-    → is_member set p ≡ false → messages_from p messages ≡ []
-none_among set messages p among absent =
+-- whose bit is not set sent none of them
+pub none_sent : (bits : ℕ) (messages : List MsgName) (p : ℕ) → AreSentBy bits messages
+    → bit_at bits (p % 64) ≡ 0 → messages_from p messages ≡ []
+none_sent bits messages p sent absent =
     filter-none (λ (m : MsgName). m.from == p) messages (λ k d within.
     ne_eqb (get_or messages k d).from p (λ e.
-    both_ways (is_member set p) absent (sym (ap (is_member set) e) ∙ among k d within)))
+    absurd (omega (arith, absent, ap (λ (q : ℕ). bit_at bits (q % 64)) e, sent k d within))))
 
 -- neither of two numbers is less just where they are the same
 ties_at : (p q : ℕ) → (not (is_lt (nat_cmp p q)) && not (is_lt (nat_cmp q p))) ≡ (q == p)

@@ -1,10 +1,10 @@
 -- What is kept of a table of what is in transit: the messages by receiver, and of these by sender.
-use Rattle.std.specs.Prelude.{◌≡◌, ◌≢◌, ℕ, ◌<◌, Bool, ◌==◌, if◌then◌else◌, List, [], ◌∷◌}
-use Rattle.std.specs.Prelude.{All, AllPairs, IsTrue, length, filter, slice_index_or, Some}
+use Rattle.std.specs.Prelude.{◌≡◌, ◌≢◌, ℕ, ◌%◌, ◌<◌, Bool, ◌==◌, if◌then◌else◌, List, [], ◌∷◌}
+use Rattle.std.specs.Prelude.{All, AllPairs, length, filter, slice_index_or, Some}
+use Rattle.std.specs.Int.{bit_at}
 use Rattle.std.specs.List.Sorted.{IsNonDecreasingBy}
 use Rattle.std.specs.Option.{option_eq}
 use Rattle.line_names.specs.declared.messages.MsgName.{MsgName}
-use Rattle.line_names.specs.Sets.{is_member}
 use Rattle.line_tape.specs.History.{Process}
 use Rattle.line_tape.specs.Transit.{addressee}
 use Rattle.line_turns.specs.Tables.{table_of}
@@ -35,9 +35,9 @@ ComeBySender messages = IsNonDecreasingBy (λ (message : MsgName). message.from)
 abbrev pub AreFrom : ℕ → List MsgName → Type 0
 AreFrom n messages = All (λ (message : MsgName). message.from < n) messages
 
--- all of the messages are sent by processes of a set
-abbrev pub AreSentBy : List Bool → List MsgName → Type 0
-AreSentBy set messages = All (λ (message : MsgName). IsTrue (is_member set message.from)) messages
+-- the bit of each message's sender is set, of 64 bits
+abbrev pub AreSentBy : ℕ → List MsgName → Type 0
+AreSentBy bits messages = All (λ (message : MsgName). bit_at bits (message.from % 64) ≡ 1) messages
 
 -- an inbox that is kept of n processes: it has a message, and all by sender
 pub record IsInbox (n : ℕ) (inbox : InboxView) : Type 0 where

@@ -110,7 +110,7 @@ fn are_same(one: &[Inbox], other: &[Inbox]) -> bool
 /// round of colours hold at its line.
 ///
 /// It takes 12 bytes for each message, and for each process that a message goes to a block of
-/// memory and some 64 to 128 bytes. A channel that holds nothing takes no memory.
+/// memory and some 40 to 80 bytes. A channel that holds nothing takes no memory.
 #[derive(Drop)]
 pub struct Channels {
     n: u32,
@@ -173,8 +173,9 @@ impl Channels {
     /// The channel from one process to another, by number.
     ///
     /// It takes constant time if something is in transit to each process up to this one, and
-    /// nothing from the sender to it. Else it searches by halves: for the receiver among the
-    /// processes that something is in transit to, and for the sender among the messages to it.
+    /// nothing from the sender to it, nor from a process whose number is 64, 128 or 192 apart. Else
+    /// it searches by halves: for the receiver among the processes that something is in transit to,
+    /// and for the sender among the messages to it.
     pub fn between(&self, from: ProcId, to: ProcId) -> &[MsgName]
         requires from { from < length self.now }
         requires to { to < length (slice_index_or self.now from []) }

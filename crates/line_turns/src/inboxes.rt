@@ -2,17 +2,17 @@
 ghost use Rattle.std.specs.Prelude.{◌≡◌, ◌↔◌, ℕ, IfOk, IsTrue, length};
 ghost use Rattle.line_turns.specs.Inboxes.{messages_from, AreFrom, AreSentBy, ComeBySender};
 
-use line_names::{MsgName, ProcId, ProcSet};
+use line_names::{MsgName, ProcId};
 use std::alloc::{AllocError, Global};
 use std::marker::Model;
 
-/// The senders of messages.
-fn senders_of(messages: &[MsgName]) -> ProcSet
+/// The senders of messages, each as one of 64 bits, which processes 64 apart share.
+fn senders_of(messages: &[MsgName]) -> u64
     ensures { AreSentBy result messages.now }
 {
-    let mut senders = ProcSet::empty();
+    let mut senders = 0u64;
     'each: for i in 0..messages.len() {
-        senders = senders.with(messages[i].from);
+        senders |= 1 << (messages[i].from.get() % 64);
     }
     senders
 }
@@ -21,8 +21,9 @@ fn senders_of(messages: &[MsgName]) -> ProcSet
 #[derive(Drop)]
 pub(crate) struct Inbox {
     to: ProcId,
-    /// The processes that sent something of it, so that others are passed over at a look.
-    senders: ProcSet,
+    /// A bit for each process that sent something of it, so that most others are passed over at a
+    /// look.
+    senders: u64,
     messages: Vec<MsgName>,
 }
 
@@ -67,11 +68,12 @@ impl Inbox {
         self.to
     }
 
-    /// Those of one sender. It searches for them by halves if there are any.
+    /// Those of one sender. It searches for them by halves if there are any, or if there are some
+    /// of a process with the same bit.
     pub(crate) fn from(&self, p: ProcId) -> &[MsgName]
         ensures { result.now ≡ messages_from p self.now.messages }
     {
-        if !self.senders.has(p) {
+        if (self.senders >> (p.get() % 64)) & 1 == 0 {
             return &[];
         }
         let messages = self.messages.as_slice();

@@ -57,8 +57,9 @@ impl SharedChannels {
     /// The channel from one process to another, by number.
     ///
     /// It takes constant time if something is in transit to each process up to this one, and
-    /// nothing from the sender to it. Else it searches by halves: for the receiver among the
-    /// processes that something is in transit to, and for the sender among the messages to it.
+    /// nothing from the sender to it, nor from a process whose number is 64, 128 or 192 apart. Else
+    /// it searches by halves: for the receiver among the processes that something is in transit to,
+    /// and for the sender among the messages to it.
     pub fn between(&self, from: ProcId, to: ProcId) -> &[MsgName]
         requires from { from < length self.now }
         requires to { to < length (slice_index_or self.now from []) }

@@ -1,15 +1,21 @@
 -- The two searches find where what the process sent begins and ends.
-use Rattle.std.proofs.Common.{ℕ, leb, ltb, List, sym, ap, ◌∙◌, subst, rules}
+use Rattle.std.proofs.Common.{◌≡◌, ℕ, ◌%◌, leb, ltb, List, sym, ap, ◌∙◌, subst, rules}
+use Rattle.std.specs.Int.{bit_at}
+use Rattle.std.proofs.lemmas.Nat.Bits.{shr_and_one}
 use Rattle.std.proofs.lemmas.List.Sorted.{IsPartitionPoint-from_clause, IsPartitionedBy-leb, IsPartitionedBy-ltb}
 use Rattle.line_names.specs.declared.messages.MsgName.{MsgName}
 use Rattle.line_turns.specs.Inboxes.{messages_from, ComeBySender, InboxView}
-use Rattle.line_turns.proofs.InboxLemmas.{none_among, part_ascends, part_sent}
+use Rattle.line_turns.proofs.InboxLemmas.{none_sent, part_ascends, part_sent}
 use Rattle.line_turns.proofs.inboxes.Inbox.from.Goals as goal
 
-pub returns-then-not-has : goal.returns-then-not-has
-returns-then-not-has c =
-    let none = none_among c.self.inside.senders c.self.inside.messages.items c.args.p
-    c.self.invariant.1 (search rules) in
+pub returns-then-self-get-eq0 : goal.returns-then-self-get-eq0
+returns-then-self-get-eq0 c =
+    let bits : ℕ = c.self.inside.senders in
+    let p : ℕ = c.get.result in
+    let absent : bit_at bits (c.args.p % 64) ≡ 0 =
+    sym (ap (λ (q : ℕ). bit_at bits (q % 64)) c.get.ensures.value)
+    ∙ sym (shr_and_one bits (p % 64)) ∙ search rules in
+    let none = none_sent bits c.self.inside.messages.items c.args.p c.self.invariant.1 absent in
     sym none ∙ ap (λ (i : InboxView). messages_from c.args.p i.messages) c.self.view_is
 
 pub slice_bounds-result-count : goal.slice_bounds-result-count
