@@ -1,9 +1,10 @@
 -- What is kept of colours follows the tapes by each event and by a restart, and says the colour of each message.
 use Rattle.std.proofs.Common.{◌≡◌, ℕ, ◌+◌, ◌<◌, ◌≤◌, true, false, leb, List, [], ◌∷◌, ◌++◌, length, get_or, set, replicate, Some, None, refl, sym, ap, ◌∙◌, subst, arith, inl, inr}
-use Rattle.std.specs.Prelude.{AllPairs}
+use Rattle.std.specs.Prelude.{slice_get, AllPairs}
 use Rattle.std.specs.List.Sorted.{IsNonDecreasingBy, IsPartitionPoint}
 use Rattle.std.proofs.lemmas.List.Elements.{All-from_get_or}
 use Rattle.std.proofs.lemmas.Bool.{cases_eq, cases_lt, leb-false, leb-true}
+use Rattle.std.proofs.lemmas.Option.{get_or_from_slice_get, slice_get_within}
 use Rattle.std.proofs.lemmas.List.{length-set, length-replicate, get_or-replicate, get_or-set_same, get_or-set_other}
 use Rattle.line_names.specs.declared.choices.Choice.{Choice}
 use Rattle.line_names.specs.declared.messages.MsgName.{MsgName}
@@ -136,3 +137,16 @@ last_turn_by turns number count i turn rounds rise point next within is =
     ap (λ (t : Turn). t.round) is
     ∙ sym (colour_at_turn turns i number turn within rounds rise (leb-true (get_or turns i turn).sends number (point.0 i turn (omega arith) (omega (arith, next))))
     (λ j above l. leb-false (get_or turns j turn).sends number (point.1 j turn (omega (arith, next, above)) l)))
+
+-- the newest of all turns, if it has
+pub newest_turn_by : (turns : List Turn) (number i : ℕ) (turn : Turn)
+    → AllPairs (λ (s t : Turn). s.round < t.round) turns
+    → AllPairs (λ (s t : Turn). s.sends ≤ t.sends) turns → slice_get turns i ≡ Some turn
+    → length turns ≤ i + 1 → turn.sends ≤ number → turn.round ≡ colour_by turns number
+newest_turn_by turns number i turn rounds rise at last by =
+    let here : i < length turns = slice_get_within turns i turn at in
+    let is : get_or turns i turn ≡ turn = get_or_from_slice_get turns i turn turn at in
+    sym (colour_at_turn turns i number turn here rounds rise
+    (omega (arith, by, ap (λ (t : Turn). t.sends) is))
+    (λ j above within. absurd (omega (arith, above, within, last)))
+    ∙ ap (λ (t : Turn). t.round) is)
