@@ -1,6 +1,6 @@
 //! How a world delivers what is on a link.
 ghost use Rattle.std.specs.Prelude.{◌≡◌, ◌≢◌, ◌<◌, Some, None, length, slice_get, IfOk, IfErr};
-ghost use Rattle.std.specs.Prelude.{IsErrOf};
+ghost use Rattle.std.specs.Prelude.{IsErrOf, OnOk};
 ghost use Rattle.line_tape.specs.declared.items.Item.TheVariants.{Message, Marker};
 ghost use Rattle.line_tape.specs.Event.{Holds};
 ghost use Rattle.line_tape.specs.Fit.{IsSentTo};
@@ -10,6 +10,7 @@ ghost use Rattle.line_moves.specs.declared.fates.Fate.TheVariants.{Taken};
 ghost use Rattle.line_moves.specs.declared.modes.Mode.TheVariants.{Fifo, Unordered};
 ghost use Rattle.line_moves.specs.Fates.{fate_of, forced_round};
 ghost use Rattle.line_world.specs.declared.replies.Answer.TheVariants.{Done, Refused};
+ghost use Rattle.line_world.specs.declared.replies.Reply.TheVariants.{Took, Marked};
 ghost use Rattle.line_world.specs.declared.steps.Step.TheVariants.{Deliver};
 ghost use Rattle.line_world.specs.Machine.{items_on};
 ghost use Rattle.line_world.specs.Refusals.{first_cause, link_causes, refusal_of};
@@ -70,13 +71,13 @@ impl World {
         _pick: u64,
         _state: &[u8],
         message: &MsgName,
-    ) -> Result<Reply, StepError>
+    ) -> Result<(), StepError>
         requires passed { first_cause (link_causes self.old from to _pick _state.now) ≡ None }
         requires picked { slice_get (items_on self.old from to) _pick
             ≡ Some (Message message.now) }
         requires fifo { self.old.mode ≡ Fifo }
-        ensures done { IfOk result
-            (λ reply. Takes self.old (Deliver from to _pick _state.now) (Done reply) self.new) }
+        ensures done { OnOk result (Takes self.old (Deliver from to _pick _state.now)
+            (Done (Took message.now None)) self.new) }
         ensures refused { IfErr result (λ e. e ≢ StepError.OutOfMemory
             → Takes self.old (Deliver from to _pick _state.now) (Refused e) self.new) }
         ensures memory { IsErrOf result StepError.OutOfMemory → self.new ≡ self.old }
@@ -96,10 +97,7 @@ impl World {
                     to,
                     message,
                 )?;
-                Ok(Reply::Took {
-                    message: *message,
-                    forced: None,
-                })
+                Ok(())
             }
             Protocol::Colours { .. } => unreachable!(),
         }
@@ -113,15 +111,15 @@ impl World {
         _pick: u64,
         _state: &[u8],
         message: &MsgName,
-    ) -> Result<Reply, StepError>
+    ) -> Result<(), StepError>
         requires passed { first_cause (link_causes self.old _from to _pick _state.now) ≡ None }
         requires picked { slice_get (items_on self.old _from to) _pick
             ≡ Some (Message message.now) }
         requires unordered { self.old.mode ≡ Unordered }
         requires taken { fate_of Unordered self.old.history to message.now ≡ Taken }
         requires unforced { forced_round Unordered self.old.history to message.now ≡ None }
-        ensures done { IfOk result
-            (λ reply. Takes self.old (Deliver _from to _pick _state.now) (Done reply) self.new) }
+        ensures done { OnOk result (Takes self.old (Deliver _from to _pick _state.now)
+            (Done (Took message.now None)) self.new) }
         ensures refused { IfErr result (λ e. e ≢ StepError.OutOfMemory
             → Takes self.old (Deliver _from to _pick _state.now) (Refused e) self.new) }
         ensures memory { IsErrOf result StepError.OutOfMemory → self.new ≡ self.old }
@@ -136,10 +134,7 @@ impl World {
                 }
                 take_copy(&mut self.catalogue, to, message)?;
                 received.receive(message);
-                Ok(Reply::Took {
-                    message: *message,
-                    forced: None,
-                })
+                Ok(())
             }
         }
     }
@@ -154,15 +149,15 @@ impl World {
         state: &[u8],
         message: &MsgName,
         round: u32,
-    ) -> Result<Reply, StepError>
+    ) -> Result<(), StepError>
         requires passed { first_cause (link_causes self.old _from to _pick state.now) ≡ None }
         requires picked { slice_get (items_on self.old _from to) _pick
             ≡ Some (Message message.now) }
         requires unordered { self.old.mode ≡ Unordered }
         requires taken { fate_of Unordered self.old.history to message.now ≡ Taken }
         requires forced { forced_round Unordered self.old.history to message.now ≡ Some round }
-        ensures done { IfOk result
-            (λ reply. Takes self.old (Deliver _from to _pick state.now) (Done reply) self.new) }
+        ensures done { OnOk result (Takes self.old (Deliver _from to _pick state.now)
+            (Done (Took message.now (Some round))) self.new) }
         ensures refused { IfErr result (λ e. e ≢ StepError.OutOfMemory
             → Takes self.old (Deliver _from to _pick state.now) (Refused e) self.new) }
         ensures memory { IsErrOf result StepError.OutOfMemory → self.new ≡ self.old }
@@ -192,10 +187,7 @@ impl World {
                 )?;
                 add_receipt(&mut self.catalogue, to, message);
                 received.receive(message);
-                Ok(Reply::Took {
-                    message: *message,
-                    forced: Some(round),
-                })
+                Ok(())
             }
         }
     }
@@ -223,7 +215,13 @@ impl World {
     {
         let _n = self.catalogue.n();
         match &self.protocol {
-            Protocol::Markers { .. } => self.take_first(from, to, pick, state, message),
+            Protocol::Markers { .. } => {
+                self.take_first(from, to, pick, state, message)?;
+                Ok(Reply::Took {
+                    message: *message,
+                    forced: None,
+                })
+            }
             Protocol::Colours {
                 colours,
                 received,
@@ -232,9 +230,19 @@ impl World {
                 Fate::Stale => Ok(Reply::Stale { message: *message }),
                 Fate::Repeated => Ok(Reply::Repeated { message: *message }),
                 Fate::Taken => match colours.before_receive(to, message) {
-                    None => self.take_unforced(from, to, pick, state, message),
+                    None => {
+                        self.take_unforced(from, to, pick, state, message)?;
+                        Ok(Reply::Took {
+                            message: *message,
+                            forced: None,
+                        })
+                    }
                     Some(round) => {
-                        self.take_forced(alloc, from, to, pick, state, message, round)
+                        self.take_forced(alloc, from, to, pick, state, message, round)?;
+                        Ok(Reply::Took {
+                            message: *message,
+                            forced: Some(round),
+                        })
                     }
                 },
             },
@@ -251,11 +259,11 @@ impl World {
         pick: u64,
         state: &[u8],
         round: u32,
-    ) -> Result<Reply, StepError>
+    ) -> Result<bool, StepError>
         requires passed { first_cause (link_causes self.old from to pick state.now) ≡ None }
         requires picked { slice_get (items_on self.old from to) pick ≡ Some (Marker round) }
-        ensures done { IfOk result
-            (λ reply. Takes self.old (Deliver from to pick state.now) (Done reply) self.new) }
+        ensures done { IfOk result (λ forced. Takes self.old (Deliver from to pick state.now)
+            (Done (Marked round forced)) self.new) }
         ensures refused { IfErr result (λ e. e ≢ StepError.OutOfMemory
             → Takes self.old (Deliver from to pick state.now) (Refused e) self.new) }
         ensures memory { IsErrOf result StepError.OutOfMemory → self.new ≡ self.old }
@@ -283,7 +291,7 @@ impl World {
                 )?;
                 let history = self.catalogue.history();
                 list_completed(alloc, running, history, &mut self.rounds);
-                Ok(Reply::Marked { round, forced })
+                Ok(forced)
             }
             // Links without an order hold no markers.
             Protocol::Colours { .. } => unreachable!(),
@@ -316,7 +324,10 @@ impl World {
             Item::Message(message) => {
                 self.deliver_message(alloc, from, to, pick, state, &message)
             }
-            Item::Marker(round) => self.deliver_marker(alloc, from, to, pick, state, round),
+            Item::Marker(round) => {
+                let forced = self.deliver_marker(alloc, from, to, pick, state, round)?;
+                Ok(Reply::Marked { round, forced })
+            }
         }
     }
 }
