@@ -15,6 +15,7 @@ ghost use Rattle.line_world.specs.declared.steps.Step.TheVariants.{Deliver};
 ghost use Rattle.line_world.specs.Machine.{items_on};
 ghost use Rattle.line_world.specs.Refusals.{first_cause, link_causes, refusal_of};
 ghost use Rattle.line_world.specs.Runs.{Takes};
+ghost use Rattle.line_world.specs.Steps.{reply_of};
 
 use super::World;
 use super::refusals::lacks_room;
@@ -193,6 +194,7 @@ impl World {
     }
 
     /// Takes the message that stands at a place of a link, or finds its copy stale or repeated.
+    /// Answers what became of it, and the round of the check that it forced.
     fn deliver_message(
         &mut self,
         alloc: Global,
@@ -201,12 +203,12 @@ impl World {
         pick: u64,
         state: &[u8],
         message: &MsgName,
-    ) -> Result<Reply, StepError>
+    ) -> Result<(Fate, Option<u32>), StepError>
         requires passed { first_cause (link_causes self.old from to pick state.now) ≡ None }
         requires picked { slice_get (items_on self.old from to) pick
             ≡ Some (Message message.now) }
-        ensures done { IfOk result
-            (λ reply. Takes self.old (Deliver from to pick state.now) (Done reply) self.new) }
+        ensures done { IfOk result (λ told. Takes self.old (Deliver from to pick state.now)
+            (Done (reply_of told.0 told.1 message.now)) self.new) }
         ensures refused { IfErr result (λ e. e ≢ StepError.OutOfMemory
             → Takes self.old (Deliver from to pick state.now) (Refused e) self.new) }
         ensures memory { IsErrOf result StepError.OutOfMemory → self.new ≡ self.old }
@@ -217,32 +219,23 @@ impl World {
         match &self.protocol {
             Protocol::Markers { .. } => {
                 self.take_first(from, to, pick, state, message)?;
-                Ok(Reply::Took {
-                    message: *message,
-                    forced: None,
-                })
+                Ok((Fate::Taken, None))
             }
             Protocol::Colours {
                 colours,
                 received,
                 ..
             } => match fate_of(self.catalogue.history(), received, to, message) {
-                Fate::Stale => Ok(Reply::Stale { message: *message }),
-                Fate::Repeated => Ok(Reply::Repeated { message: *message }),
+                Fate::Stale => Ok((Fate::Stale, None)),
+                Fate::Repeated => Ok((Fate::Repeated, None)),
                 Fate::Taken => match colours.before_receive(to, message) {
                     None => {
                         self.take_unforced(from, to, pick, state, message)?;
-                        Ok(Reply::Took {
-                            message: *message,
-                            forced: None,
-                        })
+                        Ok((Fate::Taken, None))
                     }
                     Some(round) => {
                         self.take_forced(alloc, from, to, pick, state, message, round)?;
-                        Ok(Reply::Took {
-                            message: *message,
-                            forced: Some(round),
-                        })
+                        Ok((Fate::Taken, Some(round)))
                     }
                 },
             },
@@ -322,7 +315,12 @@ impl World {
         let item = self.item_at(from, to, pick);
         match item {
             Item::Message(message) => {
-                self.deliver_message(alloc, from, to, pick, state, &message)
+                let (fate, forced) = self.deliver_message(alloc, from, to, pick, state, &message)?;
+                match fate {
+                    Fate::Taken => Ok(Reply::Took { message, forced }),
+                    Fate::Stale => Ok(Reply::Stale { message }),
+                    Fate::Repeated => Ok(Reply::Repeated { message }),
+                }
             }
             Item::Marker(round) => {
                 let forced = self.deliver_marker(alloc, from, to, pick, state, round)?;
