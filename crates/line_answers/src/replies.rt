@@ -1,6 +1,7 @@
 //! The records that are written for what the machine answers.
 
 ghost use Rattle.std.specs.Prelude.{◌≡◌, ◌++◌, ◌∷◌, [], IfOk, OnOk, decimal};
+ghost use Rattle.line_claims.specs.Records.{name_fields};
 ghost use Rattle.line_devices.specs.Devices.{Outputs};
 ghost use Rattle.line_fields.specs.Texts.{record_text, records_text};
 ghost use Rattle.line_answers.specs.Replies as spec;
@@ -15,8 +16,23 @@ use line_world::Reply;
 use recoveries::put_recovery;
 use std::alloc::{AllocError, Global};
 
-// Writes `took,FROM,INC,NUMBER,ROUND`. It is put into its caller, so that its numbers take no room
-// where another reply is written.
+// Writes a record of a name and a message. Like `put_took` it is put into its caller, so that its
+// numbers take no room where another reply is written.
+#[inline(always)]
+fn put_named<K: Sink>(
+    sink: &mut K,
+    writer: &mut RecordWriter,
+    name: &[u8],
+    message: MsgName,
+) -> Result<(), DeviceFault>
+    ensures { Outputs result (K.taken sink.old) (K.taken sink.new) (K.faults sink.old)
+        (K.faults sink.new) writer.new
+        (writer.old ++ record_text (name.now ∷ name_fields message)) }
+{
+    put_numbers(sink, writer, name, &numbers_of(message))
+}
+
+// Writes `took,FROM,INC,NUMBER,ROUND`.
 #[inline(always)]
 fn put_took<K: Sink>(
     sink: &mut K,
@@ -112,13 +128,11 @@ pub fn put_reply<K: Sink>(
         (K.faults sink.new) writer.new (writer.old ++ records_text (spec.reply_records reply.now)) }
 {
     match reply {
-        Reply::Sent { message } => put_numbers(sink, writer, b"sent", &numbers_of(*message)),
+        Reply::Sent { message } => put_named(sink, writer, b"sent", *message),
         Reply::Took { message, forced } => put_took(sink, writer, *message, *forced),
         Reply::Marked { round, forced } => put_marked(sink, writer, *round, *forced),
-        Reply::Stale { message } => put_numbers(sink, writer, b"stale", &numbers_of(*message)),
-        Reply::Repeated { message } => {
-            put_numbers(sink, writer, b"repeated", &numbers_of(*message))
-        }
+        Reply::Stale { message } => put_named(sink, writer, b"stale", *message),
+        Reply::Repeated { message } => put_named(sink, writer, b"repeated", *message),
         Reply::Checked { at, check } => put_at_check(sink, writer, b"checked", *at, *check),
         Reply::Begun { at, check, round } => {
             put_in_round(sink, writer, b"begun", *at, *check, *round)

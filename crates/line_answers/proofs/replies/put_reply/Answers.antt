@@ -4,7 +4,7 @@ use Rattle.line_answers.specs.Replies.{sent_record, took_record, marked_record, 
 use Rattle.line_answers.proofs.replies.put_reply.Goals as goal
 
 pub returns-in-Sent : goal.returns-in-Sent
-returns-in-Sent g c = rw c.in-Sent.is (outputs_as _ _ _ _ _ _ _ _ _ (one_text (sent_record c.in-Sent.message)) (rw c.numbers_of.ensures at c.put_numbers.ensures))
+returns-in-Sent g c = rw c.in-Sent.is (outputs_as _ _ _ _ _ _ _ _ _ (one_text (sent_record c.in-Sent.message)) c.put_named.ensures)
 
 pub returns-in-Took : goal.returns-in-Took
 returns-in-Took g c = rw c.in-Took.is (outputs_as _ _ _ _ _ _ _ _ _ (one_text (took_record c.in-Took.message c.in-Took.forced)) c.put_took.ensures)
@@ -13,10 +13,10 @@ pub returns-in-Marked : goal.returns-in-Marked
 returns-in-Marked g c = rw c.in-Marked.is (outputs_as _ _ _ _ _ _ _ _ _ (one_text (marked_record c.in-Marked.round c.in-Marked.forced)) c.put_marked.ensures)
 
 pub returns-in-Stale : goal.returns-in-Stale
-returns-in-Stale g c = rw c.in-Stale.is (outputs_as _ _ _ _ _ _ _ _ _ (one_text (stale_record c.in-Stale.message)) (rw c.numbers_of-in-Stale.ensures at c.put_numbers-in-Stale.ensures))
+returns-in-Stale g c = rw c.in-Stale.is (outputs_as _ _ _ _ _ _ _ _ _ (one_text (stale_record c.in-Stale.message)) c.put_named-in-Stale.ensures)
 
 pub returns-in-Repeated : goal.returns-in-Repeated
-returns-in-Repeated g c = rw c.in-Repeated.is (outputs_as _ _ _ _ _ _ _ _ _ (one_text (repeated_record c.in-Repeated.message)) (rw c.numbers_of-in-Repeated.ensures at c.put_numbers-in-Repeated.ensures))
+returns-in-Repeated g c = rw c.in-Repeated.is (outputs_as _ _ _ _ _ _ _ _ _ (one_text (repeated_record c.in-Repeated.message)) c.put_named-in-Repeated.ensures)
 
 pub returns-in-Checked : goal.returns-in-Checked
 returns-in-Checked g c = rw c.in-Checked.is (outputs_as _ _ _ _ _ _ _ _ _ (one_text (checked_record c.in-Checked.at c.in-Checked.check)) c.put_at_check.ensures)
