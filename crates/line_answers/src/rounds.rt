@@ -1,6 +1,6 @@
 //! The records that are written for rounds that were completed, one at a time.
 
-ghost use Rattle.std.specs.Prelude.{◌≡◌, ◌≤◌, ◌++◌, ◌∷◌, decimal, length, map};
+ghost use Rattle.std.specs.Prelude.{◌≡◌, ◌≤◌, ◌++◌, ◌∷◌, decimal, length};
 ghost use Rattle.std.specs.List.{flat_map, range_with_len};
 ghost use Rattle.line_devices.specs.Devices.{Outputs};
 ghost use Rattle.line_fields.specs.Texts.{record_text};
@@ -40,7 +40,7 @@ fn add_checks<K: Sink>(
 /// of each. The messages on its channels follow.
 ///
 /// It asks for no memory, and fails only where the sink fails.
-pub fn put_round<K: Sink>(
+pub(crate) fn put_round<K: Sink>(
     sink: &mut K,
     writer: &mut RecordWriter,
     n: u32,
@@ -61,7 +61,7 @@ pub fn put_round<K: Sink>(
 /// as that round was completed.
 ///
 /// It asks for no memory, and fails only where the sink fails.
-pub fn put_channel_message<K: Sink>(
+pub(crate) fn put_channel_message<K: Sink>(
     sink: &mut K,
     writer: &mut RecordWriter,
     round: u32,
@@ -88,7 +88,7 @@ pub fn put_channel_message<K: Sink>(
 /// Writes `rounds,COUNT` after what a writer holds: how many rounds follow.
 ///
 /// It asks for no memory, and fails only where the sink fails.
-pub fn put_rounds_head<K: Sink>(
+pub(crate) fn put_rounds_head<K: Sink>(
     sink: &mut K,
     writer: &mut RecordWriter,
     count: usize,
