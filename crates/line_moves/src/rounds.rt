@@ -73,6 +73,10 @@ impl Round {
     /// In a round of markers it is what was received after the receiver's check and before the
     /// sender's marker; in a round of colours, what was sent before the sender's check and not
     /// received before the receiver's.
+    ///
+    /// In a round of markers it searches by halves among the processes that something was on a
+    /// channel to. In a round of colours it costs what `SharedChannels::between` does: mostly
+    /// constant time, else two searches by halves.
     pub fn channel(&self, from: ProcId, to: ProcId) -> &[MsgName]
         requires from { from < length self.now.checks }
         requires to { to < length self.now.checks }
