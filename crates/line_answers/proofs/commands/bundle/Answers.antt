@@ -1,5 +1,5 @@
 use Rattle.std.proofs.Common.{rules, ◌≡◌, ◌≢◌, refl, inl, inr}
-use Rattle.std.proofs.lemmas.Result.{IfErr-weaker, err_from_is_err_and}
+use Rattle.std.proofs.lemmas.Result.{err_from_is_err_and}
 use Rattle.line_world.specs.declared.replies.StepError.TheVariants as errors
 use Rattle.line_answers.proofs.AnswerLemmas.{claim_does, claim_front, other_halt, stranger_does, stranger_front}
 use Rattle.line_answers.proofs.commands.bundle.Goals as goal

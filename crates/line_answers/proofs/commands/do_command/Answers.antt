@@ -1,6 +1,5 @@
-use Rattle.std.proofs.Common.{rules, ◌≡◌, ◌≢◌, refl, inl, inr}
+use Rattle.std.proofs.Common.{refl}
 use Rattle.std.proofs.lemmas.Result.{IfErr-weaker, err_from_is_err_and}
-use Rattle.line_world.specs.declared.replies.StepError.TheVariants as errors
 use Rattle.line_answers.proofs.AnswerLemmas.{answered, other_halt, rounds_does, rounds_front, shown_does, shown_front, told_does, told_front}
 use Rattle.line_answers.proofs.commands.do_command.Goals as goal
 

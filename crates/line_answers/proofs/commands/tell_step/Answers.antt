@@ -1,5 +1,5 @@
-use Rattle.std.proofs.Common.{rules, ◌≡◌, ◌≢◌, refl, inl, inr}
-use Rattle.std.proofs.lemmas.Result.{IfErr-weaker, err_from_is_err_and}
+use Rattle.std.proofs.Common.{rules, ◌≢◌}
+use Rattle.std.proofs.lemmas.Result.{err_from_is_err_and}
 use Rattle.line_world.specs.declared.replies.StepError.TheVariants as errors
 use Rattle.line_answers.proofs.AnswerLemmas.{other_halt, refusal_does, refusal_front, reply_does, reply_front}
 use Rattle.line_answers.proofs.commands.tell_step.Goals as goal

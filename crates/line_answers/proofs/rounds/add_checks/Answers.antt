@@ -1,6 +1,5 @@
-use Rattle.std.proofs.Common.{◌≡◌, ◌<◌, ◌≤◌, ◌∷◌, ℕ, List, length, drop, ap, sym, ◌∙◌, arith}
+use Rattle.std.proofs.Common.{◌≡◌, ◌<◌, ◌≤◌, ◌∷◌, ℕ, arith}
 use Rattle.std.specs.Prelude.{decimal}
-use Rattle.std.specs.List.{flat_map, range_with_len}
 use Rattle.line_devices.proofs.OutputLemmas.{out_all, out_front, out_more, out_none}
 use Rattle.line_fields.proofs.OutletLemmas.{next_part, no_part}
 use Rattle.line_moves.specs.Listed.{check_in}
