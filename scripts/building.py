@@ -8,12 +8,16 @@ import subprocess
 import sys
 import tempfile
 import time
-from collections.abc import Iterator, Sequence
+from collections.abc import Callable, Iterator, Sequence
 from concurrent.futures import FIRST_COMPLETED, Future, ThreadPoolExecutor, wait
 
+import statements
 import workspace
 
 SECONDS_OF_SILENCE = 60
+# Proves and builds a crate by so many jobs, over those below it, what is said goes to a file;
+# answers whether it is proved.
+Build = Callable[[str, int, workspace.Below, workspace.Path], bool]
 
 
 class Progress:
@@ -62,7 +66,9 @@ def alone() -> Iterator[None]:
         yield
 
 
-def build_all(below: workspace.Below, order: list[str], at_once: int, what: str) -> bool:
+def build_all(
+    below: workspace.Below, order: list[str], at_once: int, what: str, build: Build
+) -> bool:
     """Builds the crates in `order`, and says first what is done; answers whether all are proved."""
     chain = workspace.chains(order, below)
     progress = Progress(order)
@@ -78,8 +84,8 @@ def build_all(below: workspace.Below, order: list[str], at_once: int, what: str)
             under_way = len(progress.running) + len(ready)
             for name in ready[: at_once - len(progress.running)]:
                 jobs = share(at_once, under_way, chain[name] == heaviest)
-                words = (workspace.ROOT, name, jobs, below, f"{logs}/{name}")
-                progress.running[pool.submit(workspace.build, *words)] = name
+                words = (name, jobs, below, f"{logs}/{name}")
+                progress.running[pool.submit(build, *words)] = name
             ended, _ = wait(
                 progress.running, timeout=SECONDS_OF_SILENCE, return_when=FIRST_COMPLETED
             )
@@ -114,7 +120,7 @@ def build_program(name: str) -> pathlib.Path:
         below = workspace.stands_on()
         order = workspace.needed([name], below)
         what = f"proving the {len(order)} crates of {name}, where they are not proved yet"
-        if not build_all(below, order, workspace.lanes(), what):
+        if not build_all(below, order, workspace.lanes(), what, statements.build):
             sys.exit(1)
         program.touch()
     return program
@@ -159,7 +165,7 @@ def build_bench(
     below = workspace.stands_on()
     order = workspace.needed(low, below)
     what = f"proving the {len(order)} crates below bench/{name}, where they are not proved yet"
-    if not build_all(below, order, workspace.lanes(), what):
+    if not build_all(below, order, workspace.lanes(), what, workspace.build):
         sys.exit(1)
     crate = make_bench(room, name, low)
     kept = workspace.ROOT / ".git" / "recline-bench" / name

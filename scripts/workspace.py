@@ -22,13 +22,19 @@ Path = str | os.PathLike[str]
 Below = dict[str, list[str]]
 
 
-def stands_on() -> Below:
-    """Of each crate of the repository the crates of the repository that it stands on."""
+def listed() -> Below:
+    """Of each crate of the repository all libraries that it uses, those of the toolchain too."""
     found = {}
     for line in (ROOT / "crates.txt").read_text().splitlines():
         name, colon, below = line.partition("#")[0].partition(":")
         if colon:
             found[name.strip()] = below.split()
+    return found
+
+
+def stands_on() -> Below:
+    """Of each crate of the repository the crates of the repository that it stands on."""
+    found = listed()
     return {name: [it for it in below if it in found] for name, below in found.items()}
 
 
@@ -148,7 +154,7 @@ def is_one_file(one: pathlib.Path, other: pathlib.Path) -> bool:
     return one.is_file() and other.is_file() and one.samefile(other)
 
 
-def build(top: Path, name: str, jobs: int, below: Below, log: Path) -> bool:
+def build_in(top: Path, name: str, jobs: int, below: Below, log: Path) -> bool:
     """Proves and builds a crate of the tree at `top` in a room of its own, and keeps what was made.
 
     It answers whether the crate is proved. One that is proved already costs a look at its files,
@@ -168,3 +174,8 @@ def build(top: Path, name: str, jobs: int, below: Below, log: Path) -> bool:
         if not is_one_file(crate / "out" / "rlib" / "stamp", home / "rlib" / "stamp"):
             put_out(crate / "out", home)
     return True
+
+
+def build(name: str, jobs: int, below: Below, log: Path) -> bool:
+    """Proves and builds a crate of this tree in a room of its own; answers whether it is proved."""
+    return build_in(ROOT, name, jobs, below, log)
