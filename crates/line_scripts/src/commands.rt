@@ -9,7 +9,7 @@ ghost use Rattle.line_scripts.specs.Scripts as spec;
 
 use crate::keeping::Kept;
 use crate::kinds::{
-    deliver_of, kept_bar, kept_begin, kept_bundle, kept_check, kept_damage, kept_history,
+    deliver_of, kept_bar, kept_begin, kept_bundle, kept_checkpoint, kept_damage, kept_history,
     kept_recover, kept_rounds, kept_turn, send_of,
 };
 use crate::names::{Name, name_in};
@@ -107,7 +107,7 @@ pub(crate) fn command_in(
     match name {
         Name::Send => send_of(n, row, bytes),
         Name::Deliver => deliver_of(alloc, n, row, bytes),
-        Name::Check => kept_check(n, row, bytes),
+        Name::Check => kept_checkpoint(n, row, bytes),
         Name::Begin => kept_begin(n, row, bytes),
         Name::Turn => kept_turn(n, row, bytes),
         Name::Damage => kept_damage(n, row),

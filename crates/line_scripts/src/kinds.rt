@@ -179,7 +179,11 @@ fn with_failed(alloc: Global, n: u32, row: &FieldRow) -> Result<Option<Box<ProcS
 }
 
 /// The command of a `check` record.
-pub(crate) fn kept_check(n: u32, row: &FieldRow, bytes: &mut Vec<u8>) -> Result<Kept, ReadError>
+pub(crate) fn kept_checkpoint(
+    n: u32,
+    row: &FieldRow,
+    bytes: &mut Vec<u8>,
+) -> Result<Kept, ReadError>
     requires { n ≤ MOST_PROCESSES }
     ensures exact { Gives (λ kept. with_bytes kept (behind bytes.old.items bytes.new.items)) result
         (spec.with_state Step.Check n row.now) }
