@@ -1,5 +1,5 @@
 -- The first receipt of a message, and whether it is among the first ones of a tape.
-use Rattle.std.proofs.Common.{◌≡◌, ◌≢◌, ◌↔◌, ℕ, zero, suc, ◌-◌, ◌<◌, ◌≤◌, ◌⊎◌, [], Bool, true, false, List, length, take, get_or, map, refl, sym, ap, ◌∙◌, subst, arith, inl, inr}
+use Rattle.std.proofs.Common.{◌≡◌, ◌≢◌, ◌↔◌, ℕ, zero, suc, ◌<◌, ◌≤◌, ◌⊎◌, [], Bool, true, false, List, length, take, get_or, map, refl, sym, ap, ◌∙◌, subst, arith, inl, inr}
 use Rattle.std.specs.List.{Contains}
 use Rattle.std.proofs.Math.ListN.{get_or-map}
 use Rattle.std.proofs.lemmas.Bool.{cases_lt, false≢true}
@@ -110,12 +110,6 @@ first_within rs m end (suc i) found none =
             ],
           ),
     )
-
--- the last of the first receipts is among them
-pub last_within : (rs : List Receipt) (m : MsgName) (end : ℕ) → 0 < end → end ≤ length rs → name_at rs (end - 1) ≡ m → Contains (take end (map name_of_receipt rs)) m
-last_within rs m end some low named =
-    let many : length (map name_of_receipt rs) ≡ length rs = length-map rs name_of_receipt in
-    (end - 1, omega (arith, length-take end (map name_of_receipt rs)), get_or-take end (map name_of_receipt rs) (end - 1) m (omega arith) ∙ name_in rs (end - 1) m (omega arith) ∙ named)
 
 -- the index of no receipts
 pub noted_none : (rs : List Receipt) (last : EndsView) → rs ≡ [] → ((sender : ℕ) → link_of_sender last sender ≡ 0) → AreNoted rs last 0

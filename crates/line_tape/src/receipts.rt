@@ -135,18 +135,6 @@ fn unlink_last(receipts: &mut Vec<Receipt>, last: &mut LastLinks, root: &mut u32
     put_receipt(receipts, root, seat, 0);
 }
 
-/// Whether the last of the first `end` receipts is of the message.
-fn is_last_before(receipts: &[Receipt], end: u32, wanted: &Receipt) -> bool
-    ensures { IsTrue result
-        → Contains (take end (map name_of_receipt receipts.now)) (name_of_receipt wanted.now) }
-{
-    let end = end as usize;
-    if end == 0 || end > receipts.len() {
-        return false;
-    }
-    receipts[end - 1].is_of(wanted)
-}
-
 impl Receipts {
     /// The index of no receipts.
     pub fn new(alloc: Global) -> Receipts
@@ -233,18 +221,12 @@ impl Receipts {
     }
 
     /// Whether one of the first `end` receipts is of the message.
-    ///
-    /// The last of them is looked at first: where a process goes back before one receipt and the
-    /// next, it is the one that is asked for, and no chain is walked.
     pub fn is_before(&self, message: &MsgName, end: u32) -> bool
         ensures { IsTrue result ↔ Contains (take end self.now.names) message.now }
     {
         let wanted = Receipt::of(message);
-        let receipts = self.receipts.as_slice();
-        if is_last_before(receipts, end, &wanted) {
-            return true;
-        }
         let last = self.last.at(wanted.from);
+        let receipts = self.receipts.as_slice();
         let first = find(receipts, last, self.root, &wanted);
         first != 0 && first <= end
     }

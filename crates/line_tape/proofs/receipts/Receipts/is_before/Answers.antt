@@ -1,18 +1,11 @@
 -- The first receipt of the message is among the first ones where any is.
-use Rattle.std.proofs.Common.{◌≡◌, ◌≢◌, ◌≤◌, ◌↔◌, List, map, not, take, refl, sym, ap, ◌∙◌, subst}
+use Rattle.std.proofs.Common.{◌≡◌, ◌≢◌, ◌≤◌, ◌↔◌, List, map, not, take, sym, ap, ◌∙◌}
 use Rattle.std.specs.List.{Contains}
 use Rattle.std.proofs.lemmas.Bool.{eq-eqb, false≢true, le-leb, leb-true}
-use Rattle.line_names.specs.declared.messages.MsgName.{MsgName}
 use Rattle.line_tape.specs.declared.receipts.chains.Receipt.{Receipt}
 use Rattle.line_tape.specs.Noted.{ReceiptsView, name_of_receipt}
 use Rattle.line_tape.proofs.FirstLemmas.{first_within_names}
 use Rattle.line_tape.proofs.receipts.Receipts.is_before.Goals as goal
-
-pub returns-then-is_last_before : goal.returns-then-is_last_before
-returns-then-is_last_before c =
-    let told : map name_of_receipt c.as_slice-receipts.result.now ≡ c.args.self.now.names = ap (λ (xs : List Receipt). map name_of_receipt xs) c.as_slice-receipts.ensures.value ∙ ap (λ (r : ReceiptsView). r.names) c.self.view_is in
-    let there : Contains (take c.args.end c.args.self.now.names) c.args.message.now = subst (λ (xs : List MsgName). Contains (take c.args.end xs) c.args.message.now) told (subst (λ (x : MsgName). Contains (take c.args.end (map name_of_receipt c.as_slice-receipts.result.now)) x) c.of-wanted.ensures.message (c.is_last_before.ensures c.if-is_last_before.true)) in
-    (λ h. there, λ k. refl)
 
 pub returns-then-first-ne0 : goal.returns-then-first-ne0
 returns-then-first-ne0 c =
