@@ -1,21 +1,21 @@
 //! The events of a tape, as it keeps and shows them.
 ghost use Rattle.std.specs.Prelude.{◌≡◌, ◌<◌, ◌≤◌, ◌+◌, ◌-◌, ◌^◌, ◌↔◌, ℕ, Option, [], ◌∷◌, ◌++◌};
-ghost use Rattle.std.specs.Prelude.{All, IsOk, IsTrue, None, OnOk, Some, drop, length, slice_get};
-ghost use Rattle.std.specs.Prelude.{if◌then◌else◌, take};
+ghost use Rattle.std.specs.Prelude.{All, IsOk, IsTrue, OnOk, Some, drop, length, slice_get, take};
 ghost use Rattle.std.specs.Prelude.{vec_capacity, vec_len};
 ghost use Rattle.std.specs.List.{filter_map};
 ghost use Rattle.line_tape.specs.declared.events.Event.TheVariants.{Check, Mark, Recv, Send};
 ghost use Rattle.line_tape.specs.Kept.{IsSettled};
-ghost use Rattle.line_tape.specs.Laid.{kept_check};
 ghost use Rattle.line_tape.specs.Restart.{restarted_event};
 ghost use Rattle.line_tape.specs.Shown.{event_of_ref};
 
+mod checks;
 mod copies;
 mod restarts;
 mod starts;
 
 use crate::events::{EventRef, State};
 use crate::limits::MOST_EVENTS;
+use checks::{keep_check, kept_round};
 use line_names::{MOST_BODY, MsgName, ProcId};
 use restarts::restart_events;
 use starts::{bytes_before, states_before};
@@ -60,33 +60,6 @@ pub(crate) enum KeptEvent {
 
 // What an event takes on a tape, beside its bytes.
 const _: () = prove!(size_of::<KeptEvent>() == 16);
-
-/// A check that stores so many bytes after others, as it is kept.
-fn keep_check(start: u32, len: u8, round: Option<u32>) -> KeptEvent
-    ensures { result ≡ kept_check start len round }
-{
-    match round {
-        Some(round) => KeptEvent::Check {
-            start,
-            round,
-            len,
-            of_round: true,
-        },
-        None => KeptEvent::Check {
-            start,
-            round: 0,
-            len,
-            of_round: false,
-        },
-    }
-}
-
-/// The round of a check that is kept so.
-fn round_of(round: u32, of_round: bool) -> Option<u32>
-    ensures { result ≡ (if of_round then Some round else None) }
-{
-    if of_round { Some(round) } else { None }
-}
 
 /// The events of a tape in their order, each in sixteen bytes, and beside them the bytes of bodies
 /// and of small states, one after another, and the large states.
@@ -282,9 +255,8 @@ impl Log {
         self.events.push_reserved(KeptEvent::Mark { from, round });
     }
 
-    /// Lets go of all but the first `end` events. Of those that go it looks only for the first that
-    /// has bytes, and, where there is a large state, for the first of a large one: they tell where
-    /// the bytes and the states that go begin.
+    /// Lets go of all but the first `end` events. Of those that go it looks only for the first with
+    /// bytes, and for the first with a large state where there is one: there begins what goes.
     pub(crate) fn truncate(&mut self, end: usize)
         ensures events { self.new.events ≡ take end self.old.events }
         ensures room { self.old.room ≤ self.new.room }
@@ -384,7 +356,7 @@ impl<'a> Events<'a> {
                 let start = *start as usize;
                 EventRef::Check {
                     state: &bodies[start..start + *len as usize],
-                    round: round_of(*round, *of_round),
+                    round: kept_round(*round, *of_round),
                 }
             }
             KeptEvent::LargeCheck { before, round } => EventRef::Check {
