@@ -1,6 +1,6 @@
--- Commands with all their bytes: one more behind the others, and the first one out.
-use Rattle.std.proofs.Common.{◌≡◌, ◌≤◌, ◌<◌, ℕ, ◌+◌, List, [], ◌∷◌, ◌++◌, drop, get_or, length, take, refl, sym, ap, ◌∙◌, subst, arith, length-append}
-use Rattle.std.proofs.lemmas.List.{take-append-drop, take-append-le, drop-append-le, drop_more, drop-drop}
+-- Commands with all their bytes: one more behind the others.
+use Rattle.std.proofs.Common.{◌≡◌, ℕ, List, [], ◌∷◌, ◌++◌, drop, length, take, refl, sym, ap, ◌∙◌, subst, arith, length-append}
+use Rattle.std.proofs.lemmas.List.{take-append-drop, take-append-le, drop-append-le}
 use Rattle.std.proofs.Math.Seq.{take-length, drop-length}
 use Rattle.line_scripts.specs.declared.commands.Command.{Command}
 use Rattle.line_scripts.specs.declared.keeping.Kept.{Kept}
@@ -44,29 +44,6 @@ unpacked_behind ks later old new k more is kept packed =
     rw more
     (subst (λ (bs : List ℕ). commands_of_kept (ks ++ k ∷ []) bs ≡ commands_of_kept ks old ++ with_bytes k (behind old new) ∷ []) (sym (with_behind old new kept))
     (unpacked_more ks old k (behind old new) is packed))
-
--- a list with one command more is one longer
-pub one_longer : (xs ys : List Command) (c : Command) → ys ≡ xs ++ c ∷ [] → length ys ≡ length xs + 1
-one_longer xs ys c more = ap length more ∙ length-append xs (c ∷ [])
-
--- what is left begins with the one at its place
-pub first_left : (ks : List Kept) (gone : ℕ) (k : Kept) → gone < length ks → k ≡ get_or ks gone k → drop gone ks ≡ k ∷ drop (gone + 1) ks
-first_left ks gone k within is = drop_more ks gone k within ∙ ap (λ (x : Kept). x ∷ drop (gone + 1) ks) (sym is)
-
--- the commands that are left, by the first of them
-pub first_unpacked : (ks : List Kept) (bytes : List ℕ) (gone at : ℕ) (k : Kept) → gone < length ks → k ≡ get_or ks gone k
-    → commands_of_kept (drop gone ks) (drop at bytes) ≡ with_bytes k (take (long_of k) (drop at bytes)) ∷ commands_of_kept (drop (gone + 1) ks) (drop (at + long_of k) bytes)
-first_unpacked ks bytes gone at k within is =
-    ap (λ (xs : List Kept). commands_of_kept xs (drop at bytes)) (first_left ks gone k within is)
-    ∙ ap (λ (bs : List ℕ). with_bytes k (take (long_of k) (drop at bytes)) ∷ commands_of_kept (drop (gone + 1) ks) bs) (drop-drop (long_of k) at bytes)
-
--- and all of them stay packed without it
-pub first_packed : (ks : List Kept) (bytes : List ℕ) (gone at : ℕ) (k : Kept) → gone < length ks → k ≡ get_or ks gone k → ArePacked (drop gone ks) (drop at bytes)
-    → HasShortMessage k × (long_of k ≤ length (drop at bytes)) × ArePacked (drop (gone + 1) ks) (drop (at + long_of k) bytes)
-first_packed ks bytes gone at k within is packed =
-    let all : ArePacked (k ∷ drop (gone + 1) ks) (drop at bytes) = subst (λ (xs : List Kept). ArePacked xs (drop at bytes)) (first_left ks gone k within is) packed in
-    let rest : drop (long_of k) (drop at bytes) ≡ drop (at + long_of k) bytes = drop-drop (long_of k) at bytes in
-    (all.0, all.1, subst (λ (bs : List ℕ). ArePacked (drop (gone + 1) ks) bs) rest all.2)
 
 -- there are as many commands as are kept
 pub length-unpacked : (ks : List Kept) (bytes : List ℕ) → length (commands_of_kept ks bytes) ≡ length ks

@@ -2,6 +2,7 @@ mod BehindLemmas
 pub mod AgainLemmas
 pub mod FailedLemmas
 pub mod FaultLemmas
+pub mod BlockLemmas
 pub mod KeepingLemmas
 pub mod LaterLemmas
 pub mod NameLemmas

@@ -1,5 +1,5 @@
 -- Reading the commands of records one by one.
-use Rattle.std.proofs.Common.{◌≡◌, ℕ, ◌+◌, List, [], ◌∷◌, ◌++◌, Result, Ok, Err, refl, sym, ap, ◌∙◌, append_assoc}
+use Rattle.std.proofs.Common.{◌≡◌, ℕ, ◌+◌, List, [], ◌∷◌, ◌++◌, Result, Ok, Err, refl, sym, ap, ◌∙◌, append_assoc, arith, length, length-append}
 use Rattle.std.proofs.lemmas.List.{append-nil}
 use Rattle.line_fields.specs.Fields.{◌>>=◌}
 use Rattle.line_fields.specs.Records.{Record}
@@ -12,6 +12,7 @@ use Rattle.line_fields.specs.declared.faults.ReadError.{ReadError}
 use Rattle.line_fields.specs.declared.faults.ReadError.TheVariants as memory
 use Rattle.line_fields.specs.Fields.{Fails}
 use Rattle.line_claims.specs.Reads.{FailsText, at_record, error_at}
+use Rattle.line_scripts.specs.Blocks.{with_command}
 use Rattle.line_scripts.specs.Pieces.{with_commands}
 use Rattle.line_scripts.specs.Scripts.{command_in, commands_from}
 
@@ -38,21 +39,48 @@ pub ended_at : (front : List Command) (n i : ℕ) (rows : List Record) (total : 
 ended_at front n i rows total e k = k ∙ ap (with_commands front) (no_more n i rows e) ∙ ap Ok (append-nil front)
 
 -- one more record was read
-pub read_more : (front later : List Command) (n i next : ℕ) (rows : List Record) (r : Record) (rest : List Record) (c : Command) (total : Result (List Command) TextFault) → rows ≡ r ∷ rest
+read_more : (front later : List Command) (n i next : ℕ) (rows : List Record) (r : Record) (rest : List Record) (c : Command) (total : Result (List Command) TextFault) → rows ≡ r ∷ rest
     → later ≡ front ++ (c ∷ []) → next ≡ i + 1 → at_record i (command_in n r) ≡ Ok c → total ≡ with_commands front (commands_from n i rows) → total ≡ with_commands later (commands_from n next rest)
 read_more front later n i next rows r rest c total e more number h k =
     k ∙ ap (λ (rs : List Record). with_commands front (commands_from n i rs)) e ∙ ap (with_commands front) (first_command n i r rest c h) ∙ one_more front c (commands_from n (i + 1) rest)
     ∙ ap (λ (j : ℕ). with_commands (front ++ (c ∷ [])) (commands_from n j rest)) (sym number)
     ∙ ap (λ (cs : List Command). with_commands cs (commands_from n next rest)) (sym more)
 
+-- the command behind those that were kept before it
+one_kept : (front later : List Command) (read : Result Command Fault) → with_command front read ≡ Ok later → (c : Command) × (read ≡ Ok c) × (later ≡ front ++ c ∷ [])
+one_kept front later (Ok c) h = (c, refl, cc h)
+one_kept front later (Err fault) h = cc h
+
+-- the command of one more record was kept
+pub kept_more : (front later : List Command) (n : ℕ) (rows : List Record) (r : Record) (rest : List Record) (total : Result (List Command) TextFault) → rows ≡ r ∷ rest
+    → with_command front (command_in n r) ≡ Ok later → total ≡ with_commands front (commands_from n (length front + 2) rows) → total ≡ with_commands later (commands_from n (length later + 2) rest)
+kept_more front later n rows r rest total e kept k =
+    let one = one_kept front later (command_in n r) kept in
+    let long : length later ≡ length front + 1 = ap length one.2 ∙ length-append front (one.0 ∷ []) in
+    read_more front later n (length front + 2) (length later + 2) rows r rest one.0 total e one.2 (omega (arith, long)) (ap (at_record (length front + 2)) one.1) k
+
 -- a record has a fault
-pub stopped : (front : List Command) (n i : ℕ) (rows : List Record) (r : Record) (rest : List Record) (e : TextError) (total : Result (List Command) TextFault) → rows ≡ r ∷ rest
+stopped : (front : List Command) (n i : ℕ) (rows : List Record) (r : Record) (rest : List Record) (e : TextError) (total : Result (List Command) TextFault) → rows ≡ r ∷ rest
     → FailsText e (at_record i (command_in n r)) → total ≡ with_commands front (commands_from n i rows) → FailsText e total
 stopped front n i rows r rest errors.OutOfMemory total s h k = tt
 stopped front n i rows r rest (errors.Fault f) total s h k =
     k ∙ ap (λ (rs : List Record). with_commands front (commands_from n i rs)) s ∙ ap (with_commands front) (stops_at n i r rest f h)
 
--- why the command of a record was not read, with the number of the record
-pub fails_at : (i : ℕ) (e : ReadError) (read : Result Command Fault) → Fails e read → FailsText (error_at i e) (at_record i read)
+-- why the command of a record was not read
+not_kept : (front : List Command) (e : ReadError) (read : Result Command Fault) → Fails e (with_command front read) → Fails e read
+not_kept front memory.OutOfMemory read h = tt
+not_kept front (memory.Fault fault) (Ok c) h = cc h
+not_kept front (memory.Fault fault) (Err other) h =
+    let same : other ≡ fault = cc h in
+    ap Err same
+
+-- and with the number of the record
+fails_at : (i : ℕ) (e : ReadError) (read : Result Command Fault) → Fails e read → FailsText (error_at i e) (at_record i read)
 fails_at i memory.OutOfMemory read h = tt
 fails_at i (memory.Fault fault) read h = ap (at_record i) h
+
+-- the command of a record was not kept
+pub kept_no_more : (front : List Command) (n number : ℕ) (rows : List Record) (r : Record) (rest : List Record) (e : ReadError) (total : Result (List Command) TextFault) → rows ≡ r ∷ rest
+    → number ≡ length front + 2 → Fails e (with_command front (command_in n r)) → total ≡ with_commands front (commands_from n (length front + 2) rows) → FailsText (error_at number e) total
+kept_no_more front n number rows r rest e total s is h k =
+    rw is (stopped front n (length front + 2) rows r rest (error_at (length front + 2) e) total s (fails_at (length front + 2) e (command_in n r) (not_kept front e (command_in n r) h)) k)

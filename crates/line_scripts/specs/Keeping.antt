@@ -1,5 +1,5 @@
--- How commands are kept, each without its bytes, and the bytes of all in one list. No contract that
--- a caller reads needs this: there they are a list of commands.
+-- How commands are kept, each without its bytes, and the bytes of several in one list. No contract
+-- that a caller reads needs this: there they are a list of commands.
 use Rattle.std.specs.Prelude.{◌≡◌, ◌≤◌, ℕ, List, [], ◌∷◌, length, take, drop, Option, Some, None}
 use Rattle.line_names.specs.declared.limits.TheConstants.{MOST_BODY}
 use Rattle.line_fields.specs.declared.faults.Fault.TheVariants as faults

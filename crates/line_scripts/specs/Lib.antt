@@ -3,6 +3,7 @@ pub mod Reads
 pub mod Records
 pub mod Ranges
 pub mod Keeping
+pub mod Blocks
 pub mod Names
 pub mod Pieces
 pub mod Shown

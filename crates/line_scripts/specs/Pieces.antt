@@ -10,8 +10,6 @@ use Rattle.line_claims.specs.declared.faults.TextFault.{TextFault}
 use Rattle.line_claims.specs.Reads.{fault_of_record}
 use Rattle.line_claims.specs.Texts.{records_in}
 use Rattle.line_scripts.specs.declared.commands.Command.{Command}
-use Rattle.line_scripts.specs.declared.keeping.Kept.{Kept}
-use Rattle.line_scripts.specs.Keeping.{ArePacked, commands_of_kept}
 use Rattle.line_scripts.specs.Scripts.{Script, commands_from, script_of}
 
 -- the script that the records so far spell; before the first one there is none
@@ -50,9 +48,9 @@ begun_on (Some script) records =
     >>= λ commands. Ok (Some (script_with (script.n, script.mode) commands))
 
 -- the script that a first record and commands that are kept make
-abbrev pub script_kept : Option (ℕ × Mode) → List Kept → List ℕ → Option Script
-script_kept None kept bytes = None
-script_kept (Some world) kept bytes = Some (script_with world (commands_of_kept kept bytes))
+abbrev pub script_kept : Option (ℕ × Mode) → List Command → Option Script
+script_kept None commands = None
+script_kept (Some world) commands = Some (script_with world commands)
 
 -- what was found so far: a fault, or else the script that was begun
 abbrev pub found : Option TextFault → Option Script → Result (Option Script) TextFault
@@ -60,7 +58,6 @@ found None script = Ok script
 found (Some fault) script = Err fault
 
 -- commands are kept as they are among so many processes, and none before the first record
-pub record AreKept (world : Option (ℕ × Mode)) (kept : List Kept) (bytes : List ℕ) : Type 0 where
-  pub packed : ArePacked kept bytes
+pub record AreKept (world : Option (ℕ × Mode)) (commands : List Command) : Type 0 where
   pub within : IfSome world (λ w. (1 ≤ w.0) × (w.0 ≤ MOST_PROCESSES))
-  pub none : IfNone world (kept ≡ [])
+  pub none : IfNone world (commands ≡ [])

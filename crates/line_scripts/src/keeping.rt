@@ -1,8 +1,7 @@
-//! Commands that wait to be done: 16 bytes for each, and one list of the bytes that they carry.
+//! A command that is kept: 16 bytes, beside those that it carries.
 
-ghost use Rattle.std.specs.Prelude.{◌≡◌, ◌≤◌, ◌∷◌, [], ℕ, List, drop, length, IfNone, IfOk, IfSome};
-ghost use Rattle.line_scripts.specs.Keeping.{ArePacked, HasShortMessage, commands_of_kept};
-ghost use Rattle.line_scripts.specs.Keeping.{with_bytes};
+ghost use Rattle.std.specs.Prelude.{◌≡◌, ℕ, List, length, IfOk};
+ghost use Rattle.line_scripts.specs.Keeping.{HasShortMessage, with_bytes};
 ghost use Rattle.line_scripts.specs.Keeping as spec;
 ghost use Rattle.line_scripts.specs.Shown.{HasShortBodyInStep, command_of_ref};
 ghost use Rattle.line_world.specs.declared.steps.Step.{Step};
@@ -11,7 +10,6 @@ use crate::commands::{Command, CommandRef};
 use line_names::{MOST_PROCESSES, ProcId, ProcSet};
 use line_world::StepRef;
 use std::alloc::{AllocError, Global};
-use std::marker::Model;
 use std::mem::size_of;
 
 /// A command without the bytes that a message or a state has. Of these it says how many they are.
@@ -193,102 +191,5 @@ pub(crate) fn lent<'a>(kept: &'a Kept, own: &'a [u8]) -> CommandRef<'a>
         Kept::Rounds => CommandRef::Rounds,
         Kept::History => CommandRef::History,
         Kept::Bundle(failed) => CommandRef::Bundle(failed),
-    }
-}
-
-/// Commands that wait to be done, the first one first.
-///
-/// Each takes 16 bytes beside those of its message or state, and a pick of more than 32 bits takes
-/// 16 more. Each time that as many have gone as are left, their memory is let go, and that of their
-/// messages and states where it is as much as what is left of it.
-#[derive(Drop)]
-pub struct Commands {
-    kept: Vec<Kept>,
-    // How many of them, the first ones, have gone.
-    gone: usize,
-    // What all of them carry, in their order.
-    bytes: Vec<u8>,
-    // Where that of the first one that is left begins.
-    at: usize,
-}
-
-impl Model for Commands {
-    ghost use Rattle.std.specs.Prelude.{◌≤◌, List, drop, length};
-    ghost use Rattle.line_scripts.specs.declared.commands.Command.{Command};
-
-    ghost Value = { List Command };
-
-    ghost use Rattle.line_scripts.specs.Keeping.{ArePacked, commands_of_kept};
-
-    ghost view = { λ c. commands_of_kept (drop c.gone c.kept.items) (drop c.at c.bytes.items) };
-
-    ghost invariant = { λ c. (c.gone ≤ length c.kept.items) × (c.at ≤ length c.bytes.items)
-        × ArePacked (drop c.gone c.kept.items) (drop c.at c.bytes.items) };
-}
-
-// Gives back the room of so many items at the front of a list, and counts from there on. Where
-// memory for the others alone is refused all stays.
-fn let_front_go<T: Drop>(items: &mut Vec<T>, gone: &mut usize)
-    requires { gone.old ≤ length items.old.items }
-    ensures within { gone.new ≤ length items.new.items }
-    ensures left { drop gone.new items.new.items ≡ drop gone.old items.old.items }
-{
-    if let Ok(left) = items.split_off(*gone) {
-        *items = left;
-        *gone = 0;
-    }
-}
-
-// Gives back the room of commands that are gone, and that of their bytes where they are as many as
-// those that are left.
-#[cold]
-#[inline(never)]
-fn shrink(commands: &mut Commands)
-    ensures { commands.new ≡ commands.old }
-{
-    let_front_go(&mut commands.kept, &mut commands.gone);
-    if commands.at >= commands.bytes.len() - commands.at {
-        let_front_go(&mut commands.bytes, &mut commands.at);
-    }
-}
-
-impl Commands {
-    /// Those that were kept, in their order.
-    pub(crate) fn of(kept: Vec<Kept>, bytes: Vec<u8>) -> Commands
-        requires { ArePacked kept.items bytes.items }
-        ensures { result ≡ commands_of_kept kept.items bytes.items }
-    {
-        Commands {
-            kept,
-            gone: 0,
-            bytes,
-            at: 0,
-        }
-    }
-
-    /// The first one, its message, state or set lent, if there is one.
-    pub fn first(&self) -> Option<CommandRef<'_>>
-        ensures some { IfSome result
-            (λ command. self.now ≡ command_of_ref command ∷ drop 1 self.now) }
-        ensures short { IfSome result HasShortBodyInStep }
-        ensures none { IfNone result (self.now ≡ []) }
-    {
-        let first = self.kept.get(self.gone)?;
-        let own = &self.bytes[self.at..self.at + long_of(first)];
-        Some(lent(first, own))
-    }
-
-    /// Lets the first one go, if there is one.
-    pub fn drop_first(&mut self)
-        ensures { self.new ≡ drop 1 self.old }
-    {
-        let Some(first) = self.kept.get(self.gone) else {
-            return;
-        };
-        self.at += long_of(first);
-        self.gone += 1;
-        if self.gone >= self.kept.len() - self.gone {
-            shrink(self);
-        }
     }
 }

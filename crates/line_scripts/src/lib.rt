@@ -1,6 +1,7 @@
 //! Scripts: the commands that the records of a text spell, or its first fault.
 #![tactic(auto)]
 
+mod blocks;
 mod commands;
 mod keeping;
 mod kinds;
@@ -10,8 +11,8 @@ mod pieces;
 mod readers;
 mod scripts;
 
+pub use blocks::Commands;
 pub use commands::{Command, CommandRef, world_of};
-pub use keeping::Commands;
 pub use laws::{scripts_are_read_again, version_2_reads_scripts_of_version_1};
 pub use pieces::ScriptReader;
 pub use readers::CommandReader;

@@ -7,13 +7,12 @@ ghost use Rattle.line_fields.specs.Bytes.{is_input_text};
 ghost use Rattle.line_fields.specs.Records.{EndsLine, records_of_text};
 ghost use Rattle.line_claims.specs.Reads as reads;
 ghost use Rattle.line_claims.specs.Reads.{Yields};
-ghost use Rattle.line_scripts.specs.Keeping.{ArePacked, commands_of_kept};
 ghost use Rattle.line_scripts.specs.Pieces as spec;
 ghost use Rattle.line_scripts.specs.Reads.{IsOfScript, kept_script_view};
 ghost use Rattle.line_scripts.specs.Scripts.{commands_from, world_of};
 
-use crate::commands::{command_in, world_of};
-use crate::keeping::{Commands, Kept};
+use crate::blocks::{Blocks, Commands};
+use crate::commands::world_of;
 use crate::scripts::KeptScript;
 use line_claims::{TextError, TextFault, error_at, fault_at};
 use line_fields::{Fault, FieldRow, RecordReader, is_plain};
@@ -39,26 +38,19 @@ fn keep_all(
     n: u32,
     records: &mut RecordReader<'_>,
     row: &mut FieldRow,
-    kept: &mut Vec<Kept>,
-    bytes: &mut Vec<u8>,
+    commands: &mut Blocks,
 ) -> Result<(), TextError>
-    requires few { n ≤ MOST_PROCESSES }
-    requires packed { ArePacked kept.old.items bytes.old.items }
-    ensures exact { Yields (λ _. commands_of_kept kept.new.items bytes.new.items) result
-        (spec.with_commands (commands_of_kept kept.old.items bytes.old.items)
-        (commands_from n
-        (length (commands_of_kept kept.old.items bytes.old.items) + 2) records.old)) }
-    ensures packed { OnOk result (ArePacked kept.new.items bytes.new.items) }
+    requires { n ≤ MOST_PROCESSES }
+    ensures { Yields (λ _. commands.new) result (spec.with_commands commands.old
+        (commands_from n (length commands.old + 2) records.old)) }
 {
     'records: loop {
         if !records.next_row(row)? {
             return Ok(());
         }
-        kept.reserve(1)?;
-        let record_number = kept.len() as u64 + 2;
-        match command_in(alloc, n, row, bytes) {
-            Ok(command) => kept.push_reserved(command),
-            Err(error) => return Err(error_at(record_number, error)),
+        match commands.keep(alloc, n, row) {
+            Ok(()) => {}
+            Err(error) => return Err(error_at(commands.count() + 2, error)),
         }
     }
 }
@@ -69,21 +61,20 @@ fn begin(
     records: &mut RecordReader<'_>,
     row: &mut FieldRow,
     world: &mut Option<(u32, Mode)>,
-    kept: &mut Vec<Kept>,
-    bytes: &mut Vec<u8>,
+    commands: &mut Blocks,
 ) -> Result<(), TextError>
     requires none { world.old ≡ None }
-    requires kept { spec.AreKept world.old kept.old.items bytes.old.items }
-    ensures exact { Yields (λ _. spec.script_kept world.new kept.new.items bytes.new.items) result
+    requires kept { spec.AreKept world.old commands.old }
+    ensures exact { Yields (λ _. spec.script_kept world.new commands.new) result
         (spec.begun_of records.old) }
-    ensures kept { OnOk result (spec.AreKept world.new kept.new.items bytes.new.items) }
+    ensures kept { OnOk result (spec.AreKept world.new commands.new) }
 {
     if !records.next_row(row)? {
         return Ok(());
     }
     let first = world_at(row)?;
     *world = Some(first);
-    keep_all(alloc, first.0, records, row, kept, bytes)
+    keep_all(alloc, first.0, records, row, commands)
 }
 
 // Takes the records of a piece after those that were taken.
@@ -92,32 +83,29 @@ fn take_records(
     piece: &[u8],
     row: &mut FieldRow,
     world: &mut Option<(u32, Mode)>,
-    kept: &mut Vec<Kept>,
-    bytes: &mut Vec<u8>,
+    commands: &mut Blocks,
 ) -> Result<(), TextError>
     requires input { IsTrue (is_input_text piece.now) }
-    requires kept { spec.AreKept world.old kept.old.items bytes.old.items }
-    ensures exact { Yields (λ _. spec.script_kept world.new kept.new.items bytes.new.items) result
-        (spec.begun_on (spec.script_kept world.old kept.old.items bytes.old.items)
-        (records_of_text piece.now)) }
-    ensures kept { OnOk result (spec.AreKept world.new kept.new.items bytes.new.items) }
+    requires kept { spec.AreKept world.old commands.old }
+    ensures exact { Yields (λ _. spec.script_kept world.new commands.new) result
+        (spec.begun_on (spec.script_kept world.old commands.old) (records_of_text piece.now)) }
+    ensures kept { OnOk result (spec.AreKept world.new commands.new) }
 {
     let mut records = RecordReader::open(alloc, piece);
     let Some((n, _)) = *world else {
-        return begin(alloc, &mut records, row, world, kept, bytes);
+        return begin(alloc, &mut records, row, world, commands);
     };
-    keep_all(alloc, n, &mut records, row, kept, bytes)
+    keep_all(alloc, n, &mut records, row, commands)
 }
 
 // Lets go all that was taken.
 #[cold]
 #[inline(never)]
-fn let_go(alloc: Global, world: &mut Option<(u32, Mode)>, kept: &mut Vec<Kept>, bytes: &mut Vec<u8>)
-    ensures { spec.AreKept world.new kept.new.items bytes.new.items }
+fn let_go(alloc: Global, world: &mut Option<(u32, Mode)>, commands: &mut Blocks)
+    ensures { spec.AreKept world.new commands.new }
 {
     *world = None;
-    *kept = Vec::new(alloc);
-    *bytes = Vec::new(alloc);
+    *commands = Blocks::new(alloc);
 }
 
 /// Reads a script whose text comes in pieces of whole lines, the last of which may lack its line
@@ -131,8 +119,7 @@ pub struct ScriptReader {
     row: FieldRow,
     // The number of processes and how links deliver, once the first record was taken.
     world: Option<(u32, Mode)>,
-    kept: Vec<Kept>,
-    bytes: Vec<u8>,
+    commands: Blocks,
     fault: Option<TextFault>,
 }
 
@@ -145,10 +132,9 @@ impl Model for ScriptReader {
 
     ghost Value = { Result (Option Script) TextFault };
 
-    ghost view = { λ s. found s.fault (script_kept s.world s.kept.items s.bytes.items) };
+    ghost view = { λ s. found s.fault (script_kept s.world s.commands) };
 
-    ghost invariant = { λ s. AreKept s.world s.kept.items s.bytes.items
-        × IfSome s.fault IsOfScript };
+    ghost invariant = { λ s. AreKept s.world s.commands × IfSome s.fault IsOfScript };
 }
 
 impl ScriptReader {
@@ -160,8 +146,7 @@ impl ScriptReader {
             alloc,
             row: FieldRow::new(alloc),
             world: None,
-            kept: Vec::new(alloc),
-            bytes: Vec::new(alloc),
+            commands: Blocks::new(alloc),
             fault: None,
         }
     }
@@ -189,12 +174,11 @@ impl ScriptReader {
             piece,
             &mut self.row,
             &mut self.world,
-            &mut self.kept,
-            &mut self.bytes,
+            &mut self.commands,
         ) {
             Ok(()) => Ok(()),
             Err(error) => {
-                let_go(self.alloc, &mut self.world, &mut self.kept, &mut self.bytes);
+                let_go(self.alloc, &mut self.world, &mut self.commands);
                 match error {
                     TextError::Fault(fault) => {
                         self.fault = Some(fault);
@@ -226,7 +210,7 @@ impl ScriptReader {
         Ok(KeptScript {
             n,
             mode,
-            commands: Commands::of(self.kept, self.bytes),
+            commands: Commands::of(self.commands),
         })
     }
 }

@@ -8,8 +8,8 @@ ghost use Rattle.line_scripts.specs.Reads.{IsOfScript, script_view, kept_script_
 ghost use Rattle.line_scripts.specs.Shown.{HasShortBodyInStep, command_of_ref};
 ghost use Rattle.line_world.specs.Shown as steps;
 
+use crate::blocks::Commands;
 use crate::commands::{Command, CommandRef};
-use crate::keeping::Commands;
 use crate::pieces::ScriptReader;
 use line_claims::{TextError, TextFault, told};
 use line_names::Body;

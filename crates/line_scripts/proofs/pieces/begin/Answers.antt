@@ -1,7 +1,5 @@
-use Rattle.std.proofs.Common.{◌≡◌, [], List, ap}
+use Rattle.std.proofs.Common.{◌≡◌, []}
 use Rattle.std.proofs.lemmas.Result.{err_from_is_err_and}
-use Rattle.line_scripts.specs.declared.keeping.Kept.{Kept}
-use Rattle.line_scripts.specs.Keeping.{commands_of_kept}
 use Rattle.line_scripts.proofs.PieceLemmas.{begun_yields, none_begun, not_begun}
 use Rattle.line_scripts.proofs.pieces.begin.Goals as goal
 
@@ -19,6 +17,5 @@ returns-in_err-first-clause-exact c =
 pub returns-clause-exact : goal.returns-clause-exact
 returns-clause-exact c =
     let row = rw c.if-not-branch.false at c.in_ok-next_row.ensures.ok in
-    let empty : c.args.kept.now.items ≡ [] = rw c.requires.none at c.requires.kept.none in
-    let none : commands_of_kept c.args.kept.now.items c.args.bytes.now.items ≡ [] = ap (λ (ks : List Kept). commands_of_kept ks c.args.bytes.now.items) empty in
-    begun_yields c.keep_all.result _ _ _ _ _ _ row c.in_ok-first.ensures.exact none c.keep_all.ensures.exact
+    let none : c.args.commands.now ≡ [] = rw c.requires.none at c.requires.kept.none in
+    begun_yields c.keep_all.result _ _ _ _ _ _ row c.in_ok-first.ensures.exact none c.keep_all.ensures
