@@ -1,22 +1,31 @@
 -- Marks at sends that are received: where those of a process begin, how one is set, and that a marked send adds nothing to what is in transit.
 use Rattle.std.proofs.Common.{◌≡◌, ℕ, ◌+◌, ◌<◌, ◌≤◌, ◌-◌, Bool, false, true, cond, List, [], ◌∷◌, ◌++◌, Some, refl, length, take, drop, get_or, set, sym, ap, ◌∙◌, subst, append-nil, arith, inl, inr}
-use Rattle.std.specs.List.{slice_get}
+use Rattle.std.specs.List.{Contains, slice_get}
 use Rattle.std.specs.List.Sorted.{IsNonDecreasing}
-use Rattle.std.proofs.lemmas.Bool.{cases_eq, cases_lt}
-use Rattle.std.proofs.lemmas.List.{get_or-set_other, get_or_default, get_or_past, take-append-le, take_all}
+use Rattle.std.proofs.lemmas.Bool.{cases_eq, cases_lt, false≢true}
+use Rattle.std.proofs.lemmas.List.{get_or-set_other, get_or-set_same, get_or_default, get_or_past, take-append-drop, take-append-le, take-take, take_all}
+use Rattle.std.proofs.lemmas.List.Elements.{Contains-append_cases, Contains-append_left, Contains-push_cases}
 use Rattle.std.proofs.lemmas.List.Sorted.{IsNonDecreasingBy-push}
 use Rattle.std.proofs.lemmas.Option.{same_Some, slice_get-get_or}
 use Rattle.line_names.specs.declared.choices.Choice.{Choice}
 use Rattle.line_names.specs.declared.messages.MsgName.{MsgName}
+use Rattle.line_names.specs.Lines.{choice_at}
 use Rattle.line_tape.specs.declared.events.Event.{Event}
+use Rattle.line_tape.specs.declared.events.Event.TheVariants.{Recv}
 use Rattle.line_tape.specs.Event.{incarnations_sent, sends}
 use Rattle.line_tape.specs.Fit.{IsSentTo}
+use Rattle.line_tape.specs.Front.{place}
 use Rattle.line_tape.specs.History.{Process, tape_at}
 use Rattle.line_tape.specs.Line.{events_before}
 use Rattle.line_tape.specs.Transit.{has_received, addressees}
+use Rattle.line_tape.proofs.CutLemmas.{contains_nothing}
 use Rattle.line_tape.proofs.EventLemmas.{length_addressees, name_of}
-use Rattle.line_catalogue.specs.Known.{AreKnown, AreMarkRows, AreReceived, IsReceived}
-use Rattle.line_catalogue.specs.Left.{open_first, start_at}
+use Rattle.line_tape.proofs.FrontLemmas.{Contains-take_more}
+use Rattle.line_tape.proofs.LineLemmas.{tape_at-past}
+use Rattle.line_tape.proofs.ReceivedLemmas.{sent_within}
+use Rattle.line_tape.proofs.TransitLemmas.{has_received-iff}
+use Rattle.line_catalogue.specs.Known.{AreAllNoted, AreAllTold, AreKnown, AreMarkRows, AreReceived, AreTold, HasMark, IsNoted, IsReceived}
+use Rattle.line_catalogue.specs.Left.{open_first, place_at, start_at, AreLeft, IsUnread}
 use Rattle.line_catalogue.proofs.OpenLemmas.{open-step, sent_whole}
 
 -- a start behind all others
@@ -71,19 +80,89 @@ rows-same history starts old new same rows = record {
   within = λ p. omega (arith, same, rows.within p);
 }
 
+-- a mark more unsets none
+pub marked-more : (marks : List Bool) (at i : ℕ) → get_or marks i false ≡ true → get_or (set marks at true) i false ≡ true
+marked-more marks at i marked = elim (cases_eq i at) [
+  | inl same ↦ elim (cases_lt i (length marks)) [
+    | inl within ↦ ap (λ (j : ℕ). get_or (set marks j true) i false) (sym same) ∙ get_or-set_same marks i true false within
+    | inr past ↦ absurd (false≢true (sym (get_or_past marks i false (omega arith)) ∙ marked))
+  ]
+  | inr other ↦ get_or-set_other marks at i true false other ∙ marked
+]
+
+-- no marks tell nothing
+pub known-none : (history : List Process) (line : List Choice) (bases starts : List ℕ) (marks : List Bool) → starts ≡ [] → AreKnown history line bases starts marks
+known-none history line bases starts marks empty = λ p k inside mark. absurd (omega (arith, mark.0, ap (λ (xs : List ℕ). start_at xs (p + 1)) empty, get_or_past {X = ℕ} [] (p + 1) 0 (omega arith)))
+
+pub noted-none : (history : List Process) (line : List Choice) (places bases starts : List ℕ) (marks : List Bool) → starts ≡ [] → AreAllNoted history line places bases starts marks
+noted-none history line places bases starts marks empty = λ q inside event among k m is sent number within. absurd (omega (arith, within, ap (λ (xs : List ℕ). start_at xs (m.from + 1)) empty, get_or_past {X = ℕ} [] (m.from + 1) 0 (omega arith)))
+
+-- what is noted stays so while marks are set
+pub noted-more : (history : List Process) (bases starts : List ℕ) (old new : List Bool) (q : ℕ) (event : Event) → ((i : ℕ) → get_or old i false ≡ true → get_or new i false ≡ true) → IsNoted history bases starts old q event → IsNoted history bases starts new q event
+noted-more history bases starts old new q event more noted = λ k m is sent number within. more (start_at starts m.from + k) (noted k m is sent number within)
+
+-- the marks of what is left tell of each message whether it is received: unless it is marked it isn't, neither before its place nor since
+pub all-told : (history : List Process) (line : List Choice) (kept places bases starts : List ℕ) (marks : List Bool) (left : List MsgName) → AreLeft history kept places left → AreKnown history line bases starts marks → AreAllNoted history line places bases starts marks
+    → AreAllTold history line bases starts marks left
+all-told history line kept places bases starts marks left are known noted = λ q k m among sent number within.
+    let tape : List Event = tape_at history q in
+    let n : ℕ = place tape (choice_at line q) in
+    let s : ℕ = place_at places q in
+    let at : ℕ = start_at starts m.from + k in
+    let was : IsUnread history places m = are.each m among in
+    let same : was.to ≡ q = same_Some _ _ (sym was.sent.to_is ∙ sent.to_is) in
+    let unread : has_received (take s tape) m ≡ false = subst (λ (j : ℕ). has_received (take (place_at places j) (tape_at history j)) m ≡ false) same was.unread in
+    let unheard : Contains (take s tape) (Recv m) → ⊥ = λ c. false≢true (sym unread ∙ (has_received-iff (take s tape) m).1 c) in
+    elim (get_or marks at false) as (λ (b : Bool). get_or marks at false ≡ b → has_received (take n tape) m ≡ b) [
+      | true ↦ λ e. known m.from k (sent_within history q m sent) (within, e) q m refl number sent
+      | false ↦ λ e. elim (has_received (take n tape) m) as (λ (b : Bool). has_received (take n tape) m ≡ b → b ≡ false) [
+        | true ↦ λ r.
+            let front : Contains (take n tape) (Recv m) = (has_received-iff (take n tape) m).0 r in
+            let inside : q < length history = elim (cases_lt q (length history)) [
+              | inl h ↦ h
+              | inr past ↦ absurd (contains_nothing (Recv m) (subst (λ (es : List Event). Contains es (Recv m)) (tape_at-past history q (omega arith)) (subst (λ (es : List Event). Contains es (Recv m)) (take-append-drop n tape) (Contains-append_left (take n tape) (drop n tape) (Recv m) front))))
+            ] in
+            elim (Contains-append_cases (take s (take n tape)) (drop s (take n tape)) (Recv m) (subst (λ (es : List Event). Contains es (Recv m)) (sym (take-append-drop s (take n tape))) front)) [
+              | inl early ↦ absurd (unheard (elim (cases_lt n s) [
+                | inl less ↦ Contains-take_more tape n s (Recv m) (omega (arith, less)) front
+                | inr more ↦ subst (λ (es : List Event). Contains es (Recv m)) (take-take s n tape (omega (arith, more))) early
+              ]))
+              | inr behind ↦ absurd (false≢true (sym e ∙ noted q inside (Recv m) behind k m refl sent number within))
+            ]
+        | false ↦ λ r. refl
+      ] refl
+    ] refl
+
+-- the marks of one process
+pub row-told : (history : List Process) (line : List Choice) (bases starts : List ℕ) (marks : List Bool) (left : List MsgName) (p base : ℕ) (row : List Bool) → AreAllTold history line bases starts marks left → base ≡ start_at bases p
+    → ((k : ℕ) → k < length row → start_at starts p + k < start_at starts (p + 1)) → ((k : ℕ) → k < length row → get_or row k false ≡ get_or marks (start_at starts p + k) false) → AreTold history line p base row left
+row-told history line bases starts marks left p base row told is inside same = λ q k m among from number within sent.
+    let here : start_at starts m.from + k < start_at starts (m.from + 1) = subst (λ (j : ℕ). start_at starts j + k < start_at starts (j + 1)) (sym from) (inside k within) in
+    told q k m among sent (omega (arith, number, is, ap (start_at bases) from)) here ∙ ap (λ (j : ℕ). get_or marks (start_at starts j + k) false) from ∙ sym (same k within)
+
+pub row-received : (history : List Process) (line : List Choice) (bases starts : List ℕ) (marks : List Bool) (p base : ℕ) (row : List Bool) → AreKnown history line bases starts marks → p < length history → base ≡ start_at bases p
+    → ((k : ℕ) → get_or row k false ≡ true → HasMark starts marks p k) → AreReceived history line p base row
+row-received history line bases starts marks p base row known inside is marked = λ k mark.
+    subst (λ (j : ℕ). IsReceived history line p (j + k)) (sym is) (known p k inside (marked k mark))
+
+-- the mark of one of the messages
+pub told-one : (history : List Process) (line : List Choice) (p base : ℕ) (marks : List Bool) (left : List MsgName) (m : MsgName) → m.from ≡ p → Contains left m → AreTold history line p base marks left → AreTold history line m.from base marks (m ∷ [])
+told-one history line p base marks left m own c told = λ q k x among from number within sent. elim (Contains-push_cases [] m x among) [
+  | inl nothing ↦ absurd (contains_nothing x nothing)
+  | inr e ↦ told q k x (subst (Contains left) e c) (from ∙ own) number within sent
+]
+
 -- as many marks, written back
 pub written-back : (len : ℕ) (new old : List Bool) → len ≡ length old → length new ≡ length old → take len (new ++ drop (length new) old) ≡ new
 written-back len new old is same = take-append-le len new (drop (length new) old) (omega (arith, is, same)) ∙ take_all len new (omega (arith, is, same))
 
--- a marked send adds nothing
-pub open-marked : (history : List Process) (line : List Choice) (p end k : ℕ) (marks : List Bool) → AreReceived history line p end marks → get_or marks k false ≡ true → end + k < sends (events_before history line p)
-    → open_first history line p (end + k + 1) ≡ open_first history line p (end + k)
-open-marked history line p end k marks are marked within =
+-- a send that is known to be received adds nothing
+pub open-marked : (history : List Process) (line : List Choice) (p number : ℕ) → IsReceived history line p number → number < sends (events_before history line p) → open_first history line p (number + 1) ≡ open_first history line p number
+open-marked history line p number are within =
     let before : List Event = events_before history line p in
-    let number : ℕ = end + k in
     let inc : ℕ = get_or (incarnations_sent before) number 0 in
     let to : ℕ = get_or (addressees before) number 0 in
     let i : slice_get (incarnations_sent before) number ≡ Some inc = slice_get-get_or (incarnations_sent before) number 0 within in
     let t : slice_get (addressees before) number ≡ Some to = slice_get-get_or (addressees before) number 0 (omega (arith, within, length_addressees before)) in
-    let received : has_received (events_before history line to) (name_of p inc number) ≡ true = are k marked to (name_of p inc number) refl refl (sent_whole history line p number inc to i t) in
+    let received : has_received (events_before history line to) (name_of p inc number) ≡ true = are to (name_of p inc number) refl refl (sent_whole history line p number inc to i t) in
     open-step history line p number inc to i t ∙ ap (λ b. open_first history line p number ++ cond b [] (name_of p inc number ∷ [])) received ∙ append-nil (open_first history line p number)

@@ -1,5 +1,5 @@
 -- What is left to look at: it stays right by every event and by a restart, and with what is received behind a line it is enough.
-use Rattle.std.proofs.Common.{◌≡◌, ℕ, zero, suc, ◌+◌, ◌<◌, ◌≤◌, Bool, true, false, not, cond, List, [], ◌∷◌, ◌++◌, length, take, drop, get_or, map, filter, Some, refl, replicate, sym, ap, ◌∙◌, subst, arith, inl, inr}
+use Rattle.std.proofs.Common.{◌≡◌, ℕ, zero, suc, ◌+◌, ◌<◌, ◌≤◌, Bool, true, false, not, cond, List, [], ◌∷◌, ◌++◌, length, take, drop, get_or, map, filter, Some, refl, replicate, sym, ap, ◌∙◌, subst, arith, inl, inr, ◌⊎◌}
 use Rattle.std.specs.List.{Contains, slice_get, flat_map, list_any, range_with_len}
 use Rattle.std.proofs.lemmas.Bool.{cases_lt, false≢true}
 use Rattle.std.proofs.lemmas.List.{take-append-drop, take-append-le, take-take, take_all, length-append, length-set, length-take, length-replicate, get_or-replicate, get_or-take}
@@ -12,7 +12,7 @@ use Rattle.line_names.specs.Lines.{choice_at}
 use Rattle.line_names.specs.Names.{is_name}
 use Rattle.line_tape.specs.declared.events.Event.{Event}
 use Rattle.line_tape.specs.declared.events.Event.TheVariants.{Recv}
-use Rattle.line_tape.specs.Event.{incarnation_of, incarnations_sent, sends}
+use Rattle.line_tape.specs.Event.{incarnation_of, incarnations_sent, sends, Holds}
 use Rattle.line_tape.specs.Fit.{IsSentTo}
 use Rattle.line_tape.specs.Front.{place, front, HasChoice}
 use Rattle.line_tape.specs.History.{Process, tape_at, with_event}
@@ -20,20 +20,21 @@ use Rattle.line_tape.specs.Line.{events_before, IsLine}
 use Rattle.line_tape.specs.Restart.{restarted_history}
 use Rattle.line_tape.specs.Transit.{Letter, letters, is_open_letter, open_letters, in_transit, has_received, names_received, addressee_of, addressees}
 use Rattle.line_tape.proofs.ChoiceLemmas.{choice-past}
-use Rattle.line_tape.proofs.EventLemmas.{length_addressees, tape_grows}
+use Rattle.line_tape.proofs.EventLemmas.{holds_more, length_addressees, tape_grows}
 use Rattle.line_tape.proofs.ListLemmas.{slice_get_front}
 use Rattle.line_tape.proofs.CutLemmas.{contains_nothing, cons_cases, sends_take}
-use Rattle.line_tape.proofs.FrontLemmas.{Contains-take_more, place_le}
+use Rattle.line_tape.proofs.FrontLemmas.{slice_get-append_left, Contains-take_more, place_le}
 use Rattle.line_tape.proofs.StayLemmas.{addressees_restarted, tape_restarted, incs_restarted, length_restarted, names_restarted}
 use Rattle.line_tape.proofs.LineLemmas.{tape_at-past, front-empty}
 use Rattle.line_tape.proofs.ReceivedLemmas.{length-letters}
 use Rattle.line_tape.proofs.TransitLemmas.{letter_of, has_received-iff, names_contain}
-use Rattle.line_catalogue.specs.Left.{open_first, place_at, start_at, numbers_at, AreEnds, AreLeft, AreCandidates, AreSettledUpTo, HasOpen, HaveLeft}
-use Rattle.line_catalogue.proofs.OpenLemmas.{letter_at}
+use Rattle.line_catalogue.specs.Left.{open_first, place_at, start_at, numbers_at, AreEnds, AreLeft, AreCandidates, AreSettledUpTo, ComeInOrder, HasOpenBeside, HaveLeft, IsOpen, IsUnread}
+use Rattle.line_catalogue.proofs.OpenLemmas.{letter_at, sent_whole}
+use Rattle.line_catalogue.proofs.OrderLemmas.{below-all, order-none, AreOpenBelow}
 
 -- what is left and what is received behind the line, but before its place, is enough to look at
-pub has-open : (history : List Process) (line : List Choice) (starts ends places : List ℕ) (left : List MsgName) (rows : List (List ℕ)) (p : ℕ) → AreLeft history starts places left → AreEnds history starts line ends → AreCandidates history line ends places left rows → p < length history
-    → HasOpen history line p (start_at ends p) (numbers_at rows p)
+pub has-open : (history : List Process) (line : List Choice) (starts ends places : List ℕ) (left : List MsgName) (rows : List (List ℕ)) (p : ℕ) → AreLeft history starts places left → AreEnds history starts line ends → AreCandidates history line ends places rows → p < length history
+    → HasOpenBeside history line p (start_at ends p) (numbers_at rows p) left
 has-open history line starts ends places left rows p are ending cand inside = λ q m from low sent unseen.
     let tape : List Event = tape_at history q in
     let n : ℕ = place tape (choice_at line q) in
@@ -41,7 +42,7 @@ has-open history line starts ends places left rows p are ending cand inside = λ
     let there : m.from < length rows = omega (arith, from, inside, cand.count) in
     let below : m.number < start_at ends m.from = omega (arith, low, ap (start_at ends) from) in
     let early : m.number < start_at starts m.from = omega (arith, below, ending.started m.from) in
-    subst (λ (j : ℕ). Contains (numbers_at rows j) m.number) from (elim (has_received (take s tape) m) as (λ (b : Bool). has_received (take s tape) m ≡ b → Contains (numbers_at rows m.from) m.number) [
+    elim (has_received (take s tape) m) as (λ (b : Bool). has_received (take s tape) m ≡ b → Contains (numbers_at rows p) m.number ⊎ Contains left m) [
       | true ↦ λ e.
           let received : Contains (take s tape) (Recv m) = (has_received-iff (take s tape) m).0 e in
           let whole : Contains tape (Recv m) = subst (λ (es : List Event). Contains es (Recv m)) (take-append-drop s tape) (Contains-append_left (take s tape) (drop s tape) (Recv m) received) in
@@ -55,10 +56,10 @@ has-open history line starts ends places left rows p are ending cand inside = λ
               | inl less ↦ unheard (Contains-take_more tape s n (Recv m) (omega (arith, less)) received)
               | inr more ↦ unheard (subst (λ (es : List Event). Contains es (Recv m)) (take-take n s tape (omega (arith, more))) front)
             ])
-            | inr behind ↦ cand.behind q within m ((names_contain (drop n (take s tape)) m).1 behind) below there
+            | inr behind ↦ inl (subst (λ (j : ℕ). Contains (numbers_at rows j) m.number) from (cand.behind q within m ((names_contain (drop n (take s tape)) m).1 behind) below there))
           ]
-      | false ↦ λ e. cand.before m (are.held q m sent early e) below there
-    ] refl)
+      | false ↦ λ e. inr (are.held q m sent early e)
+    ] refl
 
 -- an event keeps it right: a send, a receipt, a check and a mark alike
 pub AreLeft-event : (history : List Process) (starts places : List ℕ) (left : List MsgName) (at : ℕ) (e : Event) → at < length history → AreLeft history starts places left → AreLeft (with_event history at e) starts places left
@@ -89,16 +90,33 @@ AreLeft-event history starts places left at e h are =
           let mine : List Event = tape_at history q in
           let same : take (place_at places q) (tape_at new q) ≡ take (place_at places q) mine = ap (take (place_at places q)) more.1 ∙ take-append-le (place_at places q) mine more.0 (are.placed q) in
           are.held q m old low (ap (λ (es : List Event). has_received es m) (sym same) ∙ unseen);
+      order = are.order;
+      each = λ m among.
+          let was : IsUnread history places m = are.each m among in
+          let to : ℕ = was.to in
+          let grows = tape_grows history at e m.from h in
+          let tape : List Event = tape_at history m.from in
+          let more = tape_grows history at e to h in
+          let mine : List Event = tape_at history to in
+          let same : take (place_at places to) (tape_at new to) ≡ take (place_at places to) mine = ap (take (place_at places to)) more.1 ∙ take-append-le (place_at places to) mine more.0 (are.placed to) in
+          record {
+            to = to;
+            sent = record {
+              held = subst (λ (es : List Event). Holds es m.inc m.number) (sym grows.1) (holds_more tape grows.0 m.inc m.number was.sent.held);
+              to_is = ap (λ (es : List Event). slice_get (addressees es) m.number) grows.1 ∙ ap (λ (xs : List ℕ). slice_get xs m.number) (filter_map-append addressee_of tape grows.0) ∙ slice_get-append_left (addressees tape) (addressees grows.0) m.number to was.sent.to_is;
+            };
+            unread = ap (λ (es : List Event). has_received es m) same ∙ was.unread;
+          };
     }
 
-contains_cons : {X : Type 0} (x y : X) (xs : List X) → Contains xs y → Contains (x ∷ xs) y
+pub contains_cons : {X : Type 0} (x y : X) (xs : List X) → Contains xs y → Contains (x ∷ xs) y
 contains_cons x y xs c = Contains-append_right (x ∷ []) xs y c
 
-contains_first : {X : Type 0} (x : X) (xs : List X) → Contains (x ∷ xs) x
+pub contains_first : {X : Type 0} (x : X) (xs : List X) → Contains (x ∷ xs) x
 contains_first x xs = Contains-append_left (x ∷ []) xs x (Contains-push [] x)
 
 -- what passes a test stays among what passes it
-in_filter : {X : Type 0} (f : X → Bool) (xs : List X) (y : X) → f y ≡ true → Contains xs y → Contains (filter f xs) y
+pub in_filter : {X : Type 0} (f : X → Bool) (xs : List X) (y : X) → f y ≡ true → Contains xs y → Contains (filter f xs) y
 in_filter f [] y t c = absurd (contains_nothing y c)
 in_filter f (x ∷ xs) y t c = elim (cons_cases x xs y c) [
   | inl same ↦
@@ -111,7 +129,7 @@ in_filter f (x ∷ xs) y t c = elim (cons_cases x xs y c) [
   ]
 ]
 
-in_map : {X Y : Type 0} (f : X → Y) (xs : List X) (x : X) → Contains xs x → Contains (map f xs) (f x)
+pub in_map : {X Y : Type 0} (f : X → Y) (xs : List X) (x : X) → Contains xs x → Contains (map f xs) (f x)
 in_map f [] x c = absurd (contains_nothing x c)
 in_map f (z ∷ xs) x c = elim (cons_cases z xs x c) [
   | inl same ↦ subst (Contains (f z ∷ map f xs)) (ap f same) (contains_first (f z) (map f xs))
@@ -168,19 +186,18 @@ sent-front history line q m sent low =
       slice_get_front (addressees (take n tape)) (addressees (drop n tape)) m.number q (omega (arith, short, length_addressees (take n tape))) (ap (λ (xs : List ℕ). slice_get xs m.number) (sym tos) ∙ sent.to_is),
     )
 
--- what is in transit at any line is enough to be left, with the sends behind it
-pub AreLeft-line : (history : List Process) (line : List Choice) (starts places : List ℕ) → length starts ≡ length history → length places ≡ length history → ((p : ℕ) → start_at starts p ≡ sends (events_before history line p)) → ((p : ℕ) → place_at places p ≡ place (tape_at history p) (choice_at line p)) → AreLeft history starts places (in_transit history line)
-AreLeft-line history line starts places count places_count are at =
+-- what is in transit at a line has settled there, with the sends behind it
+pub transit-settled : (history : List Process) (line : List Choice) (starts : List ℕ) → length starts ≡ length history → ((p : ℕ) → start_at starts p ≡ sends (events_before history line p)) → AreSettledUpTo history line starts (in_transit history line)
+transit-settled history line starts count are =
+    let all : AreOpenBelow history line (in_transit history line) (length history) 0 = below-all history line (length history) in
     record {
       count = count;
-      places_count = places_count;
-      placed = λ p. omega (arith, at p, place_le (tape_at history p) (choice_at line p));
-      within = λ p. omega (arith, are p, sends_take (tape_at history p) (place (tape_at history p) (choice_at line p)));
-      held = λ q m sent low unseen.
-          let mine : List Event = tape_at history q in
-          let front = sent-front history line q m sent (omega (arith, low, are m.from)) in
-          let unread : has_received (events_before history line q) m ≡ false = ap (λ (j : ℕ). has_received (take j mine) m) (sym (at q)) ∙ unseen in
-          in-transit history line q m (sender-within history line starts m.from m.number (are m.from) low) front.0 front.1 unread;
+      before = λ p. omega (arith, are p);
+      held = λ p inside q m from low sent unseen.
+          let front = sent-front history line q m sent (omega (arith, low, are p, ap (λ (j : ℕ). sends (events_before history line j)) from)) in
+          in-transit history line q m (omega (arith, from, inside)) front.0 front.1 unseen;
+      order = all.order;
+      each = all.each;
     }
 
 -- a message that is sent before the line and not received before it is in transit among as many first ones
@@ -198,11 +215,10 @@ in-first history line q m k low i a unseen =
     let passes : is_open_letter history line letter ≡ true = ap not unseen in
     in_map (λ (letter : Letter). letter.message) (filter (is_open_letter history line) (take k all)) letter (in_filter (is_open_letter history line) (take k all) letter passes (m.number, short, first))
 
--- what is in transit of a process is all that is left of it
-pub have-open : (history : List Process) (line : List Choice) (p : ℕ) (before : List MsgName) → HaveLeft history line p (sends (events_before history line p)) (before ++ open_first history line p (sends (events_before history line p)))
-have-open history line p before = λ q m from low sent unseen.
-    let k : ℕ = sends (events_before history line p) in
-    let front = sent-front history line q m sent (subst (λ j. m.number < sends (events_before history line j)) (sym from) low) in
+-- what is in transit of a process's first sends is all that is left of them
+pub have-open : (history : List Process) (line : List Choice) (p k : ℕ) (before : List MsgName) → k ≤ sends (events_before history line p) → HaveLeft history line p k (before ++ open_first history line p k)
+have-open history line p k before few = λ q m from low sent unseen.
+    let front = sent-front history line q m sent (omega (arith, low, few, ap (λ (j : ℕ). sends (events_before history line j)) from)) in
     Contains-append_right before (open_first history line p k) m (subst (λ j. Contains (open_first history line j k) m) from (in-first history line q m k low front.0 front.1 unseen))
 
 -- nothing is sent by a process that there isn't
@@ -224,7 +240,20 @@ AreLeft-settled history line starts places left are places_count at =
           let mine : List Event = tape_at history q in
           let unread : has_received (events_before history line q) m ≡ false = ap (λ (j : ℕ). has_received (take j mine) m) (sym (at q)) ∙ unseen in
           are.held m.from (sender-before history line m.from m.number (omega (arith, low, are.before m.from))) q m refl low sent unread;
+      order = are.order;
+      each = λ m among.
+          let was : IsOpen history line m = are.each m among in
+          let mine : List Event = tape_at history was.to in
+          record {
+            to = was.to;
+            sent = sent_whole history line m.from m.number m.inc was.to was.held was.to_is;
+            unread = ap (λ (j : ℕ). has_received (take j mine) m) (at was.to) ∙ was.unread;
+          };
     }
+
+-- what is in transit at any line is enough to be left, with the sends behind it
+pub AreLeft-line : (history : List Process) (line : List Choice) (starts places : List ℕ) → length starts ≡ length history → length places ≡ length history → ((p : ℕ) → start_at starts p ≡ sends (events_before history line p)) → ((p : ℕ) → place_at places p ≡ place (tape_at history p) (choice_at line p)) → AreLeft history starts places (in_transit history line)
+AreLeft-line history line starts places count places_count are at = AreLeft-settled history line starts places (in_transit history line) (transit-settled history line starts count are) places_count at
 
 -- after a restart what was in transit at the line is left to look at, from where the tapes go on
 pub AreLeft-restarted : (history : List Process) (line : List Choice) (starts places : List ℕ) → length line ≡ length history → length starts ≡ length history → length places ≡ length (restarted_history history line) → ((p : ℕ) → start_at starts p ≡ sends (events_before history line p)) → ((p : ℕ) → place_at places p ≡ length (tape_at (restarted_history history line) p))
@@ -242,16 +271,33 @@ AreLeft-restarted history line starts places e count places_count are at =
           let whole : take (place_at places q) (tape_at (restarted_history history line) q) ≡ tape_at (restarted_history history line) q = take_all (place_at places q) (tape_at (restarted_history history line) q) (omega (arith, at q)) in
           let unread : has_received (tape_at (restarted_history history line) q) m ≡ false = ap (λ (es : List Event). has_received es m) (sym whole) ∙ unseen in
           in-transit history line q m (sender-within history line starts m.from m.number (are m.from) low) i (ap (λ (xs : List ℕ). slice_get xs m.number) (sym tos) ∙ sent.to_is) (ap (list_any (is_name m)) (sym names) ∙ unread);
+      order = (below-all history line (length history)).order;
+      each = λ m among.
+          let was : IsOpen history line m = (below-all history line (length history)).each m among in
+          let to : ℕ = was.to in
+          let tos : addressees (tape_at (restarted_history history line) m.from) ≡ addressees (events_before history line m.from) = ap addressees (tape_restarted history line m.from e) ∙ addressees_restarted (events_before history line m.from) in
+          let names : names_received (tape_at (restarted_history history line) to) ≡ names_received (events_before history line to) = ap names_received (tape_restarted history line to e) ∙ names_restarted (events_before history line to) in
+          let whole : take (place_at places to) (tape_at (restarted_history history line) to) ≡ tape_at (restarted_history history line) to = take_all (place_at places to) (tape_at (restarted_history history line) to) (omega (arith, at to)) in
+          record {
+            to = to;
+            sent = record {
+              held = ap (λ (xs : List ℕ). slice_get xs m.number) (incs_restarted history line m.from e) ∙ was.held;
+              to_is = ap (λ (xs : List ℕ). slice_get xs m.number) tos ∙ was.to_is;
+            };
+            unread = ap (λ (es : List Event). has_received es m) whole ∙ ap (list_any (is_name m)) names ∙ was.unread;
+          };
     }
 
 -- where each send is to be looked at, nothing has to be left
-pub AreLeft-anew : (history : List Process) (starts places : List ℕ) (left : List MsgName) → length starts ≡ length history → length places ≡ length history → ((p : ℕ) → start_at starts p ≡ 0) → ((p : ℕ) → place_at places p ≡ 0) → AreLeft history starts places left
-AreLeft-anew history starts places left count places_count none first = record {
+pub AreLeft-anew : (history : List Process) (starts places : List ℕ) (left : List MsgName) → length starts ≡ length history → length places ≡ length history → ((p : ℕ) → start_at starts p ≡ 0) → ((p : ℕ) → place_at places p ≡ 0) → left ≡ [] → AreLeft history starts places left
+AreLeft-anew history starts places left count places_count none first empty = record {
   count = count;
   places_count = places_count;
   within = λ p. omega (arith, none p);
   placed = λ p. omega (arith, first p);
   held = λ q m sent low unseen. absurd (omega (arith, low, none m.from));
+  order = subst ComeInOrder (sym empty) order-none;
+  each = λ m among. absurd (contains_nothing m (subst (λ (xs : List MsgName). Contains xs m) empty among));
 }
 
 -- one end more keeps all ends within their bounds

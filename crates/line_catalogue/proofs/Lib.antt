@@ -6,7 +6,9 @@ pub mod RestartLemmas
 pub mod TableLemmas
 pub mod NumberLemmas
 pub mod OpenLemmas
+pub mod OrderLemmas
 pub mod LeftLemmas
+pub mod SenderLemmas
 pub mod DamageLemmas
 pub mod LaidLemmas
 pub mod KnownLemmas

@@ -3,7 +3,7 @@ use Rattle.std.proofs.Common.{◌≡◌, ℕ, ◌<◌, List, [], ◌∷◌, ◌+
 use Rattle.std.specs.List.{Contains}
 use Rattle.std.proofs.lemmas.Bool.{cases_eq}
 use Rattle.std.proofs.lemmas.List.{length-set, get_or-set_same, get_or-set_other, get_or_default}
-use Rattle.std.proofs.lemmas.List.Elements.{Contains-append_left, Contains-append_right, Contains-push, Contains-push_cases}
+use Rattle.std.proofs.lemmas.List.Elements.{Contains-append_left, Contains-push, Contains-push_cases}
 use Rattle.line_names.specs.declared.messages.MsgName.{MsgName}
 use Rattle.line_tape.proofs.CutLemmas.{contains_nothing}
 use Rattle.line_catalogue.specs.Left.{numbers_at, start_at, AreIn}
@@ -13,9 +13,6 @@ in-none ends rows = λ m c low l. absurd (contains_nothing m c)
 
 pub in-left : (xs ys : List MsgName) (ends : List ℕ) (rows : List (List ℕ)) → AreIn (xs ++ ys) ends rows → AreIn xs ends rows
 in-left xs ys ends rows h = λ m c low l. h m (Contains-append_left xs ys m c) low l
-
-pub in-right : (xs ys : List MsgName) (ends : List ℕ) (rows : List (List ℕ)) → AreIn (xs ++ ys) ends rows → AreIn ys ends rows
-in-right xs ys ends rows h = λ m c low l. h m (Contains-append_right xs ys m c) low l
 
 -- a message more, whose sender has no row, or whose number is not below the sender's end
 pub in-past : (names : List MsgName) (m : MsgName) (ends : List ℕ) (rows : List (List ℕ)) → (m.number < start_at ends m.from → m.from < length rows → ⊥) → AreIn names ends rows → AreIn (names ++ m ∷ []) ends rows

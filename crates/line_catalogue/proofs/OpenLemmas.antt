@@ -3,11 +3,12 @@ use Rattle.std.proofs.Common.{◌≡◌, ℕ, zero, suc, ◌+◌, ◌<◌, ◌�
 use Rattle.std.specs.List.{Contains, slice_get}
 use Rattle.std.specs.List.Sorted.{IsNonDecreasing}
 use Rattle.std.proofs.lemmas.Bool.{cases_lt}
-use Rattle.std.proofs.lemmas.List.{append-nil, take-append-drop, take_all, take_more, map-append, get_or_default}
+use Rattle.std.proofs.lemmas.List.{append-nil, take-append-drop, take-take, take_all, take_more, map-append, get_or_default}
 use Rattle.std.proofs.lemmas.List.Elements.{filter_map-append, filter-append}
 use Rattle.std.proofs.lemmas.Option.{same_Some, slice_get_within, slice_get-get_or}
 use Rattle.line_names.specs.declared.choices.Choice.{Choice}
 use Rattle.line_names.specs.Lines.{choice_at}
+use Rattle.line_names.specs.declared.messages.MsgName.{MsgName}
 use Rattle.line_tape.specs.declared.events.Event.{Event}
 use Rattle.line_tape.specs.declared.events.Event.TheVariants.{Send, Recv, Check, Mark}
 use Rattle.line_tape.specs.Event.{incarnation_of, incarnations_sent, sends}
@@ -110,6 +111,25 @@ module _ (history : List Process) (line : List Choice) (p : ℕ) where
       let i : slice_get (incarnations_sent (events_before history line p)) k ≡ Some inc = slice_get_front (incarnations_sent (take n tape)) (incarnations_sent (drop n tape)) k inc within (ap (λ (xs : List ℕ). slice_get xs k) (sym incs) ∙ told) in
       let a : slice_get (addressees (events_before history line p)) k ≡ Some to = slice_get_front (addressees (take n tape)) (addressees (drop n tape)) k to (omega (arith, within, length_addressees (take n tape))) (ap (λ (xs : List ℕ). slice_get xs k) (sym tos) ∙ named) in
       open-step k inc to i a
+
+-- what is in transit of more messages begins with what is of fewer
+pub open-front : (history : List Process) (line : List Choice) (p a b : ℕ) → a ≤ b → (rest : List MsgName) × (open_first history line p b ≡ open_first history line p a ++ rest)
+open-front history line p a b up =
+    let all : List Letter = letters p 0 (events_before history line p) in
+    let of : List Letter → List MsgName = λ ls. map (λ (letter : Letter). letter.message) (filter (is_open_letter history line) ls) in
+    let behind : List Letter = drop a (take b all) in (
+      of behind,
+      ap of (sym (take-append-drop a (take b all)) ∙ ap (λ (ls : List Letter). ls ++ behind) (take-take a b all up))
+          ∙ ap (map (λ (letter : Letter). letter.message)) (filter-append (is_open_letter history line) (take a all) behind)
+          ∙ map-append (λ (letter : Letter). letter.message) (filter (is_open_letter history line) (take a all)) (filter (is_open_letter history line) behind),
+    )
+
+-- a test that is negated
+pub flipped : (a b : Bool) → not a ≡ b → a ≡ not b
+flipped true true e = sym e
+flipped true false e = refl
+flipped false true e = refl
+flipped false false e = sym e
 
 -- of an ordered row whose first numbers are below a or past the end, no number is from a up to the next
 pub none_between : (row : List ℕ) (end index a b : ℕ) → IsNonDecreasing row → ((j : ℕ) → j < index → (get_or row j 0 < a) ⊎ (end ≤ get_or row j 0)) → b ≤ end → (index < length row → b ≤ get_or row index 0)

@@ -1,14 +1,17 @@
--- Marks at sends that are received before a line: sound, but not all of them.
-use Rattle.std.specs.Prelude.{◌≡◌, ℕ, ◌+◌, ◌<◌, ◌≤◌, Bool, false, true, List, length}
-use Rattle.std.specs.Prelude.{slice_index_or}
+-- Marks at sends that are received before a line: they are sound, and have what is received between
+-- two lines.
+use Rattle.std.specs.Prelude.{◌≡◌, ℕ, ◌+◌, ◌<◌, ◌≤◌, Bool, false, true, List, length, drop}
+use Rattle.std.specs.Prelude.{Contains, slice_index_or}
 use Rattle.std.specs.List.Sorted.{IsNonDecreasing}
 use Rattle.line_names.specs.declared.choices.Choice.{Choice}
 use Rattle.line_names.specs.declared.messages.MsgName.{MsgName}
+use Rattle.line_tape.specs.declared.events.Event.{Event}
+use Rattle.line_tape.specs.declared.events.Event.TheVariants.{Recv}
 use Rattle.line_tape.specs.Fit.{IsSentTo}
 use Rattle.line_tape.specs.History.{Process}
 use Rattle.line_tape.specs.Line.{events_before}
 use Rattle.line_tape.specs.Transit.{has_received}
-use Rattle.line_catalogue.specs.Left.{start_at}
+use Rattle.line_catalogue.specs.Left.{place_at, start_at}
 
 -- whatever process p sent under that number is received before the line
 abbrev pub IsReceived : List Process → List Choice → ℕ → ℕ → Type 0
@@ -17,10 +20,18 @@ IsReceived history line p number =
     → IsSentTo history q message
     → has_received (events_before history line q) message ≡ true
 
--- what is marked of process p's sends from `end` on is received before the line
+-- what is marked of process p's sends from `base` on is received before the line
 abbrev pub AreReceived : List Process → List Choice → ℕ → ℕ → List Bool → Type 0
-AreReceived history line p end marks =
-    (k : ℕ) → slice_index_or marks k false ≡ true → IsReceived history line p (end + k)
+AreReceived history line p base marks =
+    (k : ℕ) → slice_index_or marks k false ≡ true → IsReceived history line p (base + k)
+
+-- the mark of each of these messages of process p, whose marks begin at `base`, tells whether it is
+-- received before the line
+abbrev pub AreTold : List Process → List Choice → ℕ → ℕ → List Bool → List MsgName → Type 0
+AreTold history line p base marks left =
+    (q k : ℕ) (message : MsgName) → Contains left message → message.from ≡ p
+    → message.number ≡ base + k → k < length marks → IsSentTo history q message
+    → has_received (events_before history line q) message ≡ slice_index_or marks k false
 
 -- the marks of each process stand from its start up to the start of the next one
 pub record AreMarkRows (history : List Process) (starts : List ℕ) (marks : List Bool) : Type 0 where
@@ -34,8 +45,39 @@ HasMark starts marks p k =
     (start_at starts p + k < start_at starts (p + 1))
     × (slice_index_or marks (start_at starts p + k) false ≡ true)
 
--- what is marked of each process's sends from its end on is received before the line
+-- what is marked of each process's sends from its base on is received before the line
 abbrev pub AreKnown : List Process → List Choice → List ℕ → List ℕ → List Bool → Type 0
-AreKnown history line ends starts marks =
+AreKnown history line bases starts marks =
     (p k : ℕ) → p < length history → HasMark starts marks p k
-    → IsReceived history line p (start_at ends p + k)
+    → IsReceived history line p (start_at bases p + k)
+
+-- what process q receives by the event is marked, if it was sent to q and there is a mark for it
+abbrev pub IsNoted : List Process → List ℕ → List ℕ → List Bool → ℕ → Event → Type 0
+IsNoted history bases starts marks q event =
+    (k : ℕ) (message : MsgName) → event ≡ Recv message → IsSentTo history q message
+    → message.number ≡ start_at bases message.from + k
+    → start_at starts message.from + k < start_at starts (message.from + 1)
+    → slice_index_or marks (start_at starts message.from + k) false ≡ true
+
+-- so is all that process q receives after its first `place` events and before the line
+abbrev pub AreNotedSince : List Process → List Choice → List ℕ → List ℕ → List Bool → ℕ → ℕ
+    → Type 0
+AreNotedSince history line bases starts marks q place =
+    (event : Event) → Contains (drop place (events_before history line q)) event
+    → IsNoted history bases starts marks q event
+
+-- so is all that any process receives after its place and before the line
+abbrev pub AreAllNoted : List Process → List Choice → List ℕ → List ℕ → List ℕ → List Bool → Type 0
+AreAllNoted history line places bases starts marks =
+    (q : ℕ) → q < length history
+    → AreNotedSince history line bases starts marks q (place_at places q)
+
+-- the mark of each message that is left tells whether it is received before the line
+abbrev pub AreAllTold : List Process → List Choice → List ℕ → List ℕ → List Bool → List MsgName
+    → Type 0
+AreAllTold history line bases starts marks left =
+    (q k : ℕ) (message : MsgName) → Contains left message → IsSentTo history q message
+    → message.number ≡ start_at bases message.from + k
+    → start_at starts message.from + k < start_at starts (message.from + 1)
+    → has_received (events_before history line q) message
+    ≡ slice_index_or marks (start_at starts message.from + k) false

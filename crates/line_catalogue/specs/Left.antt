@@ -1,19 +1,22 @@
 -- What is kept so that what is in transit is found from little: what was in transit at some line,
 -- and the sends and events before it.
-use Rattle.std.specs.Prelude.{◌≡◌, ℕ, ◌<◌, ◌≤◌, Bool, false, List, [], length, map, filter}
-use Rattle.std.specs.Prelude.{take, drop, Contains, IsTrue, slice_index_or}
+use Rattle.std.specs.Prelude.{◌≡◌, ◌⊎◌, ℕ, ◌==◌, ◌<◌, ◌≤◌, Bool, false, List, [], length, map}
+use Rattle.std.specs.Prelude.{filter, take, drop, AllPairs, Contains, IsTrue, slice_get}
+use Rattle.std.specs.Prelude.{slice_index_or, Some}
+use Rattle.std.specs.List.Sorted.{IsNonDecreasingBy}
 use Rattle.line_names.specs.declared.choices.Choice.{Choice}
 use Rattle.line_names.specs.declared.messages.MsgName.{MsgName}
 use Rattle.line_names.specs.Lines.{choice_at}
 use Rattle.line_names.specs.Sets.{is_member}
 use Rattle.line_tape.specs.declared.events.Event.{Event}
 use Rattle.line_tape.specs.declared.events.Event.TheVariants.{Recv}
-use Rattle.line_tape.specs.Event.{sends}
+use Rattle.line_tape.specs.Event.{sends, Holds}
 use Rattle.line_tape.specs.Fit.{IsSentTo}
 use Rattle.line_tape.specs.Front.{place}
 use Rattle.line_tape.specs.History.{Process, tape_at}
 use Rattle.line_tape.specs.Line.{events_before}
-use Rattle.line_tape.specs.Transit.{Letter, letters, is_open_letter, has_received, names_received}
+use Rattle.line_tape.specs.Transit.{Letter, letters, addressees, is_open_letter, has_received}
+use Rattle.line_tape.specs.Transit.{names_received}
 
 -- how many first sends of process p are not to be looked at again, but for those that are left
 abbrev pub start_at : List ℕ → ℕ → ℕ
@@ -23,7 +26,19 @@ start_at starts p = slice_index_or starts p 0
 abbrev pub place_at : List ℕ → ℕ → ℕ
 place_at places p = slice_index_or places p 0
 
--- of what was sent before the starts, all that isn't received before the places is left to look at
+-- the messages come by sender, and those of one sender by number
+pub record ComeInOrder (messages : List MsgName) : Type 0 where
+  pub senders : IsNonDecreasingBy (λ (message : MsgName). message.from) messages
+  pub numbers : AllPairs (λ (a b : MsgName). a.from ≡ b.from → a.number < b.number) messages
+
+-- the message was sent, to a process that doesn't receive it before its place
+pub record IsUnread (history : List Process) (places : List ℕ) (message : MsgName) : Type 0 where
+  pub to : ℕ
+  pub sent : IsSentTo history to message
+  pub unread : has_received (take (place_at places to) (tape_at history to)) message ≡ false
+
+-- of what was sent before the starts, all that isn't received before the places is left to look at,
+-- in order; nothing that is left is received before the places
 pub record AreLeft (history : List Process) (starts places : List ℕ)
     (left : List MsgName) : Type 0 where
   pub count : length starts ≡ length history
@@ -34,6 +49,17 @@ pub record AreLeft (history : List Process) (starts places : List ℕ)
       → message.number < start_at starts message.from
       → has_received (take (place_at places q) (tape_at history q)) message ≡ false
       → Contains left message
+  pub order : ComeInOrder left
+  pub each : (message : MsgName) → Contains left message → IsUnread history places message
+
+-- those of the messages that process p sent
+abbrev pub sent_by : ℕ → List MsgName → List MsgName
+sent_by p messages = filter (λ (message : MsgName). message.from == p) messages
+
+-- each of the messages was sent
+abbrev pub AreSent : List Process → List MsgName → Type 0
+AreSent history messages =
+    (message : MsgName) → Contains messages message → (q : ℕ) × IsSentTo history q message
 
 -- what process p did after its choice, among its first `kept` events
 abbrev pub events_between : List Process → List Choice → ℕ → ℕ → List Event
@@ -58,12 +84,10 @@ AreIn names ends rows =
     → message.from < length rows
     → Contains (numbers_at rows message.from) message.number
 
--- for each process a row, with what is left to look at and what is received after the line, but
--- before its place
+-- for each process a row, with what is received after the line, but before its place
 pub record AreCandidates (history : List Process) (line : List Choice) (ends places : List ℕ)
-    (left : List MsgName) (rows : List (List ℕ)) : Type 0 where
+    (rows : List (List ℕ)) : Type 0 where
   pub count : length rows ≡ length history
-  pub before : AreIn left ends rows
   pub behind : (q : ℕ) → q < length history
       → AreIn (names_received (events_between history line q (place_at places q))) ends rows
 
@@ -81,6 +105,15 @@ HasOpen history line p end row =
     → IsSentTo history q message
     → has_received (events_before history line q) message ≡ false → Contains row message.number
 
+-- of process p's first `end` messages that aren't received before the line the row has the number,
+-- unless they are left
+abbrev pub HasOpenBeside : List Process → List Choice → ℕ → ℕ → List ℕ → List MsgName → Type 0
+HasOpenBeside history line p end row left =
+    (q : ℕ) (message : MsgName) → message.from ≡ p → message.number < end
+    → IsSentTo history q message
+    → has_received (events_before history line q) message ≡ false
+    → Contains row message.number ⊎ Contains left message
+
 -- what is in transit of the first k messages of process p
 abbrev pub open_first : List Process → List Choice → ℕ → ℕ → List MsgName
 open_first history line p k =
@@ -95,10 +128,20 @@ HaveLeft history line p k messages =
     → IsSentTo history q message
     → has_received (events_before history line q) message ≡ false → Contains messages message
 
--- for each process a start before the line, and all that was sent before it and isn't received
--- before the line is left
+-- the message is sent before the line, to a process that doesn't receive it before the line
+pub record IsOpen (history : List Process) (line : List Choice) (message : MsgName) : Type 0 where
+  pub to : ℕ
+  pub held : Holds (events_before history line message.from) message.inc message.number
+  pub to_is : slice_get (addressees (events_before history line message.from)) message.number
+      ≡ Some to
+  pub unread : has_received (events_before history line to) message ≡ false
+
+-- for each process a start before the line; all that was sent before it and isn't received before
+-- the line is left, in order, and nothing that is received there
 pub record AreSettledUpTo (history : List Process) (line : List Choice) (starts : List ℕ)
     (left : List MsgName) : Type 0 where
   pub count : length starts ≡ length history
   pub before : (p : ℕ) → start_at starts p ≤ sends (events_before history line p)
   pub held : (p : ℕ) → p < length history → HaveLeft history line p (start_at starts p) left
+  pub order : ComeInOrder left
+  pub each : (message : MsgName) → Contains left message → IsOpen history line message

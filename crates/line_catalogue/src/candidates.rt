@@ -10,8 +10,8 @@ ghost use Rattle.line_tape.specs.Transit.{names_received};
 ghost use Rattle.line_catalogue.specs.Left.{events_between, place_at, start_at, AreCandidates};
 ghost use Rattle.line_catalogue.specs.Left.{AreIn, AreStrangers};
 
-use crate::numbers::{Numbers, add_names, add_receipts, empty_rows};
-use line_names::{Choice, Line, MsgName, ProcId, ProcSet};
+use crate::numbers::{Numbers, add_receipts, empty_rows};
+use line_names::{Choice, Line, ProcId, ProcSet};
 use line_tape::{Events, History};
 use std::alloc::{AllocError, Global};
 
@@ -68,15 +68,13 @@ fn add_heard(
     add_receipts(events, ends, rows)
 }
 
-/// For each process the numbers of sends to look at among as many first ones as its end tells: of
-/// what was kept, and of what is received after the line, but before what was kept. All others are
-/// looked at one by one. Where all ends are 0 there are none, and no event is walked, nor are those
-/// of strangers.
+/// For each process the numbers of sends to look at among as many first ones as its end tells,
+/// beside those that were kept: of what is received after the line, but before the kept line. Where
+/// all ends are 0 there are none, and no event is walked, nor are those of strangers.
 pub fn candidates(
     history: &History,
     ends: &[u32],
     places: &[u32],
-    left: &[MsgName],
     strangers: &ProcSet,
     alloc: Global,
     line: &Line,
@@ -88,16 +86,13 @@ pub fn candidates(
     requires strangers { AreStrangers history.now.processes line.now strangers.now }
     requires places { (q : ℕ) → place_at places.now q ≤ length (tape_at history.now.processes q) }
     ensures { IfOk result (λ rows.
-        AreCandidates history.now.processes line.now ends.now places.now left.now rows.items) }
+        AreCandidates history.now.processes line.now ends.now places.now rows.items) }
 {
     let n = history.n();
+    let mut rows = empty_rows(alloc, n, 0)?;
     if are_none(ends) {
-        let blank = empty_rows(alloc, n, 0)?;
-        return Ok(blank);
+        return Ok(rows);
     }
-    // As much room for each as what was kept takes, if all sent alike.
-    let mut rows = empty_rows(alloc, n, left.len() / n as usize)?;
-    add_names(left, ends, &mut rows)?;
     for receiver in 0..n {
         let q = ProcId::try_new(receiver, n).unwrap();
         let events = events_between(history, line, q, places[receiver as usize]);

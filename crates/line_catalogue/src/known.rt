@@ -1,39 +1,76 @@
 //! Which sends are known to be received, so that they need not be asked for.
-ghost use Rattle.std.specs.Prelude.{◌≡◌, ◌<◌, ◌≤◌, ◌+◌, ◌↔◌, ℕ, List, Bool, false, true};
-ghost use Rattle.std.specs.Prelude.{length, replicate, slice_index_or, Contains, IfOk, IsTrue};
+ghost use Rattle.std.specs.Prelude.{◌≡◌, ◌<◌, ◌≤◌, ◌+◌, ◌-◌, ◌↔◌, ℕ, List, Bool, false, true};
+ghost use Rattle.std.specs.Prelude.{length, slice_get, slice_index_or, Contains, IfOk, IsTrue};
+ghost use Rattle.std.specs.Prelude.{[], None};
 ghost use Rattle.std.specs.List.Sorted.{IsNonDecreasing};
 ghost use Rattle.line_names.specs.declared.choices.Choice.{Choice};
+ghost use Rattle.line_tape.specs.declared.events.Event.TheVariants.{Recv};
 ghost use Rattle.line_tape.specs.Event.{NamesBelow};
 ghost use Rattle.line_tape.specs.Fit.{IsSentTo};
 ghost use Rattle.line_tape.specs.Line.{events_before, IsLine};
 ghost use Rattle.line_tape.specs.Shown.{event_of_ref};
 ghost use Rattle.line_tape.specs.Transit.{has_received};
-ghost use Rattle.line_catalogue.specs.Known.{AreKnown, AreMarkRows, HasMark};
+ghost use Rattle.line_catalogue.specs.Known.{AreAllNoted, AreKnown, AreMarkRows, AreNotedSince};
+ghost use Rattle.line_catalogue.specs.Known.{HasMark, IsNoted};
+ghost use Rattle.line_catalogue.specs.Left.{start_at};
 
 use line_names::{Line, MsgName, ProcId};
 use line_tape::{EventRef, History};
 use std::alloc::{AllocError, Global};
 
-// So many events are walked at most for each send that may be marked: less work than to ask of it.
+// So many events are walked at most for each send that is to be asked of otherwise: less work than
+// to ask of it.
 const EVENTS_FOR_A_SEND: u64 = 8;
 
-// So many sends may be marked at most for each event that is walked: others are asked of in vain.
+// So many sends since the kept line may be marked at most for each event that is walked and each
+// message that was kept: others are asked of in vain.
 const SENDS_FOR_AN_EVENT: u64 = 8;
 
-/// For each process marks at its sends from its end on that stand before a line. Those of all
+// So many marks are there before the kept line for each message that was kept, on the average. The
+// messages that were sent before these are asked of.
+const MARKS_FOR_A_MESSAGE: usize = 8;
+
+/// For each process marks at its sends from its base on that stand before a line. Those of all
 /// processes stand one after another, so that memory is not asked for process by process.
 #[derive(Drop)]
 pub struct Known {
+    // For each process its first send that has a mark.
+    pub bases: Vec<u32>,
     // Where the marks of each process begin, and after the last one where they end.
     pub starts: Vec<usize>,
     pub marks: Vec<bool>,
 }
 
 impl Known {
+    /// No marks.
+    fn none(alloc: Global) -> Known
+        ensures starts { result.starts.items ≡ [] }
+    {
+        Known {
+            bases: Vec::new(alloc),
+            starts: Vec::new(alloc),
+            marks: Vec::new(alloc),
+        }
+    }
+
+    /// The first send of a process that has a mark.
+    pub fn base(&self, p: u32) -> u32
+        ensures { result ≡ start_at self.now.bases.items p }
+    {
+        match self.bases.as_slice().get(p as usize) {
+            Some(base) => *base,
+            None => 0,
+        }
+    }
+
     /// The marks of a process; none where there was no memory for them.
     pub fn row(&self, p: u32) -> &[bool]
-        ensures { (k : ℕ) → slice_index_or result.now k false ≡ true
+        ensures marked { (k : ℕ) → slice_index_or result.now k false ≡ true
             → HasMark self.now.starts.items self.now.marks.items p k }
+        ensures within { (k : ℕ) → k < length result.now
+            → start_at self.now.starts.items p + k < start_at self.now.starts.items (p + 1) }
+        ensures same { (k : ℕ) → k < length result.now → slice_index_or result.now k false
+            ≡ slice_index_or self.now.marks.items (start_at self.now.starts.items p + k) false }
     {
         let p = p as usize;
         let starts = self.starts.as_slice();
@@ -51,25 +88,37 @@ impl Known {
     }
 }
 
-/// Whether the send after `k` others is marked.
-pub fn is_marked(marks: &[bool], k: u32) -> bool
-    ensures { result ≡ slice_index_or marks.now k false }
+/// The mark of a send, where the marks begin at `base`; none where it has none.
+pub fn mark_of(marks: &[bool], base: u32, number: u32) -> Option<bool>
+    ensures before { number < base → result ≡ None }
+    ensures since { base ≤ number → result ≡ slice_get marks.now (number - base) }
 {
-    match marks.get(k as usize) {
-        Some(mark) => *mark,
-        None => false,
+    if number < base {
+        return None;
     }
+    marks.get((number - base) as usize).copied()
+}
+
+/// For each process its first send that has a mark: so many before its end.
+fn find_bases(ends: &[u32], before: u32, alloc: Global) -> Result<Vec<u32>, AllocError>
+    ensures { IfOk result (λ bases. length bases.items ≡ length ends.now) }
+{
+    let mut bases = Vec::from_slice(alloc, ends)?;
+    for p in 0..bases.len() {
+        bases[p] = bases[p].saturating_sub(before);
+    }
+    Ok(bases)
 }
 
 /// Where the marks of each process begin: after those of the processes before it.
 fn find_starts(
     history: &History,
-    ends: &[u32],
+    bases: &[u32],
     alloc: Global,
     line: &Line,
 ) -> Result<Vec<usize>, AllocError>
     requires line { IsLine history.now.processes line.now }
-    requires count { length ends.now ≡ length history.now.processes }
+    requires count { length bases.now ≡ length history.now.processes }
     ensures count { IfOk result (λ starts.
         length starts.items ≡ length history.now.processes + 1) }
     ensures sorted { IfOk result (λ starts. IsNonDecreasing starts.items) }
@@ -82,16 +131,23 @@ fn find_starts(
         let p = ProcId::try_new(q, n).unwrap();
         let sends = history.tape(p).sends_before(line.at(p));
         // No history has so many sends that this ends at the greatest number.
-        start = start.saturating_add(sends.saturating_sub(ends[q as usize]) as usize);
+        start = start.saturating_add(sends.saturating_sub(bases[q as usize]) as usize);
     }
     starts.push_reserved(start);
     Ok(starts)
 }
 
-/// Whether there are events between the places and the line, and neither many nor few beside the
-/// sends to ask of. If they are many, to ask costs less than to walk them; if they are few, most
-/// sends get no mark.
-fn is_worth_walking(history: &History, ends: &[u32], places: &[u32], line: &Line) -> bool
+/// Whether there are sends to ask of otherwise, and the events between the places and the line are
+/// neither many nor few beside them. If they are many, to ask costs less than to walk them; if they
+/// are few, most sends since the kept line get no mark. Of what was kept each message that has no
+/// mark is known, too.
+fn is_worth_walking(
+    history: &History,
+    ends: &[u32],
+    places: &[u32],
+    kept: usize,
+    line: &Line,
+) -> bool
     requires line { IsLine history.now.processes line.now }
     requires count { length ends.now ≡ length history.now.processes }
     requires places { length places.now ≡ length history.now.processes }
@@ -110,15 +166,31 @@ fn is_worth_walking(history: &History, ends: &[u32], places: &[u32], line: &Line
             .saturating_sub(ends[q as usize]);
         sends = sends.saturating_add(u64::from(asked));
     }
-    0 < events
-        && events <= sends.saturating_mul(EVENTS_FOR_A_SEND)
-        && sends <= events.saturating_mul(SENDS_FOR_AN_EVENT)
+    let kept = kept as u64;
+    let asked = sends.saturating_add(kept);
+    0 < asked
+        && events <= asked.saturating_mul(EVENTS_FOR_A_SEND)
+        && sends
+            <= events
+                .saturating_add(kept)
+                .saturating_mul(SENDS_FOR_AN_EVENT)
+}
+
+/// How many sends of each process before its end have a mark, where so many messages of `n`
+/// processes were kept.
+fn marks_before(kept: usize, n: u32) -> u32 {
+    if n == 0 {
+        return 0;
+    }
+    let marks = kept.saturating_mul(MARKS_FOR_A_MESSAGE) / n as usize;
+    marks.min(u32::MAX as usize) as u32
 }
 
 /// The marks of all processes, none of them set.
 fn unmarked(
     history: &History,
     ends: &[u32],
+    kept: usize,
     alloc: Global,
     line: &Line,
 ) -> Result<Known, AllocError>
@@ -126,13 +198,20 @@ fn unmarked(
     requires count { length ends.now ≡ length history.now.processes }
     ensures rows { IfOk result (λ known.
         AreMarkRows history.now.processes known.starts.items known.marks.items) }
-    ensures none { IfOk result (λ known.
-        AreKnown history.now.processes line.now ends.now known.starts.items known.marks.items) }
+    ensures bases { IfOk result (λ known.
+        length known.bases.items ≡ length history.now.processes) }
+    ensures none { IfOk result (λ known. AreKnown history.now.processes line.now
+        known.bases.items known.starts.items known.marks.items) }
 {
-    let starts = find_starts(history, ends, alloc, line)?;
+    let bases = find_bases(ends, marks_before(kept, history.n()), alloc)?;
+    let starts = find_starts(history, bases.as_slice(), alloc, line)?;
     let all = starts[starts.len() - 1];
     let marks = vec![in alloc; false; all]?;
-    Ok(Known { starts, marks })
+    Ok(Known {
+        bases,
+        starts,
+        marks,
+    })
 }
 
 /// Whether the sender's tape holds the message, and its send is to process `q`.
@@ -152,22 +231,26 @@ fn mark_send(
     history: &History,
     q: ProcId,
     message: &MsgName,
-    ends: &[u32],
+    bases: &[u32],
     starts: &[usize],
     marks: &mut [bool],
 )
     requires sender { message.now.from < length history.now.processes }
-    requires ends { length ends.now ≡ length history.now.processes }
+    requires bases { length bases.now ≡ length history.now.processes }
     requires rows { AreMarkRows history.now.processes starts.now marks.old }
-    ensures { (line : List Choice)
+    ensures known { (line : List Choice)
         → has_received (events_before history.now.processes line q) message.now ≡ true
-        → AreKnown history.now.processes line ends.now starts.now marks.old
-        → AreKnown history.now.processes line ends.now starts.now marks.new }
+        → AreKnown history.now.processes line bases.now starts.now marks.old
+        → AreKnown history.now.processes line bases.now starts.now marks.new }
+    ensures kept { (i : ℕ) → slice_index_or marks.old i false ≡ true
+        → slice_index_or marks.new i false ≡ true }
+    ensures noted { IsNoted history.now.processes bases.now starts.now marks.new q
+        (Recv message.now) }
 {
     let p = message.from.get() as usize;
-    let end = ends[p];
-    if end <= message.number {
-        let k = (message.number - end) as usize;
+    let base = bases[p];
+    if base <= message.number {
+        let k = (message.number - base) as usize;
         let start = starts[p];
         if k < starts[p + 1] - start && is_sent_to(history, message, q) {
             marks[start + k] = true;
@@ -180,20 +263,24 @@ fn mark_receipt(
     history: &History,
     q: ProcId,
     event: &EventRef<'_>,
-    ends: &[u32],
+    bases: &[u32],
     starts: &[usize],
     marks: &mut [bool],
 )
     requires names { NamesBelow (length history.now.processes) (event_of_ref event.now) }
-    requires ends { length ends.now ≡ length history.now.processes }
+    requires bases { length bases.now ≡ length history.now.processes }
     requires rows { AreMarkRows history.now.processes starts.now marks.old }
-    ensures { (line : List Choice)
+    ensures known { (line : List Choice)
         → Contains (events_before history.now.processes line q) (event_of_ref event.now)
-        → AreKnown history.now.processes line ends.now starts.now marks.old
-        → AreKnown history.now.processes line ends.now starts.now marks.new }
+        → AreKnown history.now.processes line bases.now starts.now marks.old
+        → AreKnown history.now.processes line bases.now starts.now marks.new }
+    ensures kept { (i : ℕ) → slice_index_or marks.old i false ≡ true
+        → slice_index_or marks.new i false ≡ true }
+    ensures noted { IsNoted history.now.processes bases.now starts.now marks.new q
+        (event_of_ref event.now) }
 {
     match event {
-        EventRef::Recv { message } => mark_send(history, q, message, ends, starts, marks),
+        EventRef::Recv { message } => mark_send(history, q, message, bases, starts, marks),
         EventRef::Send { .. } => {}
         EventRef::Check { .. } => {}
         EventRef::Mark { .. } => {}
@@ -206,67 +293,80 @@ fn mark_receipts(
     line: &Line,
     q: ProcId,
     kept: u32,
-    ends: &[u32],
+    bases: &[u32],
     starts: &[usize],
     marks: &mut [bool],
 )
     requires line { IsLine history.now.processes line.now }
     requires process { q < length history.now.processes }
-    requires ends { length ends.now ≡ length history.now.processes }
+    requires bases { length bases.now ≡ length history.now.processes }
     requires rows { AreMarkRows history.now.processes starts.now marks.old }
-    ensures { AreKnown history.now.processes line.now ends.now starts.now marks.old
-        → AreKnown history.now.processes line.now ends.now starts.now marks.new }
+    ensures known { AreKnown history.now.processes line.now bases.now starts.now marks.old
+        → AreKnown history.now.processes line.now bases.now starts.now marks.new }
+    ensures kept { (i : ℕ) → slice_index_or marks.old i false ≡ true
+        → slice_index_or marks.new i false ≡ true }
+    ensures noted { AreNotedSince history.now.processes line.now bases.now starts.now marks.new q
+        kept }
 {
     let events = history.tape(q).front(line.at(q));
     for i in kept as usize..events.len() {
-        mark_receipt(history, q, &events.at(i), ends, starts, marks);
+        mark_receipt(history, q, &events.at(i), bases, starts, marks);
     }
 }
 
-/// For each process marks at its sends from its end on: whatever is marked is received before the
-/// line. All is marked that the receipts after the places and before the line tell. There are no
-/// marks where it is not worth it to walk the events there, or where there is no memory for marks.
+/// For each process marks at its sends from its base on: whatever is marked is received before the
+/// line. All is marked that the receipts after the places and before the line tell. So of what was
+/// kept, `kept` messages in all, a message is in transit where it has a mark that is not set. There
+/// are no marks where it is not worth it to walk the events there, or where there is no memory for
+/// them.
 pub fn find_known(
     history: &History,
     ends: &[u32],
     places: &[u32],
+    kept: usize,
     alloc: Global,
     line: &Line,
 ) -> Known
     requires line { IsLine history.now.processes line.now }
     requires count { length ends.now ≡ length history.now.processes }
     requires places { length places.now ≡ length history.now.processes }
-    ensures { AreKnown history.now.processes line.now ends.now
+    ensures known { AreKnown history.now.processes line.now result.bases.items
+        result.starts.items result.marks.items }
+    ensures noted { AreAllNoted history.now.processes line.now places.now result.bases.items
         result.starts.items result.marks.items }
 {
-    if !is_worth_walking(history, ends, places, line) {
-        return Known {
-            starts: Vec::new(alloc),
-            marks: Vec::new(alloc),
-        };
+    if !is_worth_walking(history, ends, places, kept, line) {
+        return Known::none(alloc);
     }
-    match unmarked(history, ends, alloc, line) {
-        Ok(Known { starts, marks }) => {
+    match unmarked(history, ends, kept, alloc, line) {
+        Ok(
+            Known {
+                bases,
+                starts,
+                marks,
+            },
+        ) => {
             let mut marks = marks;
             let n = history.n();
             for receiver in 0..n {
                 let q = ProcId::try_new(receiver, n).unwrap();
-                let kept = places[receiver as usize];
+                let place = places[receiver as usize];
                 mark_receipts(
                     history,
                     line,
                     q,
-                    kept,
-                    ends,
+                    place,
+                    bases.as_slice(),
                     starts.as_slice(),
                     marks.as_mut_slice(),
                 );
             }
-            Known { starts, marks }
+            Known {
+                bases,
+                starts,
+                marks,
+            }
         }
-        Err(AllocError) => Known {
-            starts: Vec::new(alloc),
-            marks: Vec::new(alloc),
-        },
+        Err(AllocError) => Known::none(alloc),
     }
 }

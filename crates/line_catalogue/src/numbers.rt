@@ -1,6 +1,6 @@
 //! Numbers of sends, for each process a row.
-ghost use Rattle.std.specs.Prelude.{◌≡◌, ◌++◌, ◌∷◌, [], ℕ, List, Contains, length, replicate};
-ghost use Rattle.std.specs.Prelude.{IfOk, OnOk};
+ghost use Rattle.std.specs.Prelude.{◌≡◌, ◌++◌, ◌∷◌, ◌↔◌, [], ℕ, List, Contains, length, map};
+ghost use Rattle.std.specs.Prelude.{replicate, IfOk, IsTrue, OnOk};
 ghost use Rattle.std.specs.List.Sorted.{IsNonDecreasing};
 ghost use Rattle.line_names.specs.declared.messages.MsgName.{MsgName};
 ghost use Rattle.line_tape.specs.Shown.{event_of_ref};
@@ -26,6 +26,17 @@ impl Model for Numbers {
     ghost view = { λ n. n.numbers.items };
 }
 
+/// Adds the numbers of messages.
+fn push_numbers(messages: &[MsgName], numbers: &mut Vec<u32>) -> Result<(), AllocError>
+    ensures { OnOk result (numbers.new.items ≡ numbers.old.items
+        ++ map (λ (message : MsgName). message.number) messages.now) }
+{
+    for message in messages {
+        numbers.push(message.number)?;
+    }
+    Ok(())
+}
+
 impl Numbers {
     /// No number, and room for so many.
     pub fn with_capacity(alloc: Global, room: usize) -> Result<Numbers, AllocError>
@@ -43,12 +54,27 @@ impl Numbers {
         self.numbers.as_slice()
     }
 
+    /// Whether there is none.
+    pub fn is_empty(&self) -> bool
+        ensures { IsTrue result ↔ (self.now ≡ []) }
+    {
+        self.numbers.is_empty()
+    }
+
     /// One more.
     pub fn add(&mut self, number: u32) -> Result<(), AllocError>
         ensures { OnOk result (self.new ≡ self.old ++ number ∷ []) }
     {
         self.numbers.push(number)?;
         Ok(())
+    }
+
+    /// Those of these messages, too.
+    pub fn add_all(&mut self, messages: &[MsgName]) -> Result<(), AllocError>
+        ensures { OnOk result (self.new ≡ self.old
+            ++ map (λ (message : MsgName). message.number) messages.now) }
+    {
+        push_numbers(messages, &mut self.numbers)
     }
 
     /// Puts them in order.
@@ -73,7 +99,7 @@ pub fn empty_rows(alloc: Global, n: u32, room: usize) -> Result<Vec<Numbers>, Al
 }
 
 /// Adds the number of a message to the row of its sender, where it is below the sender's end.
-pub fn add_name(message: &MsgName, ends: &[u32], rows: &mut Vec<Numbers>) -> Result<(), AllocError>
+fn add_name(message: &MsgName, ends: &[u32], rows: &mut Vec<Numbers>) -> Result<(), AllocError>
     ensures count { length rows.new.items ≡ length rows.old.items }
     ensures added { OnOk result ((names : List MsgName) → AreIn names ends.now rows.old.items
         → AreIn (names ++ message.now ∷ []) ends.now rows.new.items) }
@@ -81,22 +107,6 @@ pub fn add_name(message: &MsgName, ends: &[u32], rows: &mut Vec<Numbers>) -> Res
     let p = message.from.get() as usize;
     if p < rows.len() && p < ends.len() && message.number < ends[p] {
         rows[p].add(message.number)?;
-    }
-    Ok(())
-}
-
-/// Adds the numbers of messages to the rows of their senders, where they are below their ends.
-pub fn add_names(
-    messages: &[MsgName],
-    ends: &[u32],
-    rows: &mut Vec<Numbers>,
-) -> Result<(), AllocError>
-    ensures count { length rows.new.items ≡ length rows.old.items }
-    ensures added { OnOk result ((names : List MsgName) → AreIn names ends.now rows.old.items
-        → AreIn (names ++ messages.now) ends.now rows.new.items) }
-{
-    for message in messages {
-        add_name(message, ends, rows)?;
     }
     Ok(())
 }

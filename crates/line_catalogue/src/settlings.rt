@@ -1,18 +1,16 @@
 //! How a ledger settles: which sends have not to be looked at again, but for what is left of them.
-ghost use Rattle.std.specs.Prelude.{◌≡◌, ◌<◌, ◌≤◌, ◌++◌, ℕ, List, Bool, true, false, length};
-ghost use Rattle.std.specs.Prelude.{Contains, IfOk, OnOk};
-ghost use Rattle.line_names.specs.declared.messages.MsgName.{MsgName};
+ghost use Rattle.std.specs.Prelude.{◌≡◌, ◌<◌, ◌≤◌, ◌++◌, length, IfOk};
 ghost use Rattle.line_tape.specs.Event.{sends};
-ghost use Rattle.line_tape.specs.Fit.{IsSentTo};
 ghost use Rattle.line_tape.specs.Line.{events_before, IsLine};
-ghost use Rattle.line_catalogue.specs.Known.{AreReceived};
-ghost use Rattle.line_catalogue.specs.Left.{open_first, AreLeft, AreSettledUpTo, HasOpen, HaveLeft};
+ghost use Rattle.line_catalogue.specs.Known.{AreReceived, AreTold};
+ghost use Rattle.line_catalogue.specs.Left.{open_first, AreLeft, AreSent, AreSettledUpTo};
+ghost use Rattle.line_catalogue.specs.Left.{ComeInOrder, HasOpenBeside};
 
 use crate::candidates::candidates;
 use crate::ends::ends_before;
 use crate::known::find_known;
 use crate::numbers::Numbers;
-use crate::transits::add_open;
+use crate::transits::{add_first, add_since};
 use line_names::{Line, MsgName, ProcId, ProcSet};
 use line_tape::History;
 use std::alloc::{AllocError, Global};
@@ -38,100 +36,18 @@ fn spend(credit: &mut usize, sends: usize) -> bool {
     }
 }
 
-/// Adds a process's message of a number, if there is one.
-fn add_sent(
-    history: &History,
-    p: ProcId,
-    number: u32,
-    messages: &mut Vec<MsgName>,
-) -> Result<(), AllocError>
-    requires { p < length history.now.processes }
-    ensures kept { OnOk result ((message : MsgName) → Contains messages.old.items message
-        → Contains messages.new.items message) }
-    ensures added { OnOk result ((q : ℕ) (message : MsgName) → message.from ≡ p
-        → message.number ≡ number → IsSentTo history.now.processes q message
-        → Contains messages.new.items message) }
-{
-    match history.tape(p).sent_under(number) {
-        Some(inc) => {
-            messages.push(MsgName {
-                from: p,
-                inc,
-                number,
-            })?;
-            Ok(())
-        }
-        None => Ok(()),
-    }
-}
-
-/// Adds a process's messages of the numbers of a row, and asks nothing of them.
-fn add_row(
-    history: &History,
-    p: ProcId,
-    row: &[u32],
-    messages: &mut Vec<MsgName>,
-) -> Result<(), AllocError>
-    requires { p < length history.now.processes }
-    ensures kept { OnOk result ((message : MsgName) → Contains messages.old.items message
-        → Contains messages.new.items message) }
-    ensures added { OnOk result ((q : ℕ) (message : MsgName) → message.from ≡ p
-        → Contains row.now message.number → IsSentTo history.now.processes q message
-        → Contains messages.new.items message) }
-{
-    for number in row {
-        add_sent(history, p, *number, messages)?;
-    }
-    Ok(())
-}
-
-/// Adds the messages of a process that are in transit, and answers whether it did. It does not
-/// where the credit is less than the sends to look at, or where these messages are more than an
-/// eighth of all its sends; it stops there.
-fn add_few(
-    history: &History,
-    line: &Line,
-    p: ProcId,
-    end: u32,
-    row: &mut Numbers,
-    known: &[bool],
-    credit: &mut usize,
-    messages: &mut Vec<MsgName>,
-) -> Result<bool, AllocError>
-    requires line { IsLine history.now.processes line.now }
-    requires process { p < length history.now.processes }
-    requires end { end ≤ sends (events_before history.now.processes line.now p) }
-    requires held { HasOpen history.now.processes line.now p end row.old }
-    requires known { AreReceived history.now.processes line.now p end known.now }
-    ensures row { (number : ℕ) → Contains row.old number → Contains row.new number }
-    ensures all { IfOk result (λ did. did ≡ true → messages.new.items ≡ messages.old.items
-        ++ open_first history.now.processes line.now p
-        (sends (events_before history.now.processes line.now p))) }
-    ensures none { IfOk result (λ did. did ≡ false
-        → messages.new.items ≡ messages.old.items) }
-{
-    let sends = history.tape(p).sends_before(line.at(p));
-    if !spend(credit, sends.saturating_sub(end) as usize) {
-        return Ok(false);
-    }
-    let before = messages.len();
-    let most = before.saturating_add(sends as usize / SENDS_FOR_A_MESSAGE);
-    let looked = add_open(history, line, p, end, row, known, Some(most), messages)?;
-    if looked == sends {
-        return Ok(true);
-    }
-    messages.truncate(before);
-    Ok(false)
-}
-
-/// Adds what is left of a process, and answers at how many of its sends it need not look again: at
-/// all of them, or at as many as before.
+/// Adds what is in transit of a process, and answers at how many of its sends it need not look
+/// again. These are all, unless the credit is less than the sends to look at, or the messages in
+/// transit are more than an eighth of all its sends: then they are as many as before, and only what
+/// is in transit of these is added.
 fn settle_sender(
     history: &History,
     line: &Line,
     p: ProcId,
     end: u32,
+    left: &[MsgName],
     row: &mut Numbers,
+    base: u32,
     known: &[bool],
     credit: &mut usize,
     messages: &mut Vec<MsgName>,
@@ -139,20 +55,30 @@ fn settle_sender(
     requires line { IsLine history.now.processes line.now }
     requires process { p < length history.now.processes }
     requires end { end ≤ sends (events_before history.now.processes line.now p) }
-    requires held { HasOpen history.now.processes line.now p end row.old }
-    requires known { AreReceived history.now.processes line.now p end known.now }
+    requires order { ComeInOrder left.now }
+    requires sent { AreSent history.now.processes left.now }
+    requires held { HasOpenBeside history.now.processes line.now p end row.old left.now }
+    requires known { AreReceived history.now.processes line.now p base known.now }
+    requires told { AreTold history.now.processes line.now p base known.now left.now }
     ensures before { IfOk result (λ start.
         start ≤ sends (events_before history.now.processes line.now p)) }
-    ensures kept { OnOk result ((message : MsgName) → Contains messages.old.items message
-        → Contains messages.new.items message) }
-    ensures left { IfOk result (λ start.
-        HaveLeft history.now.processes line.now p start messages.new.items) }
+    ensures left { IfOk result (λ start. messages.new.items
+        ≡ messages.old.items ++ open_first history.now.processes line.now p start) }
 {
-    let did = add_few(history, line, p, end, row, known, credit, messages)?;
-    if did {
-        return Ok(history.tape(p).sends_before(line.at(p)));
+    let sends = history.tape(p).sends_before(line.at(p));
+    let most = messages
+        .len()
+        .saturating_add(sends as usize / SENDS_FOR_A_MESSAGE);
+    add_first(history, line, p, end, left, row, base, known, messages)?;
+    let first = messages.len();
+    if !spend(credit, sends.saturating_sub(end) as usize) {
+        return Ok(end);
     }
-    add_row(history, p, row.as_slice(), messages)?;
+    let looked = add_since(history, line, p, end, base, known, Some(most), messages)?;
+    if looked == sends {
+        return Ok(sends);
+    }
+    messages.truncate(first);
     Ok(end)
 }
 
@@ -174,8 +100,8 @@ pub fn find_settled(
     let n = history.n();
     let bounds = ends_before(history, starts, alloc, line)?;
     let ends = bounds.as_slice();
-    let mut rows = candidates(history, ends, places, left, &ProcSet::empty(), alloc, line)?;
-    let received = find_known(history, ends, places, alloc, line);
+    let mut rows = candidates(history, ends, places, &ProcSet::empty(), alloc, line)?;
+    let received = find_known(history, ends, places, left.len(), alloc, line);
     let mut moved = Vec::with_capacity(alloc, n as usize)?;
     let mut messages = Vec::with_capacity(alloc, left.len())?;
     for sender in 0..n {
@@ -185,7 +111,9 @@ pub fn find_settled(
             line,
             p,
             ends[sender as usize],
+            left,
             &mut rows[sender as usize],
+            received.base(sender),
             received.row(sender),
             credit,
             &mut messages,

@@ -1,18 +1,24 @@
 //! What is in transit, of one process and of all.
-ghost use Rattle.std.specs.Prelude.{◌≡◌, ◌<◌, ◌≤◌, ◌+◌, ◌++◌, ℕ, List, false, length, None};
-ghost use Rattle.std.specs.Prelude.{Contains, IfOk, OnOk};
-ghost use Rattle.std.specs.List.Sorted.{IsNonDecreasing};
+ghost use Rattle.std.specs.Prelude.{◌≡◌, ◌<◌, ◌≤◌, ◌+◌, ◌++◌, ◌∷◌, [], ℕ, List};
+ghost use Rattle.std.specs.Prelude.{not, length, map, true, false};
+ghost use Rattle.std.specs.Prelude.{All, Contains, IfOk, None, OnOk};
+ghost use Rattle.std.specs.List.Sorted.{IsNonDecreasing, IsNonDecreasingBy};
+ghost use Rattle.line_names.specs.declared.choices.Choice.{Choice};
 ghost use Rattle.line_names.specs.declared.messages.MsgName.{MsgName};
 ghost use Rattle.line_tape.specs.Event.{sends};
+ghost use Rattle.line_tape.specs.Fit.{IsSentTo};
+ghost use Rattle.line_tape.specs.History.{Process};
 ghost use Rattle.line_tape.specs.Line.{events_before, IsLine};
 ghost use Rattle.line_tape.specs.Transit.{has_received, in_transit};
-ghost use Rattle.line_catalogue.specs.Known.{AreKnown, AreReceived};
-ghost use Rattle.line_catalogue.specs.Left.{numbers_at, open_first, start_at};
-ghost use Rattle.line_catalogue.specs.Left.{AreLeft, AreStrangers, HasOpen};
+ghost use Rattle.line_catalogue.specs.Known.{AreAllTold, AreKnown, AreReceived, AreTold};
+ghost use Rattle.line_catalogue.specs.Known.{IsReceived};
+ghost use Rattle.line_catalogue.specs.Left.{numbers_at, open_first, sent_by, start_at};
+ghost use Rattle.line_catalogue.specs.Left.{AreLeft, AreSent, AreStrangers, ComeInOrder, HasOpen};
+ghost use Rattle.line_catalogue.specs.Left.{HasOpenBeside};
 
 use crate::candidates::candidates;
 use crate::ends::ends_before;
-use crate::known::{Known, find_known, is_marked};
+use crate::known::{Known, find_known, mark_of};
 use crate::numbers::Numbers;
 use line_names::{Line, MsgName, ProcId, ProcSet};
 use line_tape::History;
@@ -86,6 +92,126 @@ fn add_old(
     Ok(())
 }
 
+/// Whether a message that was sent is not received before the line: its mark tells that, if it has
+/// one.
+fn is_open(history: &History, line: &Line, message: &MsgName, base: u32, known: &[bool]) -> bool
+    requires line { IsLine history.now.processes line.now }
+    requires told { AreTold history.now.processes line.now message.now.from base known.now
+        (message.now ∷ []) }
+    ensures { (q : ℕ) → IsSentTo history.now.processes q message.now
+        → result ≡ not (has_received (events_before history.now.processes line.now q) message.now) }
+{
+    match mark_of(known, base, message.number) {
+        Some(mark) => !mark,
+        None => match history.addressee(message) {
+            Some(q) => !is_received(history, line, q, message),
+            None => false,
+        },
+    }
+}
+
+/// Adds a message that was kept, if it is still in transit.
+fn add_if_still_open(
+    history: &History,
+    line: &Line,
+    message: &MsgName,
+    base: u32,
+    known: &[bool],
+    messages: &mut Vec<MsgName>,
+) -> Result<(), AllocError>
+    requires line { IsLine history.now.processes line.now }
+    requires number { message.now.number
+        < sends (events_before history.now.processes line.now message.now.from) }
+    requires sent { (q : ℕ) × IsSentTo history.now.processes q message.now }
+    requires told { AreTold history.now.processes line.now message.now.from base known.now
+        (message.now ∷ []) }
+    ensures { OnOk result ((before : List MsgName)
+        → messages.old.items
+        ≡ before ++ open_first history.now.processes line.now message.now.from message.now.number
+        → messages.new.items
+        ≡ before ++ open_first history.now.processes line.now message.now.from
+        (message.now.number + 1)) }
+{
+    if is_open(history, line, message, base, known) {
+        messages.push(*message)?;
+    }
+    Ok(())
+}
+
+/// Adds those of a process's first `end` messages that are in transit, where they were all kept.
+fn add_kept(
+    history: &History,
+    line: &Line,
+    _p: ProcId,
+    end: u32,
+    kept: &[MsgName],
+    base: u32,
+    known: &[bool],
+    messages: &mut Vec<MsgName>,
+) -> Result<(), AllocError>
+    requires line { IsLine history.now.processes line.now }
+    requires end { end ≤ sends (events_before history.now.processes line.now _p) }
+    requires from { All (λ (message : MsgName). message.from ≡ _p) kept.now }
+    requires sorted { IsNonDecreasing (map (λ (message : MsgName). message.number) kept.now) }
+    requires held { HasOpen history.now.processes line.now _p end
+        (map (λ (message : MsgName). message.number) kept.now) }
+    requires sent { AreSent history.now.processes kept.now }
+    requires told { AreTold history.now.processes line.now _p base known.now kept.now }
+    ensures { OnOk result (messages.new.items
+        ≡ messages.old.items ++ open_first history.now.processes line.now _p end) }
+{
+    let mut next = 0;
+    for message in kept {
+        if next <= message.number && message.number < end {
+            add_if_still_open(history, line, message, base, known, messages)?;
+            next = message.number + 1;
+        }
+    }
+    Ok(())
+}
+
+/// Those of the messages that a process sent. It searches for them by halves.
+fn sent_by<'a>(messages: &'a [MsgName], p: ProcId) -> &'a [MsgName]
+    requires { IsNonDecreasingBy (λ (message : MsgName). message.from) messages.now }
+    ensures { result.now ≡ sent_by p messages.now }
+{
+    let start = messages.partition_point(|message| message.from.get() < p.get());
+    let end = messages.partition_point(|message| message.from.get() <= p.get());
+    &messages[start..end]
+}
+
+/// Adds those of a process's first `end` messages that are in transit. Where the row is empty only
+/// what was kept can be, and little has to be asked; else the numbers of both are put in order.
+pub fn add_first(
+    history: &History,
+    line: &Line,
+    p: ProcId,
+    end: u32,
+    left: &[MsgName],
+    row: &mut Numbers,
+    base: u32,
+    known: &[bool],
+    messages: &mut Vec<MsgName>,
+) -> Result<(), AllocError>
+    requires line { IsLine history.now.processes line.now }
+    requires process { p < length history.now.processes }
+    requires end { end ≤ sends (events_before history.now.processes line.now p) }
+    requires order { ComeInOrder left.now }
+    requires sent { AreSent history.now.processes left.now }
+    requires held { HasOpenBeside history.now.processes line.now p end row.old left.now }
+    requires told { AreTold history.now.processes line.now p base known.now left.now }
+    ensures { OnOk result (messages.new.items
+        ≡ messages.old.items ++ open_first history.now.processes line.now p end) }
+{
+    let kept = sent_by(left, p);
+    if row.is_empty() {
+        return add_kept(history, line, p, end, kept, base, known, messages);
+    }
+    row.add_all(kept)?;
+    row.sort();
+    add_old(history, line, p, end, row.as_slice(), messages)
+}
+
 /// Whether so many are more than the most, if there is such a limit.
 fn are_past(most: Option<usize>, count: usize) -> bool
     ensures { most ≡ None → result ≡ false }
@@ -96,15 +222,26 @@ fn are_past(most: Option<usize>, count: usize) -> bool
     }
 }
 
-/// Adds the messages of a process that are in transit: of its first `end` ones those whose numbers
-/// the row has, and of the others each that is not known to be received. It stops where there are
-/// more messages than the most, and answers at how many sends it has looked.
-pub fn add_open(
+/// Whether a send is known to be received.
+fn is_marked(known: &[bool], base: u32, number: u32) -> bool
+    ensures { (history : List Process) (line : List Choice) (p : ℕ) → result ≡ true
+        → AreReceived history line p base known.now → IsReceived history line p number }
+{
+    match mark_of(known, base, number) {
+        Some(mark) => mark,
+        None => false,
+    }
+}
+
+/// Adds the messages of a process that are in transit, but for its first `end` ones: each that is
+/// not known to be received. It stops where there are more messages than the most, and answers at
+/// how many sends it has looked.
+pub fn add_since(
     history: &History,
     line: &Line,
     p: ProcId,
     end: u32,
-    row: &mut Numbers,
+    base: u32,
     known: &[bool],
     most: Option<usize>,
     messages: &mut Vec<MsgName>,
@@ -112,36 +249,35 @@ pub fn add_open(
     requires line { IsLine history.now.processes line.now }
     requires process { p < length history.now.processes }
     requires end { end ≤ sends (events_before history.now.processes line.now p) }
-    requires held { HasOpen history.now.processes line.now p end row.old }
-    requires known { AreReceived history.now.processes line.now p end known.now }
-    ensures row { (number : ℕ) → Contains row.old number → Contains row.new number }
-    ensures found { IfOk result (λ looked. messages.new.items
-        ≡ messages.old.items ++ open_first history.now.processes line.now p looked) }
+    requires known { AreReceived history.now.processes line.now p base known.now }
+    ensures found { IfOk result (λ looked. (before : List MsgName)
+        → messages.old.items ≡ before ++ open_first history.now.processes line.now p end
+        → messages.new.items ≡ before ++ open_first history.now.processes line.now p looked) }
+    ensures since { IfOk result (λ looked. end ≤ looked) }
     ensures few { IfOk result (λ looked.
         looked ≤ sends (events_before history.now.processes line.now p)) }
     ensures all { most ≡ None → IfOk result (λ looked.
         looked ≡ sends (events_before history.now.processes line.now p)) }
 {
-    row.sort();
     let sends = history.tape(p).sends_before(line.at(p));
-    add_old(history, line, p, end, row.as_slice(), messages)?;
     for number in end..sends {
         if are_past(most, messages.len()) {
             return Ok(number);
         }
-        if !is_marked(known, number - end) {
+        if !is_marked(known, base, number) {
             add_if_open(history, line, p, number, messages)?;
         }
     }
     Ok(sends)
 }
 
-/// Adds the messages in transit at a line, process by process, where each row has the numbers of
-/// those among as many first ones as the process's end tells.
+/// Adds the messages in transit at a line, process by process: of as many first ones of each as its
+/// end tells, those that are left and those whose numbers its row has.
 fn add_all_open(
     history: &History,
     line: &Line,
     ends: &[u32],
+    left: &[MsgName],
     rows: &mut Vec<Numbers>,
     received: &Known,
     messages: &mut Vec<MsgName>,
@@ -151,11 +287,15 @@ fn add_all_open(
         → start_at ends.now p ≤ sends (events_before history.now.processes line.now p) }
     requires count { length ends.now ≡ length history.now.processes }
     requires rows { length rows.old.items ≡ length history.now.processes }
+    requires order { ComeInOrder left.now }
+    requires sent { AreSent history.now.processes left.now }
     requires held { (p : ℕ) → p < length history.now.processes
-        → HasOpen history.now.processes line.now p (start_at ends.now p)
-        (numbers_at rows.old.items p) }
-    requires known { AreKnown history.now.processes line.now ends.now
+        → HasOpenBeside history.now.processes line.now p (start_at ends.now p)
+        (numbers_at rows.old.items p) left.now }
+    requires known { AreKnown history.now.processes line.now received.now.bases.items
         received.now.starts.items received.now.marks.items }
+    requires told { AreAllTold history.now.processes line.now received.now.bases.items
+        received.now.starts.items received.now.marks.items left.now }
     ensures { OnOk result (messages.new.items
         ≡ messages.old.items ++ in_transit history.now.processes line.now) }
 {
@@ -163,16 +303,20 @@ fn add_all_open(
     for sender in 0..n {
         let p = ProcId::try_new(sender, n).unwrap();
         let end = ends[sender as usize];
-        add_open(
+        let base = received.base(sender);
+        let known = received.row(sender);
+        add_first(
             history,
             line,
             p,
             end,
+            left,
             &mut rows[sender as usize],
-            received.row(sender),
-            None,
+            base,
+            known,
             messages,
         )?;
+        add_since(history, line, p, end, base, known, None, messages)?;
     }
     Ok(())
 }
@@ -195,9 +339,17 @@ pub fn find_transit(
 {
     let bounds = ends_before(history, starts, alloc, line)?;
     let ends = bounds.as_slice();
-    let mut rows = candidates(history, ends, places, left, strangers, alloc, line)?;
-    let received = find_known(history, ends, places, alloc, line);
+    let mut rows = candidates(history, ends, places, strangers, alloc, line)?;
+    let received = find_known(history, ends, places, left.len(), alloc, line);
     let mut messages = Vec::with_capacity(alloc, left.len())?;
-    add_all_open(history, line, ends, &mut rows, &received, &mut messages)?;
+    add_all_open(
+        history,
+        line,
+        ends,
+        left,
+        &mut rows,
+        &received,
+        &mut messages,
+    )?;
     Ok(messages)
 }

@@ -1,4 +1,4 @@
--- First what is left, then process by process what is received behind the line.
+-- Process by process what is received behind the line.
 use Rattle.std.proofs.Common.{◌≡◌, ◌++◌, [], ℕ, List, length, take, drop, ap, ◌∙◌, subst, arith, inl, inr}
 use Rattle.std.proofs.lemmas.Bool.{cases_lt}
 use Rattle.std.specs.List.{Contains}
@@ -12,24 +12,20 @@ use Rattle.line_tape.specs.Front.{place}
 use Rattle.line_tape.specs.History.{Process, tape_at}
 use Rattle.line_tape.specs.Transit.{names_received}
 use Rattle.line_catalogue.specs.Left.{AreIn, events_between, place_at}
-use Rattle.line_catalogue.proofs.NumberLemmas.{in-none, in-left, in-right}
+use Rattle.line_catalogue.proofs.NumberLemmas.{in-none, in-left}
 use Rattle.line_catalogue.proofs.candidates.candidates.Goals as goal
 
 pub returns-then-are_none : goal.returns-then-are_none
 returns-then-are_none c = record {
-  count = ap (λ (xs : List (List ℕ)). length xs) c.in_ok-blank.ensures ∙ length-replicate c.n-n.result [] ∙ c.n-n.ensures.value;
-  before = λ m among low inside. absurd (omega (arith, low, c.are_none.ensures c.if-are_none.true m.from));
+  count = ap (λ (xs : List (List ℕ)). length xs) c.in_ok-rows.ensures ∙ length-replicate c.n-n.result [] ∙ c.n-n.ensures.value;
   behind = λ q l m among low inside. absurd (omega (arith, low, c.are_none.ensures c.if-are_none.true m.from));
 }
 
 pub loop-receiver-init : goal.loop-receiver-init
-loop-receiver-init c =
-    let none : List (List ℕ) = [] in
-    record {
-      count = c.in_ok-add_names.ensures.count ∙ ap (λ (xs : List (List ℕ)). length xs) c.in_ok-rows.ensures ∙ length-replicate c.n-n.result [] ∙ c.n-n.ensures.value;
-      before = c.in_ok-add_names.ensures.added [] (in-none c.args.ends.now c.in_ok-rows.rows.items);
-      behind = λ q l. absurd (omega (arith, l));
-    }
+loop-receiver-init c = record {
+  count = ap (λ (xs : List (List ℕ)). length xs) c.in_ok-rows.ensures ∙ length-replicate c.n-n.result [] ∙ c.n-n.ensures.value;
+  behind = λ q l. absurd (omega (arith, l));
+}
 
 pub add_heard-requires-clause-among : goal.add_heard-requires-clause-among
 add_heard-requires-clause-among c = λ event among.
@@ -55,18 +51,16 @@ loop-receiver-preserved c =
     let more : (names : List MsgName) → AreIn names ends c.loop-receiver.rows.items → AreIn (names ++ names_received events) ends new = c.in_ok-add_heard.ensures.added in
     record {
       count = c.in_ok-add_heard.ensures.count ∙ c.loop-receiver.invariant.count;
-      before = in-left c.args.left.now (names_received events) ends new (more c.args.left.now c.loop-receiver.invariant.before);
       behind = λ q l. elim (cases_lt q r) [
         | inl earlier ↦ in-left (names_received (between q)) (names_received events) ends new (more (names_received (between q)) (c.loop-receiver.invariant.behind q earlier))
         | inr here ↦
             let same : r ≡ q = omega (arith, l) in
-            subst (λ (es : List Event). AreIn (names_received es) ends new) (are ∙ ap between same) (in-right c.args.left.now (names_received events) ends new (more c.args.left.now c.loop-receiver.invariant.before))
+            subst (λ (es : List Event). AreIn (names_received es) ends new) (are ∙ ap between same) (more [] (in-none ends c.loop-receiver.rows.items))
       ];
     }
 
 pub returns : goal.returns
 returns c = record {
   count = c.loop-receiver.invariant.count;
-  before = c.loop-receiver.invariant.before;
   behind = λ q l. c.loop-receiver.invariant.behind q (omega (arith, l, c.n-n.ensures.value));
 }

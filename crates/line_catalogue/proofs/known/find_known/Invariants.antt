@@ -1,8 +1,11 @@
-use Rattle.line_catalogue.specs.Known.{AreKnown, AreMarkRows}
+use Rattle.std.proofs.Common.{◌<◌, ℕ}
+use Rattle.line_catalogue.specs.Known.{AreKnown, AreMarkRows, AreNotedSince}
+use Rattle.line_catalogue.specs.Left.{place_at}
 use Rattle.line_catalogue.proofs.known.find_known.Given as goal
 
 abbrev pub invariant-loop-receiver : goal.invariant-loop-receiver
 invariant-loop-receiver l = record {
   rows : AreMarkRows l.history.processes l.starts.items l.marks.items;
-  known : AreKnown l.history.processes l.line l.ends l.starts.items l.marks.items;
+  known : AreKnown l.history.processes l.line l.bases.items l.starts.items l.marks.items;
+  noted : (q : ℕ) → q < l.receiver → AreNotedSince l.history.processes l.line l.bases.items l.starts.items l.marks.items q (place_at l.places q);
 }

@@ -1,14 +1,19 @@
 -- One sender more.
 use Rattle.std.proofs.Common.{◌≡◌, ◌<◌, ◌≤◌, ◌+◌, ◌++◌, ◌∷◌, [], List, ℕ, length, refl, sym, ap, ◌∙◌, subst, arith, inl, inr}
+use Rattle.std.specs.List.{Contains}
 use Rattle.std.proofs.lemmas.Bool.{cases_lt}
+use Rattle.std.proofs.lemmas.List.Elements.{Contains-append_left}
 use Rattle.std.proofs.lemmas.List.{get_or_append_left, get_or_default, get_or_push, length-set, length_push, get_or-set_other}
 use Rattle.line_names.specs.declared.choices.Choice.{Choice}
 use Rattle.line_names.specs.declared.messages.MsgName.{MsgName}
 use Rattle.line_tape.specs.Event.{sends}
 use Rattle.line_tape.specs.History.{Process}
 use Rattle.line_tape.specs.Line.{events_before}
-use Rattle.line_catalogue.specs.Left.{numbers_at, start_at, AreEnds, HasOpen, HaveLeft}
-use Rattle.line_catalogue.proofs.LeftLemmas.{ends-more, has-open}
+use Rattle.line_catalogue.specs.Known.{AreAllTold, AreReceived, AreTold}
+use Rattle.line_catalogue.specs.Left.{numbers_at, open_first, start_at, AreEnds, HasOpenBeside, HaveLeft}
+use Rattle.line_catalogue.proofs.KnownLemmas.{all-told, row-received, row-told}
+use Rattle.line_catalogue.proofs.LeftLemmas.{ends-more, has-open, have-open}
+use Rattle.line_catalogue.proofs.OrderLemmas.{below-first, below-next, below-none, AreOpenBelow}
 use Rattle.line_catalogue.proofs.settlings.find_settled.Goals as goal
 
 pub loop-sender-init : goal.loop-sender-init
@@ -18,6 +23,7 @@ loop-sender-init c = record {
   moved = ap (λ (xs : List ℕ). length xs) c.in_ok-moved.ensures.items;
   before = λ p. omega (arith, ap (λ (xs : List ℕ). start_at xs p) c.in_ok-moved.ensures.items);
   held = λ p l. absurd (omega (arith, l));
+  below = subst (λ (xs : List MsgName). AreOpenBelow c.args.history.now.processes c.args.line.now xs 0 0) (sym c.in_ok-messages.ensures.items) (below-none c.args.history.now.processes c.args.line.now);
   count = c.in_ok-rows.ensures.count;
   kept = λ p l. refl;
 }
@@ -34,8 +40,33 @@ settle_sender-requires-clause-held c =
     let inside : s < length history = omega (arith, c.n-n.ensures.value) in
     let is : numbers_at c.in_ok-rows.rows.items s ≡ row = sym (c.loop-sender.invariant.kept s (omega arith)) ∙ get_or_default c.loop-sender.rows.items s [] row (omega (arith, inside, c.loop-sender.invariant.count)) ∙ sym c.index_mut.ensures.value in
     let are : AreEnds history c.args.starts.now line ends = subst (AreEnds history c.args.starts.now line) (sym c.as_slice-ends.ensures.value) c.in_ok-bounds.ensures in
-    let open' : HasOpen history line s end (numbers_at c.in_ok-rows.rows.items s) = has-open history line c.args.starts.now ends c.args.places.now c.args.left.now c.in_ok-rows.rows.items s c.requires.left are c.in_ok-rows.ensures inside in
-    subst (λ (k : ℕ). HasOpen history line k end row) (sym at) (subst (HasOpen history line s end) is open')
+    let left : List MsgName = c.args.left.now in
+    let beside : HasOpenBeside history line s end (numbers_at c.in_ok-rows.rows.items s) left = has-open history line c.args.starts.now ends c.args.places.now left c.in_ok-rows.rows.items s c.requires.left are c.in_ok-rows.ensures inside in
+    subst (λ (k : ℕ). HasOpenBeside history line k end row left) (sym at) (subst (λ (r : List ℕ). HasOpenBeside history line s end r left) is beside)
+
+pub settle_sender-requires-clause-sent : goal.settle_sender-requires-clause-sent
+settle_sender-requires-clause-sent c = λ m among. let was = c.requires.left.each m among in (was.to, was.sent)
+
+pub settle_sender-requires-clause-told : goal.settle_sender-requires-clause-told
+settle_sender-requires-clause-told c =
+    let history : List Process = c.args.history.now.processes in
+    let line : List Choice = c.args.line.now in
+    let s : ℕ = c.loop-sender.sender in
+    let left : List MsgName = c.args.left.now in
+    let received = c.find_known-received.result in
+    let at : c.unwrap-p.result ≡ s = (rw c.unwrap-p.ensures at c.try_new.ensures).1 in
+    let told : AreAllTold history line received.bases.items received.starts.items received.marks.items left = all-told history line c.args.starts.now c.args.places.now received.bases.items received.starts.items received.marks.items left c.requires.left c.find_known-received.ensures.known c.find_known-received.ensures.noted in
+    subst (λ (k : ℕ). AreTold history line k c.base.result c.row.result.now left) (sym at) (row-told history line received.bases.items received.starts.items received.marks.items left s c.base.result c.row.result.now told c.base.ensures c.row.ensures.within c.row.ensures.same)
+
+pub settle_sender-requires-clause-known : goal.settle_sender-requires-clause-known
+settle_sender-requires-clause-known c =
+    let history : List Process = c.args.history.now.processes in
+    let line : List Choice = c.args.line.now in
+    let s : ℕ = c.loop-sender.sender in
+    let received = c.find_known-received.result in
+    let at : c.unwrap-p.result ≡ s = (rw c.unwrap-p.ensures at c.try_new.ensures).1 in
+    let inside : s < length history = omega (arith, c.n-n.ensures.value) in
+    subst (λ (k : ℕ). AreReceived history line k c.base.result c.row.result.now) (sym at) (row-received history line received.bases.items received.starts.items received.marks.items s c.base.result c.row.result.now c.find_known-received.ensures.known inside c.base.ensures c.row.ensures.marked)
 
 pub loop-sender-preserved : goal.loop-sender-preserved
 loop-sender-preserved c =
@@ -48,6 +79,9 @@ loop-sender-preserved c =
     let messages : List MsgName = c.settle_sender.new.messages.items in
     let at : c.unwrap-p.result ≡ s = (rw c.unwrap-p.ensures at c.try_new.ensures).1 in
     let new : c.push_reserved.new.self.items ≡ moved ++ start ∷ [] = c.push_reserved.ensures.items in
+    let older : List MsgName = c.loop-sender.messages.items in
+    let grown : messages ≡ older ++ open_first history line s start = c.in_ok-start.ensures.left ∙ ap (λ (k : ℕ). older ++ open_first history line k start) at in
+    let few : start ≤ sends (events_before history line s) = subst (λ (k : ℕ). start ≤ sends (events_before history line k)) at c.in_ok-start.ensures.before in
     let before : start ≤ sends (events_before history line (length moved)) = subst (λ k. start ≤ sends (events_before history line k)) (at ∙ sym c.loop-sender.invariant.moved) c.in_ok-start.ensures.before in
     record {
       moved = ap (λ (xs : List ℕ). length xs) new ∙ length_push moved start ∙ ap (λ (k : ℕ). k + 1) c.loop-sender.invariant.moved;
@@ -57,12 +91,13 @@ loop-sender-preserved c =
       held = λ p l. subst (λ (xs : List ℕ). HaveLeft history line p (start_at xs p) messages) (sym new) (elim (cases_lt p s) [
         | inl earlier ↦
             let old : start_at (moved ++ start ∷ []) p ≡ start_at moved p = get_or_append_left moved (start ∷ []) 0 p (omega (arith, earlier, c.loop-sender.invariant.moved)) in
-            subst (λ k. HaveLeft history line p k messages) (sym old) (λ q m from low sent unseen. c.in_ok-start.ensures.kept m (c.loop-sender.invariant.held p earlier q m from low sent unseen))
+            subst (λ k. HaveLeft history line p k messages) (sym old) (λ q m from low sent unseen. subst (λ (xs : List MsgName). Contains xs m) (sym grown) (Contains-append_left older (open_first history line s start) m (c.loop-sender.invariant.held p earlier q m from low sent unseen)))
         | inr here ↦
             let same : s ≡ p = omega (arith, l) in
             let last : start_at (moved ++ start ∷ []) p ≡ start = get_or_push moved start 0 p (c.loop-sender.invariant.moved ∙ same) in
-            subst (λ k. HaveLeft history line p k messages) (sym last) (subst (λ k. HaveLeft history line k start messages) (at ∙ same) c.in_ok-start.ensures.left)
+            subst (λ k. HaveLeft history line p k messages) (sym last) (subst (λ k. HaveLeft history line k start messages) same (subst (HaveLeft history line s start) (sym grown) (have-open history line s start older few)))
       ]);
+      below = subst (λ (xs : List MsgName). AreOpenBelow history line xs (s + 1) 0) (sym grown) (below-next history line (older ++ open_first history line s start) s start (below-first history line older s start few c.loop-sender.invariant.below));
       count = length-set rows s c.settle_sender.new.row ∙ c.loop-sender.invariant.count;
       kept = λ p l. get_or-set_other rows s p c.settle_sender.new.row [] (omega (arith, l)) ∙ c.loop-sender.invariant.kept p (omega (arith, l));
     }
@@ -74,4 +109,6 @@ returns c =
       count = c.loop-sender.invariant.moved ∙ all;
       before = c.loop-sender.invariant.before;
       held = λ p l. c.loop-sender.invariant.held p (omega (arith, l, all));
+      order = c.loop-sender.invariant.below.order;
+      each = c.loop-sender.invariant.below.each;
     }

@@ -1,7 +1,6 @@
--- What is in transit of all its sends, or what was left before.
-use Rattle.std.proofs.Common.{◌≡◌, ℕ, List, sym, ap, ◌∙◌, subst}
-use Rattle.std.specs.List.{Contains}
-use Rattle.std.proofs.lemmas.List.Elements.{Contains-append_left}
+-- What is in transit of all its sends, or of the first ones.
+use Rattle.std.proofs.Common.{◌≡◌, ◌++◌, ℕ, List, length, take, sym, ap, ◌∙◌, arith}
+use Rattle.std.proofs.lemmas.List.{append_assoc, take_at}
 use Rattle.line_names.specs.declared.choices.Choice.{Choice}
 use Rattle.line_names.specs.declared.messages.MsgName.{MsgName}
 use Rattle.line_tape.specs.declared.events.Event.{Event}
@@ -9,29 +8,22 @@ use Rattle.line_tape.specs.Event.{sends}
 use Rattle.line_tape.specs.Front.{front}
 use Rattle.line_tape.specs.History.{Process, tape_at}
 use Rattle.line_tape.specs.Line.{events_before}
-use Rattle.line_catalogue.specs.Left.{open_first, HaveLeft}
-use Rattle.line_catalogue.proofs.LeftLemmas.{have-open}
+use Rattle.line_catalogue.specs.Left.{open_first}
+use Rattle.line_catalogue.proofs.OpenLemmas.{open-front}
 use Rattle.line_catalogue.proofs.settlings.settle_sender.Goals as goal
 
-pub returns-then-did-clause-kept : goal.returns-then-did-clause-kept
-returns-then-did-clause-kept c = λ m among.
-    let k : ℕ = sends (events_before c.args.history.now.processes c.args.line.now c.args.p) in
-    let more : List MsgName = open_first c.args.history.now.processes c.args.line.now c.args.p k in
-    subst (λ (xs : List MsgName). Contains xs m) (sym (c.in_ok-did.ensures.all c.if-did.true)) (Contains-append_left c.args.messages.now.items more m among)
+pub returns-then-looked-sends-clause-left : goal.returns-then-looked-sends-clause-left
+returns-then-looked-sends-clause-left c =
+    c.in_ok-looked.ensures.found c.args.messages.now.items c.in_ok-add_first.ensures ∙ ap (λ (k : ℕ). c.args.messages.now.items ++ open_first c.args.history.now.processes c.args.line.now c.args.p k) c.if-looked-sends.true
 
-pub returns-then-did-clause-left : goal.returns-then-did-clause-left
-returns-then-did-clause-left c =
+pub returns-clause-left : goal.returns-clause-left
+returns-clause-left c =
     let history : List Process = c.args.history.now.processes in
     let line : List Choice = c.args.line.now in
     let p : ℕ = c.args.p in
-    let fronts : front c.tape.result.now.events c.at.result ≡ events_before history line p = ap (λ (t : List Event). front t c.at.result) c.tape.ensures.events ∙ ap (front (tape_at history p)) c.at.ensures in
-    let at : c.sends_before.result ≡ sends (events_before history line p) = c.sends_before.ensures ∙ ap (λ (es : List Event). sends es) fronts in
-    subst (λ (k : ℕ). HaveLeft history line p k c.add_few.new.messages.items) (sym at) (subst (λ (xs : List MsgName). HaveLeft history line p (sends (events_before history line p)) xs) (sym (c.in_ok-did.ensures.all c.if-did.true)) (have-open history line p c.args.messages.now.items))
-
-pub returns-clause-kept : goal.returns-clause-kept
-returns-clause-kept c = λ m among.
-    c.in_ok-add_row.ensures.kept m (subst (λ (xs : List MsgName). Contains xs m) (sym (c.in_ok-did.ensures.none c.if-did.false)) among)
-
-pub returns-clause-left : goal.returns-clause-left
-returns-clause-left c = λ q m from low sent unseen.
-    c.in_ok-add_row.ensures.added q m from (subst (λ (row : List ℕ). Contains row m.number) (sym c.as_slice.ensures) (c.add_few.ensures.row m.number (c.requires.held q m from low sent unseen))) sent
+    let old : List MsgName = c.args.messages.now.items in
+    let first : List MsgName = old ++ open_first history line p c.args.end in
+    let front = open-front history line p c.args.end c.in_ok-looked.looked c.in_ok-looked.ensures.since in
+    let whole : c.add_since.new.messages.items ≡ first ++ front.0 = c.in_ok-looked.ensures.found old c.in_ok-add_first.ensures ∙ ap (λ (xs : List MsgName). old ++ xs) front.1 ∙ sym (append_assoc old (open_first history line p c.args.end) front.0) in
+    let count : length first ≡ c.len-first.result = omega (arith, c.len-first.ensures, c.add_first.new.messages.ok.0, ap (λ (xs : List MsgName). length xs) c.in_ok-add_first.ensures) in
+    c.truncate.ensures.items ∙ ap (take c.len-first.result) whole ∙ take_at first front.0 c.len-first.result count

@@ -4,10 +4,14 @@ use Rattle.std.specs.List.{flat_map, range_with_len}
 use Rattle.std.proofs.lemmas.List.{append_assoc, flat_map_more, get_or_default, length-set, get_or-set_other}
 use Rattle.line_names.specs.declared.choices.Choice.{Choice}
 use Rattle.line_names.specs.declared.messages.MsgName.{MsgName}
+use Rattle.line_tape.specs.Event.{sends}
 use Rattle.line_tape.specs.History.{Process}
+use Rattle.line_tape.specs.Line.{events_before}
 use Rattle.line_tape.specs.Transit.{Letter, open_letters}
 use Rattle.line_tape.proofs.TransitLemmas.{range-push}
-use Rattle.line_catalogue.specs.Left.{numbers_at, open_first, start_at, HasOpen}
+use Rattle.line_catalogue.specs.Known.{AreReceived, AreTold}
+use Rattle.line_catalogue.specs.Left.{numbers_at, open_first, start_at, HasOpenBeside}
+use Rattle.line_catalogue.proofs.KnownLemmas.{row-received, row-told}
 use Rattle.line_catalogue.proofs.OpenLemmas.{open-all}
 use Rattle.line_catalogue.proofs.transits.add_all_open.Goals as goal
 
@@ -18,17 +22,37 @@ loop-sender-init c = record {
   kept = λ p l. refl;
 }
 
-pub add_open-requires-clause-held : goal.add_open-requires-clause-held
-add_open-requires-clause-held c =
+pub add_first-requires-clause-held : goal.add_first-requires-clause-held
+add_first-requires-clause-held c =
     let history : List Process = c.args.history.now.processes in
     let line : List Choice = c.args.line.now in
     let s : ℕ = c.loop-sender.sender in
     let row : List ℕ = c.index_mut.result.now in
+    let left : List MsgName = c.args.left.now in
     let end : ℕ = start_at c.args.ends.now s in
     let at : c.unwrap-p.result ≡ s = (rw c.unwrap-p.ensures at c.try_new.ensures).1 in
     let inside : s < length history = omega (arith, c.n-n.ensures.value) in
     let is : numbers_at c.args.rows.now.items s ≡ row = sym (c.loop-sender.invariant.kept s (omega arith)) ∙ get_or_default c.loop-sender.rows.items s [] row (omega (arith, inside, c.loop-sender.invariant.count)) ∙ sym c.index_mut.ensures.value in
-    subst (λ (k : ℕ). HasOpen history line k end row) (sym at) (subst (HasOpen history line s end) is (c.requires.held s inside))
+    subst (λ (k : ℕ). HasOpenBeside history line k end row left) (sym at) (subst (λ (r : List ℕ). HasOpenBeside history line s end r left) is (c.requires.held s inside))
+
+pub add_first-requires-clause-told : goal.add_first-requires-clause-told
+add_first-requires-clause-told c =
+    let history : List Process = c.args.history.now.processes in
+    let line : List Choice = c.args.line.now in
+    let s : ℕ = c.loop-sender.sender in
+    let received = c.args.received.now in
+    let at : c.unwrap-p.result ≡ s = (rw c.unwrap-p.ensures at c.try_new.ensures).1 in
+    subst (λ (k : ℕ). AreTold history line k c.base-base.result c.row-known.result.now c.args.left.now) (sym at) (row-told history line received.bases.items received.starts.items received.marks.items c.args.left.now s c.base-base.result c.row-known.result.now c.requires.told c.base-base.ensures c.row-known.ensures.within c.row-known.ensures.same)
+
+pub add_since-requires-clause-known : goal.add_since-requires-clause-known
+add_since-requires-clause-known c =
+    let history : List Process = c.args.history.now.processes in
+    let line : List Choice = c.args.line.now in
+    let s : ℕ = c.loop-sender.sender in
+    let received = c.args.received.now in
+    let at : c.unwrap-p.result ≡ s = (rw c.unwrap-p.ensures at c.try_new.ensures).1 in
+    let inside : s < length history = omega (arith, c.n-n.ensures.value) in
+    subst (λ (k : ℕ). AreReceived history line k c.base-base.result c.row-known.result.now) (sym at) (row-received history line received.bases.items received.starts.items received.marks.items s c.base-base.result c.row-known.result.now c.requires.known inside c.base-base.ensures c.row-known.ensures.marked)
 
 pub loop-sender-preserved : goal.loop-sender-preserved
 loop-sender-preserved c =
@@ -41,15 +65,15 @@ loop-sender-preserved c =
     let p : ℕ = c.unwrap-p.result in
     let before : List MsgName = c.args.messages.now.items in
     let so_far : List MsgName = flat_map of (range_with_len 0 s) in
-    let whole : open_first history line p c.in_ok-add_open.field-0 ≡ of p = ap (open_first history line p) (c.in_ok-add_open.ensures.all refl) ∙ open-all history line p in
+    let whole : open_first history line p c.in_ok-add_since.field-0 ≡ of p = ap (open_first history line p) (c.in_ok-add_since.ensures.all refl) ∙ open-all history line p in
     let more : s + 1 ≡ suc s = omega arith in
     let last : 0 + s ≡ s = omega arith in
     let next : range_with_len 0 (s + 1) ≡ range_with_len 0 s ++ s ∷ [] = ap (range_with_len 0) more ∙ range-push s 0 ∙ ap (λ x. range_with_len 0 s ++ x ∷ []) last in
     let grown : so_far ++ of s ≡ flat_map of (range_with_len 0 (s + 1)) = flat_map_more of [] (range_with_len 0 s) s ∙ ap (flat_map of) (sym next) in
     record {
-      found = c.in_ok-add_open.ensures.found ∙ ap (λ xs. c.loop-sender.messages.items ++ xs) whole ∙ ap (λ k. c.loop-sender.messages.items ++ of k) at ∙ ap (λ xs. xs ++ of s) c.loop-sender.invariant.found ∙ append_assoc before so_far (of s) ∙ ap (λ xs. before ++ xs) grown;
-      count = length-set rows s c.add_open.new.row ∙ c.loop-sender.invariant.count;
-      kept = λ p l. get_or-set_other rows s p c.add_open.new.row [] (omega (arith, l)) ∙ c.loop-sender.invariant.kept p (omega (arith, l));
+      found = c.in_ok-add_since.ensures.found c.loop-sender.messages.items c.in_ok-add_first.ensures ∙ ap (λ xs. c.loop-sender.messages.items ++ xs) whole ∙ ap (λ k. c.loop-sender.messages.items ++ of k) at ∙ ap (λ xs. xs ++ of s) c.loop-sender.invariant.found ∙ append_assoc before so_far (of s) ∙ ap (λ xs. before ++ xs) grown;
+      count = length-set rows s c.add_first.new.row ∙ c.loop-sender.invariant.count;
+      kept = λ p l. get_or-set_other rows s p c.add_first.new.row [] (omega (arith, l)) ∙ c.loop-sender.invariant.kept p (omega (arith, l));
     }
 
 pub returns : goal.returns

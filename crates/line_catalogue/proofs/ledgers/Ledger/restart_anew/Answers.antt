@@ -14,4 +14,4 @@ invariant_of-self c =
     let seen : old ≡ c.args.self.now.processes = ap (λ (v : HistoryView). v.processes) c.self.view_is in
     let enough : length line ≡ length old = c.requires.line.length_is ∙ sym (ap (λ (h : List Process). length h) seen) in
     let same : length c.restart.new.self.processes ≡ length old = ap (λ (h : List Process). length h) c.restart.ensures.processes ∙ length_restarted old line enough in
-    AreLeft-anew c.restart.new.self.processes c.clear_starts.new.starts.items c.clear_starts-2.new.starts.items c.new.result.items (c.clear_starts.ensures.count ∙ c.self.invariant.count ∙ sym same) (c.clear_starts-2.ensures.count ∙ c.self.invariant.places_count ∙ sym same) c.clear_starts.ensures.starts c.clear_starts-2.ensures.starts
+    AreLeft-anew c.restart.new.self.processes c.clear_starts.new.starts.items c.clear_starts-2.new.starts.items c.new.result.items (c.clear_starts.ensures.count ∙ c.self.invariant.count ∙ sym same) (c.clear_starts-2.ensures.count ∙ c.self.invariant.places_count ∙ sym same) c.clear_starts.ensures.starts c.clear_starts-2.ensures.starts c.new.ensures.items

@@ -1,0 +1,123 @@
+-- The messages of one process: where they stand among all, and what holds of them.
+use Rattle.std.proofs.Common.{◌≡◌, ℕ, ◌+◌, ◌-◌, ◌<◌, ◌≤◌, Bool, true, false, cond, leb, ltb, List, [], ◌∷◌, ◌++◌, length, take, drop, get_or, map, filter, refl, sym, ap, ◌∙◌, subst, append-nil, arith, inl, inr}
+use Rattle.std.specs.Prelude.{◌==◌}
+use Rattle.std.specs.List.{All, AllPairs, Contains, slice_range}
+use Rattle.std.specs.List.Sorted.{IsNonDecreasing, IsPartitionPoint}
+use Rattle.std.proofs.lemmas.Bool.{cases_lt, eq-eqb, eqb-true, leb-false, leb-true, ltb-false, ltb-true, ne_eqb}
+use Rattle.std.proofs.lemmas.List.{length-take, length-drop, length-map, get_or-map, get_or-drop, get_or-take, take-append-drop}
+use Rattle.std.proofs.lemmas.List.Elements.{filter-append, filter_passes, All-head, All-tail}
+use Rattle.std.proofs.lemmas.List.Folds.{drop_split}
+use Rattle.std.proofs.lemmas.List.Kept.{AllPairs-filter}
+use Rattle.line_names.specs.declared.choices.Choice.{Choice}
+use Rattle.line_names.specs.declared.messages.MsgName.{MsgName}
+use Rattle.line_tape.specs.History.{Process}
+use Rattle.line_tape.proofs.CutLemmas.{contains_nothing, cons_cases}
+use Rattle.line_catalogue.specs.Known.{AreTold}
+use Rattle.line_catalogue.specs.Left.{sent_by, AreSent, ComeInOrder, HasOpen, HasOpenBeside}
+use Rattle.line_catalogue.proofs.LeftLemmas.{contains_cons, contains_first, in_filter, in_map}
+
+module _ {X : Type 0} (test : X → Bool) where
+  -- a filter of what passes nowhere, and of what passes everywhere
+  filter-none : (xs : List X) → All (λ x. test x ≡ false) xs → filter test xs ≡ []
+  filter-none [] none = refl
+  filter-none (x ∷ xs) none = ap (λ b. cond b (x ∷ filter test xs) (filter test xs)) (All-head (λ y. test y ≡ false) x xs none) ∙ filter-none xs (All-tail (λ y. test y ≡ false) x xs none)
+
+  filter-all : (xs : List X) → All (λ x. test x ≡ true) xs → filter test xs ≡ xs
+  filter-all [] all = refl
+  filter-all (x ∷ xs) all = ap (λ b. cond b (x ∷ filter test xs) (filter test xs)) (All-head (λ y. test y ≡ true) x xs all) ∙ ap (λ (ys : List X). x ∷ ys) (filter-all xs (All-tail (λ y. test y ≡ true) x xs all))
+
+  -- what is left of a list was in it
+  from_filter : (xs : List X) (y : X) → Contains (filter test xs) y → Contains xs y
+  from_filter [] y c = absurd (contains_nothing y c)
+  from_filter (x ∷ xs) y c = elim (test x) as (λ (b : Bool). Contains (cond b (x ∷ filter test xs) (filter test xs)) y → Contains (x ∷ xs) y) [
+    | true ↦ λ d. elim (cons_cases x (filter test xs) y d) [
+      | inl same ↦ subst (Contains (x ∷ xs)) same (contains_first x xs)
+      | inr later ↦ contains_cons x y xs (from_filter xs y later)
+    ]
+    | false ↦ λ d. contains_cons x y xs (from_filter xs y d)
+  ] c
+
+-- the messages of process p stand between those of the processes below and those of the ones above
+module _ (messages : List MsgName) (p start end : ℕ)
+    (first : IsPartitionPoint (λ (m : MsgName). ltb m.from p ≡ true)
+    (λ (m : MsgName). ltb m.from p ≡ false) messages start)
+    (last : IsPartitionPoint (λ (m : MsgName). leb m.from p ≡ true)
+    (λ (m : MsgName). leb m.from p ≡ false) messages end)
+    (start_within : start ≤ length messages) where
+  pub part_ascends : start ≤ end
+  part_ascends = elim (cases_lt end start) [
+    | inl below ↦
+        let any : MsgName = record { from = 0; inc = 0; number = 0 } in
+        let low = ltb-true (get_or messages end any).from p (first.0 end any (omega arith) below) in
+        let high = leb-false (get_or messages end any).from p (last.1 end any (omega arith) (omega (arith, below, start_within))) in
+        absurd (omega (arith, low, high))
+    | inr above ↦ above
+  ]
+
+  pub part_sent : end ≤ length messages → slice_range messages start end ≡ sent_by p messages
+  part_sent end_within =
+      let is : MsgName → Bool = λ (m : MsgName). m.from == p in
+      let front : List MsgName = take start messages in
+      let middle : List MsgName = slice_range messages start end in
+      let back : List MsgName = drop end messages in
+      let whole : messages ≡ front ++ (middle ++ back) = sym (take-append-drop start messages) ∙ ap (λ (ms : List MsgName). front ++ ms) (drop_split messages start end part_ascends) in
+      let none_before : filter is front ≡ [] = filter-none is front (λ k d k_within.
+      let below : k < start = omega (arith, k_within, length-take start messages) in
+      let low = ltb-true (get_or messages k d).from p (first.0 k d (omega arith) below) in
+      ap (λ (m : MsgName). m.from == p) (get_or-take start messages k d below) ∙ ne_eqb (get_or messages k d).from p (λ e. absurd (omega (arith, low, e)))) in
+      let none_behind : filter is back ≡ [] = filter-none is back (λ k d k_within.
+      let within : end + k < length messages = omega (arith, k_within, length-drop end messages) in
+      let high = leb-false (get_or messages (end + k) d).from p (last.1 (end + k) d (omega arith) within) in
+      ap (λ (m : MsgName). m.from == p) (get_or-drop end messages k d) ∙ ne_eqb (get_or messages (end + k) d).from p (λ e. absurd (omega (arith, high, e)))) in
+      let all_between : filter is middle ≡ middle = filter-all is middle (λ k d k_within.
+      let inside : k < end - start = omega (arith, k_within, length-take (end - start) (drop start messages)) in
+      let within : start + k < length messages = omega (arith, inside, end_within) in
+      let low = ltb-false (get_or messages (start + k) d).from p (first.1 (start + k) d (omega arith) within) in
+      let high = leb-true (get_or messages (start + k) d).from p (last.0 (start + k) d (omega arith) (omega (arith, inside))) in
+      ap (λ (m : MsgName). m.from == p) (get_or-take (end - start) (drop start messages) k d inside ∙ get_or-drop start messages k d) ∙ eq-eqb (get_or messages (start + k) d).from p (omega (arith, low, high))) in
+      sym (ap (filter is) whole ∙ filter-append is front (middle ++ back) ∙ ap (λ (ms : List MsgName). ms ++ filter is (middle ++ back)) none_before ∙ filter-append is middle back ∙ ap (λ (ms : List MsgName). filter is middle ++ ms) none_behind ∙ append-nil (filter is middle) ∙ all_between)
+
+-- they are all from it
+pub from-sent_by : (p : ℕ) (left : List MsgName) → All (λ (m : MsgName). m.from ≡ p) (sent_by p left)
+from-sent_by p left = λ k d within. eqb-true (get_or (sent_by p left) k d).from p (filter_passes (λ (m : MsgName). m.from == p) left k d within)
+
+-- they are among all
+pub among-sent_by : (p : ℕ) (left : List MsgName) (m : MsgName) → Contains (sent_by p left) m → Contains left m
+among-sent_by p left m c = from_filter (λ (x : MsgName). x.from == p) left m c
+
+-- those of all that are from it
+pub in-sent_by : (p : ℕ) (left : List MsgName) (m : MsgName) → m.from ≡ p → Contains left m → Contains (sent_by p left) m
+in-sent_by p left m from c = in_filter (λ (x : MsgName). x.from == p) left m (eq-eqb m.from p from) c
+
+-- their numbers ascend
+pub sorted-sent_by : (p : ℕ) (left : List MsgName) → ComeInOrder left → IsNonDecreasing (map (λ (m : MsgName). m.number) (sent_by p left))
+sorted-sent_by p left order i j d up within =
+    let own : List MsgName = sent_by p left in
+    let any : MsgName = record { from = 0; inc = 0; number = 0 } in
+    let j_within : j < length own = omega (arith, within, length-map own (λ (m : MsgName). m.number)) in
+    let at_i : get_or (map (λ (m : MsgName). m.number) own) i d ≡ (get_or own i any).number = get_or-map (λ (m : MsgName). m.number) own i any d (omega (arith, up, j_within)) in
+    let at_j : get_or (map (λ (m : MsgName). m.number) own) j d ≡ (get_or own j any).number = get_or-map (λ (m : MsgName). m.number) own j any d j_within in
+    elim (cases_lt i j) [
+      | inl less ↦
+          let from : (get_or own i any).from ≡ (get_or own j any).from = from-sent_by p left i any (omega (arith, less, j_within)) ∙ sym (from-sent_by p left j any j_within) in
+          let below = AllPairs-filter (λ (x y : MsgName). x.from ≡ y.from → x.number < y.number) (λ (m : MsgName). m.from == p) left order.numbers i j any less j_within from in
+          omega (arith, at_i, at_j, below)
+      | inr more ↦
+          let same : i ≡ j = omega (arith, up, more) in
+          omega (arith, ap (λ (k : ℕ). get_or (map (λ (m : MsgName). m.number) own) k d) same)
+    ]
+
+-- where a row is empty their numbers have all that can be in transit
+pub open-sent_by : (history : List Process) (line : List Choice) (p end : ℕ) (row : List ℕ) (left : List MsgName) → row ≡ [] → HasOpenBeside history line p end row left → HasOpen history line p end (map (λ (m : MsgName). m.number) (sent_by p left))
+open-sent_by history line p end row left empty held = λ q m from low sent unseen. elim (held q m from low sent unseen) [
+  | inl among ↦ absurd (contains_nothing m.number (subst (λ (r : List ℕ). Contains r m.number) empty among))
+  | inr among ↦ in_map (λ (x : MsgName). x.number) (sent_by p left) m (in-sent_by p left m from among)
+]
+
+-- each of them was sent
+pub sent-sent_by : (history : List Process) (p : ℕ) (left : List MsgName) → AreSent history left → AreSent history (sent_by p left)
+sent-sent_by history p left are = λ m c. are m (among-sent_by p left m c)
+
+-- the marks tell of each of them
+pub told-sent_by : (history : List Process) (line : List Choice) (p base : ℕ) (marks : List Bool) (left : List MsgName) → AreTold history line p base marks left → AreTold history line p base marks (sent_by p left)
+told-sent_by history line p base marks left told = λ q k m c. told q k m (among-sent_by p left m c)
