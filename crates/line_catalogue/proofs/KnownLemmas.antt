@@ -1,12 +1,12 @@
 -- Marks at sends that are received: where those of a process begin, how one is set, and that a marked send adds nothing to what is in transit.
-use Rattle.std.proofs.Common.{◌≡◌, ℕ, ◌+◌, ◌<◌, ◌≤◌, ◌-◌, Bool, false, true, cond, List, [], ◌∷◌, ◌++◌, Some, refl, length, take, drop, get_or, set, sym, ap, ◌∙◌, subst, append-nil, arith, inl, inr}
+use Rattle.std.proofs.Common.{◌≡◌, ℕ, ◌+◌, ◌<◌, ◌≤◌, ◌-◌, Bool, false, true, cond, List, [], ◌∷◌, ◌++◌, Option, Some, None, refl, length, take, drop, get_or, set, sym, ap, ◌∙◌, subst, append-nil, arith, inl, inr}
 use Rattle.std.specs.List.{Contains, slice_get}
 use Rattle.std.specs.List.Sorted.{IsNonDecreasing}
 use Rattle.std.proofs.lemmas.Bool.{cases_eq, cases_lt, false≢true}
 use Rattle.std.proofs.lemmas.List.{get_or-set_other, get_or-set_same, get_or_default, get_or_past, take-append-drop, take-append-le, take-take, take_all}
 use Rattle.std.proofs.lemmas.List.Elements.{Contains-append_cases, Contains-append_left, Contains-push_cases}
 use Rattle.std.proofs.lemmas.List.Sorted.{IsNonDecreasingBy-push}
-use Rattle.std.proofs.lemmas.Option.{same_Some, slice_get-get_or}
+use Rattle.std.proofs.lemmas.Option.{get_or_from_slice_get, same_Some, slice_get-get_or, slice_get_within}
 use Rattle.line_names.specs.declared.choices.Choice.{Choice}
 use Rattle.line_names.specs.declared.messages.MsgName.{MsgName}
 use Rattle.line_names.specs.Lines.{choice_at}
@@ -24,8 +24,8 @@ use Rattle.line_tape.proofs.FrontLemmas.{Contains-take_more}
 use Rattle.line_tape.proofs.LineLemmas.{tape_at-past}
 use Rattle.line_tape.proofs.ReceivedLemmas.{sent_within}
 use Rattle.line_tape.proofs.TransitLemmas.{has_received-iff}
-use Rattle.line_catalogue.specs.Known.{AreAllNoted, AreAllTold, AreKnown, AreMarkRows, AreReceived, AreTold, HasMark, IsNoted, IsReceived}
-use Rattle.line_catalogue.specs.Left.{open_first, place_at, start_at, AreLeft, IsUnread}
+use Rattle.line_catalogue.specs.Known.{AreAllNoted, AreAllTold, AreAllToldSince, AreKnown, AreMarkRows, AreReceived, AreTold, AreToldSince, HasMark, IsNoted, IsReceived, IsUnreceived}
+use Rattle.line_catalogue.specs.Left.{open_first, place_at, start_at, AreClosed, AreEnds, AreLeft, IsUnread}
 use Rattle.line_catalogue.proofs.OpenLemmas.{open-step, sent_whole}
 
 -- a start behind all others
@@ -101,18 +101,15 @@ noted-none history line places bases starts marks empty = λ q inside event amon
 pub noted-more : (history : List Process) (bases starts : List ℕ) (old new : List Bool) (q : ℕ) (event : Event) → ((i : ℕ) → get_or old i false ≡ true → get_or new i false ≡ true) → IsNoted history bases starts old q event → IsNoted history bases starts new q event
 noted-more history bases starts old new q event more noted = λ k m is sent number within. more (start_at starts m.from + k) (noted k m is sent number within)
 
--- the marks of what is left tell of each message whether it is received: unless it is marked it isn't, neither before its place nor since
-pub all-told : (history : List Process) (line : List Choice) (kept places bases starts : List ℕ) (marks : List Bool) (left : List MsgName) → AreLeft history kept places left → AreKnown history line bases starts marks → AreAllNoted history line places bases starts marks
-    → AreAllTold history line bases starts marks left
-all-told history line kept places bases starts marks left are known noted = λ q k m among sent number within.
+-- the mark of a message that isn't received before the place of its receiver tells whether it is received before the line: unless it is marked it isn't received since, either
+pub mark-tells : (history : List Process) (line : List Choice) (places bases starts : List ℕ) (marks : List Bool) (q k : ℕ) (m : MsgName) → AreKnown history line bases starts marks → AreAllNoted history line places bases starts marks → IsSentTo history q m
+    → m.number ≡ start_at bases m.from + k → start_at starts m.from + k < start_at starts (m.from + 1) → (Contains (take (place_at places q) (tape_at history q)) (Recv m) → ⊥)
+    → has_received (events_before history line q) m ≡ get_or marks (start_at starts m.from + k) false
+mark-tells history line places bases starts marks q k m known noted sent number within unheard =
     let tape : List Event = tape_at history q in
     let n : ℕ = place tape (choice_at line q) in
     let s : ℕ = place_at places q in
     let at : ℕ = start_at starts m.from + k in
-    let was : IsUnread history places m = are.each m among in
-    let same : was.to ≡ q = same_Some _ _ (sym was.sent.to_is ∙ sent.to_is) in
-    let unread : has_received (take s tape) m ≡ false = subst (λ (j : ℕ). has_received (take (place_at places j) (tape_at history j)) m ≡ false) same was.unread in
-    let unheard : Contains (take s tape) (Recv m) → ⊥ = λ c. false≢true (sym unread ∙ (has_received-iff (take s tape) m).1 c) in
     elim (get_or marks at false) as (λ (b : Bool). get_or marks at false ≡ b → has_received (take n tape) m ≡ b) [
       | true ↦ λ e. known m.from k (sent_within history q m sent) (within, e) q m refl number sent
       | false ↦ λ e. elim (has_received (take n tape) m) as (λ (b : Bool). has_received (take n tape) m ≡ b → b ≡ false) [
@@ -133,12 +130,55 @@ all-told history line kept places bases starts marks left are known noted = λ q
       ] refl
     ] refl
 
+-- the marks tell of each message that is left
+pub all-told : (history : List Process) (line : List Choice) (kept places bases starts : List ℕ) (marks : List Bool) (left : List MsgName) → AreLeft history kept places left → AreKnown history line bases starts marks → AreAllNoted history line places bases starts marks
+    → AreAllTold history line bases starts marks left
+all-told history line kept places bases starts marks left are known noted = λ q k m among sent number within.
+    let s : ℕ = place_at places q in
+    let tape : List Event = tape_at history q in
+    let was : IsUnread history places m = are.each m among in
+    let same : was.to ≡ q = same_Some _ _ (sym was.sent.to_is ∙ sent.to_is) in
+    let unread : has_received (take s tape) m ≡ false = subst (λ (j : ℕ). has_received (take (place_at places j) (tape_at history j)) m ≡ false) same was.unread in
+    mark-tells history line places bases starts marks q k m known noted sent number within (λ c. false≢true (sym unread ∙ (has_received-iff (take s tape) m).1 c))
+
+-- and where the kept line is closed, of each that is sent behind it
+pub all-told-since : (history : List Process) (line : List Choice) (kept ends places bases starts : List ℕ) (marks : List Bool) → AreClosed history kept places → AreEnds history kept line ends → AreKnown history line bases starts marks → AreAllNoted history line places bases starts marks
+    → AreAllToldSince history line ends bases starts marks
+all-told-since history line kept ends places bases starts marks closed ending known noted = λ q k m up low sent number within.
+    mark-tells history line places bases starts marks q k m known noted sent number within (λ c. absurd (omega (arith, closed q m c, ending.since m.from m.number up low)))
+
+-- what one mark tells
+module _ (history : List Process) (line : List Choice) (p base number : ℕ) (marks : List Bool) (mark : Option Bool)
+    (before : number < base → mark ≡ None) (since : base ≤ number → mark ≡ slice_get marks (number - base)) where
+  found_at : (b : Bool) → mark ≡ Some b → (base ≤ number) × (slice_get marks (number - base) ≡ Some b)
+  found_at b is = elim (cases_lt number base) [
+    | inl low ↦ absurd (cc (is, before low))
+    | inr up ↦ let l : base ≤ number = omega (arith, up) in (l, sym (since l) ∙ is)
+  ]
+
+  pub marked-received : AreReceived history line p base marks → mark ≡ Some true → IsReceived history line p number
+  marked-received are is =
+      let at = found_at true is in
+      let all : base + (number - base) ≡ number = omega (arith, at.0) in
+      subst (λ (j : ℕ). IsReceived history line p j) all (are (number - base) (get_or_from_slice_get marks (number - base) true false at.1))
+
+  pub unmarked-open : (end : ℕ) → end ≤ number → number < sends (events_before history line p) → AreToldSince history line p end base marks → mark ≡ Some false → IsUnreceived history line p number
+  unmarked-open end up low told is = λ q m from same sent.
+      let at = found_at false is in
+      told q (number - base) m from (omega (arith, up, same)) (omega (arith, low, same)) (omega (arith, same, at.0)) (slice_get_within marks (number - base) false at.1) sent ∙ get_or_from_slice_get marks (number - base) false false at.1
+
 -- the marks of one process
 pub row-told : (history : List Process) (line : List Choice) (bases starts : List ℕ) (marks : List Bool) (left : List MsgName) (p base : ℕ) (row : List Bool) → AreAllTold history line bases starts marks left → base ≡ start_at bases p
     → ((k : ℕ) → k < length row → start_at starts p + k < start_at starts (p + 1)) → ((k : ℕ) → k < length row → get_or row k false ≡ get_or marks (start_at starts p + k) false) → AreTold history line p base row left
 row-told history line bases starts marks left p base row told is inside same = λ q k m among from number within sent.
     let here : start_at starts m.from + k < start_at starts (m.from + 1) = subst (λ (j : ℕ). start_at starts j + k < start_at starts (j + 1)) (sym from) (inside k within) in
     told q k m among sent (omega (arith, number, is, ap (start_at bases) from)) here ∙ ap (λ (j : ℕ). get_or marks (start_at starts j + k) false) from ∙ sym (same k within)
+
+pub row-told-since : (history : List Process) (line : List Choice) (ends bases starts : List ℕ) (marks : List Bool) (p base : ℕ) (row : List Bool) → AreAllToldSince history line ends bases starts marks → base ≡ start_at bases p
+    → ((k : ℕ) → k < length row → start_at starts p + k < start_at starts (p + 1)) → ((k : ℕ) → k < length row → get_or row k false ≡ get_or marks (start_at starts p + k) false) → AreToldSince history line p (start_at ends p) base row
+row-told-since history line ends bases starts marks p base row told is inside same = λ q k m from up low number within sent.
+    let here : start_at starts m.from + k < start_at starts (m.from + 1) = subst (λ (j : ℕ). start_at starts j + k < start_at starts (j + 1)) (sym from) (inside k within) in
+    told q k m (omega (arith, up, ap (start_at ends) from)) (omega (arith, low, ap (λ (j : ℕ). sends (events_before history line j)) from)) sent (omega (arith, number, is, ap (start_at bases) from)) here ∙ ap (λ (j : ℕ). get_or marks (start_at starts j + k) false) from ∙ sym (same k within)
 
 pub row-received : (history : List Process) (line : List Choice) (bases starts : List ℕ) (marks : List Bool) (p base : ℕ) (row : List Bool) → AreKnown history line bases starts marks → p < length history → base ≡ start_at bases p
     → ((k : ℕ) → get_or row k false ≡ true → HasMark starts marks p k) → AreReceived history line p base row
@@ -166,3 +206,15 @@ open-marked history line p number are within =
     let t : slice_get (addressees before) number ≡ Some to = slice_get-get_or (addressees before) number 0 (omega (arith, within, length_addressees before)) in
     let received : has_received (events_before history line to) (name_of p inc number) ≡ true = are to (name_of p inc number) refl refl (sent_whole history line p number inc to i t) in
     open-step history line p number inc to i t ∙ ap (λ b. open_first history line p number ++ cond b [] (name_of p inc number ∷ [])) received ∙ append-nil (open_first history line p number)
+
+-- a send that is known not to be received is in transit
+pub open-unmarked : (history : List Process) (line : List Choice) (p number : ℕ) → IsUnreceived history line p number → number < sends (events_before history line p)
+    → (inc : ℕ) × (slice_get (incarnations_sent (events_before history line p)) number ≡ Some inc) × (open_first history line p (number + 1) ≡ open_first history line p number ++ name_of p inc number ∷ [])
+open-unmarked history line p number are within =
+    let before : List Event = events_before history line p in
+    let inc : ℕ = get_or (incarnations_sent before) number 0 in
+    let to : ℕ = get_or (addressees before) number 0 in
+    let i : slice_get (incarnations_sent before) number ≡ Some inc = slice_get-get_or (incarnations_sent before) number 0 within in
+    let t : slice_get (addressees before) number ≡ Some to = slice_get-get_or (addressees before) number 0 (omega (arith, within, length_addressees before)) in
+    let unseen : has_received (events_before history line to) (name_of p inc number) ≡ false = are to (name_of p inc number) refl refl (sent_whole history line p number inc to i t) in
+    (inc, i, open-step history line p number inc to i t ∙ ap (λ b. open_first history line p number ++ cond b [] (name_of p inc number ∷ [])) unseen)

@@ -16,19 +16,19 @@ use Rattle.line_tape.specs.Event.{incarnation_of, incarnations_sent, sends, Hold
 use Rattle.line_tape.specs.Fit.{IsSentTo}
 use Rattle.line_tape.specs.Front.{place, front, HasChoice}
 use Rattle.line_tape.specs.History.{Process, tape_at, with_event}
-use Rattle.line_tape.specs.Line.{events_before, IsLine}
+use Rattle.line_tape.specs.Line.{events_before, IsConsistent, IsLine}
 use Rattle.line_tape.specs.Restart.{restarted_history}
 use Rattle.line_tape.specs.Transit.{Letter, letters, is_open_letter, open_letters, in_transit, has_received, names_received, addressee_of, addressees}
 use Rattle.line_tape.proofs.ChoiceLemmas.{choice-past}
 use Rattle.line_tape.proofs.EventLemmas.{holds_more, length_addressees, tape_grows}
 use Rattle.line_tape.proofs.ListLemmas.{slice_get_front}
-use Rattle.line_tape.proofs.CutLemmas.{contains_nothing, cons_cases, sends_take}
+use Rattle.line_tape.proofs.CutLemmas.{contains_nothing, cons_cases, received_left, sends_take}
 use Rattle.line_tape.proofs.FrontLemmas.{slice_get-append_left, Contains-take_more, place_le}
 use Rattle.line_tape.proofs.StayLemmas.{addressees_restarted, tape_restarted, incs_restarted, length_restarted, names_restarted}
 use Rattle.line_tape.proofs.LineLemmas.{tape_at-past, front-empty}
 use Rattle.line_tape.proofs.ReceivedLemmas.{length-letters}
 use Rattle.line_tape.proofs.TransitLemmas.{letter_of, has_received-iff, names_contain}
-use Rattle.line_catalogue.specs.Left.{open_first, place_at, start_at, numbers_at, AreEnds, AreLeft, AreCandidates, AreSettledUpTo, ComeInOrder, HasOpenBeside, HaveLeft, IsOpen, IsUnread}
+use Rattle.line_catalogue.specs.Left.{open_first, place_at, start_at, numbers_at, AreClosed, AreEnds, AreKept, AreLeft, AreCandidates, AreSettledUpTo, ComeInOrder, HasOpenBeside, HaveLeft, IsOpen, IsUnread}
 use Rattle.line_catalogue.proofs.OpenLemmas.{letter_at, sent_whole}
 use Rattle.line_catalogue.proofs.OrderLemmas.{below-all, order-none, AreOpenBelow}
 
@@ -108,6 +108,26 @@ AreLeft-event history starts places left at e h are =
             unread = ap (λ (es : List Event). has_received es m) same ∙ was.unread;
           };
     }
+
+-- it keeps the line closed, too
+pub AreKept-event : (history : List Process) (starts places : List ℕ) (left : List MsgName) (closed : Bool) (at : ℕ) (e : Event) → at < length history → AreKept history starts places left closed → AreKept (with_event history at e) starts places left closed
+AreKept-event history starts places left closed at e h are =
+    let new : List Process = with_event history at e in
+    record {
+      held = AreLeft-event history starts places left at e h are.held;
+      told = λ on q m among.
+          let more = tape_grows history at e q h in
+          let mine : List Event = tape_at history q in
+          let same : take (place_at places q) (tape_at new q) ≡ take (place_at places q) mine = ap (take (place_at places q)) more.1 ∙ take-append-le (place_at places q) mine more.0 (are.held.placed q) in
+          are.told on q m (subst (λ (es : List Event). Contains es (Recv m)) same among);
+    }
+
+-- where it is not told whether the line is closed
+pub AreKept-open : (history : List Process) (starts places : List ℕ) (left : List MsgName) → AreLeft history starts places left → AreKept history starts places left false
+AreKept-open history starts places left are = record {
+  held = are;
+  told = λ on. absurd (false≢true on);
+}
 
 pub contains_cons : {X : Type 0} (x y : X) (xs : List X) → Contains xs y → Contains (x ∷ xs) y
 contains_cons x y xs c = Contains-append_right (x ∷ []) xs y c
@@ -222,7 +242,7 @@ have-open history line p k before few = λ q m from low sent unseen.
     Contains-append_right before (open_first history line p k) m (subst (λ j. Contains (open_first history line j k) m) from (in-first history line q m k low front.0 front.1 unseen))
 
 -- nothing is sent by a process that there isn't
-sender-before : (history : List Process) (line : List Choice) (p k : ℕ) → k < sends (events_before history line p) → p < length history
+pub sender-before : (history : List Process) (line : List Choice) (p k : ℕ) → k < sends (events_before history line p) → p < length history
 sender-before history line p k low = elim (cases_lt p (length history)) [
   | inl h ↦ h
   | inr past ↦ absurd (omega (arith, low, ap (λ (es : List Event). sends es) (past-empty history line p (omega arith))))
@@ -299,6 +319,19 @@ AreLeft-anew history starts places left count places_count none first empty = re
   order = subst ComeInOrder (sym empty) order-none;
   each = λ m among. absurd (contains_nothing m (subst (λ (xs : List MsgName). Contains xs m) empty among));
 }
+
+-- before the first events nothing is received
+pub AreClosed-anew : (history : List Process) (starts places : List ℕ) → ((p : ℕ) → place_at places p ≡ 0) → AreClosed history starts places
+AreClosed-anew history starts places first = λ q m among. absurd (contains_nothing (Recv m) (subst (λ (k : ℕ). Contains (take k (tape_at history q)) (Recv m)) (first q) among))
+
+-- after a restart at a consistent line whatever is received was sent before the line
+pub AreClosed-restarted : (history : List Process) (line : List Choice) (starts places : List ℕ) → length line ≡ length history → IsConsistent history line → ((p : ℕ) → start_at starts p ≡ sends (events_before history line p)) → AreClosed (restarted_history history line) starts places
+AreClosed-restarted history line starts places e consistent are = λ q m among.
+    let tape : List Event = tape_at (restarted_history history line) q in
+    let k : ℕ = place_at places q in
+    let whole : Contains tape (Recv m) = subst (λ (es : List Event). Contains es (Recv m)) (take-append-drop k tape) (Contains-append_left (take k tape) (drop k tape) (Recv m) among) in
+    let before : Contains (events_before history line q) (Recv m) = received_left (events_before history line q) m (subst (λ (es : List Event). Contains es (Recv m)) (tape_restarted history line q e) whole) in
+    omega (arith, are m.from, slice_get_within (incarnations_sent (events_before history line m.from)) m.number m.inc (consistent q m before))
 
 -- one end more keeps all ends within their bounds
 pub ends-more : (bound : ℕ → ℕ) (ends : List ℕ) (end : ℕ) → ((p : ℕ) → start_at ends p ≤ bound p) → end ≤ bound (length ends) → (p : ℕ) → start_at (ends ++ end ∷ []) p ≤ bound p

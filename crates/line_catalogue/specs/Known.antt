@@ -7,6 +7,7 @@ use Rattle.line_names.specs.declared.choices.Choice.{Choice}
 use Rattle.line_names.specs.declared.messages.MsgName.{MsgName}
 use Rattle.line_tape.specs.declared.events.Event.{Event}
 use Rattle.line_tape.specs.declared.events.Event.TheVariants.{Recv}
+use Rattle.line_tape.specs.Event.{sends}
 use Rattle.line_tape.specs.Fit.{IsSentTo}
 use Rattle.line_tape.specs.History.{Process}
 use Rattle.line_tape.specs.Line.{events_before}
@@ -20,6 +21,13 @@ IsReceived history line p number =
     → IsSentTo history q message
     → has_received (events_before history line q) message ≡ true
 
+-- whatever process p sent under that number isn't received before the line
+abbrev pub IsUnreceived : List Process → List Choice → ℕ → ℕ → Type 0
+IsUnreceived history line p number =
+    (q : ℕ) (message : MsgName) → message.from ≡ p → message.number ≡ number
+    → IsSentTo history q message
+    → has_received (events_before history line q) message ≡ false
+
 -- what is marked of process p's sends from `base` on is received before the line
 abbrev pub AreReceived : List Process → List Choice → ℕ → ℕ → List Bool → Type 0
 AreReceived history line p base marks =
@@ -31,6 +39,14 @@ abbrev pub AreTold : List Process → List Choice → ℕ → ℕ → List Bool 
 AreTold history line p base marks left =
     (q k : ℕ) (message : MsgName) → Contains left message → message.from ≡ p
     → message.number ≡ base + k → k < length marks → IsSentTo history q message
+    → has_received (events_before history line q) message ≡ slice_index_or marks k false
+
+-- so does the mark of each message of process p that it sent before the line and not below `end`
+abbrev pub AreToldSince : List Process → List Choice → ℕ → ℕ → ℕ → List Bool → Type 0
+AreToldSince history line p end base marks =
+    (q k : ℕ) (message : MsgName) → message.from ≡ p → end ≤ message.number
+    → message.number < sends (events_before history line p) → message.number ≡ base + k
+    → k < length marks → IsSentTo history q message
     → has_received (events_before history line q) message ≡ slice_index_or marks k false
 
 -- the marks of each process stand from its start up to the start of the next one
@@ -71,6 +87,18 @@ abbrev pub AreAllNoted : List Process → List Choice → List ℕ → List ℕ 
 AreAllNoted history line places bases starts marks =
     (q : ℕ) → q < length history
     → AreNotedSince history line bases starts marks q (place_at places q)
+
+-- the mark of each send before the line from its sender's end on tells whether it is received there
+abbrev pub AreAllToldSince : List Process → List Choice → List ℕ → List ℕ → List ℕ → List Bool
+    → Type 0
+AreAllToldSince history line ends bases starts marks =
+    (q k : ℕ) (message : MsgName) → start_at ends message.from ≤ message.number
+    → message.number < sends (events_before history line message.from)
+    → IsSentTo history q message
+    → message.number ≡ start_at bases message.from + k
+    → start_at starts message.from + k < start_at starts (message.from + 1)
+    → has_received (events_before history line q) message
+    ≡ slice_index_or marks (start_at starts message.from + k) false
 
 -- the mark of each message that is left tells whether it is received before the line
 abbrev pub AreAllTold : List Process → List Choice → List ℕ → List ℕ → List Bool → List MsgName

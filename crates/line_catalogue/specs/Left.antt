@@ -1,7 +1,7 @@
 -- What is kept so that what is in transit is found from little: what was in transit at some line,
 -- and the sends and events before it.
-use Rattle.std.specs.Prelude.{◌≡◌, ◌⊎◌, ℕ, ◌==◌, ◌<◌, ◌≤◌, Bool, false, List, [], length, map}
-use Rattle.std.specs.Prelude.{filter, take, drop, AllPairs, Contains, IsTrue, slice_get}
+use Rattle.std.specs.Prelude.{◌≡◌, ◌⊎◌, ℕ, ◌==◌, ◌<◌, ◌≤◌, Bool, false, true, List, [], length}
+use Rattle.std.specs.Prelude.{map, filter, take, drop, AllPairs, Contains, IsTrue, slice_get}
 use Rattle.std.specs.Prelude.{slice_index_or, Some}
 use Rattle.std.specs.List.Sorted.{IsNonDecreasingBy}
 use Rattle.line_names.specs.declared.choices.Choice.{Choice}
@@ -52,6 +52,19 @@ pub record AreLeft (history : List Process) (starts places : List ℕ)
   pub order : ComeInOrder left
   pub each : (message : MsgName) → Contains left message → IsUnread history places message
 
+-- what is received before the places was sent before the starts
+abbrev pub AreClosed : List Process → List ℕ → List ℕ → Type 0
+AreClosed history starts places =
+    (q : ℕ) (message : MsgName)
+    → Contains (take (place_at places q) (tape_at history q)) (Recv message)
+    → message.number < start_at starts message.from
+
+-- what a ledger keeps: what is left, and that the kept line is closed, if it says so
+pub record AreKept (history : List Process) (starts places : List ℕ) (left : List MsgName)
+    (closed : Bool) : Type 0 where
+  pub held : AreLeft history starts places left
+  pub told : closed ≡ true → AreClosed history starts places
+
 -- those of the messages that process p sent
 abbrev pub sent_by : ℕ → List MsgName → List MsgName
 sent_by p messages = filter (λ (message : MsgName). message.from == p) messages
@@ -70,12 +83,14 @@ events_between history line p kept =
 abbrev pub numbers_at : List (List ℕ) → ℕ → List ℕ
 numbers_at rows p = slice_index_or rows p []
 
--- for each process an end: no later than its start, and not after the line
+-- for each process an end: its start, or where the line stands, if that is before it
 pub record AreEnds (history : List Process) (starts : List ℕ) (line : List Choice)
     (ends : List ℕ) : Type 0 where
   pub count : length ends ≡ length history
   pub started : (p : ℕ) → start_at ends p ≤ start_at starts p
   pub before : (p : ℕ) → start_at ends p ≤ sends (events_before history line p)
+  pub since : (p number : ℕ) → start_at ends p ≤ number
+      → number < sends (events_before history line p) → start_at starts p ≤ number
 
 -- the numbers of these messages below the ends stand in the rows of their senders
 abbrev pub AreIn : List MsgName → List ℕ → List (List ℕ) → Type 0

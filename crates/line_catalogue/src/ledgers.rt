@@ -5,11 +5,11 @@ ghost use Rattle.line_names.specs.Lines.{choice_at};
 ghost use Rattle.line_tape.specs.Event.{sends, HasLongState, NamesBelow};
 ghost use Rattle.line_tape.specs.Front.{place};
 ghost use Rattle.line_tape.specs.History.{tape_at, with_event};
-ghost use Rattle.line_tape.specs.Line.{events_before, IsLine};
+ghost use Rattle.line_tape.specs.Line.{events_before, IsConsistent, IsLine};
 ghost use Rattle.line_tape.specs.Restart.{restarted_history, HaveFurther};
 ghost use Rattle.line_tape.specs.Transit.{in_transit};
 ghost use Rattle.line_tape.specs.Views.{room_at};
-ghost use Rattle.line_catalogue.specs.Left.{place_at, start_at, AreLeft, AreSettledUpTo};
+ghost use Rattle.line_catalogue.specs.Left.{place_at, start_at, AreSettledUpTo};
 ghost use Rattle.line_catalogue.specs.Left.{AreStrangers};
 
 mod appends;
@@ -148,6 +148,9 @@ pub struct Ledger {
     starts: Vec<u32>,
     places: Vec<u32>,
     left: Vec<MsgName>,
+    // Whether whatever was received before that line is known to be sent before it. Then no message
+    // that was sent behind it was received before it.
+    closed: bool,
     alloc: Global,
     // How many further events come before the ledger settles, though no room is made for them.
     due: usize,
@@ -160,12 +163,12 @@ impl Model for Ledger {
 
     ghost Value = { HistoryView };
 
-    ghost use Rattle.line_catalogue.specs.Left.{AreLeft};
+    ghost use Rattle.line_catalogue.specs.Left.{AreKept};
 
     ghost view = { λ l. l.history };
 
-    ghost invariant = { λ l. AreLeft l.history.processes l.starts.items l.places.items
-        l.left.items };
+    ghost invariant = { λ l. AreKept l.history.processes l.starts.items l.places.items
+        l.left.items l.closed };
 }
 
 impl Ledger {
@@ -181,6 +184,7 @@ impl Ledger {
             starts,
             places,
             left: Vec::new(alloc),
+            closed: true,
             alloc,
             due: EVENTS_BETWEEN + EVENTS_LATER,
             credit,
@@ -205,6 +209,7 @@ impl Ledger {
         move_places(&self.history, line, &mut self.places);
         self.starts = starts;
         self.left = kept;
+        self.closed = false;
         let paid = self.left.len().saturating_mul(EVENTS_FOR_A_MESSAGE);
         let wait = paid.saturating_add(EVENTS_BETWEEN);
         self.due = wait.saturating_add(EVENTS_LATER);
@@ -322,6 +327,7 @@ impl Ledger {
             self.starts.as_slice(),
             self.places.as_slice(),
             self.left.as_slice(),
+            self.closed,
             strangers,
             alloc,
             line,
@@ -338,6 +344,7 @@ impl Ledger {
         move_starts(&self.history, line, &mut self.starts);
         move_places(&self.history, line, &mut self.places);
         self.left = messages;
+        self.closed = false;
         self.wait();
     }
 
@@ -352,6 +359,7 @@ impl Ledger {
         clear_starts(&mut self.starts);
         clear_starts(&mut self.places);
         self.left = Vec::new(self.alloc);
+        self.closed = true;
         self.wait();
     }
 
@@ -359,6 +367,7 @@ impl Ledger {
     /// at.
     fn restart_with(&mut self, line: &Line, left: Vec<MsgName>)
         requires line { IsLine self.old.processes line.now }
+        requires consistent { IsConsistent self.old.processes line.now }
         requires further { HaveFurther self.old.processes line.now }
         requires left { left.items ≡ in_transit self.old.processes line.now }
         ensures processes { self.new.processes ≡ restarted_history self.old.processes line.now }
@@ -368,15 +377,18 @@ impl Ledger {
         self.history.restart(line);
         set_places(&self.history, &mut self.places);
         self.left = left;
+        self.closed = true;
         self.wait();
     }
 
-    /// Has each process go on from its choice of the line. It takes no memory and cannot fail.
+    /// Has each process go on from its choice of a consistent line. It takes no memory and cannot
+    /// fail.
     ///
     /// Where it is told what is in transit at the line, what is so later is found from that and
     /// from what is sent from now on; else each send has to be looked at.
     pub fn restart(&mut self, line: &Line, left: Option<Vec<MsgName>>)
         requires line { IsLine self.old.processes line.now }
+        requires consistent { IsConsistent self.old.processes line.now }
         requires further { HaveFurther self.old.processes line.now }
         requires left { IfSome left (λ left. left.items ≡ in_transit self.old.processes line.now) }
         ensures processes { self.new.processes ≡ restarted_history self.old.processes line.now }

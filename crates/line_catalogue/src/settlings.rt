@@ -74,7 +74,17 @@ fn settle_sender(
     if !spend(credit, sends.saturating_sub(end) as usize) {
         return Ok(end);
     }
-    let looked = add_since(history, line, p, end, base, known, Some(most), messages)?;
+    let looked = add_since(
+        history,
+        line,
+        p,
+        end,
+        false,
+        base,
+        known,
+        Some(most),
+        messages,
+    )?;
     if looked == sends {
         return Ok(sends);
     }

@@ -1,19 +1,19 @@
 //! What is in transit, of one process and of all.
 ghost use Rattle.std.specs.Prelude.{◌≡◌, ◌<◌, ◌≤◌, ◌+◌, ◌++◌, ◌∷◌, [], ℕ, List};
-ghost use Rattle.std.specs.Prelude.{not, length, map, true, false};
+ghost use Rattle.std.specs.Prelude.{not, length, map, true, false, Some};
 ghost use Rattle.std.specs.Prelude.{All, Contains, IfOk, None, OnOk};
 ghost use Rattle.std.specs.List.Sorted.{IsNonDecreasing, IsNonDecreasingBy};
-ghost use Rattle.line_names.specs.declared.choices.Choice.{Choice};
 ghost use Rattle.line_names.specs.declared.messages.MsgName.{MsgName};
-ghost use Rattle.line_tape.specs.Event.{sends};
+ghost use Rattle.line_tape.specs.Event.{sends, Holds};
 ghost use Rattle.line_tape.specs.Fit.{IsSentTo};
-ghost use Rattle.line_tape.specs.History.{Process};
+ghost use Rattle.line_tape.specs.History.{tape_at};
 ghost use Rattle.line_tape.specs.Line.{events_before, IsLine};
 ghost use Rattle.line_tape.specs.Transit.{has_received, in_transit};
 ghost use Rattle.line_catalogue.specs.Known.{AreAllTold, AreKnown, AreReceived, AreTold};
-ghost use Rattle.line_catalogue.specs.Known.{IsReceived};
+ghost use Rattle.line_catalogue.specs.Known.{AreAllToldSince, AreToldSince, IsReceived};
+ghost use Rattle.line_catalogue.specs.Known.{IsUnreceived};
 ghost use Rattle.line_catalogue.specs.Left.{numbers_at, open_first, sent_by, start_at};
-ghost use Rattle.line_catalogue.specs.Left.{AreLeft, AreSent, AreStrangers, ComeInOrder, HasOpen};
+ghost use Rattle.line_catalogue.specs.Left.{AreClosed, AreLeft, AreSent, AreStrangers, ComeInOrder, HasOpen};
 ghost use Rattle.line_catalogue.specs.Left.{HasOpenBeside};
 
 use crate::candidates::candidates;
@@ -222,25 +222,71 @@ fn are_past(most: Option<usize>, count: usize) -> bool
     }
 }
 
-/// Whether a send is known to be received.
-fn is_marked(known: &[bool], base: u32, number: u32) -> bool
-    ensures { (history : List Process) (line : List Choice) (p : ℕ) → result ≡ true
-        → AreReceived history line p base known.now → IsReceived history line p number }
+/// Adds a process's message of a number.
+fn add_sent(
+    history: &History,
+    p: ProcId,
+    number: u32,
+    messages: &mut Vec<MsgName>,
+) -> Result<(), AllocError>
+    requires process { p < length history.now.processes }
+    requires number { number < sends (tape_at history.now.processes p) }
+    ensures { OnOk result ((message : MsgName) → message.from ≡ p → message.number ≡ number
+        → Holds (tape_at history.now.processes p) message.inc number
+        → messages.new.items ≡ messages.old.items ++ message ∷ []) }
 {
-    match mark_of(known, base, number) {
-        Some(mark) => mark,
-        None => false,
+    messages.push(MsgName {
+        from: p,
+        inc: history.tape(p).sent_under(number).unwrap(),
+        number,
+    })?;
+    Ok(())
+}
+
+/// Adds a process's message of a number, if it is in transit: its mark tells that it is not, and
+/// where the kept line is closed it tells that it is. Else it is asked of.
+fn add_if_not_marked(
+    history: &History,
+    line: &Line,
+    p: ProcId,
+    number: u32,
+    closed: bool,
+    mark: Option<bool>,
+    messages: &mut Vec<MsgName>,
+) -> Result<(), AllocError>
+    requires line { IsLine history.now.processes line.now }
+    requires process { p < length history.now.processes }
+    requires number { number < sends (events_before history.now.processes line.now p) }
+    requires known { mark ≡ Some true → IsReceived history.now.processes line.now p number }
+    requires told { closed ≡ true → mark ≡ Some false
+        → IsUnreceived history.now.processes line.now p number }
+    ensures { OnOk result ((before : List MsgName)
+        → messages.old.items ≡ before ++ open_first history.now.processes line.now p number
+        → messages.new.items ≡ before ++ open_first history.now.processes line.now p (number + 1)) }
+{
+    match mark {
+        Some(true) => Ok(()),
+        Some(false) => {
+            if closed {
+                add_sent(history, p, number, messages)?;
+                Ok(())
+            } else {
+                add_if_open(history, line, p, number, messages)
+            }
+        }
+        None => add_if_open(history, line, p, number, messages),
     }
 }
 
-/// Adds the messages of a process that are in transit, but for its first `end` ones: each that is
-/// not known to be received. It stops where there are more messages than the most, and answers at
-/// how many sends it has looked.
+/// Adds the messages of a process that are in transit, but for its first `end` ones: those that
+/// their marks tell, and of those that are not known each that is not received. It stops where
+/// there are more messages than the most, and answers at how many sends it has looked.
 pub fn add_since(
     history: &History,
     line: &Line,
     p: ProcId,
     end: u32,
+    closed: bool,
     base: u32,
     known: &[bool],
     most: Option<usize>,
@@ -250,6 +296,8 @@ pub fn add_since(
     requires process { p < length history.now.processes }
     requires end { end ≤ sends (events_before history.now.processes line.now p) }
     requires known { AreReceived history.now.processes line.now p base known.now }
+    requires told { closed ≡ true
+        → AreToldSince history.now.processes line.now p end base known.now }
     ensures found { IfOk result (λ looked. (before : List MsgName)
         → messages.old.items ≡ before ++ open_first history.now.processes line.now p end
         → messages.new.items ≡ before ++ open_first history.now.processes line.now p looked) }
@@ -264,9 +312,8 @@ pub fn add_since(
         if are_past(most, messages.len()) {
             return Ok(number);
         }
-        if !is_marked(known, base, number) {
-            add_if_open(history, line, p, number, messages)?;
-        }
+        let mark = mark_of(known, base, number);
+        add_if_not_marked(history, line, p, number, closed, mark, messages)?;
     }
     Ok(sends)
 }
@@ -278,6 +325,7 @@ fn add_all_open(
     line: &Line,
     ends: &[u32],
     left: &[MsgName],
+    closed: bool,
     rows: &mut Vec<Numbers>,
     received: &Known,
     messages: &mut Vec<MsgName>,
@@ -296,6 +344,8 @@ fn add_all_open(
         received.now.starts.items received.now.marks.items }
     requires told { AreAllTold history.now.processes line.now received.now.bases.items
         received.now.starts.items received.now.marks.items left.now }
+    requires since { closed ≡ true → AreAllToldSince history.now.processes line.now ends.now
+        received.now.bases.items received.now.starts.items received.now.marks.items }
     ensures { OnOk result (messages.new.items
         ≡ messages.old.items ++ in_transit history.now.processes line.now) }
 {
@@ -316,7 +366,7 @@ fn add_all_open(
             known,
             messages,
         )?;
-        add_since(history, line, p, end, base, known, None, messages)?;
+        add_since(history, line, p, end, closed, base, known, None, messages)?;
     }
     Ok(())
 }
@@ -328,12 +378,14 @@ pub fn find_transit(
     starts: &[u32],
     places: &[u32],
     left: &[MsgName],
+    closed: bool,
     strangers: &ProcSet,
     alloc: Global,
     line: &Line,
 ) -> Result<Vec<MsgName>, AllocError>
     requires line { IsLine history.now.processes line.now }
     requires left { AreLeft history.now.processes starts.now places.now left.now }
+    requires closed { closed ≡ true → AreClosed history.now.processes starts.now places.now }
     requires strangers { AreStrangers history.now.processes line.now strangers.now }
     ensures { IfOk result (λ messages. messages.items ≡ in_transit history.now.processes line.now) }
 {
@@ -347,6 +399,7 @@ pub fn find_transit(
         line,
         ends,
         left,
+        closed,
         &mut rows,
         &received,
         &mut messages,

@@ -1,12 +1,11 @@
 -- One process more.
-use Rattle.std.proofs.Common.{◌≡◌, ◌++◌, ◌<◌, ℕ, List, Bool, true, false, get_or, length, take, drop, sym, ap, ◌∙◌, subst, arith, inl, inr}
+use Rattle.std.proofs.Common.{◌≡◌, ◌++◌, ℕ, List, Bool, true, false, get_or, length, take, drop, sym, ap, ◌∙◌, subst, arith, inl, inr}
 use Rattle.std.proofs.lemmas.Bool.{cases_lt}
-use Rattle.std.proofs.lemmas.List.{get_or_default}
 use Rattle.line_names.specs.declared.choices.Choice.{Choice}
 use Rattle.line_tape.specs.History.{Process}
 use Rattle.line_catalogue.specs.Known.{AreKnown, AreMarkRows, AreNotedSince}
-use Rattle.line_catalogue.specs.Left.{place_at, start_at}
-use Rattle.line_catalogue.proofs.KnownLemmas.{known-none, noted-more, noted-none, rows-same, written-back}
+use Rattle.line_catalogue.specs.Left.{place_at}
+use Rattle.line_catalogue.proofs.KnownLemmas.{noted-more, rows-same, written-back}
 use Rattle.line_catalogue.proofs.known.find_known.Goals as goal
 
 pub loop-receiver-preserved : goal.loop-receiver-preserved

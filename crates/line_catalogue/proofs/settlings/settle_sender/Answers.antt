@@ -3,11 +3,7 @@ use Rattle.std.proofs.Common.{◌≡◌, ◌++◌, ℕ, List, length, take, sym,
 use Rattle.std.proofs.lemmas.List.{append_assoc, take_at}
 use Rattle.line_names.specs.declared.choices.Choice.{Choice}
 use Rattle.line_names.specs.declared.messages.MsgName.{MsgName}
-use Rattle.line_tape.specs.declared.events.Event.{Event}
-use Rattle.line_tape.specs.Event.{sends}
-use Rattle.line_tape.specs.Front.{front}
-use Rattle.line_tape.specs.History.{Process, tape_at}
-use Rattle.line_tape.specs.Line.{events_before}
+use Rattle.line_tape.specs.History.{Process}
 use Rattle.line_catalogue.specs.Left.{open_first}
 use Rattle.line_catalogue.proofs.OpenLemmas.{open-front}
 use Rattle.line_catalogue.proofs.settlings.settle_sender.Goals as goal

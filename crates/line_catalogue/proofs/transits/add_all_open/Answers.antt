@@ -4,14 +4,12 @@ use Rattle.std.specs.List.{flat_map, range_with_len}
 use Rattle.std.proofs.lemmas.List.{append_assoc, flat_map_more, get_or_default, length-set, get_or-set_other}
 use Rattle.line_names.specs.declared.choices.Choice.{Choice}
 use Rattle.line_names.specs.declared.messages.MsgName.{MsgName}
-use Rattle.line_tape.specs.Event.{sends}
 use Rattle.line_tape.specs.History.{Process}
-use Rattle.line_tape.specs.Line.{events_before}
 use Rattle.line_tape.specs.Transit.{Letter, open_letters}
 use Rattle.line_tape.proofs.TransitLemmas.{range-push}
-use Rattle.line_catalogue.specs.Known.{AreReceived, AreTold}
+use Rattle.line_catalogue.specs.Known.{AreReceived, AreTold, AreToldSince}
 use Rattle.line_catalogue.specs.Left.{numbers_at, open_first, start_at, HasOpenBeside}
-use Rattle.line_catalogue.proofs.KnownLemmas.{row-received, row-told}
+use Rattle.line_catalogue.proofs.KnownLemmas.{row-received, row-told, row-told-since}
 use Rattle.line_catalogue.proofs.OpenLemmas.{open-all}
 use Rattle.line_catalogue.proofs.transits.add_all_open.Goals as goal
 
@@ -53,6 +51,16 @@ add_since-requires-clause-known c =
     let at : c.unwrap-p.result ≡ s = (rw c.unwrap-p.ensures at c.try_new.ensures).1 in
     let inside : s < length history = omega (arith, c.n-n.ensures.value) in
     subst (λ (k : ℕ). AreReceived history line k c.base-base.result c.row-known.result.now) (sym at) (row-received history line received.bases.items received.starts.items received.marks.items s c.base-base.result c.row-known.result.now c.requires.known inside c.base-base.ensures c.row-known.ensures.marked)
+
+pub add_since-requires-clause-told : goal.add_since-requires-clause-told
+add_since-requires-clause-told c = λ on.
+    let history : List Process = c.args.history.now.processes in
+    let line : List Choice = c.args.line.now in
+    let s : ℕ = c.loop-sender.sender in
+    let ends : List ℕ = c.args.ends.now in
+    let received = c.args.received.now in
+    let at : c.unwrap-p.result ≡ s = (rw c.unwrap-p.ensures at c.try_new.ensures).1 in
+    subst (λ (k : ℕ). AreToldSince history line k (start_at ends s) c.base-base.result c.row-known.result.now) (sym at) (row-told-since history line ends received.bases.items received.starts.items received.marks.items s c.base-base.result c.row-known.result.now (c.requires.since on) c.base-base.ensures c.row-known.ensures.within c.row-known.ensures.same)
 
 pub loop-sender-preserved : goal.loop-sender-preserved
 loop-sender-preserved c =

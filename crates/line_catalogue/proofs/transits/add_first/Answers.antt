@@ -1,5 +1,5 @@
 -- What was kept, alone or with the row.
-use Rattle.std.proofs.Common.{◌≡◌, ◌++◌, ℕ, List, [], length, map, sym, ap, ◌∙◌, subst, inl, inr}
+use Rattle.std.proofs.Common.{◌≡◌, ◌++◌, ℕ, List, map, sym, ap, ◌∙◌, subst, inl, inr}
 use Rattle.std.specs.List.{All, Contains}
 use Rattle.std.specs.List.Sorted.{IsNonDecreasing}
 use Rattle.std.proofs.lemmas.List.Elements.{Contains-append_left, Contains-append_right}

@@ -1,15 +1,12 @@
 -- One message more, as one number of a row more.
-use Rattle.std.proofs.Common.{◌≡◌, ◌<◌, ◌≤◌, ◌+◌, ◌++◌, ◌∷◌, [], ℕ, List, length, map, get_or, refl, sym, ap, ◌∙◌, subst, append-nil, arith, inl, inr, ◌⊎◌}
-use Rattle.std.specs.List.{Contains}
+use Rattle.std.proofs.Common.{◌≡◌, ◌<◌, ◌≤◌, ◌+◌, ◌++◌, ℕ, List, length, map, get_or, sym, ap, ◌∙◌, append-nil, arith, inl, inr, ◌⊎◌}
 use Rattle.std.proofs.lemmas.Bool.{cases_lt}
 use Rattle.std.proofs.lemmas.List.{get_or-map, length-map}
 use Rattle.line_names.specs.declared.choices.Choice.{Choice}
 use Rattle.line_names.specs.declared.messages.MsgName.{MsgName}
 use Rattle.line_tape.specs.Event.{sends}
-use Rattle.line_tape.specs.Fit.{IsSentTo}
 use Rattle.line_tape.specs.History.{Process}
 use Rattle.line_tape.specs.Line.{events_before}
-use Rattle.line_catalogue.specs.Known.{AreTold}
 use Rattle.line_catalogue.specs.Left.{open_first}
 use Rattle.line_catalogue.proofs.KnownLemmas.{told-one}
 use Rattle.line_catalogue.proofs.OpenLemmas.{gap-to, none_between}

@@ -1,6 +1,5 @@
 -- The two searches find where what the process sent begins and ends.
-use Rattle.std.proofs.Common.{◌≡◌, ℕ, leb, ltb, List, sym, ap, ◌∙◌, rules}
-use Rattle.std.specs.List.Sorted.{IsPartitionPoint}
+use Rattle.std.proofs.Common.{ℕ, leb, ltb, List, rules}
 use Rattle.std.proofs.lemmas.List.Sorted.{IsPartitionPoint-from_clause, IsPartitionedBy-leb, IsPartitionedBy-ltb}
 use Rattle.line_names.specs.declared.messages.MsgName.{MsgName}
 use Rattle.line_catalogue.proofs.SenderLemmas.{part_ascends, part_sent}

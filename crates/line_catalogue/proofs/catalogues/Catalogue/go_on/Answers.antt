@@ -14,6 +14,11 @@ use Rattle.line_catalogue.specs.Views.{CatalogueView}
 use Rattle.line_catalogue.proofs.RestartLemmas.{length-restarted, there-restarted, left-restarted, step-restarted, IsCatalogue-restarted}
 use Rattle.line_catalogue.proofs.catalogues.Catalogue.go_on.Goals as goal
 
+pub restart-requires-clause-consistent : goal.restart-requires-clause-consistent
+restart-requires-clause-consistent c =
+    let seen : c.self.inside.ledger.processes ≡ c.args.self.now.processes = ap (λ (v : CatalogueView). v.processes) c.self.view_is in
+    subst (λ (xs : List Process). IsConsistent xs c.args.line.now) (sym seen) c.requires.consistent
+
 pub restart-requires-3-clause-count : goal.restart-requires-3-clause-count
 restart-requires-3-clause-count c =
     let history : List Process = c.self.inside.ledger.processes in
