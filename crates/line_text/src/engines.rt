@@ -129,6 +129,60 @@ fn world_of(alloc: Global, script: &KeptScript) -> Result<World, TextFault>
     }
 }
 
+// Does the commands of a script on this machine. It makes the room for the text of what they are
+// told, and lends it to what puts that text.
+fn run_on<K: Sink>(
+    alloc: Global,
+    world: &mut World,
+    commands: &mut Commands,
+    sink: &mut K,
+) -> Result<u64, TextFault>
+    requires { length commands.old + 2 < 2 ^ 64 }
+    ensures ok { IfOk result
+        (λ refused. spec.Runs world.old commands.old refused (K.taken sink.old)
+        (K.taken sink.new)) }
+    ensures write { IfErr result (λ fault. fault.code ≡ WRITE_FAULT
+        → (fault.record_number ≡ 0) × (K.faults sink.new ≡ one_more (K.faults sink.old))
+        × spec.RunsFront world.old commands.old (K.taken sink.old) (K.taken sink.new)) }
+    ensures memory { IfErr result (λ fault. fault.code ≡ 0
+        → ((fault.record_number ≡ 0) × (sink.new ≡ sink.old))
+        ⊎ spec.StopsAt world.old commands.old fault.record_number
+        (Puts (K.taken sink.old) (K.taken sink.new))) }
+    ensures codes { IfErr result (λ fault. (fault.code ≡ 0) ⊎ (fault.code ≡ WRITE_FAULT)) }
+    ensures sound { OnOk result (K.faults sink.new ≡ K.faults sink.old) }
+{
+    let Ok(mut writer) = RecordWriter::with_room(alloc) else {
+        return Err(fault_of_code(0));
+    };
+    run_commands(alloc, world, commands, sink, &mut writer)
+}
+
+// Runs a script from its start. It makes the machine, and lends it to what does the commands.
+fn run_script<K: Sink>(
+    alloc: Global,
+    script: &mut KeptScript,
+    sink: &mut K,
+) -> Result<u64, TextFault>
+    requires within { (1 ≤ script.old.n) × (script.old.n ≤ MOST_PROCESSES) }
+    requires few { length script.old.commands + 2 < 2 ^ 64 }
+    ensures ok { IfOk result
+        (λ refused. spec.Runs (spec.first_of (kept_script_view script.old)) script.old.commands
+        refused (K.taken sink.old) (K.taken sink.new)) }
+    ensures write { IfErr result (λ fault. fault.code ≡ WRITE_FAULT
+        → (fault.record_number ≡ 0) × (K.faults sink.new ≡ one_more (K.faults sink.old))
+        × spec.RunsFront (spec.first_of (kept_script_view script.old)) script.old.commands
+        (K.taken sink.old) (K.taken sink.new)) }
+    ensures memory { IfErr result (λ fault. fault.code ≡ 0
+        → ((fault.record_number ≡ 0) × (sink.new ≡ sink.old))
+        ⊎ spec.StopsAt (spec.first_of (kept_script_view script.old)) script.old.commands
+        fault.record_number (Puts (K.taken sink.old) (K.taken sink.new))) }
+    ensures codes { IfErr result (λ fault. (fault.code ≡ 0) ⊎ (fault.code ≡ WRITE_FAULT)) }
+    ensures sound { OnOk result (K.faults sink.new ≡ K.faults sink.old) }
+{
+    let mut world = world_of(alloc, script)?;
+    run_on(alloc, &mut world, &mut script.commands, sink)
+}
+
 // The script that the whole input spells. No text of the input is kept.
 fn script_of<S: Source>(alloc: Global, source: &mut S) -> Result<KeptScript, TextFault>
     ensures spelt { IfOk result
@@ -225,13 +279,8 @@ pub fn run_text<S: Source, K: Sink>(
     // Once the source said that nothing is left, it is asked no more.
     ensures ended { HearsEnd result (S.ends source.old) (S.ends source.new) }
 {
-    let script = script_of(alloc, source)?;
-    let mut world = world_of(alloc, &script)?;
-    let Ok(mut writer) = RecordWriter::with_room(alloc) else {
-        return Err(fault_of_code(0));
-    };
-    let mut commands = script.commands;
-    match run_commands(alloc, &mut world, &mut commands, sink, &mut writer) {
+    let mut script = script_of(alloc, source)?;
+    match run_script(alloc, &mut script, sink) {
         Ok(refused) => Ok(Done { refused }),
         Err(fault) => Err(fault),
     }
