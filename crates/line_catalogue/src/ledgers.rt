@@ -25,7 +25,7 @@ use std::marker::Model;
 // takes but for the events is little beside them.
 const EVENTS_BETWEEN: usize = 4096;
 
-// How many events come for each message that a settling kept before the next one, which asks for
+// How many events come for each message that a settling kept before the next one, which looks at
 // each of them anew. Where a line was kept, or a settling was refused memory, one comes for each.
 const EVENTS_FOR_A_MESSAGE: usize = 2;
 
@@ -137,11 +137,11 @@ fn set_places(history: &History, places: &mut Vec<u32>)
 /// A history, how many sends and events each process had before a line, and what was in transit
 /// there.
 ///
-/// What was sent before that line and is not received before it is among these messages; so no
-/// other send before it has to be looked at again, and no receipt after it. None of these changes
-/// by an event. Now and then, as room is made, or as an event is added long after that, the ledger
-/// settles: it moves that line to where each process stands, so that what is to be looked at does
-/// not grow with the history.
+/// What was sent before that line and is not received before it, this and nothing else, is among
+/// these messages, by sender and then by number; so no other send before it has to be looked at
+/// again, and no receipt after it. None of these changes by an event. Now and then, as room is made,
+/// or as an event is added long after that, the ledger settles: it moves that line to where each
+/// process stands, so that what is to be looked at does not grow with the history.
 #[derive(Drop)]
 pub struct Ledger {
     history: History,
@@ -256,7 +256,7 @@ impl Ledger {
     ///
     /// Now and then it settles. That looks at what is kept, which is less than the wait; at no more
     /// sends than events came, all settlings taken together; and at the events since the last one,
-    /// where they are few beside these sends. The first time it looks at a history that was handed
+    /// where they are few beside both. The first time it looks at a history that was handed
     /// in.
     pub fn reserve(&mut self, p: ProcId, k: u32) -> Result<(), AllocError>
         requires { p < length self.old.processes }
@@ -304,13 +304,14 @@ impl Ledger {
     /// The messages in transit at a line, by sender, then number.
     ///
     /// It looks at what was kept last, at each send since, and at each event that was kept and is
-    /// after the line; and where they are not many beside these sends, at the events since that
-    /// stand before the line, so that it need not search for their receipts.
+    /// after the line; and where they are not many beside the first two, at the events since that
+    /// stand before the line, so that it need not search for their receipts. Then it asks nothing
+    /// of most messages that were kept, and behind a closed line of no send since.
     ///
-    /// It takes a number for each process, for each of the first, and for each receipt between the
-    /// two of a message that was sent before both, and room for the result; and where it gets them,
-    /// one number more for each process, and a flag for each send since that stands before the
-    /// line.
+    /// It takes a number for each process, and for each receipt between the two lines of a message
+    /// that was sent before both, with the numbers of what was kept of such a message's sender, and
+    /// room for the result; and where it gets them, two numbers more for each process, a flag for
+    /// each send since that stands before the line, and eight for each message that was kept.
     pub fn transit(
         &self,
         strangers: &ProcSet,

@@ -9,11 +9,10 @@ ghost use Rattle.line_tape.specs.Fit.{IsSentTo};
 ghost use Rattle.line_tape.specs.History.{tape_at};
 ghost use Rattle.line_tape.specs.Line.{events_before, IsLine};
 ghost use Rattle.line_tape.specs.Transit.{has_received, in_transit};
-ghost use Rattle.line_catalogue.specs.Known.{AreAllTold, AreKnown, AreReceived, AreTold};
-ghost use Rattle.line_catalogue.specs.Known.{AreAllToldSince, AreToldSince, IsReceived};
-ghost use Rattle.line_catalogue.specs.Known.{IsUnreceived};
-ghost use Rattle.line_catalogue.specs.Left.{numbers_at, open_first, sent_by, start_at};
-ghost use Rattle.line_catalogue.specs.Left.{AreClosed, AreLeft, AreSent, AreStrangers, ComeInOrder, HasOpen};
+ghost use Rattle.line_catalogue.specs.Known.{AreAllTold, AreAllToldSince, AreKnown, AreReceived};
+ghost use Rattle.line_catalogue.specs.Known.{AreTold, AreToldSince, IsReceived, IsUnreceived};
+ghost use Rattle.line_catalogue.specs.Left.{numbers_at, open_first, sent_by, start_at, AreClosed};
+ghost use Rattle.line_catalogue.specs.Left.{AreLeft, AreSent, AreStrangers, ComeInOrder, HasOpen};
 ghost use Rattle.line_catalogue.specs.Left.{HasOpenBeside};
 
 use crate::candidates::candidates;
