@@ -5,8 +5,8 @@ use crate::tests::workers::seen::{
     is_tape, is_whole,
 };
 use crate::tests::workers::steps::{
-    Planned, Sent, Taken, check_first, drain, gather_unreported, open_and_check, open_and_report,
-    report_and_plan, send_two,
+    Planned, Sent, Taken, drain, gather_unreported, open_and_check, open_and_report,
+    report_and_plan, send_two_and_check,
 };
 use line_names::{Body, BodyError, Choice, Passed};
 use line_posts::{GatherWhy, Gathered, fleet};
@@ -27,9 +27,7 @@ fn long_body(rt: HostRuntime) {
 /// What the first of two workers with one slot is answered that sends twice and takes a check.
 fn send_and_check(alloc: Global) -> Result<(Sent, Result<u32, TapeError>), Fail> {
     let (_collector, mut posts) = fleet(alloc, 2, 1)?;
-    let sent = send_two(&mut posts)?;
-    let checked = check_first(alloc, &mut posts)?;
-    Ok((sent, checked))
+    send_two_and_check(alloc, &mut posts)
 }
 
 #[test]

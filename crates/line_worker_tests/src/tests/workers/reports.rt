@@ -90,12 +90,17 @@ fn is_back(gathered: &Gathered) -> bool {
     is_tape(gathered, 0, 1, 1, 0) && is_planned(&gathered.plan(), &line, 0, 1, 0)
 }
 
+/// Whether a message that is sent after the restart is received.
+fn is_received_again(alloc: Global, gathered: Gathered) -> Result<bool, Fail> {
+    let ((sent, received), _gathered) = go_on(alloc, gathered)?;
+    Ok(is_sent(&sent) && is_received(&received))
+}
+
 #[test]
 fn unreported_check_is_lost(rt: HostRuntime) -> Result<(), Fail> {
     let gathered = lose_the_check(rt.alloc())?;
     assert!(rt; is_back(&gathered));
-    let ((sent, received), _gathered) = go_on(rt.alloc(), gathered)?;
-    assert!(rt; is_sent(&sent) && is_received(&received));
+    assert!(rt; is_received_again(rt.alloc(), gathered)?);
     Ok(())
 }
 
@@ -111,11 +116,16 @@ fn is_where_it_stands(gathered: &Gathered) -> bool {
     is_tape(gathered, 0, 2, 1, 1) && is_planned(&gathered.plan(), &line, 0, 1, 1)
 }
 
+/// Whether the message in transit is received after the restart.
+fn is_taken_again(alloc: Global, gathered: Gathered) -> Result<bool, Fail> {
+    let ((_sent, received), _gathered) = go_on(alloc, gathered)?;
+    Ok(is_taken(&received, b"a"))
+}
+
 #[test]
 fn unreported_check_is_kept(rt: HostRuntime) -> Result<(), Fail> {
     let gathered = keep_the_check(rt.alloc())?;
     assert!(rt; is_where_it_stands(&gathered));
-    let ((_sent, received), _gathered) = go_on(rt.alloc(), gathered)?;
-    assert!(rt; is_taken(&received, b"a"));
+    assert!(rt; is_taken_again(rt.alloc(), gathered)?);
     Ok(())
 }

@@ -2,10 +2,10 @@
 ghost use Rattle.std.specs.Prelude.{◌≡◌, ◌<◌, OnOk, length};
 
 use crate::tests::workers::seen::{is_nothing, is_reported};
-use crate::tests::workers::steps::state_of;
+use crate::tests::workers::steps::{no_state, state_of};
 use line_catalogue::AddError;
 use line_names::{Body, ProcId};
-use line_posts::{Post, ReceiveWhy, Received, ReportError, Reported, fleet};
+use line_posts::{Collector, Post, ReceiveWhy, Received, ReportError, Reported, fleet};
 use line_tape::State;
 use std::alloc::{AllocError, Global};
 use std::test::Fail;
@@ -22,15 +22,23 @@ fn check_twice(
     Ok(post.report())
 }
 
-/// Whether two events are reported at once over a line of two slots, then taken, and then once
-/// more.
-fn report_twice(alloc: Global) -> Result<bool, Fail> {
-    let (mut collector, mut posts) = fleet(alloc, 2, 2)?;
-    let post = &mut posts[0];
+/// Whether two events are reported at once, then taken, and then once more.
+fn report_and_take(
+    alloc: Global,
+    collector: &mut Collector,
+    post: &mut Post,
+) -> Result<bool, Fail> {
     let first = check_twice(alloc, post)?;
     let taken = collector.take(9);
     let again = check_twice(alloc, post)?;
     Ok(is_reported(&first, 2, 0) && taken == Ok(2) && is_reported(&again, 2, 0))
+}
+
+/// Whether that is so over a line of two slots.
+fn report_twice(alloc: Global) -> Result<bool, Fail> {
+    let (mut collector, mut posts) = fleet(alloc, 2, 2)?;
+    let post = &mut posts[0];
+    report_and_take(alloc, &mut collector, post)
 }
 
 #[test]
@@ -41,8 +49,8 @@ fn as_many_are_reported_as_fit(rt: HostRuntime) -> Result<(), Fail> {
 
 /// How many reports are taken where the last worker alone has one.
 fn take_of_the_last(alloc: Global) -> Result<Result<u32, AddError>, Fail> {
-    let (mut collector, mut posts) = fleet(alloc, 2, 1)?;
     let state = state_of(alloc, &[1])?;
+    let (mut collector, mut posts) = fleet(alloc, 2, 1)?;
     let post = &mut posts[1];
     let _ = post.check(state);
     let _ = post.report();
@@ -79,19 +87,26 @@ fn pass_one(alloc: Global, posts: &mut Vec<Post>) -> Result<bool, Fail>
     let to = ProcId::try_new(1, 2)?;
     let from = ProcId::try_new(0, 2)?;
     let body = Body::try_new(b"a")?;
-    let states = (state_of(alloc, &[])?, state_of(alloc, &[])?);
+    let states = (no_state(alloc), no_state(alloc));
     let post = &mut posts[0];
     let is_sent = post.send(to, body).is_ok();
     let post = &mut posts[1];
     Ok(is_sent && finds_one(post, from, states))
 }
 
-/// Whether a message passes a ring of one slot, and then another one.
+/// Whether a message passes, and then another one.
+fn pass_again(alloc: Global, posts: &mut Vec<Post>) -> Result<bool, Fail>
+    requires { 1 < length posts.old.items }
+{
+    let first = pass_one(alloc, posts)?;
+    let again = pass_one(alloc, posts)?;
+    Ok(first && again)
+}
+
+/// Whether that is so over a ring of one slot.
 fn pass_two(alloc: Global) -> Result<bool, Fail> {
     let (_collector, mut posts) = fleet(alloc, 2, 1)?;
-    let first = pass_one(alloc, &mut posts)?;
-    let again = pass_one(alloc, &mut posts)?;
-    Ok(first && again)
+    pass_again(alloc, &mut posts)
 }
 
 #[test]

@@ -2,7 +2,7 @@
 ghost use Rattle.std.specs.Prelude.{◌<◌, OnOk, length};
 ghost use Rattle.line_posts.specs.Generations.{AreSamePosts, IsSamePost};
 
-use crate::tests::workers::steps::state_of;
+use crate::tests::workers::steps::{no_state, state_of};
 use line_catalogue::DamageError;
 use line_names::{Body, ProcId};
 use line_posts::{BeginWhy, Gathered, Post, ReceiveWhy, Received, ReportError, Reported};
@@ -81,9 +81,8 @@ fn close_round(alloc: Global, posts: &mut Vec<Post>) -> Result<Result<Received, 
     ensures { OnOk result (AreSamePosts posts.old.items posts.new.items) }
 {
     let from = ProcId::try_new(1, 2)?;
-    let state = state_of(alloc, &[])?;
     let post = &mut posts[0];
-    Ok(post.receive(from, state))
+    Ok(post.receive(from, no_state(alloc)))
 }
 
 /// A round of two workers.
@@ -116,12 +115,24 @@ pub fn begin_next(
     Ok(post.begin(state))
 }
 
-/// The first of two workers sends a message and begins a round; how many events and sends its tape
-/// then has is answered too.
-pub fn send_and_begin(
+/// A round of two workers, and the number of the next one.
+pub fn run_and_begin(
     alloc: Global,
     posts: &mut Vec<Post>,
-) -> Result<(bool, Result<u32, BeginWhy>, u32, u32), Fail>
+) -> Result<(Answers, Result<u32, BeginWhy>), Fail>
+    requires { 1 < length posts.old.items }
+{
+    let seen = run_round(alloc, posts)?;
+    let next = begin_next(alloc, posts, 3)?;
+    Ok((seen, next))
+}
+
+/// Whether a message was sent, what its sender was answered that began a round then, and how many
+/// events and sends its tape has.
+pub type Begun = (bool, Result<u32, BeginWhy>, u32, u32);
+
+/// The first of two workers sends a message and begins a round.
+pub fn send_and_begin(alloc: Global, posts: &mut Vec<Post>) -> Result<Begun, Fail>
     requires { 0 < length posts.old.items }
 {
     let to = ProcId::try_new(1, 2)?;

@@ -30,6 +30,11 @@ pub fn state_of(alloc: Global, bytes: &[u8]) -> Result<State, AllocError> {
     Ok(State::of(Vec::from_slice(alloc, bytes)?))
 }
 
+/// A state of no bytes.
+pub fn no_state(alloc: Global) -> State {
+    State::of(Vec::new(alloc))
+}
+
 /// A worker sends twice.
 fn send_both(post: &mut Post, to: ProcId, bodies: (Body, Body)) -> Sent
     ensures { IsSamePost post.old post.new }
@@ -52,16 +57,26 @@ pub fn send_two(posts: &mut Vec<Post>) -> Result<Sent, Fail>
 }
 
 /// It takes a check.
-pub fn check_first(
-    alloc: Global,
-    posts: &mut Vec<Post>,
-) -> Result<Result<u32, TapeError>, AllocError>
+fn check_first(alloc: Global, posts: &mut Vec<Post>) -> Result<Result<u32, TapeError>, AllocError>
     requires { 1 < length posts.old.items }
     ensures { OnOk result (AreSamePosts posts.old.items posts.new.items) }
 {
     let state = state_of(alloc, &[7])?;
     let post = &mut posts[0];
     Ok(post.check(state))
+}
+
+/// It sends twice, and takes a check.
+pub fn send_two_and_check(
+    alloc: Global,
+    posts: &mut Vec<Post>,
+) -> Result<(Sent, Result<u32, TapeError>), Fail>
+    requires { 1 < length posts.old.items }
+    ensures { OnOk result (AreSamePosts posts.old.items posts.new.items) }
+{
+    let sent = send_two(posts)?;
+    let checked = check_first(alloc, posts)?;
+    Ok((sent, checked))
 }
 
 /// It reports, and the collector takes that and plans.
@@ -85,8 +100,7 @@ pub fn open_and_check(alloc: Global) -> Result<(Collector, Vec<Post>), Fail>
     ensures lines { IfOk result (λ r. AreLined r.0 r.1.items) }
 {
     let (collector, mut posts) = fleet(alloc, 2, 1)?;
-    let _ = send_two(&mut posts)?;
-    let _ = check_first(alloc, &mut posts)?;
+    let _ = send_two_and_check(alloc, &mut posts)?;
     Ok((collector, posts))
 }
 
@@ -121,7 +135,7 @@ pub fn drain(alloc: Global, posts: &mut Vec<Post>) -> Result<Taken, Fail>
     ensures { OnOk result (AreSamePosts posts.old.items posts.new.items) }
 {
     let from = ProcId::try_new(0, 2)?;
-    let states = (state_of(alloc, &[])?, state_of(alloc, &[])?);
+    let states = (no_state(alloc), no_state(alloc));
     let post = &mut posts[1];
     Ok(take_two(post, from, states))
 }
@@ -146,7 +160,7 @@ fn check_and_send(
 
 /// The first of two workers sends a message after its last report. How many reports the collector
 /// took is answered.
-pub fn send_unreported(
+fn send_unreported(
     alloc: Global,
     collector: &mut Collector,
     posts: &mut Vec<Post>,
@@ -172,23 +186,38 @@ fn receive_and_check(post: &mut Post, from: ProcId, states: (State, State))
 }
 
 /// The second of two workers receives that message, and takes a check.
-pub fn receive_unreported(alloc: Global, posts: &mut Vec<Post>) -> Result<(), Fail>
+fn receive_unreported(alloc: Global, posts: &mut Vec<Post>) -> Result<(), Fail>
     requires { 1 < length posts.old.items }
     ensures { OnOk result (AreSamePosts posts.old.items posts.new.items) }
 {
     let from = ProcId::try_new(0, 2)?;
-    let states = (state_of(alloc, &[])?, state_of(alloc, &[2])?);
+    let states = (no_state(alloc), state_of(alloc, &[2])?);
     let post = &mut posts[1];
     receive_and_check(post, from, states);
     Ok(())
+}
+
+/// The first of two workers sends a message after its last report, and the second receives it. How
+/// many reports the collector took is answered.
+fn pass_unreported(
+    alloc: Global,
+    collector: &mut Collector,
+    posts: &mut Vec<Post>,
+) -> Result<Result<u32, AddError>, Fail>
+    requires { 1 < length posts.old.items }
+    ensures posts { OnOk result (AreSamePosts posts.old.items posts.new.items) }
+    ensures collector { OnOk result (HasCollectedMore collector.old collector.new) }
+{
+    let taken = send_unreported(alloc, collector, posts)?;
+    receive_unreported(alloc, posts)?;
+    Ok(taken)
 }
 
 /// Two workers of which the first failed after it sent a message that it did not report, gathered.
 /// How many reports the collector took is answered too.
 pub fn gather_unreported(alloc: Global) -> Result<(Result<u32, AddError>, Gathered), Fail> {
     let (mut collector, mut posts) = fleet(alloc, 2, 4)?;
-    let taken = send_unreported(alloc, &mut collector, &mut posts)?;
-    receive_unreported(alloc, &mut posts)?;
+    let taken = pass_unreported(alloc, &mut collector, &mut posts)?;
     let gathered = gather_without_first(collector, posts)?;
     Ok((taken, gathered))
 }
