@@ -29,6 +29,20 @@ use Rattle.line_drills.specs.declared.refusals.DrillWhy.TheVariants.{BadCapacity
 use Rattle.line_drills.specs.Followed.{Follows, HasDone}
 use Rattle.line_drills.specs.Scripts.{names_ordered, script_at}
 
+-- the number of a refusal
+abbrev pub number_of_why : DrillWhy → ℕ
+number_of_why OutOfMemory = 0
+number_of_why NoSuchProcess = 1
+number_of_why TapeFull = 3
+number_of_why StateTooLong = 5
+number_of_why BadCount = 6
+number_of_why ToSelf = 17
+number_of_why WrongMode = 22
+number_of_why HeldOut = 29
+number_of_why WaitedOut = 30
+number_of_why BadCapacity = 31
+number_of_why NoThread = 39
+
 -- the name that stands beside the number of a refusal
 abbrev pub name_of_why : DrillWhy → List ℕ
 name_of_why OutOfMemory = codes "OutOfMemory"

@@ -1,6 +1,6 @@
 //! Why a drill did not end well, and where.
 ghost use Rattle.std.specs.Prelude.{◌≡◌};
-ghost use Rattle.line_drills.specs.Faults.{name_of_why, of_no_order, of_order};
+ghost use Rattle.line_drills.specs.Faults.{name_of_why, number_of_why, of_no_order, of_order};
 
 use line_posts::{FleetError, MOST_CAPACITY, MOST_WORKERS};
 use line_tape::MOST_STATE;
@@ -48,17 +48,7 @@ pub enum DrillWhy {
 impl DrillWhy {
     /// The number of the refusal, as replies show it.
     pub fn code(self) -> u32
-        ensures memory { self ≡ DrillWhy.OutOfMemory → result ≡ 0 }
-        ensures process { self ≡ DrillWhy.NoSuchProcess → result ≡ 1 }
-        ensures full { self ≡ DrillWhy.TapeFull → result ≡ 3 }
-        ensures long { self ≡ DrillWhy.StateTooLong → result ≡ 5 }
-        ensures count { self ≡ DrillWhy.BadCount → result ≡ 6 }
-        ensures own { self ≡ DrillWhy.ToSelf → result ≡ 17 }
-        ensures marker { self ≡ DrillWhy.WrongMode → result ≡ 22 }
-        ensures held { self ≡ DrillWhy.HeldOut → result ≡ 29 }
-        ensures waited { self ≡ DrillWhy.WaitedOut → result ≡ 30 }
-        ensures capacity { self ≡ DrillWhy.BadCapacity → result ≡ 31 }
-        ensures thread { self ≡ DrillWhy.NoThread → result ≡ 39 }
+        ensures { result ≡ number_of_why self }
     {
         self as u32
     }
