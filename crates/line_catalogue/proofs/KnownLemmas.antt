@@ -24,7 +24,7 @@ use Rattle.line_tape.proofs.FrontLemmas.{Contains-take_more}
 use Rattle.line_tape.proofs.LineLemmas.{tape_at-past}
 use Rattle.line_tape.proofs.ReceivedLemmas.{sent_within}
 use Rattle.line_tape.proofs.TransitLemmas.{has_received-iff}
-use Rattle.line_catalogue.specs.Known.{AreAllNoted, AreAllTold, AreAllToldSince, AreKnown, AreMarkRows, AreReceived, AreTold, AreToldSince, HasMark, IsNoted, IsReceived, IsUnreceived}
+use Rattle.line_catalogue.specs.Known.{AreAllReceiptsMarked, AreAllMarksExact, AreAllMarksExactSince, AreKnown, AreMarkRows, AreReceived, AreMarksExact, AreMarksExactSince, HasMark, IsReceiptMarked, IsReceived, IsUnreceived}
 use Rattle.line_catalogue.specs.Left.{open_first, place_at, start_at, AreClosed, AreEnds, AreLeft, IsUnread}
 use Rattle.line_catalogue.proofs.OpenLemmas.{open-step, sent_whole}
 
@@ -94,15 +94,15 @@ marked-more marks at i marked = elim (cases_eq i at) [
 pub known-none : (history : List Process) (line : List Choice) (bases starts : List ℕ) (marks : List Bool) → starts ≡ [] → AreKnown history line bases starts marks
 known-none history line bases starts marks empty = λ p k inside mark. absurd (omega (arith, mark.0, ap (λ (xs : List ℕ). start_at xs (p + 1)) empty, get_or_past {X = ℕ} [] (p + 1) 0 (omega arith)))
 
-pub noted-none : (history : List Process) (line : List Choice) (places bases starts : List ℕ) (marks : List Bool) → starts ≡ [] → AreAllNoted history line places bases starts marks
+pub noted-none : (history : List Process) (line : List Choice) (places bases starts : List ℕ) (marks : List Bool) → starts ≡ [] → AreAllReceiptsMarked history line places bases starts marks
 noted-none history line places bases starts marks empty = λ q inside event among k m is sent number within. absurd (omega (arith, within, ap (λ (xs : List ℕ). start_at xs (m.from + 1)) empty, get_or_past {X = ℕ} [] (m.from + 1) 0 (omega arith)))
 
 -- what is noted stays so while marks are set
-pub noted-more : (history : List Process) (bases starts : List ℕ) (old new : List Bool) (q : ℕ) (event : Event) → ((i : ℕ) → get_or old i false ≡ true → get_or new i false ≡ true) → IsNoted history bases starts old q event → IsNoted history bases starts new q event
+pub noted-more : (history : List Process) (bases starts : List ℕ) (old new : List Bool) (q : ℕ) (event : Event) → ((i : ℕ) → get_or old i false ≡ true → get_or new i false ≡ true) → IsReceiptMarked history bases starts old q event → IsReceiptMarked history bases starts new q event
 noted-more history bases starts old new q event more noted = λ k m is sent number within. more (start_at starts m.from + k) (noted k m is sent number within)
 
 -- the mark of a message that isn't received before the place of its receiver tells whether it is received before the line: unless it is marked it isn't received since, either
-pub mark-tells : (history : List Process) (line : List Choice) (places bases starts : List ℕ) (marks : List Bool) (q k : ℕ) (m : MsgName) → AreKnown history line bases starts marks → AreAllNoted history line places bases starts marks → IsSentTo history q m
+pub mark-tells : (history : List Process) (line : List Choice) (places bases starts : List ℕ) (marks : List Bool) (q k : ℕ) (m : MsgName) → AreKnown history line bases starts marks → AreAllReceiptsMarked history line places bases starts marks → IsSentTo history q m
     → m.number ≡ start_at bases m.from + k → start_at starts m.from + k < start_at starts (m.from + 1) → (Contains (take (place_at places q) (tape_at history q)) (Recv m) → ⊥)
     → has_received (events_before history line q) m ≡ get_or marks (start_at starts m.from + k) false
 mark-tells history line places bases starts marks q k m known noted sent number within unheard =
@@ -131,8 +131,8 @@ mark-tells history line places bases starts marks q k m known noted sent number 
     ] refl
 
 -- the marks tell of each message that is left
-pub all-told : (history : List Process) (line : List Choice) (kept places bases starts : List ℕ) (marks : List Bool) (left : List MsgName) → AreLeft history kept places left → AreKnown history line bases starts marks → AreAllNoted history line places bases starts marks
-    → AreAllTold history line bases starts marks left
+pub all-told : (history : List Process) (line : List Choice) (kept places bases starts : List ℕ) (marks : List Bool) (left : List MsgName) → AreLeft history kept places left → AreKnown history line bases starts marks → AreAllReceiptsMarked history line places bases starts marks
+    → AreAllMarksExact history line bases starts marks left
 all-told history line kept places bases starts marks left are known noted = λ q k m among sent number within.
     let s : ℕ = place_at places q in
     let tape : List Event = tape_at history q in
@@ -142,8 +142,8 @@ all-told history line kept places bases starts marks left are known noted = λ q
     mark-tells history line places bases starts marks q k m known noted sent number within (λ c. false≢true (sym unread ∙ (has_received-iff (take s tape) m).1 c))
 
 -- and where the kept line is closed, of each that is sent behind it
-pub all-told-since : (history : List Process) (line : List Choice) (kept ends places bases starts : List ℕ) (marks : List Bool) → AreClosed history kept places → AreEnds history kept line ends → AreKnown history line bases starts marks → AreAllNoted history line places bases starts marks
-    → AreAllToldSince history line ends bases starts marks
+pub all-told-since : (history : List Process) (line : List Choice) (kept ends places bases starts : List ℕ) (marks : List Bool) → AreClosed history kept places → AreEnds history kept line ends → AreKnown history line bases starts marks → AreAllReceiptsMarked history line places bases starts marks
+    → AreAllMarksExactSince history line ends bases starts marks
 all-told-since history line kept ends places bases starts marks closed ending known noted = λ q k m up low sent number within.
     mark-tells history line places bases starts marks q k m known noted sent number within (λ c. absurd (omega (arith, closed q m c, ending.since m.from m.number up low)))
 
@@ -162,20 +162,20 @@ module _ (history : List Process) (line : List Choice) (p base number : ℕ) (ma
       let all : base + (number - base) ≡ number = omega (arith, at.0) in
       subst (λ (j : ℕ). IsReceived history line p j) all (are (number - base) (get_or_from_slice_get marks (number - base) true false at.1))
 
-  pub unmarked-open : (end : ℕ) → end ≤ number → number < sends (events_before history line p) → AreToldSince history line p end base marks → mark ≡ Some false → IsUnreceived history line p number
+  pub unmarked-open : (end : ℕ) → end ≤ number → number < sends (events_before history line p) → AreMarksExactSince history line p end base marks → mark ≡ Some false → IsUnreceived history line p number
   unmarked-open end up low told is = λ q m from same sent.
       let at = found_at false is in
       told q (number - base) m from (omega (arith, up, same)) (omega (arith, low, same)) (omega (arith, same, at.0)) (slice_get_within marks (number - base) false at.1) sent ∙ get_or_from_slice_get marks (number - base) false false at.1
 
 -- the marks of one process
-pub row-told : (history : List Process) (line : List Choice) (bases starts : List ℕ) (marks : List Bool) (left : List MsgName) (p base : ℕ) (row : List Bool) → AreAllTold history line bases starts marks left → base ≡ start_at bases p
-    → ((k : ℕ) → k < length row → start_at starts p + k < start_at starts (p + 1)) → ((k : ℕ) → k < length row → get_or row k false ≡ get_or marks (start_at starts p + k) false) → AreTold history line p base row left
+pub row-told : (history : List Process) (line : List Choice) (bases starts : List ℕ) (marks : List Bool) (left : List MsgName) (p base : ℕ) (row : List Bool) → AreAllMarksExact history line bases starts marks left → base ≡ start_at bases p
+    → ((k : ℕ) → k < length row → start_at starts p + k < start_at starts (p + 1)) → ((k : ℕ) → k < length row → get_or row k false ≡ get_or marks (start_at starts p + k) false) → AreMarksExact history line p base row left
 row-told history line bases starts marks left p base row told is inside same = λ q k m among from number within sent.
     let here : start_at starts m.from + k < start_at starts (m.from + 1) = subst (λ (j : ℕ). start_at starts j + k < start_at starts (j + 1)) (sym from) (inside k within) in
     told q k m among sent (omega (arith, number, is, ap (start_at bases) from)) here ∙ ap (λ (j : ℕ). get_or marks (start_at starts j + k) false) from ∙ sym (same k within)
 
-pub row-told-since : (history : List Process) (line : List Choice) (ends bases starts : List ℕ) (marks : List Bool) (p base : ℕ) (row : List Bool) → AreAllToldSince history line ends bases starts marks → base ≡ start_at bases p
-    → ((k : ℕ) → k < length row → start_at starts p + k < start_at starts (p + 1)) → ((k : ℕ) → k < length row → get_or row k false ≡ get_or marks (start_at starts p + k) false) → AreToldSince history line p (start_at ends p) base row
+pub row-told-since : (history : List Process) (line : List Choice) (ends bases starts : List ℕ) (marks : List Bool) (p base : ℕ) (row : List Bool) → AreAllMarksExactSince history line ends bases starts marks → base ≡ start_at bases p
+    → ((k : ℕ) → k < length row → start_at starts p + k < start_at starts (p + 1)) → ((k : ℕ) → k < length row → get_or row k false ≡ get_or marks (start_at starts p + k) false) → AreMarksExactSince history line p (start_at ends p) base row
 row-told-since history line ends bases starts marks p base row told is inside same = λ q k m from up low number within sent.
     let here : start_at starts m.from + k < start_at starts (m.from + 1) = subst (λ (j : ℕ). start_at starts j + k < start_at starts (j + 1)) (sym from) (inside k within) in
     told q k m (omega (arith, up, ap (start_at ends) from)) (omega (arith, low, ap (λ (j : ℕ). sends (events_before history line j)) from)) sent (omega (arith, number, is, ap (start_at bases) from)) here ∙ ap (λ (j : ℕ). get_or marks (start_at starts j + k) false) from ∙ sym (same k within)
@@ -186,7 +186,7 @@ row-received history line bases starts marks p base row known inside is marked =
     subst (λ (j : ℕ). IsReceived history line p (j + k)) (sym is) (known p k inside (marked k mark))
 
 -- the mark of one of the messages
-pub told-one : (history : List Process) (line : List Choice) (p base : ℕ) (marks : List Bool) (left : List MsgName) (m : MsgName) → m.from ≡ p → Contains left m → AreTold history line p base marks left → AreTold history line m.from base marks (m ∷ [])
+pub told-one : (history : List Process) (line : List Choice) (p base : ℕ) (marks : List Bool) (left : List MsgName) (m : MsgName) → m.from ≡ p → Contains left m → AreMarksExact history line p base marks left → AreMarksExact history line m.from base marks (m ∷ [])
 told-one history line p base marks left m own c told = λ q k x among from number within sent. elim (Contains-push_cases [] m x among) [
   | inl nothing ↦ absurd (contains_nothing x nothing)
   | inr e ↦ told q k x (subst (Contains left) e c) (from ∙ own) number within sent

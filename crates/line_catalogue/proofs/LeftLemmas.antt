@@ -28,7 +28,7 @@ use Rattle.line_tape.proofs.StayLemmas.{addressees_restarted, tape_restarted, in
 use Rattle.line_tape.proofs.LineLemmas.{tape_at-past, front-empty}
 use Rattle.line_tape.proofs.ReceivedLemmas.{length-letters}
 use Rattle.line_tape.proofs.TransitLemmas.{letter_of, has_received-iff, names_contain}
-use Rattle.line_catalogue.specs.Left.{open_first, place_at, start_at, numbers_at, AreClosed, AreEnds, AreKept, AreLeft, AreCandidates, AreSettledUpTo, ComeInOrder, HasOpenBeside, HaveLeft, IsOpen, IsUnread}
+use Rattle.line_catalogue.specs.Left.{open_first, place_at, start_at, numbers_at, AreClosed, AreEnds, IsLedger, AreLeft, AreCandidates, AreSettledUpTo, ComeInOrder, HasOpenBeside, HaveLeft, IsInTransitAt, IsUnread}
 use Rattle.line_catalogue.proofs.OpenLemmas.{letter_at, sent_whole}
 use Rattle.line_catalogue.proofs.OrderLemmas.{below-all, order-none, AreOpenBelow}
 
@@ -110,8 +110,8 @@ AreLeft-event history starts places left at e h are =
     }
 
 -- it keeps the line closed, too
-pub AreKept-event : (history : List Process) (starts places : List ℕ) (left : List MsgName) (closed : Bool) (at : ℕ) (e : Event) → at < length history → AreKept history starts places left closed → AreKept (with_event history at e) starts places left closed
-AreKept-event history starts places left closed at e h are =
+pub IsLedger-event : (history : List Process) (starts places : List ℕ) (left : List MsgName) (closed : Bool) (at : ℕ) (e : Event) → at < length history → IsLedger history starts places left closed → IsLedger (with_event history at e) starts places left closed
+IsLedger-event history starts places left closed at e h are =
     let new : List Process = with_event history at e in
     record {
       held = AreLeft-event history starts places left at e h are.held;
@@ -123,8 +123,8 @@ AreKept-event history starts places left closed at e h are =
     }
 
 -- where it is not told whether the line is closed
-pub AreKept-open : (history : List Process) (starts places : List ℕ) (left : List MsgName) → AreLeft history starts places left → AreKept history starts places left false
-AreKept-open history starts places left are = record {
+pub IsLedger-open : (history : List Process) (starts places : List ℕ) (left : List MsgName) → AreLeft history starts places left → IsLedger history starts places left false
+IsLedger-open history starts places left are = record {
   held = are;
   told = λ on. absurd (false≢true on);
 }
@@ -262,7 +262,7 @@ AreLeft-settled history line starts places left are places_count at =
           are.held m.from (sender-before history line m.from m.number (omega (arith, low, are.before m.from))) q m refl low sent unread;
       order = are.order;
       each = λ m among.
-          let was : IsOpen history line m = are.each m among in
+          let was : IsInTransitAt history line m = are.each m among in
           let mine : List Event = tape_at history was.to in
           record {
             to = was.to;
@@ -293,7 +293,7 @@ AreLeft-restarted history line starts places e count places_count are at =
           in-transit history line q m (sender-within history line starts m.from m.number (are m.from) low) i (ap (λ (xs : List ℕ). slice_get xs m.number) (sym tos) ∙ sent.to_is) (ap (list_any (is_name m)) (sym names) ∙ unread);
       order = (below-all history line (length history)).order;
       each = λ m among.
-          let was : IsOpen history line m = (below-all history line (length history)).each m among in
+          let was : IsInTransitAt history line m = (below-all history line (length history)).each m among in
           let to : ℕ = was.to in
           let tos : addressees (tape_at (restarted_history history line) m.from) ≡ addressees (events_before history line m.from) = ap addressees (tape_restarted history line m.from e) ∙ addressees_restarted (events_before history line m.from) in
           let names : names_received (tape_at (restarted_history history line) to) ≡ names_received (events_before history line to) = ap names_received (tape_restarted history line to e) ∙ names_restarted (events_before history line to) in

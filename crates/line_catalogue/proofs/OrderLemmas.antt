@@ -16,7 +16,7 @@ use Rattle.line_tape.specs.Transit.{Letter, open_letters, has_received, addresse
 use Rattle.line_tape.proofs.CutLemmas.{contains_nothing}
 use Rattle.line_tape.proofs.EventLemmas.{length_addressees, name_of}
 use Rattle.line_tape.proofs.TransitLemmas.{range-push}
-use Rattle.line_catalogue.specs.Left.{open_first, ComeInOrder, IsOpen}
+use Rattle.line_catalogue.specs.Left.{open_first, ComeInOrder, IsInTransitAt}
 use Rattle.line_catalogue.proofs.OpenLemmas.{open-all, open-step}
 
 -- what stands at a place of a list is an element of it
@@ -34,7 +34,7 @@ order-none = record {
 pub record AreOpenBelow (history : List Process) (line : List Choice) (messages : List MsgName) (p k : ℕ) : Type 0 where
   pub order : ComeInOrder messages
   pub below : (m : MsgName) → Contains messages m → (m.from ≤ p) × (m.from ≡ p → m.number < k)
-  pub each : (m : MsgName) → Contains messages m → IsOpen history line m
+  pub each : (m : MsgName) → Contains messages m → IsInTransitAt history line m
 
 module _ (history : List Process) (line : List Choice) where
   pub below-none : AreOpenBelow history line [] 0 0
@@ -76,7 +76,7 @@ module _ (history : List Process) (line : List Choice) where
         ];
         each = λ m c. elim (Contains-push_cases messages name m c) [
           | inl earlier ↦ are.each m earlier
-          | inr e ↦ subst (IsOpen history line) e (record { to = to; held = i; to_is = a; unread = unseen })
+          | inr e ↦ subst (IsInTransitAt history line) e (record { to = to; held = i; to_is = a; unread = unseen })
         ];
       }
 

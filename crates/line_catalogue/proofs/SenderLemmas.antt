@@ -12,8 +12,8 @@ use Rattle.line_names.specs.declared.choices.Choice.{Choice}
 use Rattle.line_names.specs.declared.messages.MsgName.{MsgName}
 use Rattle.line_tape.specs.History.{Process}
 use Rattle.line_tape.proofs.CutLemmas.{contains_nothing, cons_cases}
-use Rattle.line_catalogue.specs.Known.{AreTold}
-use Rattle.line_catalogue.specs.Left.{sent_by, AreSent, ComeInOrder, HasOpen, HasOpenBeside}
+use Rattle.line_catalogue.specs.Known.{AreMarksExact}
+use Rattle.line_catalogue.specs.Left.{messages_of, AreSent, ComeInOrder, HasOpen, HasOpenBeside}
 use Rattle.line_catalogue.proofs.LeftLemmas.{contains_cons, contains_first, in_filter, in_map}
 
 module _ {X : Type 0} (test : X → Bool) where
@@ -54,7 +54,7 @@ module _ (messages : List MsgName) (p start end : ℕ)
     | inr above ↦ above
   ]
 
-  pub part_sent : end ≤ length messages → slice_range messages start end ≡ sent_by p messages
+  pub part_sent : end ≤ length messages → slice_range messages start end ≡ messages_of p messages
   part_sent end_within =
       let is : MsgName → Bool = λ (m : MsgName). m.from == p in
       let front : List MsgName = take start messages in
@@ -78,28 +78,28 @@ module _ (messages : List MsgName) (p start end : ℕ)
       sym (ap (filter is) whole ∙ filter-append is front (middle ++ back) ∙ ap (λ (ms : List MsgName). ms ++ filter is (middle ++ back)) none_before ∙ filter-append is middle back ∙ ap (λ (ms : List MsgName). filter is middle ++ ms) none_behind ∙ append-nil (filter is middle) ∙ all_between)
 
 -- they are all from it
-pub from-sent_by : (p : ℕ) (left : List MsgName) → All (λ (m : MsgName). m.from ≡ p) (sent_by p left)
-from-sent_by p left = λ k d within. eqb-true (get_or (sent_by p left) k d).from p (filter_passes (λ (m : MsgName). m.from == p) left k d within)
+pub from-messages_of : (p : ℕ) (left : List MsgName) → All (λ (m : MsgName). m.from ≡ p) (messages_of p left)
+from-messages_of p left = λ k d within. eqb-true (get_or (messages_of p left) k d).from p (filter_passes (λ (m : MsgName). m.from == p) left k d within)
 
 -- they are among all
-pub among-sent_by : (p : ℕ) (left : List MsgName) (m : MsgName) → Contains (sent_by p left) m → Contains left m
-among-sent_by p left m c = from_filter (λ (x : MsgName). x.from == p) left m c
+pub among-messages_of : (p : ℕ) (left : List MsgName) (m : MsgName) → Contains (messages_of p left) m → Contains left m
+among-messages_of p left m c = from_filter (λ (x : MsgName). x.from == p) left m c
 
 -- those of all that are from it
-pub in-sent_by : (p : ℕ) (left : List MsgName) (m : MsgName) → m.from ≡ p → Contains left m → Contains (sent_by p left) m
-in-sent_by p left m from c = in_filter (λ (x : MsgName). x.from == p) left m (eq-eqb m.from p from) c
+pub in-messages_of : (p : ℕ) (left : List MsgName) (m : MsgName) → m.from ≡ p → Contains left m → Contains (messages_of p left) m
+in-messages_of p left m from c = in_filter (λ (x : MsgName). x.from == p) left m (eq-eqb m.from p from) c
 
 -- their numbers ascend
-pub sorted-sent_by : (p : ℕ) (left : List MsgName) → ComeInOrder left → IsNonDecreasing (map (λ (m : MsgName). m.number) (sent_by p left))
-sorted-sent_by p left order i j d up within =
-    let own : List MsgName = sent_by p left in
+pub sorted-messages_of : (p : ℕ) (left : List MsgName) → ComeInOrder left → IsNonDecreasing (map (λ (m : MsgName). m.number) (messages_of p left))
+sorted-messages_of p left order i j d up within =
+    let own : List MsgName = messages_of p left in
     let any : MsgName = record { from = 0; inc = 0; number = 0 } in
     let j_within : j < length own = omega (arith, within, length-map own (λ (m : MsgName). m.number)) in
     let at_i : get_or (map (λ (m : MsgName). m.number) own) i d ≡ (get_or own i any).number = get_or-map (λ (m : MsgName). m.number) own i any d (omega (arith, up, j_within)) in
     let at_j : get_or (map (λ (m : MsgName). m.number) own) j d ≡ (get_or own j any).number = get_or-map (λ (m : MsgName). m.number) own j any d j_within in
     elim (cases_lt i j) [
       | inl less ↦
-          let from : (get_or own i any).from ≡ (get_or own j any).from = from-sent_by p left i any (omega (arith, less, j_within)) ∙ sym (from-sent_by p left j any j_within) in
+          let from : (get_or own i any).from ≡ (get_or own j any).from = from-messages_of p left i any (omega (arith, less, j_within)) ∙ sym (from-messages_of p left j any j_within) in
           let below = AllPairs-filter (λ (x y : MsgName). x.from ≡ y.from → x.number < y.number) (λ (m : MsgName). m.from == p) left order.numbers i j any less j_within from in
           omega (arith, at_i, at_j, below)
       | inr more ↦
@@ -108,16 +108,16 @@ sorted-sent_by p left order i j d up within =
     ]
 
 -- where a row is empty their numbers have all that can be in transit
-pub open-sent_by : (history : List Process) (line : List Choice) (p end : ℕ) (row : List ℕ) (left : List MsgName) → row ≡ [] → HasOpenBeside history line p end row left → HasOpen history line p end (map (λ (m : MsgName). m.number) (sent_by p left))
-open-sent_by history line p end row left empty held = λ q m from low sent unseen. elim (held q m from low sent unseen) [
+pub open-messages_of : (history : List Process) (line : List Choice) (p end : ℕ) (row : List ℕ) (left : List MsgName) → row ≡ [] → HasOpenBeside history line p end row left → HasOpen history line p end (map (λ (m : MsgName). m.number) (messages_of p left))
+open-messages_of history line p end row left empty held = λ q m from low sent unseen. elim (held q m from low sent unseen) [
   | inl among ↦ absurd (contains_nothing m.number (subst (λ (r : List ℕ). Contains r m.number) empty among))
-  | inr among ↦ in_map (λ (x : MsgName). x.number) (sent_by p left) m (in-sent_by p left m from among)
+  | inr among ↦ in_map (λ (x : MsgName). x.number) (messages_of p left) m (in-messages_of p left m from among)
 ]
 
 -- each of them was sent
-pub sent-sent_by : (history : List Process) (p : ℕ) (left : List MsgName) → AreSent history left → AreSent history (sent_by p left)
-sent-sent_by history p left are = λ m c. are m (among-sent_by p left m c)
+pub sent-messages_of : (history : List Process) (p : ℕ) (left : List MsgName) → AreSent history left → AreSent history (messages_of p left)
+sent-messages_of history p left are = λ m c. are m (among-messages_of p left m c)
 
 -- the marks tell of each of them
-pub told-sent_by : (history : List Process) (line : List Choice) (p base : ℕ) (marks : List Bool) (left : List MsgName) → AreTold history line p base marks left → AreTold history line p base marks (sent_by p left)
-told-sent_by history line p base marks left told = λ q k m c. told q k m (among-sent_by p left m c)
+pub told-messages_of : (history : List Process) (line : List Choice) (p base : ℕ) (marks : List Bool) (left : List MsgName) → AreMarksExact history line p base marks left → AreMarksExact history line p base marks (messages_of p left)
+told-messages_of history line p base marks left told = λ q k m c. told q k m (among-messages_of p left m c)

@@ -35,15 +35,15 @@ AreReceived history line p base marks =
 
 -- the mark of each of these messages of process p, whose marks begin at `base`, tells whether it is
 -- received before the line
-abbrev pub AreTold : List Process → List Choice → ℕ → ℕ → List Bool → List MsgName → Type 0
-AreTold history line p base marks left =
+abbrev pub AreMarksExact : List Process → List Choice → ℕ → ℕ → List Bool → List MsgName → Type 0
+AreMarksExact history line p base marks left =
     (q k : ℕ) (message : MsgName) → Contains left message → message.from ≡ p
     → message.number ≡ base + k → k < length marks → IsSentTo history q message
     → has_received (events_before history line q) message ≡ slice_index_or marks k false
 
 -- so does the mark of each message of process p that it sent before the line and not below `end`
-abbrev pub AreToldSince : List Process → List Choice → ℕ → ℕ → ℕ → List Bool → Type 0
-AreToldSince history line p end base marks =
+abbrev pub AreMarksExactSince : List Process → List Choice → ℕ → ℕ → ℕ → List Bool → Type 0
+AreMarksExactSince history line p end base marks =
     (q k : ℕ) (message : MsgName) → message.from ≡ p → end ≤ message.number
     → message.number < sends (events_before history line p) → message.number ≡ base + k
     → k < length marks → IsSentTo history q message
@@ -68,30 +68,31 @@ AreKnown history line bases starts marks =
     → IsReceived history line p (start_at bases p + k)
 
 -- what process q receives by the event is marked, if it was sent to q and there is a mark for it
-abbrev pub IsNoted : List Process → List ℕ → List ℕ → List Bool → ℕ → Event → Type 0
-IsNoted history bases starts marks q event =
+abbrev pub IsReceiptMarked : List Process → List ℕ → List ℕ → List Bool → ℕ → Event → Type 0
+IsReceiptMarked history bases starts marks q event =
     (k : ℕ) (message : MsgName) → event ≡ Recv message → IsSentTo history q message
     → message.number ≡ start_at bases message.from + k
     → start_at starts message.from + k < start_at starts (message.from + 1)
     → slice_index_or marks (start_at starts message.from + k) false ≡ true
 
 -- so is all that process q receives after its first `place` events and before the line
-abbrev pub AreNotedSince : List Process → List Choice → List ℕ → List ℕ → List Bool → ℕ → ℕ
+abbrev pub AreReceiptsMarkedSince : List Process → List Choice → List ℕ → List ℕ → List Bool → ℕ → ℕ
     → Type 0
-AreNotedSince history line bases starts marks q place =
+AreReceiptsMarkedSince history line bases starts marks q place =
     (event : Event) → Contains (drop place (events_before history line q)) event
-    → IsNoted history bases starts marks q event
+    → IsReceiptMarked history bases starts marks q event
 
 -- so is all that any process receives after its place and before the line
-abbrev pub AreAllNoted : List Process → List Choice → List ℕ → List ℕ → List ℕ → List Bool → Type 0
-AreAllNoted history line places bases starts marks =
+abbrev pub AreAllReceiptsMarked : List Process → List Choice → List ℕ → List ℕ → List ℕ → List Bool
+    → Type 0
+AreAllReceiptsMarked history line places bases starts marks =
     (q : ℕ) → q < length history
-    → AreNotedSince history line bases starts marks q (place_at places q)
+    → AreReceiptsMarkedSince history line bases starts marks q (place_at places q)
 
 -- the mark of each send before the line from its sender's end on tells whether it is received there
-abbrev pub AreAllToldSince : List Process → List Choice → List ℕ → List ℕ → List ℕ → List Bool
+abbrev pub AreAllMarksExactSince : List Process → List Choice → List ℕ → List ℕ → List ℕ → List Bool
     → Type 0
-AreAllToldSince history line ends bases starts marks =
+AreAllMarksExactSince history line ends bases starts marks =
     (q k : ℕ) (message : MsgName) → start_at ends message.from ≤ message.number
     → message.number < sends (events_before history line message.from)
     → IsSentTo history q message
@@ -101,9 +102,10 @@ AreAllToldSince history line ends bases starts marks =
     ≡ slice_index_or marks (start_at starts message.from + k) false
 
 -- the mark of each message that is left tells whether it is received before the line
-abbrev pub AreAllTold : List Process → List Choice → List ℕ → List ℕ → List Bool → List MsgName
+abbrev pub AreAllMarksExact : List Process → List Choice → List ℕ → List ℕ → List Bool
+    → List MsgName
     → Type 0
-AreAllTold history line bases starts marks left =
+AreAllMarksExact history line bases starts marks left =
     (q k : ℕ) (message : MsgName) → Contains left message → IsSentTo history q message
     → message.number ≡ start_at bases message.from + k
     → start_at starts message.from + k < start_at starts (message.from + 1)

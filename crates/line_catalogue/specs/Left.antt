@@ -60,14 +60,14 @@ AreClosed history starts places =
     → message.number < start_at starts message.from
 
 -- what a ledger keeps: what is left, and that the kept line is closed, if it says so
-pub record AreKept (history : List Process) (starts places : List ℕ) (left : List MsgName)
+pub record IsLedger (history : List Process) (starts places : List ℕ) (left : List MsgName)
     (closed : Bool) : Type 0 where
   pub held : AreLeft history starts places left
   pub told : closed ≡ true → AreClosed history starts places
 
 -- those of the messages that process p sent
-abbrev pub sent_by : ℕ → List MsgName → List MsgName
-sent_by p messages = filter (λ (message : MsgName). message.from == p) messages
+abbrev pub messages_of : ℕ → List MsgName → List MsgName
+messages_of p messages = filter (λ (message : MsgName). message.from == p) messages
 
 -- each of the messages was sent
 abbrev pub AreSent : List Process → List MsgName → Type 0
@@ -144,7 +144,8 @@ HaveLeft history line p k messages =
     → has_received (events_before history line q) message ≡ false → Contains messages message
 
 -- the message is sent before the line, to a process that doesn't receive it before the line
-pub record IsOpen (history : List Process) (line : List Choice) (message : MsgName) : Type 0 where
+pub record IsInTransitAt (history : List Process) (line : List Choice)
+    (message : MsgName) : Type 0 where
   pub to : ℕ
   pub held : Holds (events_before history line message.from) message.inc message.number
   pub to_is : slice_get (addressees (events_before history line message.from)) message.number
@@ -159,4 +160,4 @@ pub record AreSettledUpTo (history : List Process) (line : List Choice) (starts 
   pub before : (p : ℕ) → start_at starts p ≤ sends (events_before history line p)
   pub held : (p : ℕ) → p < length history → HaveLeft history line p (start_at starts p) left
   pub order : ComeInOrder left
-  pub each : (message : MsgName) → Contains left message → IsOpen history line message
+  pub each : (message : MsgName) → Contains left message → IsInTransitAt history line message

@@ -10,8 +10,9 @@ ghost use Rattle.line_tape.specs.Fit.{IsSentTo};
 ghost use Rattle.line_tape.specs.Line.{events_before, IsLine};
 ghost use Rattle.line_tape.specs.Shown.{event_of_ref};
 ghost use Rattle.line_tape.specs.Transit.{has_received};
-ghost use Rattle.line_catalogue.specs.Known.{AreAllNoted, AreKnown, AreMarkRows, AreNotedSince};
-ghost use Rattle.line_catalogue.specs.Known.{HasMark, IsNoted};
+ghost use Rattle.line_catalogue.specs.Known.{AreAllReceiptsMarked, AreKnown, AreMarkRows};
+ghost use Rattle.line_catalogue.specs.Known.{AreReceiptsMarkedSince};
+ghost use Rattle.line_catalogue.specs.Known.{HasMark, IsReceiptMarked};
 ghost use Rattle.line_catalogue.specs.Left.{start_at};
 
 use line_names::{Line, MsgName, ProcId};
@@ -244,7 +245,7 @@ fn mark_send(
         → AreKnown history.now.processes line bases.now starts.now marks.new }
     ensures kept { (i : ℕ) → slice_index_or marks.old i false ≡ true
         → slice_index_or marks.new i false ≡ true }
-    ensures noted { IsNoted history.now.processes bases.now starts.now marks.new q
+    ensures noted { IsReceiptMarked history.now.processes bases.now starts.now marks.new q
         (Recv message.now) }
 {
     let p = message.from.get() as usize;
@@ -276,7 +277,7 @@ fn mark_receipt(
         → AreKnown history.now.processes line bases.now starts.now marks.new }
     ensures kept { (i : ℕ) → slice_index_or marks.old i false ≡ true
         → slice_index_or marks.new i false ≡ true }
-    ensures noted { IsNoted history.now.processes bases.now starts.now marks.new q
+    ensures noted { IsReceiptMarked history.now.processes bases.now starts.now marks.new q
         (event_of_ref event.now) }
 {
     match event {
@@ -305,7 +306,8 @@ fn mark_receipts(
         → AreKnown history.now.processes line.now bases.now starts.now marks.new }
     ensures kept { (i : ℕ) → slice_index_or marks.old i false ≡ true
         → slice_index_or marks.new i false ≡ true }
-    ensures noted { AreNotedSince history.now.processes line.now bases.now starts.now marks.new q
+    ensures noted { AreReceiptsMarkedSince history.now.processes line.now bases.now starts.now
+        marks.new q
         kept }
 {
     let events = history.tape(q).front(line.at(q));
@@ -332,7 +334,8 @@ pub fn find_known(
     requires places { length places.now ≡ length history.now.processes }
     ensures known { AreKnown history.now.processes line.now result.bases.items
         result.starts.items result.marks.items }
-    ensures noted { AreAllNoted history.now.processes line.now places.now result.bases.items
+    ensures noted { AreAllReceiptsMarked history.now.processes line.now places.now
+        result.bases.items
         result.starts.items result.marks.items }
 {
     if !is_worth_walking(history, ends, places, kept, line) {

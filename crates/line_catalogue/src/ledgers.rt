@@ -137,19 +137,19 @@ fn set_places(history: &History, places: &mut Vec<u32>)
 /// A history, how many sends and events each process had before a line, and what was in transit
 /// there.
 ///
-/// What was sent before that line and is not received before it, this and nothing else, is among
-/// these messages, by sender and then by number; so no other send before it has to be looked at
-/// again, and no receipt after it. None of these changes by an event. Now and then, as room is made,
-/// or as an event is added long after that, the ledger settles: it moves that line to where each
-/// process stands, so that what is to be looked at does not grow with the history.
+/// These messages, by sender and then by number, are what was sent before that line and is not
+/// received before it, and no others; so no other send before it has to be looked at again, and no
+/// receipt after it. None of these changes by an event. Now and then, as room is made, or as an
+/// event is added long after that, the ledger settles: it moves that line to where each process
+/// stands, so that what is to be looked at does not grow with the history.
 #[derive(Drop)]
 pub struct Ledger {
     history: History,
     starts: Vec<u32>,
     places: Vec<u32>,
     left: Vec<MsgName>,
-    // Whether whatever was received before that line is known to be sent before it. Then no message
-    // that was sent behind it was received before it.
+    // Whether the line is closed: all that was received before it is known to be sent before it.
+    // Then no message that was sent after it was received before it.
     closed: bool,
     alloc: Global,
     // How many further events come before the ledger settles, though no room is made for them.
@@ -163,11 +163,11 @@ impl Model for Ledger {
 
     ghost Value = { HistoryView };
 
-    ghost use Rattle.line_catalogue.specs.Left.{AreKept};
+    ghost use Rattle.line_catalogue.specs.Left.{IsLedger};
 
     ghost view = { λ l. l.history };
 
-    ghost invariant = { λ l. AreKept l.history.processes l.starts.items l.places.items
+    ghost invariant = { λ l. IsLedger l.history.processes l.starts.items l.places.items
         l.left.items l.closed };
 }
 
@@ -306,7 +306,7 @@ impl Ledger {
     /// It looks at what was kept last, at each send since, and at each event that was kept and is
     /// after the line; and where they are not many beside the first two, at the events since that
     /// stand before the line, so that it need not search for their receipts. Then it asks nothing
-    /// of most messages that were kept, and behind a closed line of no send since.
+    /// of most messages that were kept, and after a closed line of no send since.
     ///
     /// It takes a number for each process, and for each receipt between the two lines of a message
     /// that was sent before both, with the numbers of what was kept of such a message's sender, and

@@ -2,7 +2,7 @@
 ghost use Rattle.std.specs.Prelude.{◌≡◌, ◌<◌, ◌≤◌, ◌++◌, length, IfOk};
 ghost use Rattle.line_tape.specs.Event.{sends};
 ghost use Rattle.line_tape.specs.Line.{events_before, IsLine};
-ghost use Rattle.line_catalogue.specs.Known.{AreReceived, AreTold};
+ghost use Rattle.line_catalogue.specs.Known.{AreReceived, AreMarksExact};
 ghost use Rattle.line_catalogue.specs.Left.{open_first, AreLeft, AreSent, AreSettledUpTo};
 ghost use Rattle.line_catalogue.specs.Left.{ComeInOrder, HasOpenBeside};
 
@@ -59,7 +59,7 @@ fn settle_sender(
     requires sent { AreSent history.now.processes left.now }
     requires held { HasOpenBeside history.now.processes line.now p end row.old left.now }
     requires known { AreReceived history.now.processes line.now p base known.now }
-    requires told { AreTold history.now.processes line.now p base known.now left.now }
+    requires told { AreMarksExact history.now.processes line.now p base known.now left.now }
     ensures before { IfOk result (λ start.
         start ≤ sends (events_before history.now.processes line.now p)) }
     ensures left { IfOk result (λ start. messages.new.items

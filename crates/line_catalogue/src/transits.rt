@@ -9,9 +9,12 @@ ghost use Rattle.line_tape.specs.Fit.{IsSentTo};
 ghost use Rattle.line_tape.specs.History.{tape_at};
 ghost use Rattle.line_tape.specs.Line.{events_before, IsLine};
 ghost use Rattle.line_tape.specs.Transit.{has_received, in_transit};
-ghost use Rattle.line_catalogue.specs.Known.{AreAllTold, AreAllToldSince, AreKnown, AreReceived};
-ghost use Rattle.line_catalogue.specs.Known.{AreTold, AreToldSince, IsReceived, IsUnreceived};
-ghost use Rattle.line_catalogue.specs.Left.{numbers_at, open_first, sent_by, start_at, AreClosed};
+ghost use Rattle.line_catalogue.specs.Known.{AreAllMarksExact, AreAllMarksExactSince, AreKnown};
+ghost use Rattle.line_catalogue.specs.Known.{AreReceived};
+ghost use Rattle.line_catalogue.specs.Known.{AreMarksExact, AreMarksExactSince, IsReceived};
+ghost use Rattle.line_catalogue.specs.Known.{IsUnreceived};
+ghost use Rattle.line_catalogue.specs.Left.{numbers_at, open_first, messages_of, start_at};
+ghost use Rattle.line_catalogue.specs.Left.{AreClosed};
 ghost use Rattle.line_catalogue.specs.Left.{AreLeft, AreSent, AreStrangers, ComeInOrder, HasOpen};
 ghost use Rattle.line_catalogue.specs.Left.{HasOpenBeside};
 
@@ -95,7 +98,7 @@ fn add_old(
 /// one.
 fn is_open(history: &History, line: &Line, message: &MsgName, base: u32, known: &[bool]) -> bool
     requires line { IsLine history.now.processes line.now }
-    requires told { AreTold history.now.processes line.now message.now.from base known.now
+    requires told { AreMarksExact history.now.processes line.now message.now.from base known.now
         (message.now ∷ []) }
     ensures { (q : ℕ) → IsSentTo history.now.processes q message.now
         → result ≡ not (has_received (events_before history.now.processes line.now q) message.now) }
@@ -122,7 +125,7 @@ fn add_if_still_open(
     requires number { message.now.number
         < sends (events_before history.now.processes line.now message.now.from) }
     requires sent { (q : ℕ) × IsSentTo history.now.processes q message.now }
-    requires told { AreTold history.now.processes line.now message.now.from base known.now
+    requires told { AreMarksExact history.now.processes line.now message.now.from base known.now
         (message.now ∷ []) }
     ensures { OnOk result ((before : List MsgName)
         → messages.old.items
@@ -155,7 +158,7 @@ fn add_kept(
     requires held { HasOpen history.now.processes line.now _p end
         (map (λ (message : MsgName). message.number) kept.now) }
     requires sent { AreSent history.now.processes kept.now }
-    requires told { AreTold history.now.processes line.now _p base known.now kept.now }
+    requires told { AreMarksExact history.now.processes line.now _p base known.now kept.now }
     ensures { OnOk result (messages.new.items
         ≡ messages.old.items ++ open_first history.now.processes line.now _p end) }
 {
@@ -172,7 +175,7 @@ fn add_kept(
 /// Those of the messages that a process sent. It searches for them by halves.
 fn sent_by<'a>(messages: &'a [MsgName], p: ProcId) -> &'a [MsgName]
     requires { IsNonDecreasingBy (λ (message : MsgName). message.from) messages.now }
-    ensures { result.now ≡ sent_by p messages.now }
+    ensures { result.now ≡ messages_of p messages.now }
 {
     let start = messages.partition_point(|message| message.from.get() < p.get());
     let end = messages.partition_point(|message| message.from.get() <= p.get());
@@ -198,7 +201,7 @@ pub fn add_first(
     requires order { ComeInOrder left.now }
     requires sent { AreSent history.now.processes left.now }
     requires held { HasOpenBeside history.now.processes line.now p end row.old left.now }
-    requires told { AreTold history.now.processes line.now p base known.now left.now }
+    requires told { AreMarksExact history.now.processes line.now p base known.now left.now }
     ensures { OnOk result (messages.new.items
         ≡ messages.old.items ++ open_first history.now.processes line.now p end) }
 {
@@ -296,7 +299,7 @@ pub fn add_since(
     requires end { end ≤ sends (events_before history.now.processes line.now p) }
     requires known { AreReceived history.now.processes line.now p base known.now }
     requires told { closed ≡ true
-        → AreToldSince history.now.processes line.now p end base known.now }
+        → AreMarksExactSince history.now.processes line.now p end base known.now }
     ensures found { IfOk result (λ looked. (before : List MsgName)
         → messages.old.items ≡ before ++ open_first history.now.processes line.now p end
         → messages.new.items ≡ before ++ open_first history.now.processes line.now p looked) }
@@ -341,9 +344,9 @@ fn add_all_open(
         (numbers_at rows.old.items p) left.now }
     requires known { AreKnown history.now.processes line.now received.now.bases.items
         received.now.starts.items received.now.marks.items }
-    requires told { AreAllTold history.now.processes line.now received.now.bases.items
+    requires told { AreAllMarksExact history.now.processes line.now received.now.bases.items
         received.now.starts.items received.now.marks.items left.now }
-    requires since { closed ≡ true → AreAllToldSince history.now.processes line.now ends.now
+    requires since { closed ≡ true → AreAllMarksExactSince history.now.processes line.now ends.now
         received.now.bases.items received.now.starts.items received.now.marks.items }
     ensures { OnOk result (messages.new.items
         ≡ messages.old.items ++ in_transit history.now.processes line.now) }

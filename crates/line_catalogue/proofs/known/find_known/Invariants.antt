@@ -1,5 +1,5 @@
 use Rattle.std.proofs.Common.{◌<◌, ℕ}
-use Rattle.line_catalogue.specs.Known.{AreKnown, AreMarkRows, AreNotedSince}
+use Rattle.line_catalogue.specs.Known.{AreKnown, AreMarkRows, AreReceiptsMarkedSince}
 use Rattle.line_catalogue.specs.Left.{place_at}
 use Rattle.line_catalogue.proofs.known.find_known.Given as goal
 
@@ -7,5 +7,5 @@ abbrev pub invariant-loop-receiver : goal.invariant-loop-receiver
 invariant-loop-receiver l = record {
   rows : AreMarkRows l.history.processes l.starts.items l.marks.items;
   known : AreKnown l.history.processes l.line l.bases.items l.starts.items l.marks.items;
-  noted : (q : ℕ) → q < l.receiver → AreNotedSince l.history.processes l.line l.bases.items l.starts.items l.marks.items q (place_at l.places q);
+  noted : (q : ℕ) → q < l.receiver → AreReceiptsMarkedSince l.history.processes l.line l.bases.items l.starts.items l.marks.items q (place_at l.places q);
 }

@@ -10,7 +10,7 @@ use Rattle.line_tape.specs.History.{Process, tape_at}
 use Rattle.line_tape.specs.Line.{events_before}
 use Rattle.line_tape.specs.Shown.{event_of_ref}
 use Rattle.line_tape.proofs.ListLemmas.{contains_at}
-use Rattle.line_catalogue.specs.Known.{IsNoted}
+use Rattle.line_catalogue.specs.Known.{IsReceiptMarked}
 use Rattle.line_catalogue.proofs.KnownLemmas.{noted-more}
 use Rattle.line_catalogue.proofs.known.mark_receipts.Goals as goal
 
@@ -30,7 +30,7 @@ loop-i-preserved c =
         | inr here ↦
             let same : j ≡ c.loop-i.i = omega (arith, low, here) in
             let one : event ≡ e = same_Some _ _ (sym c.at-in-loop-i.ensures ∙ ap (slice_get c.front-events.result) (sym same) ∙ is) in
-            subst (IsNoted history bases starts c.mark_receipt.new.marks c.args.q) one c.mark_receipt.ensures.noted
+            subst (IsReceiptMarked history bases starts c.mark_receipt.new.marks c.args.q) one c.mark_receipt.ensures.noted
       ];
     }
 

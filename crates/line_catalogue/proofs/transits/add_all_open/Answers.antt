@@ -7,7 +7,7 @@ use Rattle.line_names.specs.declared.messages.MsgName.{MsgName}
 use Rattle.line_tape.specs.History.{Process}
 use Rattle.line_tape.specs.Transit.{Letter, open_letters}
 use Rattle.line_tape.proofs.TransitLemmas.{range-push}
-use Rattle.line_catalogue.specs.Known.{AreReceived, AreTold, AreToldSince}
+use Rattle.line_catalogue.specs.Known.{AreReceived, AreMarksExact, AreMarksExactSince}
 use Rattle.line_catalogue.specs.Left.{numbers_at, open_first, start_at, HasOpenBeside}
 use Rattle.line_catalogue.proofs.KnownLemmas.{row-received, row-told, row-told-since}
 use Rattle.line_catalogue.proofs.OpenLemmas.{open-all}
@@ -40,7 +40,7 @@ add_first-requires-clause-told c =
     let s : ℕ = c.loop-sender.sender in
     let received = c.args.received.now in
     let at : c.unwrap-p.result ≡ s = (rw c.unwrap-p.ensures at c.try_new.ensures).1 in
-    subst (λ (k : ℕ). AreTold history line k c.base-base.result c.row-known.result.now c.args.left.now) (sym at) (row-told history line received.bases.items received.starts.items received.marks.items c.args.left.now s c.base-base.result c.row-known.result.now c.requires.told c.base-base.ensures c.row-known.ensures.within c.row-known.ensures.same)
+    subst (λ (k : ℕ). AreMarksExact history line k c.base-base.result c.row-known.result.now c.args.left.now) (sym at) (row-told history line received.bases.items received.starts.items received.marks.items c.args.left.now s c.base-base.result c.row-known.result.now c.requires.told c.base-base.ensures c.row-known.ensures.within c.row-known.ensures.same)
 
 pub add_since-requires-clause-known : goal.add_since-requires-clause-known
 add_since-requires-clause-known c =
@@ -60,7 +60,7 @@ add_since-requires-clause-told c = λ on.
     let ends : List ℕ = c.args.ends.now in
     let received = c.args.received.now in
     let at : c.unwrap-p.result ≡ s = (rw c.unwrap-p.ensures at c.try_new.ensures).1 in
-    subst (λ (k : ℕ). AreToldSince history line k (start_at ends s) c.base-base.result c.row-known.result.now) (sym at) (row-told-since history line ends received.bases.items received.starts.items received.marks.items s c.base-base.result c.row-known.result.now (c.requires.since on) c.base-base.ensures c.row-known.ensures.within c.row-known.ensures.same)
+    subst (λ (k : ℕ). AreMarksExactSince history line k (start_at ends s) c.base-base.result c.row-known.result.now) (sym at) (row-told-since history line ends received.bases.items received.starts.items received.marks.items s c.base-base.result c.row-known.result.now (c.requires.since on) c.base-base.ensures c.row-known.ensures.within c.row-known.ensures.same)
 
 pub loop-sender-preserved : goal.loop-sender-preserved
 loop-sender-preserved c =

@@ -3,11 +3,11 @@ use Rattle.std.proofs.Common.{List, length, sym, ap, subst, arith}
 use Rattle.line_tape.specs.declared.events.Event.TheVariants.{Recv}
 use Rattle.line_tape.specs.History.{Process}
 use Rattle.line_tape.specs.Views.{HistoryView}
-use Rattle.line_catalogue.specs.Left.{AreKept}
-use Rattle.line_catalogue.proofs.LeftLemmas.{AreKept-event}
+use Rattle.line_catalogue.specs.Left.{IsLedger}
+use Rattle.line_catalogue.proofs.LeftLemmas.{IsLedger-event}
 use Rattle.line_catalogue.proofs.ledgers.Ledger.append_receipt.Goals as goal
 
 pub invariant_of-self : goal.invariant_of-self
 invariant_of-self c =
-    subst (λ (h : List Process). AreKept h c.self.inside.starts.items c.self.inside.places.items c.self.inside.left.items c.self.inside.closed) (sym c.append_receipt.ensures.processes)
-    (AreKept-event c.self.inside.history.processes c.self.inside.starts.items c.self.inside.places.items c.self.inside.left.items c.self.inside.closed c.args.p (Recv c.args.message.now) (omega (arith, c.requires.process, ap (λ (v : HistoryView). length v.processes) c.self.view_is)) c.self.invariant)
+    subst (λ (h : List Process). IsLedger h c.self.inside.starts.items c.self.inside.places.items c.self.inside.left.items c.self.inside.closed) (sym c.append_receipt.ensures.processes)
+    (IsLedger-event c.self.inside.history.processes c.self.inside.starts.items c.self.inside.places.items c.self.inside.left.items c.self.inside.closed c.args.p (Recv c.args.message.now) (omega (arith, c.requires.process, ap (λ (v : HistoryView). length v.processes) c.self.view_is)) c.self.invariant)
