@@ -1,23 +1,22 @@
 //! A history, and beside it what is left to look at, so that little tells what is in transit.
-ghost use Rattle.std.specs.Prelude.{◌≡◌, ◌≢◌, ◌<◌, ◌≤◌, ◌+◌, ℕ, length, replicate};
+ghost use Rattle.std.specs.Prelude.{◌≡◌, ◌≢◌, ◌<◌, ◌≤◌, ◌+◌, ℕ, length};
 ghost use Rattle.std.specs.Prelude.{IfOk, IfSome, IsOk, OnOk};
-ghost use Rattle.line_names.specs.Lines.{choice_at};
-ghost use Rattle.line_tape.specs.Event.{sends, HasLongState, NamesBelow};
-ghost use Rattle.line_tape.specs.Front.{place};
+ghost use Rattle.line_tape.specs.Event.{HasLongState, NamesBelow};
 ghost use Rattle.line_tape.specs.History.{tape_at, with_event};
-ghost use Rattle.line_tape.specs.Line.{events_before, IsConsistent, IsLine};
+ghost use Rattle.line_tape.specs.Line.{IsConsistent, IsLine};
 ghost use Rattle.line_tape.specs.Restart.{restarted_history, HaveFurther};
 ghost use Rattle.line_tape.specs.Transit.{in_transit};
 ghost use Rattle.line_tape.specs.Views.{room_at};
-ghost use Rattle.line_catalogue.specs.Left.{place_at, start_at, AreSettledUpTo};
-ghost use Rattle.line_catalogue.specs.Left.{AreStrangers};
+ghost use Rattle.line_catalogue.specs.Left.{AreSettledUpTo, AreStrangers};
 
 mod appends;
+mod starts;
 
 use crate::settlings::{Settled, find_settled};
 use crate::transits::find_transit;
 use line_names::{Choice, Line, MsgName, ProcId, ProcSet};
 use line_tape::{Event, History, MOST_EVENTS};
+use starts::{clear_starts, move_places, move_starts, no_starts, set_places};
 use std::alloc::{AllocError, Global};
 use std::marker::Model;
 
@@ -45,13 +44,6 @@ fn present_line(history: &History) -> Line
     line
 }
 
-/// The starts of `n` processes of whose sends each is to be looked at.
-fn no_starts(alloc: Global, n: u32) -> Result<Vec<u32>, AllocError>
-    ensures { IfOk result (λ starts. starts.items ≡ replicate n 0) }
-{
-    vec![in alloc; 0; n as usize]
-}
-
 /// How many sends a history has.
 fn count_sends(history: &History) -> usize {
     let n = history.n();
@@ -76,62 +68,6 @@ fn events_to_wait(history: &History, starts: &[u32], left: &[MsgName]) -> usize
         events = events.saturating_add(since as usize);
     }
     events
-}
-
-/// Has each send be looked at.
-fn clear_starts(starts: &mut Vec<u32>)
-    ensures count { length starts.new.items ≡ length starts.old.items }
-    ensures starts { (p : ℕ) → start_at starts.new.items p ≡ 0 }
-{
-    for p in 0..starts.len() {
-        starts[p] = 0;
-    }
-}
-
-/// Has each start be the number of sends before the process's choice of the line.
-fn move_starts(history: &History, line: &Line, starts: &mut Vec<u32>)
-    requires line { IsLine history.now.processes line.now }
-    requires count { length starts.old.items ≡ length history.now.processes }
-    ensures count { length starts.new.items ≡ length history.now.processes }
-    ensures starts { (p : ℕ)
-        → start_at starts.new.items p ≡ sends (events_before history.now.processes line.now p) }
-{
-    let n = history.n();
-    for q in 0..n {
-        let p = ProcId::try_new(q, n).unwrap();
-        starts[q as usize] = history.tape(p).sends_before(line.at(p));
-    }
-}
-
-/// Has each place be the number of events before the process's choice of the line.
-fn move_places(history: &History, line: &Line, places: &mut Vec<u32>)
-    requires line { IsLine history.now.processes line.now }
-    requires count { length places.old.items ≡ length history.now.processes }
-    ensures count { length places.new.items ≡ length history.now.processes }
-    ensures places { (p : ℕ) → place_at places.new.items p
-        ≡ place (tape_at history.now.processes p) (choice_at line.now p) }
-{
-    let n = history.n();
-    for q in 0..n {
-        let p = ProcId::try_new(q, n).unwrap();
-        let before = history.tape(p).place(line.at(p)).unwrap();
-        places[q as usize] = before;
-    }
-}
-
-/// Has each place be the number of all events of the process.
-fn set_places(history: &History, places: &mut Vec<u32>)
-    requires { length places.old.items ≡ length history.now.processes }
-    ensures count { length places.new.items ≡ length history.now.processes }
-    ensures places { (p : ℕ) → place_at places.new.items p
-        ≡ length (tape_at history.now.processes p) }
-{
-    let n = history.n();
-    for q in 0..n {
-        let p = ProcId::try_new(q, n).unwrap();
-        let all = history.tape(p).len();
-        places[q as usize] = all;
-    }
 }
 
 /// A history, how many sends and events each process had before a line, and what was in transit

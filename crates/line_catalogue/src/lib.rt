@@ -18,6 +18,7 @@ mod ledgers;
 mod numbers;
 mod refusals;
 mod rows;
+mod senders;
 mod settlings;
 mod strangers;
 mod tables;

@@ -10,7 +10,7 @@ use crate::candidates::candidates;
 use crate::ends::ends_before;
 use crate::known::find_known;
 use crate::numbers::Numbers;
-use crate::transits::{add_first, add_since};
+use crate::senders::{add_first, add_since};
 use line_names::{Line, MsgName, ProcId, ProcSet};
 use line_tape::History;
 use std::alloc::{AllocError, Global};

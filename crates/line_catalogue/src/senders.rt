@@ -1,0 +1,314 @@
+//! What is in transit of one process.
+ghost use Rattle.std.specs.Prelude.{◌≡◌, ◌<◌, ◌≤◌, ◌+◌, ◌++◌, ◌∷◌, [], ℕ, List, not, length, map};
+ghost use Rattle.std.specs.Prelude.{true, false, All, IfOk, None, OnOk, Some};
+ghost use Rattle.std.specs.List.Sorted.{IsNonDecreasing, IsNonDecreasingBy};
+ghost use Rattle.line_names.specs.declared.messages.MsgName.{MsgName};
+ghost use Rattle.line_tape.specs.Event.{sends, Holds};
+ghost use Rattle.line_tape.specs.Fit.{IsSentTo};
+ghost use Rattle.line_tape.specs.History.{tape_at};
+ghost use Rattle.line_tape.specs.Line.{events_before, IsLine};
+ghost use Rattle.line_tape.specs.Transit.{has_received};
+ghost use Rattle.line_catalogue.specs.Known.{AreMarksExact, AreMarksExactSince, AreReceived};
+ghost use Rattle.line_catalogue.specs.Known.{IsReceived, IsUnreceived};
+ghost use Rattle.line_catalogue.specs.Left.{messages_of, open_first, AreSent, ComeInOrder, HasOpen};
+ghost use Rattle.line_catalogue.specs.Left.{HasOpenBeside};
+
+use crate::known::mark_of;
+use crate::numbers::Numbers;
+use line_names::{Line, MsgName, ProcId};
+use line_tape::History;
+use std::alloc::AllocError;
+
+/// Whether a process receives the message before the line.
+fn is_received(history: &History, line: &Line, q: ProcId, message: &MsgName) -> bool
+    requires { IsLine history.now.processes line.now }
+    ensures { result ≡ has_received (events_before history.now.processes line.now q) message.now }
+{
+    q.get() < history.n() && history.tape(q).received_before(line.at(q), message)
+}
+
+/// Adds a process's message of a number, if it is in transit.
+fn add_if_open(
+    history: &History,
+    line: &Line,
+    p: ProcId,
+    number: u32,
+    messages: &mut Vec<MsgName>,
+) -> Result<(), AllocError>
+    requires line { IsLine history.now.processes line.now }
+    requires process { p < length history.now.processes }
+    requires number { number < sends (events_before history.now.processes line.now p) }
+    ensures { OnOk result ((before : List MsgName)
+        → messages.old.items ≡ before ++ open_first history.now.processes line.now p number
+        → messages.new.items ≡ before ++ open_first history.now.processes line.now p (number + 1)) }
+{
+    let tape = history.tape(p);
+    let message = MsgName {
+        from: p,
+        inc: tape.sent_under(number).unwrap(),
+        number,
+    };
+    match tape.addressee(number) {
+        Some(q) => {
+            if !is_received(history, line, q, &message) {
+                messages.push(message)?;
+            }
+            Ok(())
+        }
+        None => Ok(()),
+    }
+}
+
+/// Adds those of a process's first `end` messages that are in transit, where the row has their
+/// numbers.
+fn add_old(
+    history: &History,
+    line: &Line,
+    p: ProcId,
+    end: u32,
+    row: &[u32],
+    messages: &mut Vec<MsgName>,
+) -> Result<(), AllocError>
+    requires line { IsLine history.now.processes line.now }
+    requires process { p < length history.now.processes }
+    requires end { end ≤ sends (events_before history.now.processes line.now p) }
+    requires sorted { IsNonDecreasing row.now }
+    requires held { HasOpen history.now.processes line.now p end row.now }
+    ensures { OnOk result (messages.new.items
+        ≡ messages.old.items ++ open_first history.now.processes line.now p end) }
+{
+    let mut next = 0;
+    for number in row {
+        if next <= *number && *number < end {
+            add_if_open(history, line, p, *number, messages)?;
+            next = *number + 1;
+        }
+    }
+    Ok(())
+}
+
+/// Whether a message that was sent is not received before the line: its mark tells that, if it has
+/// one.
+fn is_open(history: &History, line: &Line, message: &MsgName, base: u32, known: &[bool]) -> bool
+    requires line { IsLine history.now.processes line.now }
+    requires told { AreMarksExact history.now.processes line.now message.now.from base known.now
+        (message.now ∷ []) }
+    ensures { (q : ℕ) → IsSentTo history.now.processes q message.now
+        → result ≡ not (has_received (events_before history.now.processes line.now q) message.now) }
+{
+    match mark_of(known, base, message.number) {
+        Some(mark) => !mark,
+        None => match history.addressee(message) {
+            Some(q) => !is_received(history, line, q, message),
+            None => false,
+        },
+    }
+}
+
+/// Adds a message that was kept, if it is still in transit.
+fn add_if_still_open(
+    history: &History,
+    line: &Line,
+    message: &MsgName,
+    base: u32,
+    known: &[bool],
+    messages: &mut Vec<MsgName>,
+) -> Result<(), AllocError>
+    requires line { IsLine history.now.processes line.now }
+    requires number { message.now.number
+        < sends (events_before history.now.processes line.now message.now.from) }
+    requires sent { (q : ℕ) × IsSentTo history.now.processes q message.now }
+    requires told { AreMarksExact history.now.processes line.now message.now.from base known.now
+        (message.now ∷ []) }
+    ensures { OnOk result ((before : List MsgName)
+        → messages.old.items
+        ≡ before ++ open_first history.now.processes line.now message.now.from message.now.number
+        → messages.new.items
+        ≡ before ++ open_first history.now.processes line.now message.now.from
+        (message.now.number + 1)) }
+{
+    if is_open(history, line, message, base, known) {
+        messages.push(*message)?;
+    }
+    Ok(())
+}
+
+/// Adds those of a process's first `end` messages that are in transit, where they were all kept.
+fn add_kept(
+    history: &History,
+    line: &Line,
+    _p: ProcId,
+    end: u32,
+    kept: &[MsgName],
+    base: u32,
+    known: &[bool],
+    messages: &mut Vec<MsgName>,
+) -> Result<(), AllocError>
+    requires line { IsLine history.now.processes line.now }
+    requires end { end ≤ sends (events_before history.now.processes line.now _p) }
+    requires from { All (λ (message : MsgName). message.from ≡ _p) kept.now }
+    requires sorted { IsNonDecreasing (map (λ (message : MsgName). message.number) kept.now) }
+    requires held { HasOpen history.now.processes line.now _p end
+        (map (λ (message : MsgName). message.number) kept.now) }
+    requires sent { AreSent history.now.processes kept.now }
+    requires told { AreMarksExact history.now.processes line.now _p base known.now kept.now }
+    ensures { OnOk result (messages.new.items
+        ≡ messages.old.items ++ open_first history.now.processes line.now _p end) }
+{
+    let mut next = 0;
+    for message in kept {
+        if next <= message.number && message.number < end {
+            add_if_still_open(history, line, message, base, known, messages)?;
+            next = message.number + 1;
+        }
+    }
+    Ok(())
+}
+
+/// Those of the messages that a process sent. It searches for them by halves.
+fn sent_by<'a>(messages: &'a [MsgName], p: ProcId) -> &'a [MsgName]
+    requires { IsNonDecreasingBy (λ (message : MsgName). message.from) messages.now }
+    ensures { result.now ≡ messages_of p messages.now }
+{
+    let start = messages.partition_point(|message| message.from.get() < p.get());
+    let end = messages.partition_point(|message| message.from.get() <= p.get());
+    &messages[start..end]
+}
+
+/// Adds those of a process's first `end` messages that are in transit. Where the row is empty only
+/// what was kept can be, and little has to be asked; else the numbers of both are put in order.
+pub fn add_first(
+    history: &History,
+    line: &Line,
+    p: ProcId,
+    end: u32,
+    left: &[MsgName],
+    row: &mut Numbers,
+    base: u32,
+    known: &[bool],
+    messages: &mut Vec<MsgName>,
+) -> Result<(), AllocError>
+    requires line { IsLine history.now.processes line.now }
+    requires process { p < length history.now.processes }
+    requires end { end ≤ sends (events_before history.now.processes line.now p) }
+    requires order { ComeInOrder left.now }
+    requires sent { AreSent history.now.processes left.now }
+    requires held { HasOpenBeside history.now.processes line.now p end row.old left.now }
+    requires told { AreMarksExact history.now.processes line.now p base known.now left.now }
+    ensures { OnOk result (messages.new.items
+        ≡ messages.old.items ++ open_first history.now.processes line.now p end) }
+{
+    let kept = sent_by(left, p);
+    if row.is_empty() {
+        return add_kept(history, line, p, end, kept, base, known, messages);
+    }
+    row.add_all(kept)?;
+    row.sort();
+    add_old(history, line, p, end, row.as_slice(), messages)
+}
+
+/// Whether so many are more than the most, if there is such a limit.
+fn are_past(most: Option<usize>, count: usize) -> bool
+    ensures { most ≡ None → result ≡ false }
+{
+    match most {
+        Some(most) => most < count,
+        None => false,
+    }
+}
+
+/// Adds a process's message of a number.
+fn add_sent(
+    history: &History,
+    p: ProcId,
+    number: u32,
+    messages: &mut Vec<MsgName>,
+) -> Result<(), AllocError>
+    requires process { p < length history.now.processes }
+    requires number { number < sends (tape_at history.now.processes p) }
+    ensures { OnOk result ((message : MsgName) → message.from ≡ p → message.number ≡ number
+        → Holds (tape_at history.now.processes p) message.inc number
+        → messages.new.items ≡ messages.old.items ++ message ∷ []) }
+{
+    messages.push(MsgName {
+        from: p,
+        inc: history.tape(p).sent_under(number).unwrap(),
+        number,
+    })?;
+    Ok(())
+}
+
+/// Adds a process's message of a number, if it is in transit: its mark tells that it is not, and
+/// where the kept line is closed it tells that it is. Else it is asked of.
+fn add_if_not_marked(
+    history: &History,
+    line: &Line,
+    p: ProcId,
+    number: u32,
+    closed: bool,
+    mark: Option<bool>,
+    messages: &mut Vec<MsgName>,
+) -> Result<(), AllocError>
+    requires line { IsLine history.now.processes line.now }
+    requires process { p < length history.now.processes }
+    requires number { number < sends (events_before history.now.processes line.now p) }
+    requires known { mark ≡ Some true → IsReceived history.now.processes line.now p number }
+    requires told { closed ≡ true → mark ≡ Some false
+        → IsUnreceived history.now.processes line.now p number }
+    ensures { OnOk result ((before : List MsgName)
+        → messages.old.items ≡ before ++ open_first history.now.processes line.now p number
+        → messages.new.items ≡ before ++ open_first history.now.processes line.now p (number + 1)) }
+{
+    match mark {
+        Some(true) => Ok(()),
+        Some(false) => {
+            if closed {
+                add_sent(history, p, number, messages)?;
+                Ok(())
+            } else {
+                add_if_open(history, line, p, number, messages)
+            }
+        }
+        None => add_if_open(history, line, p, number, messages),
+    }
+}
+
+/// Adds the messages of a process that are in transit, but for its first `end` ones: those that
+/// their marks tell, and of those that are not known each that is not received. It stops where
+/// there are more messages than the most, and answers at how many sends it has looked.
+pub fn add_since(
+    history: &History,
+    line: &Line,
+    p: ProcId,
+    end: u32,
+    closed: bool,
+    base: u32,
+    known: &[bool],
+    most: Option<usize>,
+    messages: &mut Vec<MsgName>,
+) -> Result<u32, AllocError>
+    requires line { IsLine history.now.processes line.now }
+    requires process { p < length history.now.processes }
+    requires end { end ≤ sends (events_before history.now.processes line.now p) }
+    requires known { AreReceived history.now.processes line.now p base known.now }
+    requires told { closed ≡ true
+        → AreMarksExactSince history.now.processes line.now p end base known.now }
+    ensures found { IfOk result (λ looked. (before : List MsgName)
+        → messages.old.items ≡ before ++ open_first history.now.processes line.now p end
+        → messages.new.items ≡ before ++ open_first history.now.processes line.now p looked) }
+    ensures since { IfOk result (λ looked. end ≤ looked) }
+    ensures few { IfOk result (λ looked.
+        looked ≤ sends (events_before history.now.processes line.now p)) }
+    ensures all { most ≡ None → IfOk result (λ looked.
+        looked ≡ sends (events_before history.now.processes line.now p)) }
+{
+    let sends = history.tape(p).sends_before(line.at(p));
+    for number in end..sends {
+        if are_past(most, messages.len()) {
+            return Ok(number);
+        }
+        let mark = mark_of(known, base, number);
+        add_if_not_marked(history, line, p, number, closed, mark, messages)?;
+    }
+    Ok(sends)
+}
