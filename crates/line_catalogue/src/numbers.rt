@@ -47,6 +47,22 @@ impl Numbers {
         })
     }
 
+    /// The numbers of messages, and those of a row.
+    pub fn of_both(
+        messages: &[MsgName],
+        row: &Numbers,
+        alloc: Global,
+    ) -> Result<Numbers, AllocError>
+        ensures { IfOk result (λ numbers. numbers
+            ≡ map (λ (message : MsgName). message.number) messages.now ++ row.now) }
+    {
+        let room = messages.len().saturating_add(row.numbers.len());
+        let mut numbers = Vec::with_capacity(alloc, room)?;
+        push_numbers(messages, &mut numbers)?;
+        numbers.extend_from_slice(row.numbers.as_slice())?;
+        Ok(Numbers { numbers })
+    }
+
     /// The numbers.
     pub fn as_slice(&self) -> &[u32]
         ensures { result.now ≡ self.now }
@@ -67,14 +83,6 @@ impl Numbers {
     {
         self.numbers.push(number)?;
         Ok(())
-    }
-
-    /// Those of these messages, too.
-    pub fn add_all(&mut self, messages: &[MsgName]) -> Result<(), AllocError>
-        ensures { OnOk result (self.new ≡ self.old
-            ++ map (λ (message : MsgName). message.number) messages.now) }
-    {
-        push_numbers(messages, &mut self.numbers)
     }
 
     /// Puts them in order.

@@ -17,7 +17,7 @@ use crate::known::mark_of;
 use crate::numbers::Numbers;
 use line_names::{Line, MsgName, ProcId};
 use line_tape::History;
-use std::alloc::AllocError;
+use std::alloc::{AllocError, Global};
 
 /// Whether a process receives the message before the line.
 fn is_received(history: &History, line: &Line, q: ProcId, message: &MsgName) -> bool
@@ -183,9 +183,10 @@ pub fn add_first(
     p: ProcId,
     end: u32,
     left: &[MsgName],
-    row: &mut Numbers,
+    row: &Numbers,
     base: u32,
     known: &[bool],
+    alloc: Global,
     messages: &mut Vec<MsgName>,
 ) -> Result<(), AllocError>
     requires line { IsLine history.now.processes line.now }
@@ -193,7 +194,7 @@ pub fn add_first(
     requires end { end ≤ sends (events_before history.now.processes line.now p) }
     requires order { ComeInOrder left.now }
     requires sent { AreSent history.now.processes left.now }
-    requires held { HasOpenBeside history.now.processes line.now p end row.old left.now }
+    requires held { HasOpenBeside history.now.processes line.now p end row.now left.now }
     requires told { AreMarksExact history.now.processes line.now p base known.now left.now }
     ensures { OnOk result (messages.new.items
         ≡ messages.old.items ++ open_first history.now.processes line.now p end) }
@@ -202,9 +203,9 @@ pub fn add_first(
     if row.is_empty() {
         return add_kept(history, line, p, end, kept, base, known, messages);
     }
-    row.add_all(kept)?;
-    row.sort();
-    add_old(history, line, p, end, row.as_slice(), messages)
+    let mut both = Numbers::of_both(kept, row, alloc)?;
+    both.sort();
+    add_old(history, line, p, end, both.as_slice(), messages)
 }
 
 /// Whether so many are more than the most, if there is such a limit.

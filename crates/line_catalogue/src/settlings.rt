@@ -46,9 +46,10 @@ fn settle_sender(
     p: ProcId,
     end: u32,
     left: &[MsgName],
-    row: &mut Numbers,
+    row: &Numbers,
     base: u32,
     known: &[bool],
+    alloc: Global,
     credit: &mut usize,
     messages: &mut Vec<MsgName>,
 ) -> Result<u32, AllocError>
@@ -57,7 +58,7 @@ fn settle_sender(
     requires end { end ≤ sends (events_before history.now.processes line.now p) }
     requires order { ComeInOrder left.now }
     requires sent { AreSent history.now.processes left.now }
-    requires held { HasOpenBeside history.now.processes line.now p end row.old left.now }
+    requires held { HasOpenBeside history.now.processes line.now p end row.now left.now }
     requires known { AreReceived history.now.processes line.now p base known.now }
     requires told { AreMarksExact history.now.processes line.now p base known.now left.now }
     ensures before { IfOk result (λ start.
@@ -69,7 +70,9 @@ fn settle_sender(
     let most = messages
         .len()
         .saturating_add(sends as usize / SENDS_FOR_A_MESSAGE);
-    add_first(history, line, p, end, left, row, base, known, messages)?;
+    add_first(
+        history, line, p, end, left, row, base, known, alloc, messages,
+    )?;
     let first = messages.len();
     if !spend(credit, sends.saturating_sub(end) as usize) {
         return Ok(end);
@@ -110,7 +113,7 @@ pub fn find_settled(
     let n = history.n();
     let bounds = ends_before(history, starts, alloc, line)?;
     let ends = bounds.as_slice();
-    let mut rows = candidates(history, ends, places, &ProcSet::empty(), alloc, line)?;
+    let rows = candidates(history, ends, places, &ProcSet::empty(), alloc, line)?;
     let received = find_known(history, ends, places, left.len(), alloc, line);
     let mut moved = Vec::with_capacity(alloc, n as usize)?;
     let mut messages = Vec::with_capacity(alloc, left.len())?;
@@ -122,9 +125,10 @@ pub fn find_settled(
             p,
             ends[sender as usize],
             left,
-            &mut rows[sender as usize],
+            &rows[sender as usize],
             received.base(sender),
             received.row(sender),
+            alloc,
             credit,
             &mut messages,
         )?;

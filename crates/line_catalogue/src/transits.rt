@@ -24,20 +24,21 @@ fn add_all_open(
     ends: &[u32],
     left: &[MsgName],
     closed: bool,
-    rows: &mut Vec<Numbers>,
+    rows: &[Numbers],
     received: &Known,
+    alloc: Global,
     messages: &mut Vec<MsgName>,
 ) -> Result<(), AllocError>
     requires line { IsLine history.now.processes line.now }
     requires ends { (p : ℕ)
         → start_at ends.now p ≤ sends (events_before history.now.processes line.now p) }
     requires count { length ends.now ≡ length history.now.processes }
-    requires rows { length rows.old.items ≡ length history.now.processes }
+    requires rows { length rows.now ≡ length history.now.processes }
     requires order { ComeInOrder left.now }
     requires sent { AreSent history.now.processes left.now }
     requires held { (p : ℕ) → p < length history.now.processes
         → HasOpenBeside history.now.processes line.now p (start_at ends.now p)
-        (numbers_at rows.old.items p) left.now }
+        (numbers_at rows.now p) left.now }
     requires known { AreKnown history.now.processes line.now received.now.bases.items
         received.now.starts.items received.now.marks.items }
     requires told { AreAllMarksExact history.now.processes line.now received.now.bases.items
@@ -59,9 +60,10 @@ fn add_all_open(
             p,
             end,
             left,
-            &mut rows[sender as usize],
+            &rows[sender as usize],
             base,
             known,
+            alloc,
             messages,
         )?;
         add_since(history, line, p, end, closed, base, known, None, messages)?;
@@ -89,7 +91,7 @@ pub fn find_transit(
 {
     let bounds = ends_before(history, starts, alloc, line)?;
     let ends = bounds.as_slice();
-    let mut rows = candidates(history, ends, places, strangers, alloc, line)?;
+    let rows = candidates(history, ends, places, strangers, alloc, line)?;
     let received = find_known(history, ends, places, left.len(), alloc, line);
     let mut messages = Vec::with_capacity(alloc, left.len())?;
     add_all_open(
@@ -98,8 +100,9 @@ pub fn find_transit(
         ends,
         left,
         closed,
-        &mut rows,
+        rows.as_slice(),
         &received,
+        alloc,
         &mut messages,
     )?;
     Ok(messages)

@@ -41,9 +41,9 @@ add_old-requires-clause-held c = λ q m from low sent unseen.
     let own : List MsgName = messages_of c.args.p c.args.left.now in
     let old : List ℕ = c.args.row.now in
     let of : List MsgName → List ℕ = λ ms. map (λ (x : MsgName). x.number) ms in
-    let all : c.add_all.new.self ≡ old ++ of own = c.in_ok-add_all.ensures ∙ ap (λ (ms : List MsgName). old ++ of ms) c.sent_by-kept.ensures in
-    let among : Contains (old ++ of own) m.number = elim (c.requires.held q m from low sent unseen) [
-      | inl row ↦ Contains-append_left old (of own) m.number row
-      | inr left ↦ Contains-append_right old (of own) m.number (in_map (λ (x : MsgName). x.number) own m (in-messages_of c.args.p c.args.left.now m from left))
+    let all : c.in_ok-both.both ≡ of own ++ old = c.in_ok-both.ensures ∙ ap (λ (ms : List MsgName). of ms ++ old) c.sent_by-kept.ensures in
+    let among : Contains (of own ++ old) m.number = elim (c.requires.held q m from low sent unseen) [
+      | inl row ↦ Contains-append_right (of own) old m.number row
+      | inr left ↦ Contains-append_left (of own) old m.number (in_map (λ (x : MsgName). x.number) own m (in-messages_of c.args.p c.args.left.now m from left))
     ] in
     subst (λ (row : List ℕ). Contains row m.number) (sym c.as_slice.ensures) (c.sort.ensures.kept m.number (subst (λ (row : List ℕ). Contains row m.number) (sym all) among))

@@ -3,7 +3,7 @@ use Rattle.std.proofs.Common.{◌≡◌, ◌<◌, ◌≤◌, ◌+◌, ◌++◌, 
 use Rattle.std.specs.List.{Contains}
 use Rattle.std.proofs.lemmas.Bool.{cases_lt}
 use Rattle.std.proofs.lemmas.List.Elements.{Contains-append_left}
-use Rattle.std.proofs.lemmas.List.{get_or_append_left, get_or_default, get_or_push, length-set, length_push, get_or-set_other}
+use Rattle.std.proofs.lemmas.List.{get_or_append_left, get_or_default, get_or_push, length_push}
 use Rattle.line_names.specs.declared.choices.Choice.{Choice}
 use Rattle.line_names.specs.declared.messages.MsgName.{MsgName}
 use Rattle.line_tape.specs.Event.{sends}
@@ -24,8 +24,6 @@ loop-sender-init c = record {
   before = λ p. omega (arith, ap (λ (xs : List ℕ). start_at xs p) c.in_ok-moved.ensures.items);
   held = λ p l. absurd (omega (arith, l));
   below = subst (λ (xs : List MsgName). AreOpenBelow c.args.history.now.processes c.args.line.now xs 0 0) (sym c.in_ok-messages.ensures.items) (below-none c.args.history.now.processes c.args.line.now);
-  count = c.in_ok-rows.ensures.count;
-  kept = λ p l. refl;
 }
 
 pub settle_sender-requires-clause-held : goal.settle_sender-requires-clause-held
@@ -33,12 +31,12 @@ settle_sender-requires-clause-held c =
     let history : List Process = c.args.history.now.processes in
     let line : List Choice = c.args.line.now in
     let s : ℕ = c.loop-sender.sender in
-    let row : List ℕ = c.index_mut.result.now in
+    let row : List ℕ = c.index.result.now in
     let ends : List ℕ = c.as_slice-ends.result.now in
     let end : ℕ = start_at ends s in
     let at : c.unwrap-p.result ≡ s = (rw c.unwrap-p.ensures at c.try_new.ensures).1 in
     let inside : s < length history = omega (arith, c.n-n.ensures.value) in
-    let is : numbers_at c.in_ok-rows.rows.items s ≡ row = sym (c.loop-sender.invariant.kept s (omega arith)) ∙ get_or_default c.loop-sender.rows.items s [] row (omega (arith, inside, c.loop-sender.invariant.count)) ∙ sym c.index_mut.ensures.value in
+    let is : numbers_at c.in_ok-rows.rows.items s ≡ row = get_or_default c.in_ok-rows.rows.items s [] row (omega (arith, inside, c.in_ok-rows.ensures.count)) ∙ sym c.index.ensures in
     let are : AreEnds history c.args.starts.now line ends = subst (AreEnds history c.args.starts.now line) (sym c.as_slice-ends.ensures.value) c.in_ok-bounds.ensures in
     let left : List MsgName = c.args.left.now in
     let beside : HasOpenBeside history line s end (numbers_at c.in_ok-rows.rows.items s) left = has-open history line c.args.starts.now ends c.args.places.now left c.in_ok-rows.rows.items s c.requires.left are c.in_ok-rows.ensures inside in
@@ -73,7 +71,6 @@ loop-sender-preserved c =
     let history : List Process = c.args.history.now.processes in
     let line : List Choice = c.args.line.now in
     let s : ℕ = c.loop-sender.sender in
-    let rows : List (List ℕ) = c.loop-sender.rows.items in
     let moved : List ℕ = c.loop-sender.moved.items in
     let start : ℕ = c.in_ok-start.start in
     let messages : List MsgName = c.settle_sender.new.messages.items in
@@ -98,8 +95,6 @@ loop-sender-preserved c =
             subst (λ k. HaveLeft history line p k messages) (sym last) (subst (λ k. HaveLeft history line k start messages) same (subst (HaveLeft history line s start) (sym grown) (have-open history line s start older few)))
       ]);
       below = subst (λ (xs : List MsgName). AreOpenBelow history line xs (s + 1) 0) (sym grown) (below-next history line (older ++ open_first history line s start) s start (below-first history line older s start few c.loop-sender.invariant.below));
-      count = length-set rows s c.settle_sender.new.row ∙ c.loop-sender.invariant.count;
-      kept = λ p l. get_or-set_other rows s p c.settle_sender.new.row [] (omega (arith, l)) ∙ c.loop-sender.invariant.kept p (omega (arith, l));
     }
 
 pub returns : goal.returns

@@ -2,7 +2,7 @@ use Rattle.std.proofs.Common.{◌≡◌, ◌<◌, ◌≤◌, ℕ, length}
 use Rattle.std.specs.Prelude.{vec_len, vec_capacity}
 use Rattle.line_tape.specs.Event.{sends}
 use Rattle.line_tape.specs.Line.{events_before}
-use Rattle.line_catalogue.specs.Left.{numbers_at, start_at, HaveLeft}
+use Rattle.line_catalogue.specs.Left.{start_at, HaveLeft}
 use Rattle.line_catalogue.proofs.OrderLemmas.{AreOpenBelow}
 use Rattle.line_catalogue.proofs.settlings.find_settled.Given as goal
 
@@ -14,6 +14,4 @@ invariant-loop-sender l = record {
   before : (p : ℕ) → start_at l.moved.items p ≤ sends (events_before l.history.processes l.line p);
   held : (p : ℕ) → p < l.sender → HaveLeft l.history.processes l.line p (start_at l.moved.items p) l.messages.items;
   below : AreOpenBelow l.history.processes l.line l.messages.items l.sender 0;
-  count : length l.rows.items ≡ length l.history.processes;
-  kept : (p : ℕ) → l.sender ≤ p → numbers_at l.rows.items p ≡ numbers_at l.initial.rows.items p;
 }

@@ -1,7 +1,7 @@
 -- One sender more.
 use Rattle.std.proofs.Common.{◌≡◌, ◌<◌, ◌+◌, ◌++◌, ◌∷◌, [], List, ℕ, suc, length, map, refl, sym, ap, ◌∙◌, subst, append-nil, arith}
 use Rattle.std.specs.List.{flat_map, range_with_len}
-use Rattle.std.proofs.lemmas.List.{append_assoc, flat_map_more, get_or_default, length-set, get_or-set_other}
+use Rattle.std.proofs.lemmas.List.{append_assoc, flat_map_more, get_or_default}
 use Rattle.line_names.specs.declared.choices.Choice.{Choice}
 use Rattle.line_names.specs.declared.messages.MsgName.{MsgName}
 use Rattle.line_tape.specs.History.{Process}
@@ -14,23 +14,19 @@ use Rattle.line_catalogue.proofs.OpenLemmas.{open-all}
 use Rattle.line_catalogue.proofs.transits.add_all_open.Goals as goal
 
 pub loop-sender-init : goal.loop-sender-init
-loop-sender-init c = record {
-  found = sym (append-nil c.args.messages.now.items);
-  count = c.requires.rows;
-  kept = λ p l. refl;
-}
+loop-sender-init c = sym (append-nil c.args.messages.now.items)
 
 pub add_first-requires-clause-held : goal.add_first-requires-clause-held
 add_first-requires-clause-held c =
     let history : List Process = c.args.history.now.processes in
     let line : List Choice = c.args.line.now in
     let s : ℕ = c.loop-sender.sender in
-    let row : List ℕ = c.index_mut.result.now in
+    let row : List ℕ = c.index-rows-sender.result in
     let left : List MsgName = c.args.left.now in
     let end : ℕ = start_at c.args.ends.now s in
     let at : c.unwrap-p.result ≡ s = (rw c.unwrap-p.ensures at c.try_new.ensures).1 in
     let inside : s < length history = omega (arith, c.n-n.ensures.value) in
-    let is : numbers_at c.args.rows.now.items s ≡ row = sym (c.loop-sender.invariant.kept s (omega arith)) ∙ get_or_default c.loop-sender.rows.items s [] row (omega (arith, inside, c.loop-sender.invariant.count)) ∙ sym c.index_mut.ensures.value in
+    let is : numbers_at c.args.rows.now s ≡ row = get_or_default c.args.rows.now s [] row (omega (arith, inside, c.requires.rows)) ∙ sym c.index-rows-sender.is in
     subst (λ (k : ℕ). HasOpenBeside history line k end row left) (sym at) (subst (λ (r : List ℕ). HasOpenBeside history line s end r left) is (c.requires.held s inside))
 
 pub add_first-requires-clause-told : goal.add_first-requires-clause-told
@@ -66,7 +62,6 @@ pub loop-sender-preserved : goal.loop-sender-preserved
 loop-sender-preserved c =
     let of : ℕ → List MsgName = λ p. map (λ (letter : Letter). letter.message) (open_letters c.args.history.now.processes c.args.line.now p) in
     let s : ℕ = c.loop-sender.sender in
-    let rows : List (List ℕ) = c.loop-sender.rows.items in
     let at : c.unwrap-p.result ≡ s = (rw c.unwrap-p.ensures at c.try_new.ensures).1 in
     let history : List Process = c.args.history.now.processes in
     let line : List Choice = c.args.line.now in
@@ -78,14 +73,10 @@ loop-sender-preserved c =
     let last : 0 + s ≡ s = omega arith in
     let next : range_with_len 0 (s + 1) ≡ range_with_len 0 s ++ s ∷ [] = ap (range_with_len 0) more ∙ range-push s 0 ∙ ap (λ x. range_with_len 0 s ++ x ∷ []) last in
     let grown : so_far ++ of s ≡ flat_map of (range_with_len 0 (s + 1)) = flat_map_more of [] (range_with_len 0 s) s ∙ ap (flat_map of) (sym next) in
-    record {
-      found = c.in_ok-add_since.ensures.found c.loop-sender.messages.items c.in_ok-add_first.ensures ∙ ap (λ xs. c.loop-sender.messages.items ++ xs) whole ∙ ap (λ k. c.loop-sender.messages.items ++ of k) at ∙ ap (λ xs. xs ++ of s) c.loop-sender.invariant.found ∙ append_assoc before so_far (of s) ∙ ap (λ xs. before ++ xs) grown;
-      count = length-set rows s c.add_first.new.row ∙ c.loop-sender.invariant.count;
-      kept = λ p l. get_or-set_other rows s p c.add_first.new.row [] (omega (arith, l)) ∙ c.loop-sender.invariant.kept p (omega (arith, l));
-    }
+    c.in_ok-add_since.ensures.found c.loop-sender.messages.items c.in_ok-add_first.ensures ∙ ap (λ xs. c.loop-sender.messages.items ++ xs) whole ∙ ap (λ k. c.loop-sender.messages.items ++ of k) at ∙ ap (λ xs. xs ++ of s) c.loop-sender.invariant ∙ append_assoc before so_far (of s) ∙ ap (λ xs. before ++ xs) grown
 
 pub returns : goal.returns
 returns c =
     let of : ℕ → List MsgName = λ p. map (λ (letter : Letter). letter.message) (open_letters c.args.history.now.processes c.args.line.now p) in
     let all : c.loop-sender.sender ≡ length c.args.history.now.processes = omega (arith, c.n-n.ensures.value) in
-    c.loop-sender.invariant.found ∙ ap (λ k. c.args.messages.now.items ++ flat_map of (range_with_len 0 k)) all
+    c.loop-sender.invariant ∙ ap (λ k. c.args.messages.now.items ++ flat_map of (range_with_len 0 k)) all

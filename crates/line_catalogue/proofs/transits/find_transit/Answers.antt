@@ -4,7 +4,7 @@ use Rattle.line_names.specs.declared.choices.Choice.{Choice}
 use Rattle.line_names.specs.declared.messages.MsgName.{MsgName}
 use Rattle.line_tape.specs.History.{Process}
 use Rattle.line_tape.specs.Transit.{in_transit}
-use Rattle.line_catalogue.specs.Left.{AreEnds}
+use Rattle.line_catalogue.specs.Left.{numbers_at, start_at, AreEnds, HasOpenBeside}
 use Rattle.line_catalogue.proofs.KnownLemmas.{all-told, all-told-since}
 use Rattle.line_catalogue.proofs.LeftLemmas.{has-open}
 use Rattle.line_catalogue.proofs.transits.find_transit.Goals as goal
@@ -15,7 +15,7 @@ add_all_open-requires-clause-held c = λ p inside.
     let line : List Choice = c.args.line.now in
     let ends : List ℕ = c.as_slice-ends.result.now in
     let are : AreEnds history c.args.starts.now line ends = subst (AreEnds history c.args.starts.now line) (sym c.as_slice-ends.ensures.value) c.in_ok-bounds.ensures in
-    has-open history line c.args.starts.now ends c.args.places.now c.args.left.now c.in_ok-rows.rows.items p c.requires.left are c.in_ok-rows.ensures inside
+    subst (λ (rows : List (List ℕ)). HasOpenBeside history line p (start_at ends p) (numbers_at rows p) c.args.left.now) (sym c.as_slice.ensures.value) (has-open history line c.args.starts.now ends c.args.places.now c.args.left.now c.in_ok-rows.rows.items p c.requires.left are c.in_ok-rows.ensures inside)
 
 pub add_all_open-requires-clause-sent : goal.add_all_open-requires-clause-sent
 add_all_open-requires-clause-sent c = λ m among. let was = c.requires.left.each m among in (was.to, was.sent)
