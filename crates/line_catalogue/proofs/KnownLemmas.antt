@@ -90,13 +90,6 @@ marked-more marks at i marked = elim (cases_eq i at) [
   | inr other ↦ get_or-set_other marks at i true false other ∙ marked
 ]
 
--- no marks tell nothing
-pub known-none : (history : List Process) (line : List Choice) (bases starts : List ℕ) (marks : List Bool) → starts ≡ [] → AreKnown history line bases starts marks
-known-none history line bases starts marks empty = λ p k inside mark. absurd (omega (arith, mark.0, ap (λ (xs : List ℕ). start_at xs (p + 1)) empty, get_or_past {X = ℕ} [] (p + 1) 0 (omega arith)))
-
-pub noted-none : (history : List Process) (line : List Choice) (places bases starts : List ℕ) (marks : List Bool) → starts ≡ [] → AreAllReceiptsMarked history line places bases starts marks
-noted-none history line places bases starts marks empty = λ q inside event among k m is sent number within. absurd (omega (arith, within, ap (λ (xs : List ℕ). start_at xs (m.from + 1)) empty, get_or_past {X = ℕ} [] (m.from + 1) 0 (omega arith)))
-
 -- what is noted stays so while marks are set
 pub noted-more : (history : List Process) (bases starts : List ℕ) (old new : List Bool) (q : ℕ) (event : Event) → ((i : ℕ) → get_or old i false ≡ true → get_or new i false ≡ true) → IsReceiptMarked history bases starts old q event → IsReceiptMarked history bases starts new q event
 noted-more history bases starts old new q event more noted = λ k m is sent number within. more (start_at starts m.from + k) (noted k m is sent number within)

@@ -1,7 +1,7 @@
 -- What rows show of the lanes, as rows and vectors come and go.
 use Rattle.std.proofs.Common.{◌≡◌, ℕ, ◌+◌, ◌*◌, ◌-◌, ◌<◌, ◌≤◌, Bool, false, true, cond, List, [], ◌∷◌, ◌++◌, length, take, drop, map, get_or, set, inl, inr, sym, ap, ◌∙◌, subst, arith}
 use Rattle.std.proofs.lemmas.Bool.{cases_eq, cases_lt}
-use Rattle.std.proofs.lemmas.List.{drop-append-le, drop-take, drop_all, ext_get_or, get_or-map, get_or-set_other, get_or-set_same, get_or-take, get_or_append_left, get_or_default, get_or_past, get_or_push, length-append, length-drop, length-map, length-take-le, length_push, map-append, map-set, take-append-drop, take-append-le, take-map, take_all}
+use Rattle.std.proofs.lemmas.List.{drop-append-le, drop-take, ext_get_or, get_or-map, get_or-set_other, get_or-set_same, get_or-take, get_or_append_left, get_or_default, get_or_past, get_or_push, length-append, length-drop, length-map, length-take-le, length_push, map-append, map-set, take-append-drop, take-append-le, take-map, take_all}
 use Rattle.std.proofs.Math.Nat.{add-mul}
 use Rattle.line_names.specs.declared.choices.Choice.TheVariants.{Check as AtCheck}
 use Rattle.line_tape.specs.declared.events.Event.{Event}
@@ -41,14 +41,6 @@ rows-more n lanes more rows among = map-same (row_of n (lanes ++ more)) (row_of 
 -- lanes that end with a vector are no fewer
 pub end-long : (lanes vector : List ℕ) → EndWith lanes vector → length vector ≤ length lanes
 end-long lanes vector ends = omega (arith, length-drop (length lanes - length vector) lanes, ap (λ (xs : List ℕ). length xs) ends)
-
--- a vector that is put behind the lanes is what they end with
-pub end-put : (lanes vector : List ℕ) → EndWith (lanes ++ vector) vector
-end-put lanes vector =
-    let here : length (lanes ++ vector) - length vector ≡ length lanes = omega (arith, length-append lanes vector) in
-    ap (λ k. drop k (lanes ++ vector)) here
-    ∙ drop-append-le (length lanes) lanes vector (omega arith)
-    ∙ ap (λ (xs : List ℕ). xs ++ vector) (drop_all (length lanes) lanes (omega arith))
 
 -- what is put there is no longer than the vector
 pub more-few : (heard : Bool) (vector : List ℕ) → length (cond heard vector []) ≤ length vector

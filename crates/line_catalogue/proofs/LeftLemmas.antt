@@ -1,12 +1,11 @@
 -- What is left to look at: it stays right by every event and by a restart, and with what is received behind a line it is enough.
-use Rattle.std.proofs.Common.{◌≡◌, ℕ, zero, suc, ◌+◌, ◌<◌, ◌≤◌, Bool, true, false, not, cond, List, [], ◌∷◌, ◌++◌, length, take, drop, get_or, map, filter, Some, refl, replicate, sym, ap, ◌∙◌, subst, arith, inl, inr, ◌⊎◌}
+use Rattle.std.proofs.Common.{◌≡◌, ℕ, zero, suc, ◌+◌, ◌<◌, ◌≤◌, Bool, true, false, not, cond, List, [], ◌∷◌, ◌++◌, length, take, drop, get_or, map, filter, Some, refl, sym, ap, ◌∙◌, subst, arith, inl, inr, ◌⊎◌}
 use Rattle.std.specs.List.{Contains, slice_get, flat_map, list_any, range_with_len}
 use Rattle.std.proofs.lemmas.Bool.{cases_lt, false≢true}
-use Rattle.std.proofs.lemmas.List.{take-append-drop, take-append-le, take-take, take_all, length-append, length-set, length-take, length-replicate, get_or-replicate, get_or-take}
+use Rattle.std.proofs.lemmas.List.{take-append-drop, take-append-le, take-take, take_all, length-append, length-set, length-take, get_or-take}
 use Rattle.std.proofs.lemmas.List.Elements.{filter_map-append, Contains-append_cases, Contains-append_left, Contains-append_right, Contains-push}
 use Rattle.std.proofs.lemmas.Option.{slice_get_within}
 use Rattle.line_names.specs.declared.choices.Choice.{Choice}
-use Rattle.line_names.specs.declared.choices.Choice.TheVariants.{Check as AtCheck, Now}
 use Rattle.line_names.specs.declared.messages.MsgName.{MsgName}
 use Rattle.line_names.specs.Lines.{choice_at}
 use Rattle.line_names.specs.Names.{is_name}
@@ -14,12 +13,11 @@ use Rattle.line_tape.specs.declared.events.Event.{Event}
 use Rattle.line_tape.specs.declared.events.Event.TheVariants.{Recv}
 use Rattle.line_tape.specs.Event.{incarnation_of, incarnations_sent, sends, Holds}
 use Rattle.line_tape.specs.Fit.{IsSentTo}
-use Rattle.line_tape.specs.Front.{place, front, HasChoice}
+use Rattle.line_tape.specs.Front.{place, front}
 use Rattle.line_tape.specs.History.{Process, tape_at, with_event}
-use Rattle.line_tape.specs.Line.{events_before, IsConsistent, IsLine}
+use Rattle.line_tape.specs.Line.{events_before, IsConsistent}
 use Rattle.line_tape.specs.Restart.{restarted_history}
 use Rattle.line_tape.specs.Transit.{Letter, letters, is_open_letter, open_letters, in_transit, has_received, names_received, addressee_of, addressees}
-use Rattle.line_tape.proofs.ChoiceLemmas.{choice-past}
 use Rattle.line_tape.proofs.EventLemmas.{holds_more, length_addressees, tape_grows}
 use Rattle.line_tape.proofs.ListLemmas.{slice_get_front}
 use Rattle.line_tape.proofs.CutLemmas.{contains_nothing, cons_cases, received_left, sends_take}
@@ -339,13 +337,3 @@ ends-more bound [] end within low zero = low
 ends-more bound [] end within low (suc p) = omega arith
 ends-more bound (x ∷ ends) end within low zero = within 0
 ends-more bound (x ∷ ends) end within low (suc p) = ends-more (λ (k : ℕ). bound (suc k)) ends end (λ k. within (suc k)) low p
-
--- each process's present state is a choice of its own
-pub IsLine-present : (history : List Process) → IsLine history (replicate (length history) Now)
-IsLine-present history = record {
-  length_is = length-replicate (length history) Now;
-  exist = λ p. elim (cases_lt p (length history)) [
-    | inl h ↦ subst (HasChoice (tape_at history p)) (sym (get_or-replicate (length history) p Now (AtCheck 0) h)) tt
-    | inr past ↦ subst (HasChoice (tape_at history p)) (sym (choice-past (replicate (length history) Now) p (omega (arith, past, length-replicate (length history) Now)))) (omega arith)
-  ];
-}

@@ -6,20 +6,13 @@ use Rattle.std.proofs.lemmas.List.{length-set, get_or-set_same, get_or-set_other
 use Rattle.std.proofs.lemmas.List.Elements.{Contains-append_left, Contains-push, Contains-push_cases}
 use Rattle.line_names.specs.declared.messages.MsgName.{MsgName}
 use Rattle.line_tape.proofs.CutLemmas.{contains_nothing}
-use Rattle.line_catalogue.specs.Left.{numbers_at, start_at, AreIn}
+use Rattle.line_catalogue.specs.Left.{numbers_at, AreIn}
 
 pub in-none : (ends : List ℕ) (rows : List (List ℕ)) → AreIn [] ends rows
 in-none ends rows = λ m c low l. absurd (contains_nothing m c)
 
 pub in-left : (xs ys : List MsgName) (ends : List ℕ) (rows : List (List ℕ)) → AreIn (xs ++ ys) ends rows → AreIn xs ends rows
 in-left xs ys ends rows h = λ m c low l. h m (Contains-append_left xs ys m c) low l
-
--- a message more, whose sender has no row, or whose number is not below the sender's end
-pub in-past : (names : List MsgName) (m : MsgName) (ends : List ℕ) (rows : List (List ℕ)) → (m.number < start_at ends m.from → m.from < length rows → ⊥) → AreIn names ends rows → AreIn (names ++ m ∷ []) ends rows
-in-past names m ends rows past h = λ x c low l. elim (Contains-push_cases names m x c) [
-  | inl earlier ↦ h x earlier low l
-  | inr e ↦ absurd (subst (λ (v : MsgName). v.number < start_at ends v.from → v.from < length rows → ⊥) e past low l)
-]
 
 -- a message more, whose number goes to the row of its sender
 pub in-add : (names : List MsgName) (m : MsgName) (ends : List ℕ) (rows : List (List ℕ)) (row : List ℕ) → row ≡ get_or rows m.from row → m.from < length rows → AreIn names ends rows

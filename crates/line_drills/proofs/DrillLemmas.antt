@@ -1,15 +1,15 @@
 -- Workers that do their scripts.
-use Rattle.std.proofs.Common.{zero, suc, ◌≡◌, ◌∙◌, ◌+◌, ◌<◌, ◌≤◌, ◌++◌, ◌∷◌, [], ℕ, List, Some, None, length, take, get_or, replicate, refl, sym, ap, inl, inr, arith, subst}
+use Rattle.std.proofs.Common.{zero, suc, ◌≡◌, ◌∙◌, ◌+◌, ◌<◌, ◌≤◌, ◌++◌, ◌∷◌, [], ℕ, List, Some, length, take, get_or, replicate, refl, sym, ap, inl, inr, arith, subst}
 use Rattle.std.specs.Prelude.{slice_get, option_map, Bool, false, Result, Ok, Err, OnOk}
 use Rattle.std.specs.declared.vec.Vec.{Vec}
 use Rattle.std.specs.declared.alloc.Global.{Global}
 use Rattle.std.proofs.lemmas.Bool.{cases_lt}
-use Rattle.std.proofs.lemmas.List.{append_assoc, append-nil, length-append, length_push, get_or_past}
+use Rattle.std.proofs.lemmas.List.{append_assoc, length-append, length_push, get_or_past}
 use Rattle.std.proofs.lemmas.Option.{slice_get-map, get_or_from_slice_get, slice_get-get_or}
 use Rattle.line_names.specs.Sets.{is_member}
 use Rattle.line_names.specs.declared.messages.MsgName.{MsgName}
 use Rattle.line_tape.specs.declared.events.Event.{Event}
-use Rattle.line_tape.specs.declared.events.Event.TheVariants.{Send as SendEvent, Recv, Check as CheckEvent}
+use Rattle.line_tape.specs.declared.events.Event.TheVariants.{Send as SendEvent, Recv}
 use Rattle.line_tape.specs.Fit.{IsFitFifo}
 use Rattle.line_tape.specs.History.{Process, fresh, tape_at, incarnation_at}
 use Rattle.line_tape.proofs.ListLemmas.{slice_get_push}
@@ -19,15 +19,15 @@ use Rattle.line_posts.specs.Generations.{own_history, AreSamePosts, IsSamePost}
 use Rattle.line_marker.specs.Recording.{latest, RecordedRound}
 use Rattle.line_posts.specs.Markers.{recorded_by}
 use Rattle.line_posts.specs.Openings.{HasBegun, IsOpening}
-use Rattle.line_posts.specs.Posts.{PostView, incarnation_of_post, checked_alone, sent_by}
+use Rattle.line_posts.specs.Posts.{PostView, incarnation_of_post, sent_by}
 use Rattle.line_posts.specs.Receipts.{HasTaken}
 use Rattle.line_posts.proofs.GatherLemmas.{own_tape, own_past, in_list, tape_past}
 use Rattle.line_posts.proofs.MeetLemmas.{there}
-use Rattle.line_posts.proofs.SameLemmas.{same_self, same_then, same_sent, same_taken, same_alone}
+use Rattle.line_posts.proofs.SameLemmas.{same_then, same_sent, same_taken}
 use Rattle.line_posts.proofs.ReplayLemmas.{take_next}
 use Rattle.line_posts.proofs.WholeLemmas.{incarnation_start}
 use Rattle.line_drills.specs.declared.orders.Order.{Order}
-use Rattle.line_drills.specs.declared.orders.Order.TheVariants.{Send, Receive, Check}
+use Rattle.line_drills.specs.declared.orders.Order.TheVariants.{Send, Receive}
 use Rattle.line_drills.specs.Followed.{AreDrilled, Follows, HasDone, HasReceivedFrom}
 use Rattle.line_drills.specs.Scripts.{script_at, scripts_of, IsScripted}
 use Rattle.line_drills.proofs.ScriptLemmas.{scripted}
@@ -57,9 +57,6 @@ done_long xs a b h = (let e = done_events xs a b h in omega (arith, e))
 inc_same : (a b : PostView) → IsSamePost a b → incarnation_of_post b ≡ incarnation_of_post a
 inc_same a b s = ap (incarnation_at b.opening) s.number ∙ ap (λ o. incarnation_at o a.number) s.opening
 
-pub done_none : (a : PostView) → HasDone [] a a
-done_none a = (same_self a, λ f h. h, [], sym (append-nil a.tape), tt)
-
 pub done_then : (xs ys : List Order) (a b c : PostView) → HasDone xs a b → HasDone ys b c → HasDone (xs ++ ys) a c
 done_then xs ys a b c (s, r, d, ed, fd) (t, q, e, ee, fe) = (
   same_then a b c s t,
@@ -75,9 +72,6 @@ begun_same a b floor rounds f h = (floor ∙ h.0, rounds ∙ h.1)
 pub done_sent : (a b : PostView) (to : ℕ) (body : List ℕ) → b ≡ sent_by a to body → HasDone (Send to body ∷ []) a b
 done_sent a b to body e = (same_sent a b to body e, begun_same a b (ap (λ (v : PostView). v.floor) e) (ap (λ (v : PostView). v.rounds) e), SendEvent to (incarnation_of_post a) body ∷ [], ap (λ (v : PostView). v.tape) e, (refl, tt))
 
-pub done_checked : (a b : PostView) (state : List ℕ) → b ≡ checked_alone a state → HasDone (Check state ∷ []) a b
-done_checked a b state e = (same_alone a b state e, begun_same a b (ap (λ (v : PostView). v.floor) e) (ap (λ (v : PostView). v.rounds) e), CheckEvent state None ∷ [], ap (λ (v : PostView). v.tape) e, (refl, tt))
-
 taken_tape : (a b : PostView) (name : MsgName) (body : List ℕ) → HasTaken a name body b → b.tape ≡ a.tape ++ Recv name ∷ []
 taken_tape a b name body (e, way) = ap (λ (v : PostView). v.tape) e
 
@@ -86,10 +80,6 @@ taken_begun a b name body (e, way) f (floor, rounds) = (ap (λ (v : PostView). v
 
 pub done_taken : (a b : PostView) (from : ℕ) → HasReceivedFrom a from b → HasDone (Receive from ∷ []) a b
 done_taken a b from (name, body, f, t) = (same_taken a b name body t, taken_begun a b name body t, Recv name ∷ [], taken_tape a b name body t, ((name, f, refl), tt))
-
--- one worker more
-pub drilled_none : (scripts : List (List Order)) → AreDrilled scripts [] []
-drilled_none scripts = record { count = refl; each = λ i a b ha hb. cc ha }
 
 pub drilled_push : (scripts : List (List Order)) (xs ys : List PostView) (x y : PostView) → AreDrilled scripts xs ys → HasDone (script_at scripts (length xs)) x y → AreDrilled scripts (xs ++ x ∷ []) (ys ++ y ∷ [])
 drilled_push scripts xs ys x y s h = record {

@@ -1,8 +1,6 @@
 -- Orders that wait: the worker is as it was, but that it may have seen more.
-use Rattle.std.proofs.Common.{◌≡◌, ◌∙◌, ◌∷◌, [], ℕ, List, refl, sym, ap, inl, inr, subst}
-use Rattle.std.specs.Prelude.{Bool, true, false, Result, Ok, Err, IfErr, OnOk}
-use Rattle.std.proofs.lemmas.List.{append-nil}
-use Rattle.line_posts.proofs.SameLemmas.{same_seen}
+use Rattle.std.proofs.Common.{◌≡◌, [], ℕ, List, refl, sym, inl, inr, subst}
+use Rattle.std.specs.Prelude.{Bool, true, false, Result, Ok, Err, IfErr}
 use Rattle.line_posts.specs.declared.parcels.Parcel.{Parcel}
 use Rattle.line_posts.specs.Posts.{PostView}
 use Rattle.line_posts.specs.Receipts.{HasMarked, HasOnlySeen}
@@ -12,8 +10,6 @@ use Rattle.line_drills.specs.declared.orders.Order.TheVariants.{Send, Receive, C
 use Rattle.line_drills.specs.declared.refusals.DrillWhy.{DrillWhy}
 use Rattle.line_drills.specs.declared.refusals.DrillWhy.TheVariants.{OutOfMemory, NoSuchProcess, TapeFull, StateTooLong, BadCount, ToSelf, WrongMode, HeldOut, WaitedOut, BadCapacity, NoThread}
 use Rattle.line_drills.specs.Faults.{HasMetMarker, HasToWait, IsCause}
-use Rattle.line_drills.specs.Followed.{HasDone}
-use Rattle.line_drills.proofs.DrillLemmas.{done_then, on_ok_done}
 
 -- as it was, with this seen
 abbrev seeing : PostView → List (List Parcel) → PostView
@@ -22,22 +18,6 @@ seeing a seen = record a { seen = seen }
 -- a worker that is as it was
 pub seen_same : (a b : PostView) → b ≡ a → HasOnlySeen a b
 seen_same a b e = subst (HasOnlySeen a) (sym e) refl
-
-pub seen_then : (a b c : PostView) → HasOnlySeen a b → HasOnlySeen b c → HasOnlySeen a c
-seen_then a b c h k = k ∙ ap (λ (v : PostView). seeing v c.seen) h
-
-done_seen : (a b : PostView) → HasOnlySeen a b → HasDone [] a b
-done_seen a b h = (
-  same_seen a b h,
-  λ floor begun. (ap (λ (v : PostView). v.floor) h ∙ begun.0, ap (λ (v : PostView). v.rounds) h ∙ begun.1),
-  [],
-  ap (λ (v : PostView). v.tape) h ∙ sym (append-nil a.tape),
-  tt,
-)
-
--- what a worker that had only seen more does next, it does from where it stood before
-pub done_later : {T E : Type 0} (r : Result T E) (order : Order) (a b c : PostView) → HasOnlySeen a b → OnOk r (HasDone (order ∷ []) b c) → OnOk r (HasDone (order ∷ []) a c)
-done_later r order a b c h = on_ok_done r _ _ (done_then [] (order ∷ []) a b c (done_seen a b h))
 
 marked_seeing : (a c : PostView) (seen : List (List Parcel)) (from round : ℕ) (forced : Bool) → HasMarked (seeing a seen) from [] round forced c → HasMarked a from [] round forced c
 marked_seeing a c seen from round true h = record { bare = h.bare; forced_is = h.forced_is; new_is = h.new_is }

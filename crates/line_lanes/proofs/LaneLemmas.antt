@@ -1,5 +1,5 @@
 -- Lanes of two lists, and blocks of eight of them.
-use Rattle.std.proofs.Common.{◌≡◌, ◌≤◌, ◌<◌, ◌+◌, ◌-◌, ◌^◌, ◌%◌, ◌≢◌, ℕ, zero, suc, List, [], ◌∷◌, Bool, true, false, not, cond, length, get_or, set, map, take, drop, ltb, max, w32, w64, refl, sym, ◌∙◌, ap, subst, inl, inr, arith, get_or-set_same, get_or-set_other, length-set}
+use Rattle.std.proofs.Common.{◌≡◌, ◌≤◌, ◌<◌, ◌+◌, ◌-◌, ◌^◌, ◌%◌, ◌≢◌, ℕ, zero, suc, List, [], ◌∷◌, Bool, true, false, not, cond, length, get_or, map, take, drop, ltb, max, w32, w64, refl, sym, ◌∙◌, ap, subst, inl, inr, arith}
 use Rattle.std.specs.Prelude.{count_by}
 use Rattle.std.specs.List.{prefix_len}
 use Rattle.std.specs.Int.RustNames.{count_ones}
@@ -62,22 +62,6 @@ over_bits_are at a b la lb =
 
 -- ---- the greater of both, from 0 up to a place
 
--- nothing has been done
-pub greater_on_none : (a b : List ℕ) → HasGreaterOn a a b 0 0
-greater_on_none a b = record { len = refl; inside = λ k lo hi. absurd (omega (arith, hi)); below = λ k h. refl; above = λ k h. refl }
-
--- from 0 up to a lane, and from there on
-pub greater_on_more : (old mid new b : List ℕ) (at to : ℕ) → at ≤ to → HasGreaterOn old mid b 0 at → HasGreaterOn mid new b at to → HasGreaterOn old new b 0 to
-greater_on_more old mid new b at to le p q = record {
-  len = q.len ∙ p.len;
-  inside = (λ k lo hi. elim (leb_tells at k) [
-    | inl h ↦ q.inside k h.1 hi ∙ ap (λ x. max x (get_or b k 0)) (p.above k h.1)
-    | inr h ↦ q.below k h.1 ∙ p.inside k lo h.1
-  ]);
-  below = (λ k h. absurd (omega (arith, h)));
-  above = (λ k h. q.above k h ∙ p.above k (omega (arith, h, le)));
-}
-
 -- a block is written
 pub greater_on_block : (at : ℕ) (a b : List ℕ) → at + 8 ≤ length a → at + 8 ≤ length b → HasGreaterOn a (put_chunk at a (greater_of (chunk at 8 a) (chunk at 8 b))) b at (at + 8)
 greater_on_block at a b la lb =
@@ -99,20 +83,6 @@ greater_on_block at a b la lb =
           subst P jk (put ∙ (pick ∙ rw (va, vb) refl)));
       below = (λ k h. get_or-put_chunk_below at a ys k 0 h);
       above = (λ k h. get_or-put_chunk_above at a ys k 0 (omega (arith, h, long)));
-    }
-
--- one lane is written
-pub greater_on_one : (i : ℕ) (a b : List ℕ) → i < length a → HasGreaterOn a (set a i (max (get_or a i 0) (get_or b i 0))) b i (i + 1)
-greater_on_one i a b la =
-    let v = max (get_or a i 0) (get_or b i 0) in
-    record {
-      len = length-set a i v;
-      inside = (λ k lo hi.
-          let e : i ≡ k = omega (arith, lo, hi) in
-          let P : ℕ → Type 0 = λ m. get_or (set a i v) m 0 ≡ max (get_or a m 0) (get_or b m 0) in
-          subst P e (get_or-set_same a i v 0 la));
-      below = (λ k h. get_or-set_other a i k v 0 (λ e. absurd (omega (arith, e, h))));
-      above = (λ k h. get_or-set_other a i k v 0 (λ e. absurd (omega (arith, e, h))));
     }
 
 -- all lanes are written

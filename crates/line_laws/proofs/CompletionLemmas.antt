@@ -158,9 +158,6 @@ check_of_push tape e r has = ap (λ (es : List Event). suc (checks es)) (before_
 pub check_of_new : (tape : List Event) (e : Event) (r : ℕ) → has_check_of r tape ≡ false → is_check_of r e ≡ true → check_index r (tape ++ e ∷ []) ≡ suc (checks tape)
 check_of_new tape e r none is = ap (λ (es : List Event). suc (checks es)) (before_push_at (is_check_of r) tape e none is)
 
-pub check_of_least : (tape : List Event) (r : ℕ) → 1 ≤ check_index r tape
-check_of_least tape r = omega arith
-
 -- an event that is no check of a round is a check of none
 pub unchecked : (e : Event) (r : ℕ) → checked_round e ≡ None → is_check_of r e ≡ false
 unchecked (Send to inc body) r none = refl

@@ -236,9 +236,6 @@ pub record AreCleared (q : ℕ) (old row : List QueueView) : Type 0 where
   pub empty : (k : ℕ) → k < q → (queue_to row k).held ≡ []
   pub room : (k : ℕ) → (queue_to old k).room ≤ (queue_to row k).room
 
-pub AreCleared-start : (row : List QueueView) → AreCleared 0 row row
-AreCleared-start row = record { count = refl; empty = λ k below. absurd (omega (arith, below)); room = λ k. omega arith }
-
 pub AreCleared-more : (q : ℕ) (old row : List QueueView) → AreCleared q old row → q < length row → (before new : QueueView) → before ≡ get_or row q before → new.held ≡ [] → before.room ≤ new.room → AreCleared (q + 1) old (set row q new)
 AreCleared-more q old row is within before new at none more = record {
   count = length-set row q new ∙ is.count;

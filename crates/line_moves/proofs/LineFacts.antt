@@ -1,11 +1,6 @@
 -- What a loop over the processes has found, and what the latest line is.
-use Rattle.std.proofs.Common.{◌≡◌, ℕ, zero, suc, ◌+◌, ◌<◌, Bool, true, false, List, [], ◌∷◌, ◌++◌, length, map, refl, sym, ap, ◌∙◌, arith}
-use Rattle.std.specs.Prelude.{◌||◌}
-use Rattle.std.specs.List.{list_any, range_with_len}
-use Rattle.std.proofs.lemmas.List.{map-id}
-use Rattle.std.proofs.lemmas.List.FromFn.{map-range_with_len_more, get_or-range_with_len, length-range_with_len}
-use Rattle.std.proofs.lemmas.List.Folds.{list_any-append, list_any_at}
-use Rattle.std.proofs.lemmas.Bool.{false_from_ne_true, both_ways}
+use Rattle.std.proofs.Common.{◌≡◌, ℕ, zero, suc, ◌+◌, Bool, true, List, [], ◌∷◌, length, map, refl, sym, ap, ◌∙◌, arith}
+use Rattle.std.specs.List.{range_with_len}
 use Rattle.line_names.specs.declared.choices.Choice.{Choice}
 use Rattle.line_names.specs.declared.choices.Choice.TheVariants.{Check as AtCheck, Now}
 use Rattle.line_names.specs.Lines.{choice_at}
@@ -16,25 +11,6 @@ use Rattle.line_tape.specs.Restart.{restarted_history, restarted_incarnation}
 use Rattle.line_tape.specs.Survival.{survives, IsLatest}
 use Rattle.line_tape.specs.Views.{MarksView}
 use Rattle.line_tape.proofs.ChoiceLemmas.{survives_within}
-use Rattle.line_moves.proofs.RecordingLemmas.{or-false}
-
-range_more : (a k : ℕ) → range_with_len a (k + 1) ≡ range_with_len a k ++ (a + k) ∷ []
-range_more a k =
-    sym (map-id (range_with_len a (k + 1))) ∙ map-range_with_len_more (λ (x : ℕ). x) a k (a + k) refl ∙ ap (λ (xs : List ℕ). xs ++ (a + k) ∷ []) (map-id (range_with_len a k))
-
--- one number more to test
-pub any_more : (f : ℕ → Bool) (a k at : ℕ) → a + k ≡ at → list_any f (range_with_len a (k + 1)) ≡ (list_any f (range_with_len a k) || f at)
-any_more f a k at is =
-    ap (list_any f) (range_more a k)
-    ∙ list_any-append f (range_with_len a k) ((a + k) ∷ [])
-    ∙ ap (λ b. list_any f (range_with_len a k) || b) (or-false (f (a + k)) ∙ ap f is)
-
--- where no number passes, each fails
-pub none_at : (f : ℕ → Bool) (n k : ℕ) → list_any f (range_with_len 0 n) ≡ false → k < n → f k ≡ false
-none_at f n k none within =
-    let at : 0 + k ≡ k = omega arith in
-    false_from_ne_true (f k) (λ t. both_ways (list_any f (range_with_len 0 n)) none
-    (list_any_at f (range_with_len 0 n) k 0 (omega (arith, within, length-range_with_len 0 n)) (ap f (get_or-range_with_len 0 n k 0 within ∙ at) ∙ t)))
 
 -- the latest line is one of the history
 pub IsLine-latest : (history : List Process) (marks : MarksView) (failed : List Bool) (line : List Choice) → IsLatest history marks failed line → IsLine history line

@@ -1,7 +1,7 @@
 -- Rounds whose checks climb, and which of them a restart leaves.
-use Rattle.std.proofs.Common.{◌≡◌, ℕ, zero, suc, ◌-◌, ◌<◌, ◌≤◌, Bool, true, false, cond, List, [], ◌∷◌, ◌++◌, length, take, get_or, filter, refl, sym, ap, ◌∙◌, subst, arith, inl, inr}
+use Rattle.std.proofs.Common.{◌≡◌, ℕ, zero, suc, ◌-◌, ◌<◌, ◌≤◌, Bool, true, false, cond, List, [], ◌∷◌, ◌++◌, length, take, get_or, filter, refl, sym, ap, ◌∙◌, arith, inl, inr}
 use Rattle.std.proofs.lemmas.Bool.{cases_lt, leb-true, le-leb}
-use Rattle.std.proofs.lemmas.List.{get_or-take, get_or_default, length-take-le}
+use Rattle.std.proofs.lemmas.List.{get_or_default}
 use Rattle.std.proofs.lemmas.List.Quantifiers.{all_pairs_push}
 use Rattle.line_names.specs.declared.choices.Choice.{Choice}
 use Rattle.line_names.specs.declared.choices.Choice.TheVariants.{Now, Check as AtCheck}
@@ -49,15 +49,6 @@ staying-are line rounds end climb within last cut =
           ap (λ (k : ℕ). stays line (get_or rounds k d)) same ∙ last d (omega (arith, l))
     ])
     cut
-
--- the rounds of a front climb
-pub Climb-take : (rounds : List ListedRound) (end : ℕ) → end ≤ length rounds → Climb rounds → Climb (take end rounds)
-Climb-take rounds end within climb = λ i j d lt j_within.
-    let size : length (take end rounds) ≡ end = length-take-le end rounds within in
-    let j_end : j < end = omega (arith, j_within, size) in
-    let i_end : i < end = omega (arith, lt, j_end) in
-    subst (λ (a : ListedRound). IsBelow a (get_or (take end rounds) j d)) (sym (get_or-take end rounds i d i_end))
-    (subst (λ (b : ListedRound). IsBelow (get_or rounds i d) b) (sym (get_or-take end rounds j d j_end)) (climb i j d lt (omega (arith, j_end, within))))
 
 -- rounds climb on by one above the last
 pub Climb-push : (rounds : List ListedRound) (last round : ListedRound) → 0 < length rounds → last ≡ get_or rounds (length rounds - 1) last → Climb rounds → IsBelow last round → Climb (rounds ++ round ∷ [])

@@ -100,15 +100,6 @@ unnoted_rounds (Some r) n closed noted m within shut =
     (ap (λ (c : Channel). with_message c m) (channel_here r n p closed noted within) ∙ ap (λ b. cond b old more) (shut r refl))
     (λ q other. refl)))
 
--- the same lists make the same round
-pub same_rounds : (round : Option ℕ) (n : ℕ) (closed : List Bool) (noted new : List (List MsgName)) → ((q : ℕ) → get_or new q [] ≡ get_or noted q []) → rounds_noted round n closed new ≡ rounds_noted round n closed noted
-same_rounds None n closed noted new same = refl
-same_rounds (Some r) n closed noted new same =
-    round_is r (channels n closed new) (channels n closed noted)
-    (fill_by_all (channel_noted closed noted) (channels n closed new) n open_channel (length-map-range_with_len (channel_noted closed new) 0 n) (λ k within.
-    get_or-map-range_with_len (channel_noted closed new) 0 n k k open_channel within (omega arith)
-    ∙ channel_is (get_or new k []) (get_or noted k []) (is_member closed k) (is_member closed k) (same k) refl))
-
 -- what is told of a channel
 pub names_here : (s r n p : ℕ) (closed : List Bool) (noted : List (List MsgName)) → s ≡ r → p < n → unwrap_or (messages_by (round_of (rounds_noted (Some s) n closed noted) r) p) [] ≡ get_or noted p []
 names_here s r n p closed noted same within =

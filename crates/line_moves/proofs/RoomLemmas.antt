@@ -1,9 +1,8 @@
 -- What the queues from one process hold, and the room on each, as one of them changes.
-use Rattle.std.proofs.Common.{◌≡◌, ◌≢◌, ℕ, ◌+◌, ◌<◌, ◌≤◌, cond, List, [], ◌∷◌, ◌++◌, length, get_or, set, map, replicate, drop, sym, ap, ◌∙◌, subst, arith, refl, inl, inr}
+use Rattle.std.proofs.Common.{◌≡◌, ◌≢◌, ℕ, ◌+◌, ◌<◌, ◌≤◌, cond, List, [], ◌∷◌, ◌++◌, length, get_or, set, map, drop, sym, ap, ◌∙◌, subst, arith, inl, inr}
 use Rattle.std.specs.Prelude.{◌==◌, if◌then◌else◌, OnErr, Result, Ok, Err}
-use Rattle.std.specs.List.{All}
-use Rattle.std.proofs.lemmas.Bool.{cases_eq, cases_lt, eq-eqb, ne_eqb}
-use Rattle.std.proofs.lemmas.List.{append-nil, get_or-map, get_or-set_same, get_or-set_other, length-map, length-set, map-set, set-get_or, get_or-replicate, get_or_past, length-replicate}
+use Rattle.std.proofs.lemmas.Bool.{cases_eq, eq-eqb, ne_eqb}
+use Rattle.std.proofs.lemmas.List.{append-nil, get_or-map, get_or-set_same, get_or-set_other, length-map, length-set, map-set, set-get_or}
 use Rattle.std.proofs.lemmas.List.FromFn.{fill_by_all}
 use Rattle.line_tape.specs.declared.items.Item.{Item}
 use Rattle.line_moves.specs.Queues.{with_on_others}
@@ -31,9 +30,6 @@ pub record AreSent (p : ℕ) (item : Item) (q : ℕ) (old row : List QueueView) 
   pub sent : (k : ℕ) (d : QueueView) → k < q → k < length old → (get_or row k d).held ≡ get_or (items_held old) k [] ++ (if p == k then [] else item ∷ [])
   pub later : (k : ℕ) (d : QueueView) → q ≤ k → get_or row k d ≡ get_or old k d
   pub room : (k : ℕ) (d : QueueView) → q ≤ k → k < length old → 0 < (get_or row k d).room
-
-pub AreSent-start : (p : ℕ) (item : Item) (row : List QueueView) → All (λ (queue : QueueView). 0 < queue.room) row → AreSent p item 0 row row
-AreSent-start p item row all = record { count = refl; sent = λ k d below. absurd (omega (arith, below)); later = λ k d low. refl; room = λ k d low within. all k d within }
 
 module _ (p : ℕ) (item : Item) (q : ℕ) (old row : List QueueView) (is : AreSent p item q old row) (within : q < length row) where
   -- nothing is put on its own queue
@@ -80,13 +76,6 @@ AreSent-end p item q old row is past =
 pub on_err : {T E P : Type 0} (r : Result T E) → P → OnErr r P
 on_err (Ok x) p = tt
 on_err (Err e) p = p
-
--- nothing is on new queues
-pub AreEmpty-new : (row : List QueueView) (n : ℕ) → items_held row ≡ replicate n [] → AreEmpty row
-AreEmpty-new row n is q = ap (λ (xs : List (List Item)). get_or xs q []) is ∙ elim (cases_lt q n) [
-  | inl within ↦ get_or-replicate n q [] [] within
-  | inr past ↦ get_or_past (replicate n []) q [] (omega (arith, past, length-replicate n (let none : List Item = [] in none)))
-]
 
 -- nor is anything once the first item of one is taken off
 pub AreEmpty-off : (row new : List QueueView) (k : ℕ) → items_held new ≡ set (items_held row) k (drop 1 (get_or (items_held row) k [])) → AreEmpty row → AreEmpty new

@@ -195,16 +195,6 @@ none_in_word words n k i j low from all le l =
     let low : 64 * k + j < n = all (64 * k + j) (subst IsTrue (sym bit) there) in
     absurd (omega arith))
 
--- where a word has no bit from there on, its members are below n
-pub below_of_none : (words : List ℕ) (n k i p : ℕ) → p / 64 ≡ k → i ≡ n - k * 64 → ((j : ℕ) → i ≤ j → j < 64 → bit_at (get_or words k 0) j ≡ 0)
-    → IsTrue (has_bit words p) → p < n
-below_of_none words n k i p here from none there = elim (cases_lt p n) [
-  | inl g ↦ g
-  | inr g ↦
-      let bit : bit_at (get_or words (p / 64) 0) (p % 64) ≡ 0 = ap (λ h. bit_at (get_or words h 0) (p % 64)) here ∙ none (p % 64) (omega arith) (omega arith) in
-      absurd (false≢true (subst (λ (b : ℕ). IsTrue (b == 1)) bit there))
-]
-
 -- a member is a process that there may be, with its bit set
 pub member_low : (words : List ℕ) (p : ℕ) → IsTrue (is_member (members_of words) p) → (p < MOST_PROCESSES) × IsTrue (has_bit words p)
 member_low words p there = elim (cases_lt p MOST_PROCESSES) [

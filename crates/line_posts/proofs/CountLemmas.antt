@@ -147,22 +147,6 @@ pub record AreLeft (gathered history : List Process) (messages : List MsgName) (
   pub none : (q k : ℕ) → p ≤ k → k < n → q < n → cell_at [] packets q k ≡ []
   pub done : (q k : ℕ) → k < p → q < n → parcels_of (cell_at [] packets q k) ≡ parcels_left history k q
 
-pub left_start : (gathered history : List Process) (messages : List MsgName) (n : ℕ) (counts : List (List ℕ)) (sums : List ℕ) (packets : List (List (List Packet))) → n ≡ length gathered → AreCounted gathered messages counts sums
-    → packets ≡ replicate n (replicate n []) → AreLeft gathered history messages n 0 counts sums packets
-left_start gathered history messages n counts sums packets en h ep = rw ep (record {
-  count = h.square.count ∙ sym en;
-  rows = λ k le lt. h.square.each k (omega (arith, lt, en)) ∙ sym en;
-  each = λ k q le lt lq. h.each k q (omega (arith, lt, en)) (omega (arith, lq, en));
-  sum_count = h.sum_count ∙ sym en;
-  sum = λ k le lt. h.sum k (omega (arith, lt, en));
-  square = record {
-    count = length-replicate n (replicate n []);
-    each = λ q lt. ap length (get_or-replicate n q (replicate n []) [] lt) ∙ length-replicate n [];
-  };
-  none = λ q k le lt lq. ap (λ r. get_or r k []) (get_or-replicate n q (replicate n []) [] lq) ∙ get_or-replicate n k [] [] lt;
-  done = λ q k lt lq. absurd (omega (arith, lt));
-})
-
 pub left_step : (gathered history : List Process) (messages : List MsgName) (n p : ℕ) (counts counts' : List (List ℕ)) (row : List ℕ) (sums : List ℕ) (packets packets' : List (List (List Packet))) → p < n
     → AreLeft gathered history messages n p counts sums packets → counts' ≡ set counts p row → AreOfSender n p packets packets'
     → ((q : ℕ) → q < n → parcels_of (cell_at [] packets' q p) ≡ parcels_left history p q) → AreLeft gathered history messages n (p + 1) counts' sums packets'

@@ -13,22 +13,7 @@ use Rattle.line_tape.specs.Survival.{is_allowed, survives, IsRecoverable}
 use Rattle.line_tape.specs.Views.{bar_at, MarksView}
 use Rattle.line_tape.proofs.ChoiceLemmas.{survives_within}
 use Rattle.line_laws.proofs.SnapshotLemmas.{consistent_same, front_more}
-use Rattle.line_rings.proofs.EndLemmas.{prefix_self, prefix_then}
 use Rattle.line_posts.specs.Extension.{Extends}
-
-pub extends_self : (history : List Process) → Extends history history
-extends_self history = record {
-  count = refl;
-  incarnations = λ p. refl;
-  tapes = λ p. prefix_self (tape_at history p);
-}
-
-pub extends_then : (a b c : List Process) → Extends b a → Extends c b → Extends c a
-extends_then a b c h k = record {
-  count = k.count ∙ h.count;
-  incarnations = λ p. k.incarnations p ∙ h.incarnations p;
-  tapes = λ p. prefix_then (tape_at a p) (tape_at b p) (tape_at c p) (h.tapes p) (k.tapes p);
-}
 
 module _ (old new : List Process) (more : Extends new old) (marks : MarksView) (failed : List Bool) (line : List Choice)
     (all : (q : ℕ) → q < length old → is_member failed q ≡ true) (is : IsRecoverable old marks failed line) where

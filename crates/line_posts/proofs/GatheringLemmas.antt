@@ -2,7 +2,7 @@
 use Rattle.std.proofs.Common.{◌≡◌, ◌≢◌, ◌∙◌, ◌+◌, ◌<◌, ◌≤◌, ◌++◌, ◌∷◌, [], ℕ, true, false, Bool, List, Some, length, take, drop, get_or, refl, sym, ap, inl, inr, arith, subst}
 use Rattle.std.specs.Prelude.{slice_get, All}
 use Rattle.std.proofs.lemmas.Bool.{cases_lt, cases_eq}
-use Rattle.std.proofs.lemmas.List.{append_assoc, append-nil, length-append, length-take-le, take-take, take-append-le, take-append-drop, drop-take, take_all, length-set, length_push, get_or-set_same, get_or-set_other, get_or_past, get_or_push, get_or_append_left}
+use Rattle.std.proofs.lemmas.List.{append_assoc, length-append, length-take-le, take-take, take-append-le, take-append-drop, drop-take, take_all, length-set, length_push, get_or-set_same, get_or-set_other, get_or_push, get_or_append_left}
 use Rattle.std.proofs.lemmas.List.Elements.{filter_map-append}
 use Rattle.std.proofs.lemmas.Option.{same_Some}
 use Rattle.line_names.specs.Sets.{is_member}
@@ -20,7 +20,6 @@ use Rattle.line_posts.specs.Receipts.{without_first}
 use Rattle.line_posts.specs.Gathered.{gathered_tape}
 use Rattle.line_posts.specs.Gathering.{AreFurtherBelow, IsOnWay, MayTake}
 use Rattle.line_posts.proofs.AgreedLemmas.{gathered_agree}
-use Rattle.line_posts.proofs.ReplayLemmas.{take_next}
 
 -- what the collector has of a tape stands at its front
 pub seen_front : (tape gathered seen rest : List Event) (from upto : ℕ) → take upto tape ≡ gathered → upto ≤ length tape → gathered ≡ seen ++ rest → from ≡ length seen → (take from tape ≡ seen) × (from ≤ upto)
@@ -145,20 +144,6 @@ module _ (history : List Process) (further : List (List Event)) (own : List Proc
         };
       }
 
--- on the way
-pub way_then : (a b c : List Process) (fa fb fc : List (List Event)) (rb rc : List ℕ) → IsOnWay a fa b rb fb → IsOnWay b fb c rc fc → IsOnWay a fa c rc fc
-way_then a b c fa fb fc rb rc h k = record {
-  own = k.own;
-  may = k.may;
-  long = k.long ∙ h.long;
-  incarnation = λ p. k.incarnation p ∙ h.incarnation p;
-  same = λ p. k.same p ∙ h.same p;
-  room = k.room;
-}
-
-pub way_here : (a b : List Process) (fa fb : List (List Event)) (rb : List ℕ) → IsOnWay a fa b rb fb → IsOnWay b fb b rb fb
-way_here a b fa fb rb h = record { own = h.own; may = h.may; long = refl; incarnation = λ p. refl; same = λ p. refl; room = h.room }
-
 pub way_next : (history next : List Process) (further next_further : List (List Event)) (rooms next_rooms : List ℕ) (p : ℕ) (e : Event)
     → p < length history → IsOnWay history further history rooms further → row_at further p ≡ e ∷ row_at next_further p → next_further ≡ without_first further p → next ≡ with_event history p e
     → get_or rooms p 0 ≤ get_or next_rooms p 0 + 1 → ((q : ℕ) → q ≢ p → get_or next_rooms q 0 ≡ get_or rooms q 0) → IsOnWay history further next next_rooms next_further
@@ -183,9 +168,6 @@ way_next history next further next_further rooms next_rooms p e within h first e
             omega (arith, r, o, l)
       ];
     })
-
-pub way_stays : (history next : List Process) (further next_further : List (List Event)) (rooms next_rooms : List ℕ) → IsOnWay history further history rooms further → next_further ≡ further → next ≡ history → next_rooms ≡ rooms → IsOnWay history further next next_rooms next_further
-way_stays history next further next_further rooms next_rooms h ef en er = rw (ef, en, er) h
 
 -- what is gathered of a worker begins with what the collector has of it
 pub gathered_known : (failed : Bool) (post : PostView) (popped known : List Event) → IsPost post → popped ++ known ≡ post.line.items → (rest : List Event) × (gathered_tape failed post ≡ (opening_tape post ++ popped) ++ rest)
@@ -229,16 +211,3 @@ further_more n failed processes rooms next_rooms posts further next_further post
 
 pub process_is : (x : Process) (inc : ℕ) (tape : List Event) → x.incarnation ≡ inc → x.tape ≡ tape → x ≡ record { incarnation = inc; tape = tape }
 process_is x inc tape e f = rw (sym e, sym f) refl
-
--- all are added
-pub all_added : (a b : List Process) (fa fb : List (List Event)) (rb : List ℕ) (n : ℕ) → IsOnWay a fa b rb fb → length b ≤ n → ((k : ℕ) → k < n → row_at fb k ≡ [])
-    → (p : ℕ) → process_at b p ≡ record { incarnation = incarnation_at a p; tape = tape_at a p ++ row_at fa p }
-all_added a b fa fb rb n h long done p =
-    let bare : row_at fb p ≡ [] = elim (cases_lt p n) [ inl lt ↦ done p lt | inr past ↦ (let c = h.may.count in get_or_past fb p [] (omega (arith, c, past, long))) ] in
-    let tape : tape_at b p ≡ tape_at a p ++ row_at fa p = sym (append-nil (tape_at b p)) ∙ (ap (λ t. tape_at b p ++ t) (sym bare) ∙ h.same p) in
-    process_is (process_at b p) (incarnation_at a p) (tape_at a p ++ row_at fa p) (h.incarnation p) tape
-
--- one more event copied
-pub events_more : (tape events next : List Event) (from i : ℕ) (event : Event) → take from tape ++ events ≡ take i tape → next ≡ events ++ event ∷ [] → slice_get tape i ≡ Some event → take from tape ++ next ≡ take (i + 1) tape
-events_more tape events next from i event h is at =
-    ap (λ t. take from tape ++ t) is ∙ (sym (append_assoc (take from tape) events (event ∷ [])) ∙ (ap (λ t. t ++ event ∷ []) h ∙ sym (take_next tape i event at)))

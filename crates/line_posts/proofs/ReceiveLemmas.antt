@@ -1,5 +1,5 @@
 -- Taking a message keeps what holds of a worker.
-use Rattle.std.proofs.Common.{cond, ◌≡◌, ◌≢◌, ◌∙◌, ◌<◌, ◌++◌, ◌∷◌, [], ℕ, List, Option, Some, None, length, map, set, get_or, drop, refl, sym, ap, inl, inr, arith, subst}
+use Rattle.std.proofs.Common.{cond, ◌≡◌, ◌≢◌, ◌∙◌, ◌<◌, ◌++◌, ◌∷◌, [], ℕ, List, Option, Some, None, length, map, set, get_or, drop, refl, sym, ap, inl, inr, arith}
 use mathlib.Core.List.{IsPrefix}
 use Rattle.std.specs.declared.alloc.Global.{Global}
 use Rattle.rtrb.specs.declared.AnyItems.{AnyItems}
@@ -139,6 +139,3 @@ sees_more rows old new from know here others ends p =
 
 pub sees_self : (post : PostView) → StillSees post post
 sees_self post p = ([], sym (append-nil (items_at post.ins p)), prefix_self (row_at post.seen p))
-
-pub sees_same : (a b : PostView) → b.ins ≡ a.ins → b.seen ≡ a.seen → StillSees a b
-sees_same a b ei es p = ([], ap (λ t. items_at t p) ei ∙ sym (append-nil (items_at a.ins p)), subst (λ (t : List (List Parcel)). IsPrefix (row_at a.seen p) (row_at t p)) (sym es) (prefix_self (row_at a.seen p)))

@@ -7,7 +7,7 @@ use Rattle.std.proofs.lemmas.List.{length-append, get_or_past}
 use Rattle.std.proofs.lemmas.List.Elements.{filter_map-append}
 use Rattle.std.proofs.lemmas.Option.{get_or_from_slice_get, slice_get_within}
 use Rattle.line_tape.specs.declared.events.Event.{Event}
-use Rattle.line_tape.specs.declared.events.Event.TheVariants.{Send, Check}
+use Rattle.line_tape.specs.declared.events.Event.TheVariants.{Send}
 use Rattle.line_tape.specs.Event.{sends, incarnation_of, incarnations_sent, IsShort}
 use Rattle.line_tape.specs.Fit.{received_from}
 use Rattle.line_tape.specs.History.{Process, IsTape}
@@ -40,10 +40,6 @@ sent_to q k to inc body e = ap (λ b. cond b (Message (record { inc = inc; numbe
 
 pub sent_past : (q k to inc : ℕ) (body : List ℕ) → (to ≡ q → ⊥) → parcels_sent q k (Send to inc body ∷ []) ≡ []
 sent_past q k to inc body ne = ap (λ b. cond b (Message (record { inc = inc; number = k; body = body }) ∷ []) []) (ne_eqb to q ne)
-
-pub sent_none : (q k : ℕ) (state : List ℕ) (round : Option ℕ) → checked_round (Check state round) ≡ None → parcels_sent q k (Check state round ∷ []) ≡ []
-sent_none q k state None e = refl
-sent_none q k state (Some r) e = cc e
 
 pub sends_push : (tape : List Event) (event : Event) → sends (tape ++ event ∷ []) ≡ sends tape + sends (event ∷ [])
 sends_push tape event = ap length (filter_map-append incarnation_of tape (event ∷ [])) ∙ length-append (incarnations_sent tape) (incarnations_sent (event ∷ []))

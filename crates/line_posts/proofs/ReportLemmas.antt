@@ -199,9 +199,6 @@ module _ (now : CollectorView) (opening processes : List Process) (marks : Marks
 pub left_then : (a b c : CollectorView) (q : ℕ) → HasLeft a q b → HasLeft b q c → HasLeft a q c
 left_then a b c q h k = (k.0 ∙ h.0, k.1 ∙ h.1)
 
-pub left_looked : (a b : CollectorView) (q : ℕ) → HasOnlyLooked a b → items_at b.lines q ≡ items_at a.lines q
-left_looked a b q h = ap (λ (v : CollectorView). items_at v.lines q) h.0
-
 -- so far each process in turn: up to p the lines show none, or so many were taken as were asked for; nothing was taken of p and those after it
 pub record InTurn (old now : CollectorView) (p taken limit : ℕ) : Type 0 where
   pub later : (q : ℕ) → p ≤ q → items_at now.lines q ≡ items_at old.lines q

@@ -13,8 +13,7 @@ use Rattle.line_posts.specs.declared.parcels.Parcel.{Parcel}
 use Rattle.line_posts.specs.declared.receiving.Received.{Received}
 use Rattle.line_posts.specs.declared.receiving.Received.TheVariants.{Message, Marked}
 use Rattle.line_posts.proofs.MarkerLemmas.{ring_others}
-use Rattle.line_posts.specs.Posts.{checked_alone, sent_by, PostView}
-use Rattle.line_posts.specs.Reports.{HasReported}
+use Rattle.line_posts.specs.Posts.{sent_by, PostView}
 use Rattle.line_posts.specs.Collected.{CollectorView, HasCollectedMore}
 use Rattle.line_posts.specs.Generations.{AreLined, AreLinkedTwo, AreSamePosts, IsGeneration}
 use Rattle.line_posts.specs.Generations.{IsSamePost}
@@ -74,10 +73,6 @@ generation_kept old new s gen i j a b hi hj =
     let oj = slice_get-get_or old j b (omega (arith, wj, c)) in
     same_two ai a bj b (s.each i ai a oi hi) (s.each j bj b oj hj) (gen i j ai bj oi oj)
 
-pub same_if_sent : {T E : Type 0} (r : Result T E) (a b : PostView) (to : ℕ) (body : List ℕ) (P : T → Type 0) (Q : E → Type 0) → IfOk r (λ x. P x × (b ≡ sent_by a to body)) → IfErr r (λ e. Q e × (b ≡ a)) → IsSamePost a b
-same_if_sent (Ok x) a b to body P Q h k = same_sent a b to body h.1
-same_if_sent (Err e) a b to body P Q h k = same_from a b k.1
-
 pub same_checked : (a : PostView) (state : List ℕ) (round : ℕ) → IsSamePost a (checked_by a state round)
 same_checked a state round = record { number = refl; opening = refl; outs = λ q. ring_others a.outs a.number q _; ins = λ p. refl; line = refl }
 
@@ -114,12 +109,6 @@ same_push xs ys x y s h = record {
 
 pub same_moved : (a xs ys b : List PostView) (x y : PostView) → a ≡ xs ++ x ∷ [] → b ≡ ys ++ y ∷ [] → AreSamePosts xs ys → IsSamePost x y → AreSamePosts a b
 same_moved a xs ys b x y ea eb s h = rw (ea, eb) (same_push xs ys x y s h)
-
-pub same_alone : (a b : PostView) (state : List ℕ) → b ≡ checked_alone a state → IsSamePost a b
-same_alone a b state e = rw e (record { number = refl; opening = refl; outs = λ q. refl; ins = λ p. refl; line = refl })
-
-pub same_reported : (a b : PostView) (k : ℕ) → HasReported a k b → IsSamePost a b
-same_reported a b k e = rw e (record { number = refl; opening = refl; outs = λ q. refl; ins = λ p. refl; line = refl })
 
 pub lined_kept : (collector : CollectorView) (old new : List PostView) → AreSamePosts old new → AreLined collector old → AreLined collector new
 lined_kept collector old new s lined i b hb =

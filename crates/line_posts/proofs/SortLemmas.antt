@@ -135,23 +135,6 @@ noted_none p number event counts packets s none = record {
   queued = λ q lt. sym (ap (λ t. take (get_or counts q 0) t ++ parcels_of (cell_at [] packets q p)) (none q) ∙ ap (λ t. t ++ parcels_of (cell_at [] packets q p)) (take_none (get_or counts q 0)));
 }
 
--- a message that is not looked for
-noted_past : (p number to inc : ℕ) (body : List ℕ) (counts : List ℕ) (packets : List (List (List Packet))) → AreSquare (length counts) packets → get_or counts to 0 ≡ 0
-    → IsNoted p number (Send to inc body) counts counts packets packets 0
-noted_past p number to inc body counts packets s zero_there = record {
-  sender = of_none (length counts) p packets s;
-  count = refl;
-  sum = omega arith;
-  still = λ q lt. elim (cases_eq q to) [
-    | inl e ↦ (let z : get_or counts q 0 ≡ 0 = ap (λ v. get_or counts v 0) e ∙ zero_there in omega (arith, z))
-    | inr apart ↦ (let z = ap length (sent_past q number to inc body (λ h. apart (sym h))) in omega (arith, z))
-  ];
-  queued = λ q lt. elim (cases_eq q to) [
-    | inl e ↦ (let z : get_or counts q 0 ≡ 0 = ap (λ v. get_or counts v 0) e ∙ zero_there in sym (ap (λ k. take k (parcels_sent q number (Send to inc body ∷ [])) ++ parcels_of (cell_at [] packets q p)) z))
-    | inr apart ↦ sym (ap (λ t. take (get_or counts q 0) t ++ parcels_of (cell_at [] packets q p)) (sent_past q number to inc body (λ h. apart (sym h))) ∙ ap (λ t. t ++ parcels_of (cell_at [] packets q p)) (take_none (get_or counts q 0)))
-  ];
-}
-
 -- one that is
 noted_put : (p number to inc : ℕ) (body : List ℕ) (counts counts' : List ℕ) (packets packets' : List (List (List Packet))) → to < length counts → p < length counts → AreSquare (length counts) packets
     → 0 < get_or counts to 0 → counts' ≡ set counts to (get_or counts to 0 - 1) → packets' ≡ with_cell packets to p (record { inc = inc; number = number; body = body } ∷ cell_at [] packets to p)
@@ -187,12 +170,6 @@ noted_put p number to inc body counts counts' packets packets' lt within s some 
             ∙ sym (ap (λ t. take (get_or counts q 0) t ++ parcels_of (cell_at [] packets q p)) (sent_past q number to inc body (λ h. apart (sym h))) ∙ ap (λ t. t ++ parcels_of (cell_at [] packets q p)) (take_none (get_or counts q 0)))
       ];
     })
-
--- of the event that was looked at
-pub past_at : (p number q to inc : ℕ) (body : List ℕ) (event : Event) (counts counts' : List ℕ) (packets packets' : List (List (List Packet))) → event ≡ Send to inc body → q ≡ to → AreSquare (length counts) packets
-    → get_or counts q 0 ≡ 0 → counts' ≡ counts → packets' ≡ packets → IsNoted p number event counts counts' packets packets' 0
-past_at p number q to inc body event counts counts' packets packets' ee eq s none ec ep =
-    rw (ee, ec, ep) (noted_past p number to inc body counts packets s (subst (λ v. get_or counts v 0 ≡ 0) eq none))
 
 pub put_at : (p number q to inc : ℕ) (body : List ℕ) (event : Event) (packet : Packet) (counts counts' : List ℕ) (packets packets' : List (List (List Packet))) → event ≡ Send to inc body → q ≡ to → packet ≡ record { inc = inc; number = number; body = body }
     → NamesBelow (length counts) event → p < length counts → AreSquare (length counts) packets

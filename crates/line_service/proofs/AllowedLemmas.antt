@@ -135,9 +135,6 @@ same_record : (allowed plain : Bool) (bytes line : List ℕ) → allowed ≡ pla
 same_record allowed true bytes line is same = rw (is, same refl) refl
 same_record allowed false bytes line is same = rw is refl
 
-pub ended_is : (bytes line : List ℕ) → is_input_text (bytes ++ 10 ∷ []) ≡ is_line_text line → (is_line_text line ≡ true → without 13 bytes ≡ line) → record_of (is_line_text line) line ≡ ended_record (Kept bytes)
-ended_is bytes line is same = sym (same_record (is_input_text (bytes ++ 10 ∷ [])) (is_line_text line) (without 13 bytes) line is same)
-
 pub last_is : (bytes : List ℕ) → has_no_feed bytes ≡ true → record_of (is_line_text bytes) bytes ≡ last_record (Kept bytes)
 last_is bytes none = sym (same_record (is_input_text bytes) (is_line_text bytes) (without 13 bytes) bytes (allowed_last bytes none) (without_all bytes))
 

@@ -6,8 +6,8 @@ use Rattle.std.proofs.lemmas.List.{append-nil, take-append-le, take_all}
 use Rattle.std.proofs.lemmas.List.Sums.{fold-append}
 use Rattle.std.proofs.lemmas.Bool.{cases_lt, false≢true}
 use Rattle.std.proofs.Math.Seq.{take-append-add, take-append_seam}
-use Rattle.line_devices.specs.Devices.{Puts, PutsButEnd, PutsFront}
-use Rattle.line_devices.proofs.PutLemmas.{holds_all, holds_more, puts_both, puts_front_of_held, puts_of_held}
+use Rattle.line_devices.specs.Devices.{PutsButEnd, PutsFront}
+use Rattle.line_devices.proofs.PutLemmas.{holds_all, holds_more, puts_front_of_held, puts_of_held}
 use Rattle.line_fields.specs.declared.faults.Fault.{Fault}
 use Rattle.line_fields.specs.declared.faults.Fault.TheVariants.{BadRecord}
 use Rattle.line_fields.specs.declared.faults.ReadError.TheVariants as errors
@@ -16,7 +16,7 @@ use Rattle.line_service.specs.declared.outcomes.Outcome.{Outcome}
 use Rattle.line_service.specs.declared.outcomes.Outcome.TheVariants as outcomes
 use Rattle.line_service.specs.Lines.{record_of}
 use Rattle.line_service.specs.Services.{ServiceAnswer, Faulted, Hears, HearsAll, answer_text, answers_text, outcome_of, worse, worst}
-use Rattle.line_service.specs.Progress.{AnswersRecords, PutsAll, Spot}
+use Rattle.line_service.specs.Progress.{AnswersRecords, Spot}
 use Rattle.line_service.specs.Turns.{PutsAnswersFront}
 use Rattle.line_world.specs.Machine.{Machine}
 
@@ -109,18 +109,6 @@ pub front_behind : (old mid : Spot) (records more : List (Result Record Fault)) 
     → PutsAnswersFront old.world old.writer (records ++ more) taken now
 front_behind old mid records more taken between now h k = front_after old.world mid.world old.writer mid.writer records more h.answers taken between now h.heard h.put k
 
--- what was held was put, or a front of it, where nothing was held before
-pub all_put : (old mid new : Spot) (records : List (Result Record Fault)) (taken between now : Option (List ℕ)) → AnswersRecords old records mid taken between → old.writer ≡ [] → Puts between now mid.writer
-    → new.world ≡ mid.world → new.outcome ≡ mid.outcome → PutsAll old records new taken now
-all_put old mid new records taken between now h none put world outcome =
-    let text : answers_text h.answers ≡ h.put.front ++ mid.writer = ap (λ (t : List ℕ). t ++ answers_text h.answers) (sym none) ∙ h.put.parts in
-    record {
-      answers = h.answers;
-      heard = subst (λ (m : Option Machine). HearsAll old.world records h.answers m) (sym world) h.heard;
-      outcome = outcome ∙ h.outcome;
-      put = subst (λ (t : List ℕ). Puts taken now t) (sym text) (puts_both taken between now h.put.front mid.writer h.put.put put);
-    }
-
 pub front_put : (old mid : Spot) (records : List (Result Record Fault)) (taken between now : Option (List ℕ)) → AnswersRecords old records mid taken between → old.writer ≡ [] → PutsFront between now mid.writer → PutsAnswersFront old.world [] records taken now
 front_put old mid records taken between now h none put = record {
   done = length records;
@@ -129,9 +117,6 @@ front_put old mid records taken between now h none put = record {
   heard = subst (λ (rs : List (Result Record Fault)). HearsAll old.world rs h.answers mid.world) (sym (take_all (length records) records (omega arith))) h.heard;
   put = subst (λ (t : List ℕ). PutsFront taken now (t ++ answers_text h.answers)) none (puts_front_of_held taken between now mid.writer (old.writer ++ answers_text h.answers) h.put put);
 }
-
-pub none_held : (old : Option Machine) (held : List ℕ) (records : List (Result Record Fault)) (taken now : Option (List ℕ)) → held ≡ [] → PutsAnswersFront old held records taken now → PutsAnswersFront old [] records taken now
-none_held old held records taken now none h = subst (λ (t : List ℕ). PutsAnswersFront old t records taken now) none h
 
 -- ---- one record
 

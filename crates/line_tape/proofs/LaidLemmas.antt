@@ -13,14 +13,6 @@ use Rattle.line_tape.specs.Kept.{IsSettled}
 use Rattle.line_tape.specs.Laid.{IsKeptWithin, IsLaid, event_from_kept, first_byte, first_state, kept_check, restarted_kept}
 use Rattle.line_tape.specs.Restart.{restarted_event}
 
--- what stands among so many bytes and states stands among more
-fits-more : (event : KeptEvent) (B S B' S' : ℕ) → B ≤ B' → S ≤ S' → IsKeptWithin B S event → IsKeptWithin B' S' event
-fits-more (KeptSend to start inc len) B S B' S' b s fits = omega (arith, b, fits)
-fits-more (KeptRecv message) B S B' S' b s fits = fits
-fits-more (KeptLargeCheck before round) B S B' S' b s fits = omega (arith, s, fits)
-fits-more (KeptCheck start round len of_round) B S B' S' b s fits = omega (arith, b, fits)
-fits-more (KeptMark from round) B S B' S' b s fits = fits
-
 -- how far events reach
 pub record Reaches (events : List KeptEvent) (b s B S : ℕ) : Type 0 where
   pub bytes : b ≤ B

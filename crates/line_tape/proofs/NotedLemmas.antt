@@ -59,17 +59,6 @@ put_seat rs root (suc k) link far side x r same some low is name here other =
     moved true o found = o ∙ ap near_of found
     moved false o found = o ∙ ap far_of found
 
-pub put_root : (rs : List Receipt) (root link above : ℕ) (far : Bool) → above ≡ 0 → IsPut rs root rs link above far link
-put_root rs root link above far none = record {
-  there = ap (λ k. link_in_seat rs link k far) none;
-  elsewhere = λ seat side. go seat side;
-  names = refl;
-}
-  where
-    go : (seat : ℕ) (side : Bool) → (link_in_seat rs link seat side ≡ link_in_seat rs root seat side) ⊎ ((seat ≡ above) × (seat ≢ 0 → side ≡ far))
-    go zero side = inr (sym none, λ ne. absurd (ne refl))
-    go (suc j) side = inl refl
-
 pub names_alike : (rs os : List Receipt) (n : ℕ) → map name_of_receipt os ≡ map name_of_receipt rs → AreAlike rs os n
 names_alike rs os n same = record {
   each = λ i l. sym (get_or-map name_of_receipt rs i _) ∙ ap (λ (names : List MsgName). get_or names i (name_of_receipt (receipt_at [] 0))) (sym same) ∙ get_or-map name_of_receipt os i _;

@@ -44,11 +44,6 @@ first_left all left rest i c is first =
     let same : c ∷ rest ≡ get_or all i c ∷ drop (i + 1) all = sym parts ∙ drop_more all i c lt in
     (lt, ap (λ (cs : List Command). get_or cs 0 c) same, ap (λ (cs : List Command). drop 1 cs) same)
 
--- there is a first one
-pub some_left : (left : List Command) → 0 < length left → (c : Command) × (rest : List Command) × (left ≡ c ∷ rest)
-some_left [] lt = absurd (omega (arith, lt))
-some_left (c ∷ rest) lt = (c, rest, refl)
-
 -- all were done where none is left
 pub none_left : (all left : List Command) (i : ℕ) → left ≡ drop i all → left ≡ [] → i ≤ length all → i ≡ length all
 none_left all left i is none le = let parts : drop i all ≡ [] = sym is ∙ none in omega (arith, le, length-drop i all, ap length parts)

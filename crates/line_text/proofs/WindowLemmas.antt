@@ -39,10 +39,6 @@ held_on text held later bytes HasTaken is h = record {
   taken = h.taken;
 }
 
--- the same bytes wait
-pub still_held : (text held later : List ℕ) (HasTaken : List ℕ → Type 0) → later ≡ held → IsReadTo text held HasTaken → IsReadTo text later HasTaken
-still_held text held later HasTaken is h = subst (λ (t : List ℕ). IsReadTo text t HasTaken) (sym is) h
-
 -- ---- bytes that were filled behind those that wait
 
 pub filled_behind : (n count : ℕ) (old new into : List ℕ) → n ≤ length old → new ≡ take n old ++ into → take (n + count) new ≡ take n old ++ take count into
@@ -75,12 +71,6 @@ lines_taken text held later end Before After (front, feed) taken rest h = record
       ∙ sym (append_assoc h.lines (take end held) later);
   taken = taken h.lines h.ends h.taken;
 }
-
-pub lines_if_ok : {A E : Type 0} (result : Result A E) (held later : List ℕ) (end : ℕ) (Before After : List ℕ → Type 0) → (front : List ℕ) × (take end held ≡ front ++ 10 ∷ [])
-    → OnOk result ((front : List ℕ) → EndsLine front → Before front → After (front ++ take end held)) → OnOk result (later ≡ drop end held)
-    → OnOk result ((text : List ℕ) → IsReadTo text held Before → IsReadTo text later After)
-lines_if_ok (Err e) held later end Before After feed taken rest = tt
-lines_if_ok (Ok x) held later end Before After feed taken rest = λ text h. lines_taken text held later end Before After feed taken rest h
 
 -- ---- a source
 

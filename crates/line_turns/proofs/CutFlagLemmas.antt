@@ -1,12 +1,12 @@
 -- Which sends are received after a restart.
-use Rattle.std.proofs.Common.{◌≡◌, ℕ, zero, suc, ◌+◌, ◌<◌, ◌≤◌, Bool, true, false, not, cond, List, [], ◌∷◌, length, take, drop, get_or, set, map, filter, ◌||◌, Some, refl, sym, ap, ◌∙◌, subst, arith, inl, inr}
+use Rattle.std.proofs.Common.{◌≡◌, ℕ, zero, suc, ◌+◌, ◌<◌, ◌≤◌, Bool, true, false, not, cond, List, [], ◌∷◌, length, take, drop, get_or, map, filter, ◌||◌, Some, refl, sym, ap, ◌∙◌, subst, arith, inl, inr}
 use Rattle.std.specs.Prelude.{◌==◌, ◌&&◌}
 use Rattle.std.specs.List.{range_with_len, list_any, slice_get, All, Contains}
-use Rattle.std.proofs.Math.Bool.{and-false, and-true}
+use Rattle.std.proofs.Math.Bool.{and-false}
 use Rattle.std.proofs.lemmas.Bool.{cases_lt, both_ways, and_parts, eqb-true, eq-eqb, false_from_ne_true}
-use Rattle.std.proofs.lemmas.List.{length-set, length-take-le, get_or-set_same, get_or-take, get_or_past, take-append-drop}
+use Rattle.std.proofs.lemmas.List.{length-take-le, get_or-take, get_or_past, take-append-drop}
 use Rattle.std.proofs.lemmas.List.Elements.{filter_map-append, filter_passes, All-contains, All-contains_itself, All-filter, All-map, All-weaker, Contains-append_left, Contains-append_right, Contains-push}
-use Rattle.std.proofs.lemmas.List.Folds.{list_any_at, list_any_more}
+use Rattle.std.proofs.lemmas.List.Folds.{list_any_at}
 use Rattle.std.proofs.lemmas.Option.{same_Some, slice_get_within}
 use Rattle.line_names.specs.declared.choices.Choice.{Choice}
 use Rattle.line_names.specs.declared.messages.MsgName.{MsgName}
@@ -30,7 +30,6 @@ use Rattle.line_tape.proofs.ReceivedLemmas.{sent_within}
 use Rattle.line_tape.proofs.EventLemmas.{name_of}
 use Rattle.line_tape.proofs.TransitLemmas.{has_received-iff, letter_of}
 use Rattle.line_turns.specs.Flags.{flags_of, flag_at, names_send, AreFlagged}
-use Rattle.line_turns.proofs.FlagLemmas.{flag_kept, flag_written, with_flag}
 
 -- an element of a list with one more at its head
 in_head : {X : Type 0} (x : X) (xs : List X) → Contains (x ∷ xs) x
@@ -92,52 +91,6 @@ letter_in p n (Send x y body ∷ es) (suc k) inc to i a =
 letter_in p n (Recv message ∷ es) k inc to i a = letter_in p n es k inc to i a
 letter_in p n (Check state round ∷ es) k inc to i a = letter_in p n es k inc to i a
 letter_in p n (Mark from round ∷ es) k inc to i a = letter_in p n es k inc to i a
-
--- a flag that is cleared is not set, whether there was one or not
-cleared_here : (flags : List (List Bool)) (p k : ℕ) → flag_at (with_flag flags p k false) p k ≡ false
-cleared_here flags p k =
-    let none : List Bool = [] in
-    elim (cases_lt p (length flags)) [
-      | inl p_in ↦ elim (cases_lt k (length (flags_of flags p))) [
-        | inl k_in ↦ flag_written flags p k false p_in k_in
-        | inr out ↦
-            ap (λ (row : List Bool). get_or row k false) (get_or-set_same flags p (set (flags_of flags p) k false) none p_in)
-            ∙ get_or_past (set (flags_of flags p) k false) k false (omega (arith, out, length-set (flags_of flags p) k false))
-      ]
-      | inr out ↦ ap (λ (row : List Bool). get_or row k false) (get_or_past (with_flag flags p k false) p none (omega (arith, out, length-set flags p (set (flags_of flags p) k false))))
-    ]
-
--- no other flag changes
-pub cleared_one : (flags : List (List Bool)) (m : MsgName) (p k : ℕ) → flag_at (with_flag flags m.from m.number false) p k ≡ (flag_at flags p k && not ((m.from == p) && (m.number == k)))
-cleared_one flags m p k =
-    let names : Bool = (m.from == p) && (m.number == k) in
-    elim names as (λ b. names ≡ b → flag_at (with_flag flags m.from m.number false) p k ≡ (flag_at flags p k && not b)) [
-      | true ↦ λ t.
-          let both = and_parts (m.from == p) (m.number == k) t in
-          let f : m.from ≡ p = eqb-true m.from p both.0 in
-          let n : m.number ≡ k = eqb-true m.number k both.1 in
-          ap (λ (v : ℕ). flag_at (with_flag flags m.from m.number false) v k) (sym f) ∙ ap (λ (v : ℕ). flag_at (with_flag flags m.from m.number false) m.from v) (sym n) ∙ cleared_here flags m.from m.number ∙ sym (and-false (flag_at flags p k))
-      | false ↦ λ other.
-          flag_kept flags m.from m.number false p k (λ f n. both_ways names other (ap (λ b. b && (m.number == k)) (eq-eqb m.from p (sym f)) ∙ eq-eqb m.number k (sym n))) ∙ sym (and-true (flag_at flags p k))
-    ] refl
-
--- one message more is cleared
-pub cleared_next : (old flags : List (List Bool)) (messages : List MsgName) (i : ℕ) (m : MsgName) → i < length messages → m ≡ get_or messages i m
-    → ((p k : ℕ) → flag_at flags p k ≡ (flag_at old p k && not (names_send (take i messages) p k)))
-    → (p k : ℕ) → flag_at (with_flag flags m.from m.number false) p k ≡ (flag_at old p k && not (names_send (take (i + 1) messages) p k))
-cleared_next old flags messages i m within is so_far p k =
-    let test : MsgName → Bool = λ (x : MsgName). (x.from == p) && (x.number == k) in
-    let more : names_send (take (i + 1) messages) p k ≡ (names_send (take i messages) p k || test m) =
-    list_any_more test messages i m within ∙ ap (λ (x : MsgName). names_send (take i messages) p k || test x) (sym is) in
-    cleared_one flags m p k
-    ∙ ap (λ b. b && not (test m)) (so_far p k)
-    ∙ both (flag_at old p k) (names_send (take i messages) p k) (test m)
-    ∙ ap (λ b. flag_at old p k && not b) (sym more)
-  where
-    both : (a b c : Bool) → ((a && not b) && not c) ≡ (a && not (b || c))
-    both true true c = refl
-    both true false c = refl
-    both false b c = refl
 
 -- past the end of a front there is nothing
 front_past : (n : ℕ) (flags : List Bool) (k : ℕ) → n ≤ k → get_or (take n flags) k false ≡ false
