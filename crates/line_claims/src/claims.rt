@@ -59,7 +59,7 @@ pub(crate) fn begin_claim(alloc: Global, n: u32) -> Result<Claim, AllocError>
 }
 
 // Takes the end of a claim.
-fn take_end(number: u64, row: &FieldRow) -> Result<ClaimStage, TextError>
+fn take_end(number: u64, row: &FieldRow<'_>) -> Result<ClaimStage, TextError>
     ensures { (version n : ℕ) (claim : claims.Claim)
         → Goes result (spec.end_left claim number)
         (λ stage. spec.claim_left stage version n claim (number + 1)) row.now }
@@ -78,7 +78,7 @@ fn take_entry(
     n: u32,
     claim: &mut Claim,
     number: u64,
-    row: &FieldRow,
+    row: &FieldRow<'_>,
 ) -> Result<ClaimStage, TextError>
     requires { n ≤ MOST_PROCESSES }
     ensures exact { (version : ℕ)
@@ -104,7 +104,7 @@ fn take_line(
     version: u32,
     claim: &mut Claim,
     number: u64,
-    row: &FieldRow,
+    row: &FieldRow<'_>,
 ) -> Result<ClaimStage, TextError>
     ensures exact { (n : ℕ)
         → Goes result (spec.line_left version n (claims.claim_view claim.old) number)
@@ -129,7 +129,7 @@ fn take_failed(
     n: u32,
     claim: &mut Claim,
     number: u64,
-    row: &FieldRow,
+    row: &FieldRow<'_>,
 ) -> Result<ClaimStage, TextError>
     requires { n ≤ MOST_PROCESSES }
     ensures exact { (version : ℕ)
@@ -151,7 +151,7 @@ fn take_failed(
 }
 
 // Whether a record bars a process, which version 1 does not know.
-fn is_bar(version: u32, row: &FieldRow) -> bool
+fn is_bar(version: u32, row: &FieldRow<'_>) -> bool
     ensures { result ≡ claims.is_bar version row.now }
 {
     version == 2 && is_named(row, b"bar")
@@ -163,7 +163,7 @@ fn take_bar(
     n: u32,
     claim: &mut Claim,
     number: u64,
-    row: &FieldRow,
+    row: &FieldRow<'_>,
 ) -> Result<ClaimStage, TextError>
     requires few { n ≤ MOST_PROCESSES }
     requires whole { length claim.old.marks.damaged ≡ n }
@@ -187,7 +187,7 @@ fn take_damage(
     n: u32,
     claim: &mut Claim,
     number: u64,
-    row: &FieldRow,
+    row: &FieldRow<'_>,
 ) -> Result<ClaimStage, TextError>
     requires few { n ≤ MOST_PROCESSES }
     requires whole { length claim.old.marks.damaged ≡ n }
@@ -213,7 +213,7 @@ pub(crate) fn take_of_claim(
     stage: ClaimStage,
     claim: &mut Claim,
     number: u64,
-    row: &FieldRow,
+    row: &FieldRow<'_>,
 ) -> Result<ClaimStage, TextError>
     requires few { n ≤ MOST_PROCESSES }
     requires whole { length claim.old.marks.damaged ≡ n }

@@ -14,7 +14,7 @@ use line_tape::{BarError, MarkError, Marks};
 
 /// Adds the mark of `damage,P,C`.
 #[tactic(auto, unfolding(crate::specs::Entries::damage_of, crate::specs::Entries::one_mark_more, line_fields::specs::Shapes::two))]
-pub(crate) fn damage_of(marks: &mut Marks, n: u32, row: &FieldRow) -> Result<(), ReadError>
+pub(crate) fn damage_of(marks: &mut Marks, n: u32, row: &FieldRow<'_>) -> Result<(), ReadError>
     requires few { n ≤ MOST_PROCESSES }
     requires whole { length marks.old.damaged ≡ n }
     ensures exact { Steps result (spec.damage_of n marks.old row.now) marks.new }
@@ -34,7 +34,7 @@ pub(crate) fn damage_of(marks: &mut Marks, n: u32, row: &FieldRow) -> Result<(),
 
 /// Adds the bar of `bar,P,C`.
 #[tactic(auto, unfolding(crate::specs::Entries::bar_of, crate::specs::Entries::one_bar_more, line_fields::specs::Shapes::two))]
-pub(crate) fn bar_of(marks: &mut Marks, n: u32, row: &FieldRow) -> Result<(), Fault>
+pub(crate) fn bar_of(marks: &mut Marks, n: u32, row: &FieldRow<'_>) -> Result<(), Fault>
     requires few { n ≤ MOST_PROCESSES }
     requires whole { length marks.old.damaged ≡ n }
     ensures ok { OnOk result (spec.bar_of n marks.old row.now ≡ Ok marks.new) }
@@ -54,7 +54,7 @@ pub(crate) fn bar_of(marks: &mut Marks, n: u32, row: &FieldRow) -> Result<(), Fa
 
 /// The processes of a record such as `failed` or `failed,P,..`: those of the fields after the
 /// first, a process that is not below `n` being a fault once all fields are numbers.
-pub fn failed_of(n: u32, row: &FieldRow) -> Result<ProcSet, Fault>
+pub fn failed_of(n: u32, row: &FieldRow<'_>) -> Result<ProcSet, Fault>
     requires { n ≤ MOST_PROCESSES }
     ensures { result ≡ spec.failed_of n row.now }
 {
@@ -74,7 +74,7 @@ pub fn failed_of(n: u32, row: &FieldRow) -> Result<ProcSet, Fault>
 }
 
 // The choices of the fields after the first.
-fn choices_of(row: &FieldRow) -> Result<Line, Fault>
+fn choices_of(row: &FieldRow<'_>) -> Result<Line, Fault>
     requires { length row.now ≤ MOST_PROCESSES + 1 }
     ensures { result ≡ choices (drop 1 row.now) }
 {
@@ -88,7 +88,7 @@ fn choices_of(row: &FieldRow) -> Result<Line, Fault>
 
 /// The choices of `line,CHOICE,..`.
 #[tactic(auto, unfolding(crate::specs::Entries::line_of))]
-pub(crate) fn line_of(version: u32, row: &FieldRow) -> Result<Line, Fault>
+pub(crate) fn line_of(version: u32, row: &FieldRow<'_>) -> Result<Line, Fault>
     ensures { result ≡ spec.line_of version row.now }
 {
     let most = most_in(version) as usize;
@@ -98,7 +98,7 @@ pub(crate) fn line_of(version: u32, row: &FieldRow) -> Result<Line, Fault>
 
 /// The entry of `pass,P,CHOICE,FROM,INC,NUMBER`.
 #[tactic(auto, unfolding(crate::specs::Entries::passed_of, line_fields::specs::Shapes::five))]
-pub(crate) fn passed_of(n: u32, row: &FieldRow) -> Result<Passed, Fault>
+pub(crate) fn passed_of(n: u32, row: &FieldRow<'_>) -> Result<Passed, Fault>
     requires { n ≤ MOST_PROCESSES }
     ensures { result ≡ spec.passed_of n row.now }
 {
@@ -123,7 +123,7 @@ pub(crate) fn passed_of(n: u32, row: &FieldRow) -> Result<Passed, Fault>
 pub(crate) fn entry_of(
     certificate: &mut Certificate,
     n: u32,
-    row: &FieldRow,
+    row: &FieldRow<'_>,
 ) -> Result<(), ReadError>
     requires { n ≤ MOST_PROCESSES }
     ensures { Steps result (spec.entry_of n certificate.old.items row.now) certificate.new.items }
@@ -134,7 +134,7 @@ pub(crate) fn entry_of(
 }
 
 /// Refuses a record `end` with further fields.
-pub(crate) fn end_of(row: &FieldRow) -> Result<(), Fault>
+pub(crate) fn end_of(row: &FieldRow<'_>) -> Result<(), Fault>
     ensures { result ≡ spec.end_of row.now }
 {
     want(row.len() == 1, Fault::BadRecord)

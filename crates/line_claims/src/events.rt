@@ -20,7 +20,7 @@ use std::alloc::Global;
 #[tactic(auto, unfolding(crate::specs::Events::send_event_of, line_fields::specs::Shapes::three))]
 pub(crate) fn send_event_of(
     n: u32,
-    row: &FieldRow,
+    row: &FieldRow<'_>,
     bytes: &mut Vec<u8>,
 ) -> Result<(ProcId, u16), ReadError>
     requires { n ≤ MOST_PROCESSES }
@@ -40,7 +40,7 @@ pub(crate) fn send_event_of(
 
 /// The message of `recv,FROM,INC,NUMBER`.
 #[tactic(auto, unfolding(crate::specs::Events::recv_event_of, line_fields::specs::Shapes::three))]
-pub(crate) fn recv_event_of(n: u32, row: &FieldRow) -> Result<MsgName, Fault>
+pub(crate) fn recv_event_of(n: u32, row: &FieldRow<'_>) -> Result<MsgName, Fault>
     requires { n ≤ MOST_PROCESSES }
     ensures ok { IfOk result (λ message. spec.recv_event_of n row.now ≡ Ok (events.Recv message)) }
     ensures err { IfErr result (λ fault. spec.recv_event_of n row.now ≡ Err fault) }
@@ -58,7 +58,7 @@ pub(crate) fn recv_event_of(n: u32, row: &FieldRow) -> Result<MsgName, Fault>
 #[tactic(auto, unfolding(crate::specs::Events::check_event_of, line_fields::specs::Shapes::two))]
 pub(crate) fn check_event_of(
     alloc: Global,
-    row: &FieldRow,
+    row: &FieldRow<'_>,
 ) -> Result<(State, Option<u32>), ReadError>
     ensures exact { Gives (λ parts. events.Check parts.0 parts.1) result
         (spec.check_event_of row.now) }
@@ -73,7 +73,7 @@ pub(crate) fn check_event_of(
 
 /// The sender and the round of `mark,FROM,ROUND`.
 #[tactic(auto, unfolding(crate::specs::Events::mark_event_of, line_fields::specs::Shapes::two))]
-pub(crate) fn mark_event_of(n: u32, row: &FieldRow) -> Result<(ProcId, u32), Fault>
+pub(crate) fn mark_event_of(n: u32, row: &FieldRow<'_>) -> Result<(ProcId, u32), Fault>
     requires { n ≤ MOST_PROCESSES }
     ensures ok { IfOk result
         (λ parts. spec.mark_event_of n row.now ≡ Ok (events.Mark parts.0 parts.1)) }
@@ -97,7 +97,7 @@ pub(crate) enum Kind {
 }
 
 /// The kind of event that a record spells, by its first field.
-pub(crate) fn kind_of(row: &FieldRow) -> Option<Kind>
+pub(crate) fn kind_of(row: &FieldRow<'_>) -> Option<Kind>
     ensures { MatchOption result (spec.is_event row.now ≡ false)
         (λ kind. (spec.is_event row.now ≡ true) × (field row.now 0 ≡ spec.kind_text kind)) }
 {

@@ -26,7 +26,7 @@ use std::alloc::Global;
 
 // The version and the number of processes that `history,V,N` announces.
 #[tactic(auto, unfolding(crate::specs::Histories::head_of, line_fields::specs::Shapes::two))]
-fn head_of(row: &FieldRow) -> Result<(u32, u32), Fault>
+fn head_of(row: &FieldRow<'_>) -> Result<(u32, u32), Fault>
     ensures exact { result ≡ spec.head_of row.now }
     ensures within { IfOk result (λ head. (1 ≤ head.1) × (head.1 ≤ MOST_PROCESSES)) }
 {
@@ -40,7 +40,7 @@ fn head_of(row: &FieldRow) -> Result<(u32, u32), Fault>
 }
 
 /// The version and the number of processes that the first record of a text announces.
-pub(crate) fn head_at(row: &FieldRow) -> Result<(u32, u32), TextError>
+pub(crate) fn head_at(row: &FieldRow<'_>) -> Result<(u32, u32), TextError>
     ensures exact { (rest : List Record)
         → Yields (λ head. head) result (spec.head_in (row.now ∷ rest)) }
     ensures within { IfOk result (λ head. (1 ≤ head.1) × (head.1 ≤ MOST_PROCESSES)) }
@@ -56,7 +56,7 @@ pub(crate) fn head_at(row: &FieldRow) -> Result<(u32, u32), TextError>
 
 // Begins the tape of a process, by `tape,P,INC`.
 #[tactic(auto, unfolding(crate::specs::Histories::tape_of, line_fields::specs::Shapes::two))]
-fn tape_of(history: &mut History, at: ProcId, row: &FieldRow) -> Result<(), Fault>
+fn tape_of(history: &mut History, at: ProcId, row: &FieldRow<'_>) -> Result<(), Fault>
     requires { at < length history.old.processes }
     ensures ok { OnOk result
         (spec.tape_of at history.old.processes row.now ≡ Ok history.new.processes) }
@@ -94,7 +94,7 @@ fn make_room(history: &mut History, at: ProcId) -> Result<(), ReadError>
 fn send_at(
     history: &mut History,
     at: ProcId,
-    row: &FieldRow,
+    row: &FieldRow<'_>,
     bytes: &mut Vec<u8>,
 ) -> Result<(), ReadError>
     requires there { at < length history.old.processes }
@@ -111,7 +111,7 @@ fn send_at(
 
 // Adds the receipt of a record to the tape of a process.
 #[tactic(auto, unfolding(crate::specs::Histories::event_at))]
-fn recv_at(history: &mut History, at: ProcId, row: &FieldRow) -> Result<(), ReadError>
+fn recv_at(history: &mut History, at: ProcId, row: &FieldRow<'_>) -> Result<(), ReadError>
     requires there { at < length history.old.processes }
     requires kind { field row.now 0 ≡ codes "recv" }
     ensures exact { Steps result (spec.event_at at history.old.processes row.now)
@@ -131,7 +131,7 @@ fn check_at(
     alloc: Global,
     history: &mut History,
     at: ProcId,
-    row: &FieldRow,
+    row: &FieldRow<'_>,
 ) -> Result<(), ReadError>
     requires there { at < length history.old.processes }
     requires kind { field row.now 0 ≡ codes "check" }
@@ -147,7 +147,7 @@ fn check_at(
 
 // Adds the receipt of a marker of a record to the tape of a process.
 #[tactic(auto, unfolding(crate::specs::Histories::event_at))]
-fn mark_at(history: &mut History, at: ProcId, row: &FieldRow) -> Result<(), ReadError>
+fn mark_at(history: &mut History, at: ProcId, row: &FieldRow<'_>) -> Result<(), ReadError>
     requires there { at < length history.old.processes }
     requires kind { field row.now 0 ≡ codes "mark" }
     ensures exact { Steps result (spec.event_at at history.old.processes row.now)
@@ -166,7 +166,7 @@ fn event_at(
     history: &mut History,
     at: ProcId,
     kind: Kind,
-    row: &FieldRow,
+    row: &FieldRow<'_>,
     bytes: &mut Vec<u8>,
 ) -> Result<(), ReadError>
     requires there { at < length history.old.processes }
@@ -185,13 +185,13 @@ fn event_at(
 
 // Takes the events of the tape that was begun last, from the one in the row on, and says whether
 // the row then has a record that is none. It runs for each event: a fault has no number yet.
-fn take_events(
+fn take_events<'a>(
     alloc: Global,
-    records: &mut RecordReader<'_>,
+    records: &mut RecordReader<'a>,
     history: &mut History,
     tapes: u32,
     number: &mut u64,
-    row: &mut FieldRow,
+    row: &mut FieldRow<'a>,
     bytes: &mut Vec<u8>,
 ) -> Result<bool, ReadError>
     requires some { 0 < tapes }
@@ -239,13 +239,13 @@ fn take_events(
 
 /// Takes the events of the tape that was begun last, if one was, from the record in the row on, and
 /// says whether the row then has a record that is none.
-pub(crate) fn take_open_tape(
+pub(crate) fn take_open_tape<'a>(
     alloc: Global,
-    records: &mut RecordReader<'_>,
+    records: &mut RecordReader<'a>,
     history: &mut History,
     tapes: u32,
     number: &mut u64,
-    row: &mut FieldRow,
+    row: &mut FieldRow<'a>,
     bytes: &mut Vec<u8>,
 ) -> Result<bool, TextError>
     requires there { tapes ≤ length history.old.processes }
@@ -285,7 +285,7 @@ pub(crate) fn take_next_tape(
     history: &mut History,
     tapes: &mut u32,
     number: u64,
-    row: &FieldRow,
+    row: &FieldRow<'_>,
 ) -> Result<bool, TextError>
     requires there { tapes.old ≤ length history.old.processes }
     requires other { (tapes.old ≡ 0) ⊎ (is_event row.now ≡ false) }

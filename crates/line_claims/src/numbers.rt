@@ -21,7 +21,7 @@ pub fn want(holds: bool, fault: Fault) -> Result<(), Fault>
 }
 
 /// The number in a field: from 0 to 4,294,967,295.
-pub fn plain(row: &FieldRow, place: usize) -> Result<u32, Fault>
+pub fn plain(row: &FieldRow<'_>, place: usize) -> Result<u32, Fault>
     ensures { result ≡ spec.plain (records.field row.now place) }
 {
     let value = number(row.field(place), 0, u64::from(MOST_NUMBER))?;
@@ -29,7 +29,7 @@ pub fn plain(row: &FieldRow, place: usize) -> Result<u32, Fault>
 }
 
 /// The incarnation in a field.
-pub(crate) fn incarnation(row: &FieldRow, place: usize) -> Result<u16, Fault>
+pub(crate) fn incarnation(row: &FieldRow<'_>, place: usize) -> Result<u16, Fault>
     ensures { result ≡ spec.incarnation (records.field row.now place) }
 {
     let value = number(row.field(place), 0, u64::from(LAST_INCARNATION))?;
@@ -37,7 +37,7 @@ pub(crate) fn incarnation(row: &FieldRow, place: usize) -> Result<u16, Fault>
 }
 
 /// The round in a field.
-pub(crate) fn round(row: &FieldRow, place: usize) -> Result<u32, Fault>
+pub(crate) fn round(row: &FieldRow<'_>, place: usize) -> Result<u32, Fault>
     ensures { result ≡ spec.round (records.field row.now place) }
 {
     let value = number(row.field(place), 1, u64::from(LAST_ROUND))?;
@@ -45,7 +45,7 @@ pub(crate) fn round(row: &FieldRow, place: usize) -> Result<u32, Fault>
 }
 
 /// The round in a field, if there is one.
-pub(crate) fn round_or_none(row: &FieldRow, place: usize) -> Result<Option<u32>, Fault>
+pub(crate) fn round_or_none(row: &FieldRow<'_>, place: usize) -> Result<Option<u32>, Fault>
     ensures { result ≡ spec.round_or_none (records.field row.now place) }
 {
     if row.field(place) == b"-".as_slice() {
@@ -56,7 +56,7 @@ pub(crate) fn round_or_none(row: &FieldRow, place: usize) -> Result<Option<u32>,
 }
 
 /// The choice in a field.
-pub(crate) fn choice(row: &FieldRow, place: usize) -> Result<Choice, Fault>
+pub(crate) fn choice(row: &FieldRow<'_>, place: usize) -> Result<Choice, Fault>
     ensures { result ≡ spec.choice (records.field row.now place) }
 {
     if row.field(place) == b"now".as_slice() {

@@ -32,7 +32,7 @@ struct BegunCheck {
 }
 
 // Takes the first record of a check text.
-fn begin_check(alloc: Global, row: &FieldRow) -> Result<BegunCheck, TextError>
+fn begin_check(alloc: Global, row: &FieldRow<'_>) -> Result<BegunCheck, TextError>
     ensures exact { Goes result check_text_of (λ begun. spec.begun_left begun 2) row.now }
     ensures kept { IfOk result IsBegun }
 {
@@ -54,7 +54,7 @@ fn begin_check(alloc: Global, row: &FieldRow) -> Result<BegunCheck, TextError>
 fn begin_with(
     alloc: Global,
     begun: &mut Option<BegunCheck>,
-    row: &FieldRow,
+    row: &FieldRow<'_>,
 ) -> Result<(), TextError>
     requires { begun.old ≡ None }
     ensures exact { Goes result (spec.left_of begun.old 1) (λ _. spec.left_of begun.new 2) row.now }
@@ -71,7 +71,7 @@ fn take_in_claim(
     begun: &mut BegunCheck,
     stage: ClaimStage,
     number: u64,
-    row: &FieldRow,
+    row: &FieldRow<'_>,
 ) -> Result<(), TextError>
     requires { IsBegun begun.old }
     ensures exact { Goes result
@@ -88,7 +88,7 @@ fn take_in_claim(
 }
 
 // Takes the record with which the next tape of a check text begins, or the first one of its claim.
-fn take_in_tapes(begun: &mut BegunCheck, number: u64, row: &FieldRow) -> Result<(), TextError>
+fn take_in_tapes(begun: &mut BegunCheck, number: u64, row: &FieldRow<'_>) -> Result<(), TextError>
     requires kept { IsBegun begun.old }
     requires tapes { begun.old.stage ≡ None }
     requires other { (begun.old.tapes ≡ 0) ⊎ (is_event row.now ≡ false) }
@@ -103,7 +103,7 @@ fn take_in_tapes(begun: &mut BegunCheck, number: u64, row: &FieldRow) -> Result<
 }
 
 // Takes a record of a check text after the first that is no event.
-fn take_of_check(begun: &mut BegunCheck, number: u64, row: &FieldRow) -> Result<(), TextError>
+fn take_of_check(begun: &mut BegunCheck, number: u64, row: &FieldRow<'_>) -> Result<(), TextError>
     requires kept { IsBegun begun.old }
     requires other { spec.IsBeyondTape begun.old row.now }
     ensures exact { Goes result (spec.begun_left begun.old number)
@@ -121,7 +121,7 @@ fn take_row(
     alloc: Global,
     begun: &mut Option<BegunCheck>,
     number: u64,
-    row: &FieldRow,
+    row: &FieldRow<'_>,
 ) -> Result<(), TextError>
     requires kept { IfSome begun.old IsBegun }
     requires other { IfSome begun.old (λ begun. spec.IsBeyondTape begun row.now) }
@@ -140,12 +140,12 @@ fn take_row(
 
 // Takes the events of the tape that was begun last, from the record in the row on, while the tapes
 // of a check text go on, and says whether the row then has a record that is none.
-fn take_events_of(
+fn take_events_of<'a>(
     alloc: Global,
-    records: &mut RecordReader<'_>,
+    records: &mut RecordReader<'a>,
     begun: &mut Option<BegunCheck>,
     number: &mut u64,
-    row: &mut FieldRow,
+    row: &mut FieldRow<'a>,
     bytes: &mut Vec<u8>,
 ) -> Result<bool, TextError>
     requires kept { IfSome begun.old IsBegun }
@@ -184,7 +184,6 @@ fn take_records(
     piece: &[u8],
     begun: &mut Option<BegunCheck>,
     number: &mut u64,
-    row: &mut FieldRow,
     bytes: &mut Vec<u8>,
 ) -> Result<(), TextError>
     requires input { IsTrue (is_input_text piece.now) }
@@ -201,11 +200,12 @@ fn take_records(
     ensures first { begun.new ≡ None → number.new ≡ 1 }
 {
     let mut records = RecordReader::open(alloc, piece);
-    'records: while records.next_row(row)? {
-        if !take_events_of(alloc, &mut records, begun, number, row, bytes)? {
+    let mut row = FieldRow::new(alloc);
+    'records: while records.next_row(&mut row)? {
+        if !take_events_of(alloc, &mut records, begun, number, &mut row, bytes)? {
             return Ok(());
         }
-        take_row(alloc, begun, *number, row)?;
+        take_row(alloc, begun, *number, &row)?;
         *number += 1;
     }
     Ok(())
@@ -244,7 +244,6 @@ fn end_check(begun: BegunCheck, number: u64) -> Result<CheckText, TextFault>
 #[derive(Drop)]
 pub struct CheckReader {
     alloc: Global,
-    row: FieldRow,
     bytes: Vec<u8>,
     begun: Option<BegunCheck>,
     // The number of the record that would come next.
@@ -272,7 +271,6 @@ impl CheckReader {
     {
         CheckReader {
             alloc,
-            row: FieldRow::new(alloc),
             bytes: Vec::new(alloc),
             begun: None,
             number: 1,
@@ -315,7 +313,6 @@ impl CheckReader {
             piece,
             &mut self.begun,
             &mut self.number,
-            &mut self.row,
             &mut self.bytes,
         ) {
             Ok(()) => Ok(()),

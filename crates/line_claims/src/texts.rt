@@ -40,7 +40,10 @@ fn open(alloc: Global, text: &[u8]) -> Result<RecordReader<'_>, TextError>
 }
 
 // Takes the first record of a text, which announces the version and the number of processes.
-fn take_head(records: &mut RecordReader<'_>, row: &mut FieldRow) -> Result<(u32, u32), TextError>
+fn take_head<'a>(
+    records: &mut RecordReader<'a>,
+    row: &mut FieldRow<'a>,
+) -> Result<(u32, u32), TextError>
     ensures exact { Yields (λ head. head) result (head_in records.old) }
     ensures within { IfOk result (λ head. (1 ≤ head.1) × (head.1 ≤ MOST_PROCESSES)) }
     ensures rest { OnOk result (records.new ≡ drop 1 records.old) }
@@ -52,10 +55,10 @@ fn take_head(records: &mut RecordReader<'_>, row: &mut FieldRow) -> Result<(u32,
 }
 
 // Takes the tapes of a history, which all records that are left are of.
-fn take_tapes(
+fn take_tapes<'a>(
     alloc: Global,
-    records: &mut RecordReader<'_>,
-    row: &mut FieldRow,
+    records: &mut RecordReader<'a>,
+    row: &mut FieldRow<'a>,
     history: &mut History,
 ) -> Result<(), TextError>
     requires { length records.old + 2 < 2 ^ 64 }
@@ -91,11 +94,11 @@ fn history_in(alloc: Global, text: &[u8]) -> Result<History, TextError>
 }
 
 // Takes the claim that all records that are left are of.
-fn take_claim(
+fn take_claim<'a>(
     version: u32,
     n: u32,
-    records: &mut RecordReader<'_>,
-    row: &mut FieldRow,
+    records: &mut RecordReader<'a>,
+    row: &mut FieldRow<'a>,
     claim: &mut Claim,
 ) -> Result<(), TextError>
     requires few { n ≤ MOST_PROCESSES }

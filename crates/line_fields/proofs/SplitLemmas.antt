@@ -1,14 +1,11 @@
 -- The fields of a line, as far as the bits of a chunk's mask go.
-use Rattle.std.proofs.Common.{◌≡◌, ◌≢◌, ◌≤◌, ◌<◌, ◌||◌, ◌∙◌, ◌++◌, ◌∷◌, ◌+◌, ◌-◌, ◌/◌, ◌^◌, ℕ, List, [], Bool, true, false, length, take, drop, map, get_or, ap, sym, subst, arith, ne_eqb}
-use Rattle.std.proofs.lemmas.List.{take-append-drop, take-take}
+use Rattle.std.proofs.Common.{◌≡◌, ◌≢◌, ◌≤◌, ◌<◌, ◌||◌, ◌∙◌, ◌++◌, ◌∷◌, ◌+◌, ◌-◌, ◌/◌, ◌^◌, ℕ, List, [], Bool, true, false, length, map, get_or, ap, sym, subst, arith, ne_eqb}
 use Rattle.std.proofs.lemmas.Simd.{none_from_empty_mask}
-use Rattle.std.proofs.Math.Seq.{take-add}
 use lib.Count.{count_trailing_zeros}
 use lib.Lanes.{chunk, mask_l}
 use Rattle.line_fields.specs.Rows.{is_end, is_mark}
 use Rattle.line_fields.proofs.EndLemmas.{IsParted, parted_at_comma, parted_runs}
 use Rattle.line_fields.proofs.MarkLemmas.{IsFirstMark, first_mark}
-use Rattle.line_fields.proofs.TextLemmas.{rest_is}
 
 -- what is left of the mask of a chunk of sixteen bytes, from a place in it on, as far as which the text is cut into fields
 pub record IsUnder (text ends : List ℕ) (at next marks : ℕ) : Type 0 where
@@ -65,15 +62,3 @@ other_mark b h other = sym (ap (λ (x : Bool). x || is_end b) (ne_eqb b 44 other
 pub parted_passes : (text ends : List ℕ) (at : ℕ) → IsParted text ends at → at < length text → is_mark (get_or text at 0) ≡ false → IsParted text ends (at + 1)
 parted_passes text ends at so lt other =
     parted_runs text ends at 1 so (omega (arith, lt)) (λ i low high. let here : at ≡ i = omega (arith, low, high) in subst (λ (k : ℕ). is_mark (get_or text k 0) ≡ false) here other)
-
--- a copy as far as a place, and the next sixteen bytes
-pub copied_more : (text bytes : List ℕ) (at : ℕ) → bytes ≡ take at text → bytes ++ chunk at 16 text ≡ take (at + 16) text
-copied_more text bytes at is = ap (λ (front : List ℕ). front ++ chunk at 16 text) is ∙ sym (take-add at 16 text)
-
--- a copy as far as a place, and all that is left
-pub copied_whole : (text bytes : List ℕ) (at : ℕ) → bytes ≡ take at text → bytes ++ take (length text - at) (drop at text) ≡ text
-copied_whole text bytes at is = (λ i. is i ++ rest_is text at i) ∙ take-append-drop at text
-
--- a copy has a line at its beginning
-pub copied_line : (text bytes : List ℕ) (at end : ℕ) → bytes ≡ take at text → end ≤ at → take end bytes ≡ take end text
-copied_line text bytes at end is le = ap (take end) is ∙ take-take end at text le

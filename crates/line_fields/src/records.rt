@@ -17,26 +17,26 @@ use csv::{ByteRecord, Error, Reader, ReaderBuilder};
 use std::alloc::{AllocError, Global};
 use std::marker::Model;
 
-/// The fields of a record that was read.
+/// The fields of a record that was read. Those of a line are parts of the text that it stands in.
 #[derive(Drop)]
-pub struct FieldRow {
+pub struct FieldRow<'a> {
     // A line, and where each of its fields ends in it.
-    bytes: Vec<u8>,
+    line: &'a [u8],
     ends: Vec<usize>,
     // A record that `csv` read, whose fields the row has where the line has none.
     record: ByteRecord,
 }
 
-impl Model for FieldRow {
+impl<'a> Model for FieldRow<'a> {
     ghost use Rattle.std.specs.Prelude.{All, ℕ, List};
     ghost use Rattle.csv.specs.Records.{fields_of};
     ghost use Rattle.line_fields.specs.Rows.{IsFieldWithin, fields_held, spans_from};
 
     ghost Value = { List (List ℕ) };
 
-    ghost view = { λ s. fields_held s.bytes.items s.ends.items (fields_of s.record) };
+    ghost view = { λ s. fields_held s.line.now s.ends.items (fields_of s.record) };
 
-    ghost invariant = { λ s. All (IsFieldWithin s.bytes.items) (spans_from 0 s.ends.items) };
+    ghost invariant = { λ s. All (IsFieldWithin s.line.now) (spans_from 0 s.ends.items) };
 }
 
 // Where the field at a place of a line begins: after the end of the one before it.
@@ -76,14 +76,14 @@ fn field_of(record: &ByteRecord, place: usize) -> &[u8]
     }
 }
 
-impl FieldRow {
+impl<'a> FieldRow<'a> {
     /// A row without fields. It takes no memory.
     #[tactic(auto, unfolding(crate::specs::Rows::spans_from))]
-    pub fn new(alloc: Global) -> FieldRow
+    pub fn new(alloc: Global) -> FieldRow<'a>
         ensures { result ≡ [] }
     {
         FieldRow {
-            bytes: Vec::new(alloc),
+            line: b"",
             ends: Vec::new(alloc),
             record: ByteRecord::new(alloc),
         }
@@ -114,7 +114,7 @@ impl FieldRow {
         ensures { result.now ≡ field self.now place }
     {
         if place < self.ends.len() {
-            return field_in(self.bytes.as_slice(), self.ends.as_slice(), place);
+            return field_in(self.line, self.ends.as_slice(), place);
         }
         if self.ends.is_empty() {
             return field_of(&self.record, place);
@@ -145,7 +145,7 @@ impl<'a> Model for RecordReader<'a> {
     ghost invariant = { λ s. IsLeft s.reader s.rest.now };
 }
 
-impl FieldRow {
+impl<'a> FieldRow<'a> {
     // Takes all fields away.
     #[tactic(auto, unfolding(crate::specs::Rows::spans_from))]
     fn clear(&mut self)
@@ -159,18 +159,18 @@ impl FieldRow {
     /// growth is refused, and says where that line ends: before a line feed or a carriage return,
     /// or with the text.
     ///
-    /// It looks at the bytes sixteen at a time and copies them so, as far as the text goes, so a
-    /// line is best read with what stands after it. It takes memory where the lines before were
-    /// shorter, for up to fifteen bytes more than the line has.
+    /// It looks at the bytes sixteen at a time, as far as the text goes, so a line is best read with
+    /// what stands after it. It copies none of them. It takes memory where the lines before had fewer
+    /// fields.
     #[inline(always)]
     #[tactic(auto, unfolding(crate::specs::Rows::spans_from))]
-    pub fn take_line(&mut self, text: &[u8]) -> Result<usize, AllocError>
+    pub fn take_line(&mut self, text: &'a [u8]) -> Result<usize, AllocError>
         ensures line { IfOk result (λ end. IsLineEnd text.now end) }
         ensures ok { IfOk result (λ end. self.new ≡ parts 44 (take end text.now)) }
         ensures err { OnErr result (self.new ≡ []) }
     {
-        if let Ok(end) = split(text, &mut self.bytes, &mut self.ends) {
-            self.bytes.truncate(end);
+        if let Ok(end) = split(text, &mut self.ends) {
+            self.line = &text[..end];
             return Ok(end);
         }
         self.ends.clear();
@@ -182,8 +182,8 @@ impl FieldRow {
     /// whether each of its bytes may stand in a line. It reads none of a line where one may not.
     ///
     /// An empty line has one field, which is empty. It takes time in proportion to the line, and
-    /// memory only where the lines before it were shorter.
-    pub fn read_line(&mut self, line: &[u8]) -> Result<bool, AllocError>
+    /// memory only where the lines before it had fewer fields.
+    pub fn read_line(&mut self, line: &'a [u8]) -> Result<bool, AllocError>
         ensures plain { IfOk result (λ plain. plain ≡ is_line_text line.now) }
         ensures ok { IfOk result (λ plain. self.new ≡ (if plain then parts 44 line.now else [])) }
         ensures err { OnErr result (self.new ≡ []) }
@@ -294,7 +294,7 @@ fn let_go(_error: Error) -> AllocError {
 // The next record of what `csv` reads, or the end, after which nothing is left to it.
 fn read_or_close(
     reader: &mut Option<Box<Reader<&[u8]>>>,
-    row: &mut FieldRow,
+    row: &mut FieldRow<'_>,
 ) -> Result<bool, AllocError>
     requires { IsReadingOn reader.old }
     ensures reading { IsReadingOn reader.new }
@@ -342,7 +342,7 @@ impl<'a> RecordReader<'a> {
     /// fields. An error of `csv` is answered as out of memory. It takes time in proportion to the
     /// bytes read. At the first carriage return it asks for the memory of a reader of `csv`, some
     /// 16 KiB.
-    pub fn next_row(&mut self, row: &mut FieldRow) -> Result<bool, AllocError>
+    pub fn next_row(&mut self, row: &mut FieldRow<'a>) -> Result<bool, AllocError>
         ensures ok { IfOk result
             (λ found. MatchBool found (self.old ≡ row.new ∷ self.new)
             ((self.old ≡ []) × (self.new ≡ []) × (row.new ≡ []))) }
@@ -358,8 +358,7 @@ impl<'a> RecordReader<'a> {
             return Ok(false);
         }
         if begins_with_return(rest) {
-            // What the longest line took is given back.
-            *row = FieldRow::new(self.alloc);
+            row.clear();
             let reader = hand_over(self.alloc, rest)?;
             self.reader = Some(reader);
             return read_or_close(&mut self.reader, row);

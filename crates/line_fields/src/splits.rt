@@ -27,29 +27,21 @@ fn marks_of_sixteen(text: &[u8], at: usize) -> u64
         | bytes.simd_eq(u8x16::splat(b'\r'))).to_bitmask()
 }
 
-// Where the fields of the first line of a text end, and where that line does. The bytes that are
-// looked at are copied, so that the copy has the line at its beginning.
+// Where the fields of the first line of a text end, and where that line does.
 //
-// They are looked at sixteen at a time, and near the end of the text one by one.
+// Its bytes are looked at sixteen at a time, and near the end of the text one by one.
 #[inline(always)]
-pub(crate) fn split(
-    text: &[u8],
-    bytes: &mut Vec<u8>,
-    ends: &mut Vec<usize>,
-) -> Result<usize, AllocError>
+pub(crate) fn split(text: &[u8], ends: &mut Vec<usize>) -> Result<usize, AllocError>
     ensures line { IfOk result (λ end. IsLineEnd text.now end) }
     ensures within { IfOk result
         (λ end. All (IsFieldWithin (take end text.now)) (spans_from 0 ends.new.items)) }
     ensures fields { IfOk result
         (λ end. fields_in (take end text.now) ends.new.items ≡ parts 44 (take end text.now)) }
-    ensures copied { IfOk result (λ end. take end bytes.new.items ≡ take end text.now) }
 {
-    bytes.clear();
     ends.clear();
     let mut at = 0;
     while text.len() - at >= 16 {
         let mut marks = marks_of_sixteen(text, at);
-        bytes.extend_from_slice(&u8x16::from_slice(&text[at..]).to_array())?;
         let mut next = at;
         while marks != 0 {
             let before = marks.trailing_zeros();
@@ -63,7 +55,6 @@ pub(crate) fn split(
         }
         at += 16;
     }
-    bytes.extend_from_slice(&text[at..])?;
     while at < text.len() {
         if is_mark(text[at]) {
             ends.push(at)?;

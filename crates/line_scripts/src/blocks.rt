@@ -112,7 +112,7 @@ fn make_room(alloc: Global, full: &mut VecDeque<Block>, last: &mut Block) -> Res
 fn put_behind(
     alloc: Global,
     n: u32,
-    row: &FieldRow,
+    row: &FieldRow<'_>,
     kept: &mut Vec<Kept>,
     bytes: &mut Vec<u8>,
 ) -> Result<(), ReadError>
@@ -157,7 +157,12 @@ impl Blocks {
 
     /// Keeps the command of one more record.
     #[inline(always)]
-    pub(crate) fn keep(&mut self, alloc: Global, n: u32, row: &FieldRow) -> Result<(), ReadError>
+    pub(crate) fn keep(
+        &mut self,
+        alloc: Global,
+        n: u32,
+        row: &FieldRow<'_>,
+    ) -> Result<(), ReadError>
         requires { n ≤ MOST_PROCESSES }
         ensures exact { Gives (λ _. self.new) result
             (with_command self.old (spec.command_in n row.now)) }

@@ -68,7 +68,7 @@ fn mode_named(text: &[u8]) -> Result<Mode, Fault>
 
 /// The number of processes and how links deliver, as a first record says, or its first fault.
 #[tactic(auto, unfolding(crate::specs::Scripts::world_of))]
-pub fn world_of(row: &FieldRow) -> Result<(u32, Mode), Fault>
+pub fn world_of(row: &FieldRow<'_>) -> Result<(u32, Mode), Fault>
     ensures exact { result ≡ spec.world_of row.now }
     ensures within { IfOk result (λ world. (1 ≤ world.0) × (world.0 ≤ MOST_PROCESSES)) }
 {
@@ -90,7 +90,7 @@ pub fn world_of(row: &FieldRow) -> Result<(u32, Mode), Fault>
 pub(crate) fn command_in(
     alloc: Global,
     n: u32,
-    row: &FieldRow,
+    row: &FieldRow<'_>,
     bytes: &mut Vec<u8>,
 ) -> Result<Kept, ReadError>
     requires { n ≤ MOST_PROCESSES }

@@ -56,7 +56,7 @@ fn spell_behind(bytes: &mut Vec<u8>, text: &[u8]) -> Result<usize, ReadError>
 
 /// The command of a `send` record.
 #[tactic(auto, unfolding(crate::specs::Scripts::send_of, line_fields::specs::Shapes::three))]
-pub(crate) fn send_of(n: u32, row: &FieldRow, bytes: &mut Vec<u8>) -> Result<Kept, ReadError>
+pub(crate) fn send_of(n: u32, row: &FieldRow<'_>, bytes: &mut Vec<u8>) -> Result<Kept, ReadError>
     requires { n ≤ MOST_PROCESSES }
     ensures exact { Gives (λ kept. with_bytes kept (behind bytes.old.items bytes.new.items)) result
         (spec.send_of n row.now) }
@@ -90,7 +90,7 @@ pub(crate) fn send_of(n: u32, row: &FieldRow, bytes: &mut Vec<u8>) -> Result<Kep
 pub(crate) fn deliver_of(
     alloc: Global,
     n: u32,
-    row: &FieldRow,
+    row: &FieldRow<'_>,
     bytes: &mut Vec<u8>,
 ) -> Result<Kept, ReadError>
     requires { n ≤ MOST_PROCESSES }
@@ -119,7 +119,7 @@ pub(crate) fn deliver_of(
 // The process of a record with a state, whose bytes the list then has after the others; none where
 // there is no such process.
 #[tactic(auto, unfolding(crate::specs::Scripts::with_state, line_fields::specs::Shapes::two))]
-fn with_state(n: u32, row: &FieldRow, bytes: &mut Vec<u8>) -> Result<Option<ProcId>, ReadError>
+fn with_state(n: u32, row: &FieldRow<'_>, bytes: &mut Vec<u8>) -> Result<Option<ProcId>, ReadError>
     requires { n ≤ MOST_PROCESSES }
     ensures exact { (step : ℕ → List ℕ → Step)
         → Gives (of_found (λ at. Command.Do (step at (behind bytes.old.items bytes.new.items))))
@@ -134,7 +134,7 @@ fn with_state(n: u32, row: &FieldRow, bytes: &mut Vec<u8>) -> Result<Option<Proc
 
 // The process and the check of a record; none where there is no such process.
 #[tactic(auto, unfolding(crate::specs::Scripts::with_check, line_fields::specs::Shapes::two))]
-fn with_check(n: u32, row: &FieldRow) -> Result<Option<(ProcId, u32)>, ReadError>
+fn with_check(n: u32, row: &FieldRow<'_>) -> Result<Option<(ProcId, u32)>, ReadError>
     requires { n ≤ MOST_PROCESSES }
     ensures { (step : ℕ → ℕ → Step)
         → Gives (of_found (λ found. Command.Do (step found.0 found.1))) result
@@ -165,7 +165,7 @@ fn is_of_process(fault: Fault) -> bool
 }
 
 // The processes of a record; none where there is no such process.
-fn with_failed(alloc: Global, n: u32, row: &FieldRow) -> Result<Option<Box<ProcSet>>, ReadError>
+fn with_failed(alloc: Global, n: u32, row: &FieldRow<'_>) -> Result<Option<Box<ProcSet>>, ReadError>
     requires { n ≤ MOST_PROCESSES }
     ensures { (command : List Bool → Command)
         → Gives (of_found (λ failed. command failed.value)) result
@@ -181,7 +181,7 @@ fn with_failed(alloc: Global, n: u32, row: &FieldRow) -> Result<Option<Box<ProcS
 /// The command of a `check` record.
 pub(crate) fn kept_checkpoint(
     n: u32,
-    row: &FieldRow,
+    row: &FieldRow<'_>,
     bytes: &mut Vec<u8>,
 ) -> Result<Kept, ReadError>
     requires { n ≤ MOST_PROCESSES }
@@ -203,7 +203,7 @@ pub(crate) fn kept_checkpoint(
 }
 
 /// The command of a `begin` record.
-pub(crate) fn kept_begin(n: u32, row: &FieldRow, bytes: &mut Vec<u8>) -> Result<Kept, ReadError>
+pub(crate) fn kept_begin(n: u32, row: &FieldRow<'_>, bytes: &mut Vec<u8>) -> Result<Kept, ReadError>
     requires { n ≤ MOST_PROCESSES }
     ensures exact { Gives (λ kept. with_bytes kept (behind bytes.old.items bytes.new.items)) result
         (spec.with_state Step.Begin n row.now) }
@@ -223,7 +223,7 @@ pub(crate) fn kept_begin(n: u32, row: &FieldRow, bytes: &mut Vec<u8>) -> Result<
 }
 
 /// The command of a `turn` record.
-pub(crate) fn kept_turn(n: u32, row: &FieldRow, bytes: &mut Vec<u8>) -> Result<Kept, ReadError>
+pub(crate) fn kept_turn(n: u32, row: &FieldRow<'_>, bytes: &mut Vec<u8>) -> Result<Kept, ReadError>
     requires { n ≤ MOST_PROCESSES }
     ensures exact { Gives (λ kept. with_bytes kept (behind bytes.old.items bytes.new.items)) result
         (spec.with_state Step.Turn n row.now) }
@@ -244,7 +244,7 @@ pub(crate) fn kept_turn(n: u32, row: &FieldRow, bytes: &mut Vec<u8>) -> Result<K
 
 /// The command of a `damage` record, which carries no bytes.
 #[inline(never)]
-pub(crate) fn kept_damage(n: u32, row: &FieldRow) -> Result<Kept, ReadError>
+pub(crate) fn kept_damage(n: u32, row: &FieldRow<'_>) -> Result<Kept, ReadError>
     requires { n ≤ MOST_PROCESSES }
     ensures exact { (bytes : List ℕ) → Gives (λ kept. with_bytes kept bytes) result
         (spec.with_check Step.Damage n row.now) }
@@ -262,7 +262,7 @@ pub(crate) fn kept_damage(n: u32, row: &FieldRow) -> Result<Kept, ReadError>
 
 /// The command of a `bar` record, which carries no bytes.
 #[inline(never)]
-pub(crate) fn kept_bar(n: u32, row: &FieldRow) -> Result<Kept, ReadError>
+pub(crate) fn kept_bar(n: u32, row: &FieldRow<'_>) -> Result<Kept, ReadError>
     requires { n ≤ MOST_PROCESSES }
     ensures exact { (bytes : List ℕ) → Gives (λ kept. with_bytes kept bytes) result
         (spec.with_check Step.Bar n row.now) }
@@ -280,7 +280,7 @@ pub(crate) fn kept_bar(n: u32, row: &FieldRow) -> Result<Kept, ReadError>
 
 /// The command of a `recover` record, which carries no bytes.
 #[inline(never)]
-pub(crate) fn kept_recover(alloc: Global, n: u32, row: &FieldRow) -> Result<Kept, ReadError>
+pub(crate) fn kept_recover(alloc: Global, n: u32, row: &FieldRow<'_>) -> Result<Kept, ReadError>
     requires { n ≤ MOST_PROCESSES }
     ensures exact { (bytes : List ℕ) → Gives (λ kept. with_bytes kept bytes) result
         (spec.with_failed (λ failed. Command.Do (Step.Recover failed)) n row.now) }
@@ -295,7 +295,7 @@ pub(crate) fn kept_recover(alloc: Global, n: u32, row: &FieldRow) -> Result<Kept
 
 /// The command of a `bundle` record, which carries no bytes.
 #[inline(never)]
-pub(crate) fn kept_bundle(alloc: Global, n: u32, row: &FieldRow) -> Result<Kept, ReadError>
+pub(crate) fn kept_bundle(alloc: Global, n: u32, row: &FieldRow<'_>) -> Result<Kept, ReadError>
     requires { n ≤ MOST_PROCESSES }
     ensures exact { (bytes : List ℕ) → Gives (λ kept. with_bytes kept bytes) result
         (spec.with_failed Command.Bundle n row.now) }
@@ -311,7 +311,7 @@ pub(crate) fn kept_bundle(alloc: Global, n: u32, row: &FieldRow) -> Result<Kept,
 /// The command of a `rounds` record, which has no other field.
 #[inline(never)]
 #[tactic(auto, unfolding(line_fields::specs::Shapes::alone))]
-pub(crate) fn kept_rounds(row: &FieldRow) -> Result<Kept, ReadError>
+pub(crate) fn kept_rounds(row: &FieldRow<'_>) -> Result<Kept, ReadError>
     ensures exact { (bytes : List ℕ) → Gives (λ kept. with_bytes kept bytes) result
         (alone Command.Rounds row.now) }
     ensures long { IfOk result (λ kept. long_of kept ≡ 0) }
@@ -324,7 +324,7 @@ pub(crate) fn kept_rounds(row: &FieldRow) -> Result<Kept, ReadError>
 /// The command of a `history` record, which has no other field.
 #[inline(never)]
 #[tactic(auto, unfolding(line_fields::specs::Shapes::alone))]
-pub(crate) fn kept_history(row: &FieldRow) -> Result<Kept, ReadError>
+pub(crate) fn kept_history(row: &FieldRow<'_>) -> Result<Kept, ReadError>
     ensures exact { (bytes : List ℕ) → Gives (λ kept. with_bytes kept bytes) result
         (alone Command.History row.now) }
     ensures long { IfOk result (λ kept. long_of kept ≡ 0) }

@@ -21,7 +21,7 @@ use std::alloc::{AllocError, Global};
 use std::marker::Model;
 
 // The number of processes and how links deliver, as the first record says.
-fn world_at(row: &FieldRow) -> Result<(u32, Mode), TextError>
+fn world_at(row: &FieldRow<'_>) -> Result<(u32, Mode), TextError>
     ensures exact { Yields (λ world. world) result (reads.at_record 1 (world_of row.now)) }
     ensures within { IfOk result (λ world. (1 ≤ world.0) × (world.0 ≤ MOST_PROCESSES)) }
 {
@@ -33,11 +33,11 @@ fn world_at(row: &FieldRow) -> Result<(u32, Mode), TextError>
 
 // Keeps the commands of the records that are left, after those that are kept. The first command of
 // a script is that of record 2.
-fn keep_all(
+fn keep_all<'a>(
     alloc: Global,
     n: u32,
-    records: &mut RecordReader<'_>,
-    row: &mut FieldRow,
+    records: &mut RecordReader<'a>,
+    row: &mut FieldRow<'a>,
     commands: &mut Blocks,
 ) -> Result<(), TextError>
     requires { n ≤ MOST_PROCESSES }
@@ -56,10 +56,10 @@ fn keep_all(
 }
 
 // Takes the first record, if there is one, and keeps the commands of those after it.
-fn begin(
+fn begin<'a>(
     alloc: Global,
-    records: &mut RecordReader<'_>,
-    row: &mut FieldRow,
+    records: &mut RecordReader<'a>,
+    row: &mut FieldRow<'a>,
     world: &mut Option<(u32, Mode)>,
     commands: &mut Blocks,
 ) -> Result<(), TextError>
@@ -81,7 +81,6 @@ fn begin(
 fn take_records(
     alloc: Global,
     piece: &[u8],
-    row: &mut FieldRow,
     world: &mut Option<(u32, Mode)>,
     commands: &mut Blocks,
 ) -> Result<(), TextError>
@@ -92,10 +91,11 @@ fn take_records(
     ensures kept { OnOk result (spec.AreKept world.new commands.new) }
 {
     let mut records = RecordReader::open(alloc, piece);
+    let mut row = FieldRow::new(alloc);
     let Some((n, _)) = *world else {
-        return begin(alloc, &mut records, row, world, commands);
+        return begin(alloc, &mut records, &mut row, world, commands);
     };
-    keep_all(alloc, n, &mut records, row, commands)
+    keep_all(alloc, n, &mut records, &mut row, commands)
 }
 
 // Lets go all that was taken.
@@ -116,7 +116,6 @@ fn let_go(alloc: Global, world: &mut Option<(u32, Mode)>, commands: &mut Blocks)
 #[derive(Drop)]
 pub struct ScriptReader {
     alloc: Global,
-    row: FieldRow,
     // The number of processes and how links deliver, once the first record was taken.
     world: Option<(u32, Mode)>,
     commands: Blocks,
@@ -144,7 +143,6 @@ impl ScriptReader {
     {
         ScriptReader {
             alloc,
-            row: FieldRow::new(alloc),
             world: None,
             commands: Blocks::new(alloc),
             fault: None,
@@ -169,13 +167,7 @@ impl ScriptReader {
         if self.fault.is_some() {
             return Ok(());
         }
-        match take_records(
-            self.alloc,
-            piece,
-            &mut self.row,
-            &mut self.world,
-            &mut self.commands,
-        ) {
+        match take_records(self.alloc, piece, &mut self.world, &mut self.commands) {
             Ok(()) => Ok(()),
             Err(error) => {
                 let_go(self.alloc, &mut self.world, &mut self.commands);

@@ -54,7 +54,7 @@ impl CommandReader {
     ///
     /// It takes memory for a set of processes, and where the bytes of a message or a state are more
     /// than those of each record before.
-    pub fn read(&mut self, n: u32, row: &FieldRow) -> Result<(), ReadError>
+    pub fn read(&mut self, n: u32, row: &FieldRow<'_>) -> Result<(), ReadError>
         requires { n ≤ MOST_PROCESSES }
         ensures { Gives (λ _. self.new) result (command_in n row.now) }
     {

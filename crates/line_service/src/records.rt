@@ -13,7 +13,7 @@ use crate::limits::MOST_LINE;
 use crate::lines::{PendingLine, feed_after, first_feed, without_return};
 use crate::seats::{Seat, answer_fault, answer_record};
 use line_devices::{DeviceFault, Sink};
-use line_fields::{Fault, ReadError, is_plain};
+use line_fields::{Fault, FieldRow, ReadError, is_plain};
 
 /// Answers the record of a line that is given without what ends it.
 pub(crate) fn answer_bare_line<K: Sink>(
@@ -32,8 +32,9 @@ pub(crate) fn answer_bare_line<K: Sink>(
     if line.is_empty() {
         return Ok(());
     }
-    match seat.row.read_line(line) {
-        Ok(true) => answer_record(seat, sink),
+    let mut row = FieldRow::new(seat.alloc);
+    match row.read_line(line) {
+        Ok(true) => answer_record(seat, &row, sink),
         Ok(false) => answer_fault(seat, ReadError::Fault(Fault::BadRecord), sink),
         Err(_) => answer_fault(seat, ReadError::OutOfMemory, sink),
     }
@@ -139,19 +140,20 @@ fn answer_next<K: Sink>(
     }
 }
 
-/// Answers the record that was read into the row, of a line of so many bytes with the carriage
+/// Answers the record that was read into a row, of a line of so many bytes with the carriage
 /// return at its end, and of so many without.
 fn answer_row<K: Sink>(
     seat: &mut Seat,
+    row: &FieldRow<'_>,
     len: usize,
     bare: usize,
     sink: &mut K,
 ) -> Result<(), DeviceFault>
     ensures ok { OnOk result (spec.AnswersRecords (spec.spot seat.old)
-        (spec.row_records len bare seat.old.row) (spec.spot seat.new) (K.taken sink.old)
+        (spec.row_records len bare row.now) (spec.spot seat.new) (K.taken sink.old)
         (K.taken sink.new)) }
     ensures err { OnErr result (PutsAnswersFront seat.old.world seat.old.writer
-        (spec.row_records len bare seat.old.row) (K.taken sink.old) (K.taken sink.new)) }
+        (spec.row_records len bare row.now) (K.taken sink.old) (K.taken sink.new)) }
     ensures sound { OnOk result (K.faults sink.new ≡ K.faults sink.old) }
     ensures failed { OnErr result (K.faults sink.new ≡ one_more (K.faults sink.old)) }
 {
@@ -161,14 +163,15 @@ fn answer_row<K: Sink>(
     if bare == 0 {
         return Ok(());
     }
-    answer_record(seat, sink)
+    answer_record(seat, row, sink)
 }
 
 /// The same as `answer_next` of bytes that are known to be plain, which are then looked at many at
 /// a time.
-fn answer_plain<K: Sink>(
+fn answer_plain<'a, K: Sink>(
     seat: &mut Seat,
-    bytes: &[u8],
+    row: &mut FieldRow<'a>,
+    bytes: &'a [u8],
     sink: &mut K,
 ) -> Result<Option<usize>, DeviceFault>
     requires { is_input_text bytes.now ≡ true }
@@ -179,13 +182,13 @@ fn answer_plain<K: Sink>(
     ensures sound { OnOk result (K.faults sink.new ≡ K.faults sink.old) }
     ensures failed { OnErr result (K.faults sink.new ≡ one_more (K.faults sink.old)) }
 {
-    match seat.row.take_line(bytes) {
+    match row.take_line(bytes) {
         Ok(end) => {
             if end == bytes.len() {
                 return Ok(None);
             }
             let at = feed_after(bytes, end);
-            answer_row(seat, at, end, sink)?;
+            answer_row(seat, row, at, end, sink)?;
             Ok(Some(at))
         }
         Err(_) => answer_next(seat, bytes, sink),
@@ -193,9 +196,10 @@ fn answer_plain<K: Sink>(
 }
 
 /// The one or the other.
-fn answer_either<K: Sink>(
+fn answer_either<'a, K: Sink>(
     seat: &mut Seat,
-    bytes: &[u8],
+    row: &mut FieldRow<'a>,
+    bytes: &'a [u8],
     plain: bool,
     sink: &mut K,
 ) -> Result<Option<usize>, DeviceFault>
@@ -208,7 +212,7 @@ fn answer_either<K: Sink>(
     ensures failed { OnErr result (K.faults sink.new ≡ one_more (K.faults sink.old)) }
 {
     if plain {
-        answer_plain(seat, bytes, sink)
+        answer_plain(seat, row, bytes, sink)
     } else {
         answer_next(seat, bytes, sink)
     }
@@ -230,9 +234,10 @@ pub(crate) fn answer_lines<'a, K: Sink>(
     ensures failed { OnErr result (K.faults sink.new ≡ one_more (K.faults sink.old)) }
 {
     let plain = is_plain(bytes);
+    let mut row = FieldRow::new(seat.alloc);
     let mut rest = bytes;
     'lines: loop {
-        match answer_either(seat, rest, plain, sink)? {
+        match answer_either(seat, &mut row, rest, plain, sink)? {
             Some(at) => rest = &rest[at + 1..],
             None => return Ok(rest),
         }

@@ -29,8 +29,7 @@ pub(crate) struct Seat {
     pub world: Option<World>,
     /// The worst of what was answered.
     pub outcome: Outcome,
-    // The fields and the command of the record that is read.
-    pub row: FieldRow,
+    // The command of the record that is read.
     pub command: CommandReader,
     /// The text of answers that is not put yet.
     pub writer: RecordWriter,
@@ -47,7 +46,7 @@ pub(crate) enum Stop {
 
 /// Begins the machine, as a first record says.
 #[inline(never)]
-fn begin(alloc: Global, world: &mut Option<World>, row: &FieldRow) -> Result<(), ReadError>
+fn begin(alloc: Global, world: &mut Option<World>, row: &FieldRow<'_>) -> Result<(), ReadError>
     requires { world.old ≡ None }
     ensures ok { OnOk result (Hears None (Ok row.now) Began world.new) }
     ensures err { IfErr result (λ error. Hears None (Ok row.now) (Faulted error) world.new) }
@@ -107,7 +106,7 @@ fn tell<K: Sink>(
 fn obey<K: Sink>(
     alloc: Global,
     world: &mut World,
-    row: &FieldRow,
+    row: &FieldRow<'_>,
     command: &mut CommandReader,
     writer: &mut RecordWriter,
     sink: &mut K,
@@ -131,7 +130,7 @@ fn obey<K: Sink>(
 fn answer_one<K: Sink>(
     alloc: Global,
     world: &mut Option<World>,
-    row: &FieldRow,
+    row: &FieldRow<'_>,
     command: &mut CommandReader,
     writer: &mut RecordWriter,
     sink: &mut K,
@@ -174,19 +173,23 @@ pub(crate) fn answer_fault<K: Sink>(
     put_fault(sink, &mut seat.writer, error)
 }
 
-/// Answers the record whose fields the row has.
-pub(crate) fn answer_record<K: Sink>(seat: &mut Seat, sink: &mut K) -> Result<(), DeviceFault>
-    ensures ok { OnOk result (spec.AnswersRecords (spec.spot seat.old) (Ok seat.old.row ∷ [])
+/// Answers the record whose fields a row has.
+pub(crate) fn answer_record<K: Sink>(
+    seat: &mut Seat,
+    row: &FieldRow<'_>,
+    sink: &mut K,
+) -> Result<(), DeviceFault>
+    ensures ok { OnOk result (spec.AnswersRecords (spec.spot seat.old) (Ok row.now ∷ [])
         (spec.spot seat.new) (K.taken sink.old) (K.taken sink.new)) }
     ensures err { OnErr result (PutsAnswersFront seat.old.world seat.old.writer
-        (Ok seat.old.row ∷ []) (K.taken sink.old) (K.taken sink.new)) }
+        (Ok row.now ∷ []) (K.taken sink.old) (K.taken sink.new)) }
     ensures sound { OnOk result (K.faults sink.new ≡ K.faults sink.old) }
     ensures failed { OnErr result (K.faults sink.new ≡ one_more (K.faults sink.old)) }
 {
     match answer_one(
         seat.alloc,
         &mut seat.world,
-        &seat.row,
+        row,
         &mut seat.command,
         &mut seat.writer,
         sink,

@@ -11,7 +11,7 @@ use crate::lines::PendingLine;
 use crate::outcomes::Outcome;
 use crate::seats::Seat;
 use line_devices::{DeviceFault, Sink};
-use line_fields::{FieldRow, RecordWriter};
+use line_fields::RecordWriter;
 use line_scripts::CommandReader;
 use std::alloc::{AllocError, Global};
 use std::marker::Model;
@@ -56,7 +56,6 @@ impl Service {
                 alloc,
                 world: None,
                 outcome: Outcome::Done,
-                row: FieldRow::new(alloc),
                 command: CommandReader::new(alloc),
                 writer,
             },

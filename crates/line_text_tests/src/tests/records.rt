@@ -60,7 +60,7 @@ fn next(reader: &mut Reader<&[u8]>, record: &mut ByteRecord) -> Result<bool, All
 }
 
 /// Whether a record of `csv` and a row have the same fields.
-fn is_same(record: &ByteRecord, row: &FieldRow) -> bool {
+fn is_same(record: &ByteRecord, row: &FieldRow<'_>) -> bool {
     if record.len() != row.len() {
         return false;
     }
@@ -73,11 +73,11 @@ fn is_same(record: &ByteRecord, row: &FieldRow) -> bool {
 }
 
 /// How many records two readers read alike, or none where they read others.
-fn count_alike(
+fn count_alike<'a>(
     by_csv: &mut Reader<&[u8]>,
     record: &mut ByteRecord,
-    reader: &mut RecordReader<'_>,
-    row: &mut FieldRow,
+    reader: &mut RecordReader<'a>,
+    row: &mut FieldRow<'a>,
 ) -> Result<Option<u64>, AllocError> {
     for number in 0..u64::MAX {
         let found = next(by_csv, record)?;

@@ -1,87 +1,73 @@
-use Rattle.std.proofs.Common.{◌+◌, ◌<◌, ◌∙◌, ap, arith, refl, sym, take}
+use Rattle.std.proofs.Common.{◌+◌, ◌<◌, ◌∙◌, arith, sym}
 use lib.Count.{count_trailing_zeros}
 use Rattle.line_fields.proofs.EndLemmas.{parted_at_comma, parted_begins, parted_ends, parted_line, parted_within}
-use Rattle.line_fields.proofs.SplitLemmas.{copied_line, copied_more, copied_whole, other_mark, parted_passes, under_begins, under_ends, under_first, under_mark, under_more}
+use Rattle.line_fields.proofs.SplitLemmas.{other_mark, parted_passes, under_begins, under_ends, under_first, under_mark, under_more}
 use Rattle.line_fields.proofs.splits.split.Goals as goal
 use Rattle.line_fields.proofs.splits.split.Goals.{then-is_mark+in_ok-push-2+else-text-at-ne44, else-is_mark}
 
 pub loop-at-init : goal.loop-at-init
-loop-at-init c = (rw c.clear-2.ensures.items (parted_begins c.args.text.now), rw c.clear.ensures.items refl)
+loop-at-init c = rw c.clear.ensures.items (parted_begins c.args.text.now)
 
 pub loop-marks-init : goal.loop-marks-init
-loop-marks-init c = (
-  under_begins c.args.text.now c.loop-at.ends.items c.loop-at.at c.marks_of_sixteen-marks.result c.loop-at.invariant.0
-      (omega (arith, c.loop-at-test.true, c.loop-at.invariant.0.inside)) c.marks_of_sixteen-marks.ensures,
-  rw c.in_ok-extend_from_slice.ensures.items (copied_more c.args.text.now c.loop-at.bytes.items c.loop-at.at c.loop-at.invariant.1),
-)
+loop-marks-init c =
+    under_begins c.args.text.now c.loop-at.ends.items c.loop-at.at c.marks_of_sixteen-marks.result c.loop-at.invariant
+    (omega (arith, c.loop-at-test.true, c.loop-at.invariant.inside)) c.marks_of_sixteen-marks.ensures
 
 pub bounds-text-mark : goal.bounds-text-mark
 bounds-text-mark c =
     let s = c.loop-marks in
-    let first = under_first c.args.text.now s.ends.items c.loop-at.at s.next s.marks s.invariant.0 (omega (arith, c.loop-marks-test.true)) in
-    omega (arith, first.within, s.invariant.0.high, s.invariant.0.room)
+    let first = under_first c.args.text.now s.ends.items c.loop-at.at s.next s.marks s.invariant (omega (arith, c.loop-marks-test.true)) in
+    omega (arith, first.within, s.invariant.high, s.invariant.room)
 
 pub returns-then-text-mark-ne44-clause-line : goal.returns-then-text-mark-ne44-clause-line
 returns-then-text-mark-ne44-clause-line c =
     let text = c.args.text.now in
     let s = c.loop-marks in
     let some : 0 < s.marks = omega (arith, c.loop-marks-test.true) in
-    let first = under_first text s.ends.items c.loop-at.at s.next s.marks s.invariant.0 some in
-    parted_line text s.ends.items (s.next + count_trailing_zeros 64 s.marks) (under_mark text s.ends.items c.loop-at.at s.next s.marks s.invariant.0 some)
+    let first = under_first text s.ends.items c.loop-at.at s.next s.marks s.invariant some in
+    parted_line text s.ends.items (s.next + count_trailing_zeros 64 s.marks) (under_mark text s.ends.items c.loop-at.at s.next s.marks s.invariant some)
     (λ lt. other_mark _ first.there c.if-text-mark-ne44.true)
 
 pub returns-then-text-mark-ne44-clause-within : goal.returns-then-text-mark-ne44-clause-within
 returns-then-text-mark-ne44-clause-within c =
     let s = c.loop-marks in
-    let so = under_mark c.args.text.now s.ends.items c.loop-at.at s.next s.marks s.invariant.0 (omega (arith, c.loop-marks-test.true)) in
+    let so = under_mark c.args.text.now s.ends.items c.loop-at.at s.next s.marks s.invariant (omega (arith, c.loop-marks-test.true)) in
     rw c.in_ok-push.ensures.items (parted_within c.args.text.now s.ends.items (s.next + count_trailing_zeros 64 s.marks) so)
 
 pub returns-then-text-mark-ne44-clause-fields : goal.returns-then-text-mark-ne44-clause-fields
 returns-then-text-mark-ne44-clause-fields c =
     let s = c.loop-marks in
-    let so = under_mark c.args.text.now s.ends.items c.loop-at.at s.next s.marks s.invariant.0 (omega (arith, c.loop-marks-test.true)) in
+    let so = under_mark c.args.text.now s.ends.items c.loop-at.at s.next s.marks s.invariant (omega (arith, c.loop-marks-test.true)) in
     rw c.in_ok-push.ensures.items (parted_ends c.args.text.now s.ends.items (s.next + count_trailing_zeros 64 s.marks) so)
-
-pub returns-then-text-mark-ne44-clause-copied : goal.returns-then-text-mark-ne44-clause-copied
-returns-then-text-mark-ne44-clause-copied c =
-    let s = c.loop-marks in
-    let first = under_first c.args.text.now s.ends.items c.loop-at.at s.next s.marks s.invariant.0 (omega (arith, c.loop-marks-test.true)) in
-    copied_line c.args.text.now _ (c.loop-at.at + 16) (s.next + count_trailing_zeros 64 s.marks) s.invariant.1 (omega (arith, first.within, s.invariant.0.high))
 
 pub overflow_shr-marks : goal.overflow_shr-marks
 overflow_shr-marks c =
     let s = c.loop-marks in
-    let first = under_first c.args.text.now s.ends.items c.loop-at.at s.next s.marks s.invariant.0 (omega (arith, c.loop-marks-test.true)) in
-    omega (arith, first.within, s.invariant.0.low)
+    let first = under_first c.args.text.now s.ends.items c.loop-at.at s.next s.marks s.invariant (omega (arith, c.loop-marks-test.true)) in
+    omega (arith, first.within, s.invariant.low)
 
 pub loop-marks-preserved : goal.loop-marks-preserved
 loop-marks-preserved c =
-    let s = c.loop-marks in (
-      rw c.in_ok-push.ensures.items
-          (under_more c.args.text.now s.ends.items c.loop-at.at s.next s.marks s.invariant.0 (omega (arith, c.loop-marks-test.true)) c.if-text-mark-ne44.false),
-      s.invariant.1,
-    )
+    let s = c.loop-marks in
+    rw c.in_ok-push.ensures.items (under_more c.args.text.now s.ends.items c.loop-at.at s.next s.marks s.invariant (omega (arith, c.loop-marks-test.true)) c.if-text-mark-ne44.false)
 
 pub loop-at-preserved : goal.loop-at-preserved
 loop-at-preserved c =
     let s = c.loop-marks in
-    (under_ends c.args.text.now s.ends.items c.loop-at.at s.next s.marks s.invariant.0 (omega (arith, c.loop-marks-test.false)), s.invariant.1)
-
-pub loop-at-2-init : goal.loop-at-2-init
-loop-at-2-init c = (c.loop-at.invariant.0, rw c.in_ok-extend_from_slice-2.ensures.items (copied_whole c.args.text.now c.loop-at.bytes.items c.loop-at.at c.loop-at.invariant.1))
+    under_ends c.args.text.now s.ends.items c.loop-at.at s.next s.marks s.invariant (omega (arith, c.loop-marks-test.false))
 
 pub returns-then-text-at-ne44-clause-line : goal.returns-then-text-at-ne44-clause-line
 returns-then-text-at-ne44-clause-line c =
     let s = c.loop-at-2 in
-    parted_line c.args.text.now s.ends.items s.at s.invariant.0 (λ lt. other_mark _ (sym c.is_mark.ensures ∙ c.if-is_mark.true) c.if-text-at-ne44.true)
+    parted_line c.args.text.now s.ends.items s.at s.invariant (λ lt. other_mark _ (sym c.is_mark.ensures ∙ c.if-is_mark.true) c.if-text-at-ne44.true)
 
 pub returns-then-text-at-ne44-clause-within : goal.returns-then-text-at-ne44-clause-within
 returns-then-text-at-ne44-clause-within c =
-    rw c.in_ok-push-2.ensures.items (parted_within c.args.text.now c.loop-at-2.ends.items c.loop-at-2.at c.loop-at-2.invariant.0)
+    rw c.in_ok-push-2.ensures.items (parted_within c.args.text.now c.loop-at-2.ends.items c.loop-at-2.at c.loop-at-2.invariant)
 
 pub returns-then-text-at-ne44-clause-fields : goal.returns-then-text-at-ne44-clause-fields
 returns-then-text-at-ne44-clause-fields c =
-    rw c.in_ok-push-2.ensures.items (parted_ends c.args.text.now c.loop-at-2.ends.items c.loop-at-2.at c.loop-at-2.invariant.0)
+    rw c.in_ok-push-2.ensures.items (parted_ends c.args.text.now c.loop-at-2.ends.items c.loop-at-2.at c.loop-at-2.invariant)
 
 pub loop-at-2-preserved : goal.loop-at-2-preserved
 loop-at-2-preserved c =
@@ -89,19 +75,13 @@ loop-at-2-preserved c =
     let s = c.loop-at-2 in
     elim c.if-is_mark.branch [
       | then-is_mark+in_ok-push-2+else-text-at-ne44 w ↦
-          (rw (w.ends-is, w.in_ok-push-2.ensures.items) (parted_at_comma text s.ends.items s.at s.invariant.0 c.loop-at-2-test.true w.if-text-at-ne44.false), s.invariant.1)
+          rw (w.ends-is, w.in_ok-push-2.ensures.items) (parted_at_comma text s.ends.items s.at s.invariant c.loop-at-2-test.true w.if-text-at-ne44.false)
       | else-is_mark w ↦
-          (rw w.ends-is (parted_passes text s.ends.items s.at s.invariant.0 c.loop-at-2-test.true (sym c.is_mark.ensures ∙ w.if-is_mark.false)), s.invariant.1)
+          rw w.ends-is (parted_passes text s.ends.items s.at s.invariant c.loop-at-2-test.true (sym c.is_mark.ensures ∙ w.if-is_mark.false))
     ]
 
 pub returns-clause-within : goal.returns-clause-within
-returns-clause-within c = rw c.in_ok-push-3.ensures.items (parted_within c.args.text.now c.loop-at-2.ends.items c.loop-at-2.at c.loop-at-2.invariant.0)
+returns-clause-within c = rw c.in_ok-push-3.ensures.items (parted_within c.args.text.now c.loop-at-2.ends.items c.loop-at-2.at c.loop-at-2.invariant)
 
 pub returns-clause-fields : goal.returns-clause-fields
-returns-clause-fields c = rw c.in_ok-push-3.ensures.items (parted_ends c.args.text.now c.loop-at-2.ends.items c.loop-at-2.at c.loop-at-2.invariant.0)
-
-pub returns-then-text-at-ne44-clause-copied : goal.returns-then-text-at-ne44-clause-copied
-returns-then-text-at-ne44-clause-copied c = ap (take c.loop-at-2.at) c.loop-at-2.invariant.1
-
-pub returns-clause-copied : goal.returns-clause-copied
-returns-clause-copied c = ap (take c.loop-at-2.at) c.loop-at-2.invariant.1
+returns-clause-fields c = rw c.in_ok-push-3.ensures.items (parted_ends c.args.text.now c.loop-at-2.ends.items c.loop-at-2.at c.loop-at-2.invariant)

@@ -9,4 +9,4 @@ returns c =
     let long : vec_len c.self.inside.ends ≡ length c.self.inside.ends.items = search rules in
     let some : (length c.self.inside.ends.items == 0) ≡ false = rw long at (sym c.is_empty.ensures ∙ c.if-is_empty.false) in
     let past : length c.self.inside.ends.items ≤ c.args.place = omega arith in
-    sym (held_past c.self.inside.bytes.items c.self.inside.ends.items (fields_of c.self.inside.record) c.args.place some past) ∙ ap (λ (fields : Record). field fields c.args.place) c.self.view_is
+    sym (held_past c.self.inside.line.now c.self.inside.ends.items (fields_of c.self.inside.record) c.args.place some past) ∙ ap (λ (fields : Record). field fields c.args.place) c.self.view_is

@@ -42,7 +42,7 @@ invariant_of-self-in_err-reader c =
 pub returns-in_err-reader-clause-err : goal.returns-in_err-reader-clause-err
 returns-in_err-reader-clause-err c =
     let off : is_some c.self.inside.reader ≡ false = sym c.is_some.ensures ∙ c.if-is_some.false in
-    on_any_err c.from_residual.result _ (left_in_lines c.self.inside.reader [] off ∙ records_of_nothing, c.new.ensures)
+    on_any_err c.from_residual.result _ (left_in_lines c.self.inside.reader [] off ∙ records_of_nothing, c.clear-then-begins_with_return.ensures)
 
 pub invariant_of-self-then-begins_with_return : goal.invariant_of-self-then-begins_with_return
 invariant_of-self-then-begins_with_return c =
