@@ -159,9 +159,9 @@ impl<'a> FieldRow<'a> {
     /// growth is refused, and says where that line ends: before a line feed or a carriage return,
     /// or with the text.
     ///
-    /// It looks at the bytes sixteen at a time, as far as the text goes, so a line is best read with
-    /// what stands after it. It copies none of them. It takes memory where the lines before had fewer
-    /// fields.
+    /// It looks at the bytes sixteen at a time, as far as the text goes, so a line is best read
+    /// with what stands after it. It copies none of them. It takes memory where the lines before had
+    /// fewer fields.
     #[inline(always)]
     #[tactic(auto, unfolding(crate::specs::Rows::spans_from))]
     pub fn take_line(&mut self, text: &'a [u8]) -> Result<usize, AllocError>
