@@ -160,8 +160,8 @@ impl<'a> FieldRow<'a> {
     /// or with the text.
     ///
     /// It looks at the bytes sixteen at a time, as far as the text goes, so a line is best read
-    /// with what stands after it. It copies none of them. It takes memory where the lines before had
-    /// fewer fields.
+    /// with what stands after it. It copies none of them. It takes memory where a line has more
+    /// fields than those before.
     #[inline(always)]
     #[tactic(auto, unfolding(crate::specs::Rows::spans_from))]
     pub fn take_line(&mut self, text: &'a [u8]) -> Result<usize, AllocError>
