@@ -15,6 +15,31 @@ use crate::seats::{Seat, answer_fault, answer_record};
 use line_devices::{DeviceFault, Sink};
 use line_fields::{Fault, FieldRow, ReadError, is_plain};
 
+/// Answers the record of a line that is given without what ends it, read into this row.
+fn answer_by_row<'a, K: Sink>(
+    seat: &mut Seat,
+    row: &mut FieldRow<'a>,
+    line: &'a [u8],
+    sink: &mut K,
+) -> Result<(), DeviceFault>
+    ensures ok { OnOk result (spec.AnswersRecords (spec.spot seat.old)
+        (record_of (is_line_text line.now) line.now) (spec.spot seat.new) (K.taken sink.old)
+        (K.taken sink.new)) }
+    ensures err { OnErr result (PutsAnswersFront seat.old.world seat.old.writer
+        (record_of (is_line_text line.now) line.now) (K.taken sink.old) (K.taken sink.new)) }
+    ensures sound { OnOk result (K.faults sink.new ≡ K.faults sink.old) }
+    ensures failed { OnErr result (K.faults sink.new ≡ one_more (K.faults sink.old)) }
+{
+    if line.is_empty() {
+        return Ok(());
+    }
+    match row.read_line(line) {
+        Ok(true) => answer_record(seat, row, sink),
+        Ok(false) => answer_fault(seat, ReadError::Fault(Fault::BadRecord), sink),
+        Err(_) => answer_fault(seat, ReadError::OutOfMemory, sink),
+    }
+}
+
 /// Answers the record of a line that is given without what ends it.
 pub(crate) fn answer_bare_line<K: Sink>(
     seat: &mut Seat,
@@ -29,15 +54,8 @@ pub(crate) fn answer_bare_line<K: Sink>(
     ensures sound { OnOk result (K.faults sink.new ≡ K.faults sink.old) }
     ensures failed { OnErr result (K.faults sink.new ≡ one_more (K.faults sink.old)) }
 {
-    if line.is_empty() {
-        return Ok(());
-    }
     let mut row = FieldRow::new(seat.alloc);
-    match row.read_line(line) {
-        Ok(true) => answer_record(seat, &row, sink),
-        Ok(false) => answer_fault(seat, ReadError::Fault(Fault::BadRecord), sink),
-        Err(_) => answer_fault(seat, ReadError::OutOfMemory, sink),
-    }
+    answer_by_row(seat, &mut row, line, sink)
 }
 
 /// Answers the record of a line that a line feed ended, with as many bytes as a line may have.

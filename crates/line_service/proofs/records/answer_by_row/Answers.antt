@@ -5,7 +5,7 @@ use Rattle.line_fields.specs.declared.faults.Fault.TheVariants.{BadRecord}
 use Rattle.line_fields.specs.Bytes.{is_line_text}
 use Rattle.line_service.proofs.ByteLemmas.{other_answers}
 use Rattle.line_service.proofs.HeardLemmas.{bad_record, no_memory, some_record}
-use Rattle.line_service.proofs.records.answer_bare_line.Goals as goal
+use Rattle.line_service.proofs.records.answer_by_row.Goals as goal
 
 pub returns-in-Ok-false-clause-ok : goal.returns-in-Ok-false-clause-ok
 returns-in-Ok-false-clause-ok g c =
