@@ -18,7 +18,7 @@ use Rattle.line_world.specs.Steps.{IsPlan}
 use Rattle.line_world.specs.Machine.{Machine}
 use Rattle.line_scripts.specs.declared.commands.Command.{Command}
 use Rattle.line_scripts.specs.declared.commands.Command.TheVariants as commands
-use Rattle.line_world.specs.declared.steps.Step.{Step}
+use Rattle.line_steps.specs.declared.steps.Step.{Step}
 use Rattle.line_world.specs.declared.replies.Reply.{Reply}
 use Rattle.line_world.specs.declared.replies.StepError.{StepError}
 use Rattle.line_world.specs.declared.replies.StepError.TheVariants as errors

@@ -13,7 +13,7 @@ use Rattle.line_world.specs.declared.replies.Answer.TheVariants as answers
 use Rattle.line_world.specs.declared.replies.Reply.{Reply}
 use Rattle.line_world.specs.declared.replies.StepError.{StepError}
 use Rattle.line_world.specs.declared.replies.StepError.TheVariants as errors
-use Rattle.line_world.specs.declared.steps.Step.{Step}
+use Rattle.line_steps.specs.declared.steps.Step.{Step}
 use Rattle.line_moves.specs.Listed.{ListedRound}
 use Rattle.line_world.specs.Machine.{Machine}
 use Rattle.line_plan.specs.declared.plans.Plan.{Plan}

@@ -7,7 +7,7 @@ ghost use Rattle.line_devices.specs.Devices.{Outputs, one_more};
 ghost use Rattle.line_fields.specs.Texts.{records_text};
 ghost use Rattle.line_answers.specs.Rounds.{rounds_records};
 ghost use Rattle.line_scripts.specs.Shown.{HasShortBodyInStep, command_of_ref};
-ghost use Rattle.line_world.specs.declared.steps.Step.{Step};
+ghost use Rattle.line_steps.specs.declared.steps.Step.{Step};
 ghost use Rattle.line_world.specs.Machine.{Machine};
 
 use crate::halts::Halt;

@@ -14,7 +14,7 @@ use Rattle.line_laws.proofs.CompletionLemmas.{closed_from, closed_parts}
 use Rattle.line_moves.proofs.FateLemmas.{same_test}
 use Rattle.line_laws.proofs.RoundLines.{closed_has_check, completed_checked}
 use Rattle.line_tape.proofs.EventLemmas.{tape_same, tape_other}
-use Rattle.line_moves.specs.declared.modes.Mode.TheVariants.{Fifo}
+use Rattle.line_steps.specs.declared.modes.Mode.TheVariants.{Fifo}
 use Rattle.line_moves.specs.Listed.{ListedRound, channel, channel_table, listed_round}
 use Rattle.line_turns.specs.Turning.{TurningView, IsTurning}
 use Rattle.line_turns.proofs.TurningLemmas.{IsTurning-checked, IsTurning-kept}

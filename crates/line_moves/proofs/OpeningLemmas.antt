@@ -27,8 +27,8 @@ use Rattle.line_laws.proofs.RoundLines.{in_range, checked_has, completed_checked
 use Rattle.line_laws.proofs.SnapshotLemmas.{snapshot_event, snapshot_restarted}
 use Rattle.line_turns.specs.Tables.{between}
 use Rattle.line_turns.proofs.TableLemmas.{between-of}
-use Rattle.line_moves.specs.declared.modes.Mode.{Mode}
-use Rattle.line_moves.specs.declared.modes.Mode.TheVariants.{Fifo, Unordered}
+use Rattle.line_steps.specs.declared.modes.Mode.{Mode}
+use Rattle.line_steps.specs.declared.modes.Mode.TheVariants.{Fifo, Unordered}
 use Rattle.line_moves.specs.Listed.{ListedRound, channel, channel_in, channel_table, check_in, is_begun, is_completed, listed_round, stays, IsSnapshotOf, newly_listed}
 use Rattle.line_names.specs.declared.choices.Choice.{Choice}
 use Rattle.line_names.specs.declared.choices.Choice.TheVariants.{Check as AtCheck, Now}

@@ -22,7 +22,7 @@ use Rattle.line_turns.proofs.TurningLemmas.{IsTurning-checked}
 use Rattle.line_turns.specs.Channels.{channels_at}
 use Rattle.line_turns.specs.Tables.{between, IsTable}
 use Rattle.line_turns.specs.Turning.{TurningView, IsLastLine, IsTurning}
-use Rattle.line_moves.specs.declared.modes.Mode.TheVariants.{Unordered}
+use Rattle.line_steps.specs.declared.modes.Mode.TheVariants.{Unordered}
 use Rattle.line_moves.specs.Listed.{ListedRound, channel, channel_table, is_begun, is_completed, listed_round}
 use Rattle.line_moves.specs.Openings.{opened_by, opened_turning, AreInTransit, IsOpenTurning}
 use Rattle.line_moves.specs.Worlds.{AreRounds}

@@ -32,8 +32,8 @@ use Rattle.line_laws.proofs.OrderLemmas.{messages_sent, sent_is}
 use Rattle.line_laws.proofs.SentLemmas.{messages, In}
 use Rattle.line_tape.proofs.StayLemmas.{length_restarted}
 use Rattle.line_moves.specs.declared.fates.Fate.TheVariants.{Taken, Stale, Repeated}
-use Rattle.line_moves.specs.declared.modes.Mode.{Mode}
-use Rattle.line_moves.specs.declared.modes.Mode.TheVariants.{Fifo, Unordered}
+use Rattle.line_steps.specs.declared.modes.Mode.{Mode}
+use Rattle.line_steps.specs.declared.modes.Mode.TheVariants.{Fifo, Unordered}
 use Rattle.line_moves.specs.Fates.{fate_of, is_held}
 use Rattle.line_moves.specs.Modes.{IsFitIn, copies_in, items_in}
 use Rattle.line_moves.specs.Queues.{with_on_each, with_on_others, taken_off}

@@ -1,20 +1,15 @@
 -- The two kinds of links, what they can lead to and what they hold: in order (Chandy and Lamport,
 -- ACM TOCS 3(1), 1985), or copies without an order (Lai and Yang, Information Processing Letters
 -- 25(3), 1987).
-use Rattle.std.specs.Prelude.{ℕ, Bool, true, false, List, [], map}
+use Rattle.std.specs.Prelude.{ℕ, List, [], map}
 use Rattle.line_names.specs.declared.messages.MsgName.{MsgName}
 use Rattle.line_tape.specs.declared.items.Item.{Item}
 use Rattle.line_tape.specs.declared.items.Item.TheVariants.{Message}
 use Rattle.line_tape.specs.Fit.{link, IsFitFifo, IsFitUnordered}
 use Rattle.line_tape.specs.History.{Process}
 use Rattle.line_turns.specs.Tables.{between}
-use Rattle.line_moves.specs.declared.modes.Mode.{Mode}
-use Rattle.line_moves.specs.declared.modes.Mode.TheVariants.{Fifo, Unordered}
-
--- links keep their order
-abbrev pub is_fifo : Mode → Bool
-is_fifo Fifo = true
-is_fifo Unordered = false
+use Rattle.line_steps.specs.declared.modes.Mode.{Mode}
+use Rattle.line_steps.specs.declared.modes.Mode.TheVariants.{Fifo, Unordered}
 
 -- the history is one that links of the mode can lead to
 abbrev pub IsFitIn : Mode → List Process → Type 0

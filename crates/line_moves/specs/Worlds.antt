@@ -11,8 +11,8 @@ use Rattle.line_tape.specs.Fit.{link, IsFitFifo}
 use Rattle.line_tape.specs.History.{Process, tape_at}
 use Rattle.line_tape.specs.Rounds.{has_check_of}
 use Rattle.line_turns.specs.Kept.{ProcessTurns, AreTurned}
-use Rattle.line_moves.specs.declared.modes.Mode.{Mode}
-use Rattle.line_moves.specs.declared.modes.Mode.TheVariants.{Fifo, Unordered}
+use Rattle.line_steps.specs.declared.modes.Mode.{Mode}
+use Rattle.line_steps.specs.declared.modes.Mode.TheVariants.{Fifo, Unordered}
 use Rattle.line_moves.specs.Listed.{ListedRound, IsSnapshotOf}
 use Rattle.line_moves.specs.Openings.{OpenView, first_unlisted, IsOnlyOpen, IsLastBegun}
 use Rattle.line_turns.specs.Tables.{between, IsTable}

@@ -8,7 +8,7 @@ ghost use Rattle.line_tape.specs.declared.events.Event.TheVariants.{Mark as Mark
 ghost use Rattle.line_tape.specs.History.{tape_at, with_event};
 ghost use Rattle.line_tape.specs.Rounds.{has_check_of, is_completed_fifo};
 ghost use Rattle.line_turns.specs.Turning.{IsTurning};
-ghost use Rattle.line_moves.specs.declared.modes.Mode.TheVariants.{Fifo, Unordered};
+ghost use Rattle.line_steps.specs.declared.modes.Mode.TheVariants.{Fifo, Unordered};
 ghost use Rattle.line_moves.specs.Listed.{listed_round};
 ghost use Rattle.line_moves.specs.Openings.{left_open, marker_at, newly_closed, open_number};
 ghost use Rattle.line_moves.specs.Openings.{opened_by, opened_turning, AreMarkers};

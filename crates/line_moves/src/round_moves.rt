@@ -12,7 +12,7 @@ ghost use Rattle.line_tape.specs.Colours.{colour};
 ghost use Rattle.line_tape.specs.Rounds.{has_check_of};
 ghost use Rattle.line_turns.specs.Kept.{AreTurned};
 ghost use Rattle.line_turns.specs.Turning.{IsTurning};
-ghost use Rattle.line_moves.specs.declared.modes.Mode.TheVariants.{Fifo};
+ghost use Rattle.line_steps.specs.declared.modes.Mode.TheVariants.{Fifo};
 ghost use Rattle.line_moves.specs.Fates.{is_forced, marker_events};
 ghost use Rattle.line_moves.specs.Listed.{IsSnapshotOf};
 ghost use Rattle.line_moves.specs.Moves.{with_events, next_check};

@@ -7,7 +7,7 @@ ghost use Rattle.line_tape.specs.Restart.{is_kept};
 ghost use Rattle.line_tape.specs.Colours.{is_completed_unordered};
 ghost use Rattle.line_tape.specs.Rounds.{check_line, is_completed_fifo, round_line};
 ghost use Rattle.line_turns.specs.Turning.{IsTurning};
-ghost use Rattle.line_moves.specs.declared.modes.Mode.TheVariants.{Fifo, Unordered};
+ghost use Rattle.line_steps.specs.declared.modes.Mode.TheVariants.{Fifo, Unordered};
 ghost use Rattle.line_moves.specs.Listed.{check_in, channel_in, listed_round, stays, IsSnapshotOf};
 ghost use Rattle.line_moves.specs.Listings.{IsBelow};
 ghost use Rattle.line_marker.specs.Recording.{MarkerView, messages_by, round_of};

@@ -7,7 +7,7 @@ use Rattle.line_fields.specs.Bytes.{is_input_text}
 use Rattle.line_fields.specs.Fields.{◌>>=◌}
 use Rattle.line_fields.specs.Records.{EndsLine, Record, records_of_text}
 use Rattle.line_fields.proofs.TextLemmas.{empty_is_input, records_of_nothing}
-use Rattle.line_moves.specs.declared.modes.Mode.{Mode}
+use Rattle.line_steps.specs.declared.modes.Mode.{Mode}
 use Rattle.line_claims.specs.declared.faults.TextFault.{TextFault}
 use Rattle.line_claims.specs.declared.faults.TextError.{TextError}
 use Rattle.line_claims.specs.declared.faults.TextError.TheVariants as errors

@@ -5,7 +5,7 @@ use Rattle.line_names.specs.declared.limits.TheConstants.{MOST_PROCESSES}
 use Rattle.line_fields.specs.declared.faults.Fault.TheVariants as faults
 use Rattle.line_fields.specs.Fields.{◌>>=◌}
 use Rattle.line_fields.specs.Records.{Record}
-use Rattle.line_moves.specs.declared.modes.Mode.{Mode}
+use Rattle.line_steps.specs.declared.modes.Mode.{Mode}
 use Rattle.line_claims.specs.declared.faults.TextFault.{TextFault}
 use Rattle.line_claims.specs.Reads.{fault_of_record}
 use Rattle.line_claims.specs.Texts.{records_in}

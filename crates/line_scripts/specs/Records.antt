@@ -2,10 +2,10 @@
 use Rattle.std.specs.Prelude.{◌≡◌, ℕ, List, [], ◌∷◌, map, Ok, codes, decimal}
 use Rattle.line_fields.specs.Records.{Record}
 use Rattle.line_fields.specs.Texts.{hex_text}
-use Rattle.line_moves.specs.declared.modes.Mode.{Mode}
-use Rattle.line_moves.specs.declared.modes.Mode.TheVariants.{Fifo, Unordered}
-use Rattle.line_world.specs.declared.steps.Step.TheVariants.{Send, Deliver, Check, Begin, Turn}
-use Rattle.line_world.specs.declared.steps.Step.TheVariants.{Damage, Bar, Recover}
+use Rattle.line_steps.specs.declared.modes.Mode.{Mode}
+use Rattle.line_steps.specs.declared.modes.Mode.TheVariants.{Fifo, Unordered}
+use Rattle.line_steps.specs.declared.steps.Step.TheVariants.{Send, Deliver, Check, Begin, Turn}
+use Rattle.line_steps.specs.declared.steps.Step.TheVariants.{Damage, Bar, Recover}
 use Rattle.line_claims.specs.Numbers.{plain}
 use Rattle.line_claims.specs.Records.{members}
 use Rattle.line_claims.specs.Texts.{records_in}

@@ -4,11 +4,11 @@ ghost use Rattle.std.specs.Prelude.{◌≡◌, ℕ, List, length, IfOk};
 ghost use Rattle.line_scripts.specs.Keeping.{HasShortMessage, with_bytes};
 ghost use Rattle.line_scripts.specs.Keeping as spec;
 ghost use Rattle.line_scripts.specs.Shown.{HasShortBodyInStep, command_of_ref};
-ghost use Rattle.line_world.specs.declared.steps.Step.{Step};
+ghost use Rattle.line_steps.specs.declared.steps.Step.{Step};
 
 use crate::commands::{Command, CommandRef};
 use line_names::{MOST_PROCESSES, ProcId, ProcSet};
-use line_world::StepRef;
+use line_steps::StepRef;
 use std::alloc::{AllocError, Global};
 use std::mem::size_of;
 

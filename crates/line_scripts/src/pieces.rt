@@ -16,7 +16,7 @@ use crate::commands::world_of;
 use crate::scripts::KeptScript;
 use line_claims::{TextError, TextFault, error_at, fault_at};
 use line_fields::{Fault, FieldRow, RecordReader, is_plain};
-use line_world::Mode;
+use line_steps::Mode;
 use std::alloc::{AllocError, Global};
 use std::marker::Model;
 

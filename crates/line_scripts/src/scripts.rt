@@ -6,7 +6,7 @@ ghost use Rattle.line_scripts.specs.Scripts as spec;
 ghost use Rattle.line_claims.specs.Reads.{Reads, no_memory};
 ghost use Rattle.line_scripts.specs.Reads.{IsOfScript, script_view, kept_script_view};
 ghost use Rattle.line_scripts.specs.Shown.{HasShortBodyInStep, command_of_ref};
-ghost use Rattle.line_world.specs.Shown as steps;
+ghost use Rattle.line_steps.specs.Shown as steps;
 
 use crate::blocks::Commands;
 use crate::commands::{Command, CommandRef};
@@ -14,7 +14,7 @@ use crate::pieces::ScriptReader;
 use line_claims::{TextError, TextFault, told};
 use line_names::Body;
 use line_tape::State;
-use line_world::{Mode, Step, StepRef};
+use line_steps::{Mode, Step, StepRef};
 use std::alloc::{AllocError, Global};
 
 /// What a text asks of a machine.

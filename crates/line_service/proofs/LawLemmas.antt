@@ -11,7 +11,7 @@ use Rattle.line_fields.specs.declared.faults.ReadError.{ReadError}
 use Rattle.line_fields.specs.Bytes.{is_input_text}
 use Rattle.line_fields.specs.Fields.{◌>>=◌}
 use Rattle.line_fields.specs.Records.{Record, records_of_text}
-use Rattle.line_moves.specs.declared.modes.Mode.{Mode}
+use Rattle.line_steps.specs.declared.modes.Mode.{Mode}
 use Rattle.line_scripts.specs.declared.commands.Command.{Command}
 use Rattle.line_scripts.specs.Scripts.{Script, command_in, commands_from, script_of, script_of_text, world_of}
 use Rattle.line_service.specs.declared.outcomes.Outcome.{Outcome}

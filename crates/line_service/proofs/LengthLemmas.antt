@@ -15,8 +15,8 @@ use Rattle.line_world.specs.declared.replies.Answer.{Answer}
 use Rattle.line_world.specs.declared.replies.Answer.TheVariants as answers
 use Rattle.line_world.specs.declared.replies.Reply.{Reply}
 use Rattle.line_world.specs.declared.replies.Reply.TheVariants.{Recovered}
-use Rattle.line_world.specs.declared.steps.Step.{Step}
-use Rattle.line_world.specs.declared.steps.Step.TheVariants as steps
+use Rattle.line_steps.specs.declared.steps.Step.{Step}
+use Rattle.line_steps.specs.declared.steps.Step.TheVariants as steps
 use Rattle.line_world.specs.Machine.{Machine}
 use Rattle.line_world.specs.Runs.{Takes}
 use Rattle.line_world.specs.Steps.{Does, RecoversWith}

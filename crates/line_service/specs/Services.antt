@@ -11,7 +11,7 @@ use Rattle.line_fields.specs.Faults.{code_of}
 use Rattle.line_fields.specs.Fields.{◌>>=◌, Fails}
 use Rattle.line_fields.specs.Records.{Record}
 use Rattle.line_fields.specs.Texts.{records_text}
-use Rattle.line_moves.specs.declared.modes.Mode.{Mode}
+use Rattle.line_steps.specs.declared.modes.Mode.{Mode}
 use Rattle.line_scripts.specs.declared.commands.Command.{Command}
 use Rattle.line_scripts.specs.Scripts.{command_in, world_of}
 use Rattle.line_service.specs.declared.outcomes.Outcome.{Outcome}

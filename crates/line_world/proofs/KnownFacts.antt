@@ -16,15 +16,15 @@ use Rattle.line_turns.specs.Tables.{between}
 use Rattle.line_turns.specs.Turning.{TurningView}
 use Rattle.line_moves.specs.declared.fates.Fate.{Fate}
 use Rattle.line_moves.specs.declared.fates.Fate.TheVariants.{Taken}
-use Rattle.line_moves.specs.declared.modes.Mode.{Mode}
-use Rattle.line_moves.specs.declared.modes.Mode.TheVariants.{Fifo, Unordered}
+use Rattle.line_steps.specs.declared.modes.Mode.{Mode}
+use Rattle.line_steps.specs.declared.modes.Mode.TheVariants.{Fifo, Unordered}
 use Rattle.line_moves.specs.Fates.{fate_of, forced_round}
 use Rattle.line_moves.specs.Listed.{ListedRound, is_begun, is_completed}
 use Rattle.line_moves.specs.Openings.{OpenView, left_open, newly_closed, opened_by, opened_turning, IsOpenTurning, IsListedOrOpen}
 use Rattle.line_moves.specs.Worlds.{AreRounds, IsItemOf, IsMessage, IsPainted, IsWorld}
 use Rattle.line_moves.proofs.TurnFacts.{may_turn_none, open_is}
 use Rattle.line_moves.proofs.WorldLemmas.{items-world, IsWorld-held}
-use Rattle.line_world.specs.declared.steps.Step.TheVariants.{Begin, Turn}
+use Rattle.line_steps.specs.declared.steps.Step.TheVariants.{Begin, Turn}
 use Rattle.line_world.specs.declared.protocols.Protocol.{Protocol}
 use Rattle.line_world.specs.declared.protocols.Protocol.TheVariants.{Markers, Colours}
 use Rattle.line_world.specs.declared.worlds.World.TheInside.{Inside}

@@ -13,8 +13,8 @@ use Rattle.line_tape.proofs.EventLemmas.{tape_same}
 use Rattle.line_laws.proofs.RoundLines.{checked_has, completed_checked}
 use Rattle.line_laws.proofs.SnapshotLemmas.{snapshot_event}
 use Rattle.line_turns.specs.Turning.{IsTurning}
-use Rattle.line_moves.specs.declared.modes.Mode.{Mode}
-use Rattle.line_moves.specs.declared.modes.Mode.TheVariants.{Fifo, Unordered}
+use Rattle.line_steps.specs.declared.modes.Mode.{Mode}
+use Rattle.line_steps.specs.declared.modes.Mode.TheVariants.{Fifo, Unordered}
 use Rattle.line_moves.specs.Fates.{is_forced, marker_events}
 use Rattle.line_moves.specs.Listed.{ListedRound, channel_in, is_begun, is_completed, listed_round, IsSnapshotOf, newly_listed}
 use Rattle.line_moves.specs.Moves.{with_events}

@@ -15,7 +15,7 @@ use Rattle.line_moves.specs.declared.fates.Fate.TheVariants.{Taken}
 use Rattle.std.specs.List.{slice_get}
 use Rattle.line_tape.specs.declared.items.Item.{Item}
 use Rattle.line_tape.specs.declared.items.Item.TheVariants.{Message}
-use Rattle.line_moves.specs.declared.modes.Mode.TheVariants.{Unordered}
+use Rattle.line_steps.specs.declared.modes.Mode.TheVariants.{Unordered}
 use Rattle.line_moves.specs.Fates.{fate_of, forced_round}
 use Rattle.line_turns.specs.Tables.{between}
 use Rattle.line_moves.specs.Worlds.{IsPainted, IsWorld}

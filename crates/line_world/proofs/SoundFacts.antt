@@ -30,8 +30,8 @@ use Rattle.line_turns.specs.Tables.{between, table_of, with_list, IsTable}
 use Rattle.line_turns.proofs.TableLemmas.{between-of, IsTable-of}
 use Rattle.line_moves.specs.declared.fates.Fate.{Fate}
 use Rattle.line_moves.specs.declared.fates.Fate.TheVariants.{Taken, Stale as IsStale, Repeated as IsRepeated}
-use Rattle.line_moves.specs.declared.modes.Mode.{Mode}
-use Rattle.line_moves.specs.declared.modes.Mode.TheVariants.{Fifo, Unordered}
+use Rattle.line_steps.specs.declared.modes.Mode.{Mode}
+use Rattle.line_steps.specs.declared.modes.Mode.TheVariants.{Fifo, Unordered}
 use Rattle.line_moves.specs.Fates.{events_of, events_taken, fate_of, forced_round, is_forced, marker_events}
 use Rattle.line_moves.specs.Listed.{ListedRound, channel_in, is_begun, is_completed, listed_round, newly_listed, IsReached, IsSnapshotOf}
 use Rattle.line_moves.specs.Modes.{copies_in, items_in}
@@ -48,8 +48,8 @@ use Rattle.line_world.specs.declared.replies.Reply.{Reply}
 use Rattle.line_world.specs.declared.replies.Reply.TheVariants.{Sent, Took, Marked, Stale, Repeated, Checked, Begun, Turned, Damaged, Barred, Recovered}
 use Rattle.line_world.specs.declared.replies.StepError.{StepError}
 use Rattle.line_world.specs.declared.replies.StepError.TheVariants.{TapeFull}
-use Rattle.line_world.specs.declared.steps.Step.{Step}
-use Rattle.line_world.specs.declared.steps.Step.TheVariants.{Send, Deliver, Check, Begin, Turn, Damage, Bar, Recover}
+use Rattle.line_steps.specs.declared.steps.Step.{Step}
+use Rattle.line_steps.specs.declared.steps.Step.TheVariants.{Send, Deliver, Check, Begin, Turn, Damage, Bar, Recover}
 use Rattle.line_world.specs.Machine.{Machine, items_on, start}
 use Rattle.line_world.specs.Refusals.{first_cause, is_full_for, link_causes, refusal_of}
 use Rattle.line_world.specs.Runs.{Run, Takes, IsParted}

@@ -24,7 +24,7 @@ use Rattle.line_laws.proofs.SnapshotLemmas.{event_transit}
 use Rattle.line_turns.specs.Kept.{ProcessTurns, AreTurned}
 use Rattle.line_turns.specs.Turning.{TurningView, IsTurning}
 use Rattle.line_moves.specs.declared.fates.Fate.TheVariants.{Taken}
-use Rattle.line_moves.specs.declared.modes.Mode.TheVariants.{Unordered}
+use Rattle.line_steps.specs.declared.modes.Mode.TheVariants.{Unordered}
 use Rattle.line_moves.specs.Fates.{fate_of, forced_round}
 use Rattle.line_moves.specs.Listed.{ListedRound, channel_table, is_begun, is_completed, listed_round, newly_listed}
 use Rattle.line_moves.specs.Openings.{OpenView, left_open, newly_closed, opened_by, opened_turning, IsRunning}

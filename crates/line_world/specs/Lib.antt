@@ -5,5 +5,4 @@ pub mod Steps
 pub mod Runs
 pub mod Marked
 pub mod Sound
-pub mod Shown
 pub mod Protocols

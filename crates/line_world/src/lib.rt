@@ -12,11 +12,10 @@
 mod laws;
 mod protocols;
 mod replies;
-mod steps;
 mod worlds;
 
 pub use laws::{runs_keep_rounds, runs_name_apart};
-pub use line_moves::{Mode, Round};
+pub use line_moves::Round;
+pub use line_steps::{Mode, Step, StepRef};
 pub use replies::{Answer, Reply, RunStopped, StepError};
-pub use steps::{Step, StepRef};
 pub use worlds::World;

@@ -13,8 +13,9 @@ ghost use Rattle.line_moves.specs.Modes.{copies_in, IsFitIn};
 ghost use Rattle.line_moves.specs.Worlds.{AreQueues};
 ghost use Rattle.line_world.specs.Protocols.{mode_of, open_round_of, IsFollowing};
 
-use line_moves::{Links, Mode, OpenRound, restart_copies, restart_links};
+use line_moves::{Links, OpenRound, restart_copies, restart_links};
 use line_names::{Line, MsgName, ProcId};
+use line_steps::Mode;
 use line_tape::History;
 use line_turns::{Colours, ReceivedSends, Turning};
 use std::alloc::{AllocError, Global};

@@ -24,9 +24,9 @@ pub use Rattle.line_names.specs.declared.choices.Choice
 pub use Rattle.line_names.specs.declared.messages.MsgName
 pub use Rattle.line_tape.specs.declared.events.Event as EventValue
 pub use Rattle.line_tape.specs.declared.items.Item
-pub use Rattle.line_moves.specs.declared.modes.Mode
+pub use Rattle.line_steps.specs.declared.modes.Mode
 pub use Rattle.line_world.specs.declared.replies.Answer
-pub use Rattle.line_world.specs.declared.steps.Step
+pub use Rattle.line_steps.specs.declared.steps.Step
 -- Catalogues, and the vectors of choices.
 pub use Rattle.line_catalogue.specs.Agreement
 pub use Rattle.line_catalogue.specs.Damage
@@ -41,11 +41,12 @@ pub use Rattle.line_check.specs.Verdict
 -- Worlds.
 pub use Rattle.line_moves.specs.Listed
 pub use Rattle.line_moves.specs.Modes
+pub use Rattle.line_steps.specs.Modes as StepModes
 pub use Rattle.line_world.specs.Codes
 pub use Rattle.line_world.specs.Machine
 pub use Rattle.line_world.specs.Refusals as StepRefusals
 pub use Rattle.line_world.specs.Runs
-pub use Rattle.line_world.specs.Shown as StepShown
+pub use Rattle.line_steps.specs.Shown as StepShown
 pub use Rattle.line_world.specs.Sound
 pub use Rattle.line_world.specs.Steps
 -- Texts.

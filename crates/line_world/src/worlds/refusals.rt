@@ -1,8 +1,8 @@
 //! What refuses a step of a world.
 ghost use Rattle.std.specs.Prelude.{◌≡◌, ◌≢◌, ◌<◌, ◌≤◌, ◌+◌, ℕ, List, Some, length, nat_lt};
 ghost use Rattle.line_tape.specs.History.{tape_at};
-ghost use Rattle.line_moves.specs.declared.modes.Mode.TheVariants.{Unordered};
-ghost use Rattle.line_world.specs.declared.steps.Step.TheVariants.{Send, Check, Begin, Turn};
+ghost use Rattle.line_steps.specs.declared.modes.Mode.TheVariants.{Unordered};
+ghost use Rattle.line_steps.specs.declared.steps.Step.TheVariants.{Send, Check, Begin, Turn};
 ghost use Rattle.line_world.specs.Refusals.{first_cause, link_causes, may_turn, refusal_of};
 ghost use Rattle.line_world.specs.Refusals.{has_stranger, is_bad_pick};
 ghost use Rattle.line_world.specs.Machine.{is_open, items_on};
@@ -10,7 +10,7 @@ ghost use Rattle.line_world.specs.Machine.{is_open, items_on};
 use super::World;
 use crate::protocols::Protocol;
 use crate::replies::StepError;
-use line_moves::Mode;
+use line_steps::Mode;
 use line_names::{ProcId, ProcSet};
 use line_tape::{History, LAST_ROUND, MOST_EVENTS, MOST_STATE};
 

@@ -1,8 +1,8 @@
 //! How a world begins a round, and how a process turns to it.
 ghost use Rattle.std.specs.Prelude.{◌≡◌, ◌≢◌, None, IfOk, IfErr, IsErrOf};
-ghost use Rattle.line_moves.specs.declared.modes.Mode.TheVariants.{Fifo, Unordered};
+ghost use Rattle.line_steps.specs.declared.modes.Mode.TheVariants.{Fifo, Unordered};
 ghost use Rattle.line_world.specs.declared.replies.Answer.TheVariants.{Done, Refused};
-ghost use Rattle.line_world.specs.declared.steps.Step.TheVariants.{Begin, Turn};
+ghost use Rattle.line_steps.specs.declared.steps.Step.TheVariants.{Begin, Turn};
 ghost use Rattle.line_world.specs.Refusals.{refusal_of};
 ghost use Rattle.line_world.specs.Runs.{Takes};
 

@@ -7,7 +7,7 @@ use Rattle.line_tape.specs.declared.items.Item.TheVariants.{Marker}
 use Rattle.line_tape.specs.History.{Process, tape_at, with_event}
 use Rattle.line_tape.specs.Rounds.{has_check_of}
 use Rattle.line_catalogue.specs.Agreement.{Agrees}
-use Rattle.line_moves.specs.declared.modes.Mode.TheVariants.{Fifo}
+use Rattle.line_steps.specs.declared.modes.Mode.TheVariants.{Fifo}
 use Rattle.line_moves.specs.Queues.{with_on_each}
 use Rattle.line_turns.specs.Tables.{between, with_list}
 use Rattle.line_moves.specs.Worlds.{IsWorld}

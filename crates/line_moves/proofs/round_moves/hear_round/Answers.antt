@@ -3,7 +3,7 @@ use Rattle.std.proofs.Common.{List, length, ap, ◌∙◌, subst, sym, arith}
 use Rattle.line_tape.specs.declared.events.Event.TheVariants.{Mark}
 use Rattle.line_tape.specs.declared.items.Item.{Item}
 use Rattle.line_tape.specs.History.{Process, with_event}
-use Rattle.line_moves.specs.declared.modes.Mode.TheVariants.{Fifo}
+use Rattle.line_steps.specs.declared.modes.Mode.TheVariants.{Fifo}
 use Rattle.line_moves.specs.Worlds.{IsWorld}
 use Rattle.line_moves.proofs.AgreeLemmas.{AgreesNext-mark}
 use Rattle.line_moves.proofs.WorldLemmas.{IsWorld-mark}

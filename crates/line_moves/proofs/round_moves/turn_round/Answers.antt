@@ -3,7 +3,7 @@ use Rattle.std.proofs.Common.{◌≡◌, ◌++◌, ℕ, List, Some, sym, ap, ◌
 use Rattle.line_tape.specs.History.{Process, tape_at}
 use Rattle.line_tape.specs.Rounds.{has_check_of}
 use Rattle.line_turns.specs.Turning.{TurningView}
-use Rattle.line_moves.specs.declared.modes.Mode.TheVariants.{Unordered}
+use Rattle.line_steps.specs.declared.modes.Mode.TheVariants.{Unordered}
 use Rattle.line_moves.specs.Listed.{ListedRound}
 use Rattle.line_moves.specs.Openings.{left_open, newly_closed, opened_by, IsCountedAtRound}
 use Rattle.line_moves.proofs.TurnFacts.{open_round, same_round}

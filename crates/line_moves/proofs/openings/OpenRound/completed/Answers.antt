@@ -1,7 +1,7 @@
 -- It is the round of its number.
 use Rattle.std.proofs.Common.{sym, subst, ap, ◌∙◌}
 use Rattle.line_tape.specs.Rounds.{is_completed_fifo}
-use Rattle.line_moves.specs.declared.modes.Mode.TheVariants.{Fifo}
+use Rattle.line_steps.specs.declared.modes.Mode.TheVariants.{Fifo}
 use Rattle.line_moves.specs.Listed.{listed_round}
 use Rattle.line_moves.specs.Openings.{OpenView, IsRecording}
 use Rattle.line_moves.proofs.openings.OpenRound.completed.Goals as goal

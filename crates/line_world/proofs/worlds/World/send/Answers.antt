@@ -5,14 +5,14 @@ use Rattle.line_tape.specs.declared.events.Event.TheVariants.{Send as SendEvent}
 use Rattle.line_tape.specs.History.{Process, tape_at, incarnation_at, with_event}
 use Rattle.line_world.specs.declared.replies.Reply.TheVariants.{Sent}
 use Rattle.line_world.specs.declared.replies.StepError.TheVariants.{OutOfMemory}
-use Rattle.line_world.specs.declared.steps.Step.TheVariants.{Send}
+use Rattle.line_steps.specs.declared.steps.Step.TheVariants.{Send}
 use Rattle.line_world.specs.Machine.{Machine}
 use Rattle.line_world.specs.Refusals.{refusal_of}
 use Rattle.line_world.specs.Steps.{Does}
 use Rattle.line_moves.specs.Openings.{OpenView}
 use Rattle.line_moves.specs.Worlds.{IsWorld}
 use Rattle.line_moves.specs.Listed.{ListedRound}
-use Rattle.line_moves.specs.declared.modes.Mode.{Mode}
+use Rattle.line_steps.specs.declared.modes.Mode.{Mode}
 use Rattle.line_tape.specs.declared.events.Event.{Event}
 use Rattle.line_moves.proofs.OpeningLemmas.{AreRounds-kept, IsOpening-kept, none_listed}
 use Rattle.line_moves.specs.Modes.{IsFitIn}

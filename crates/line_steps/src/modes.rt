@@ -1,6 +1,6 @@
 //! The kinds of links.
 ghost use Rattle.std.specs.Prelude.{◌≡◌};
-ghost use Rattle.line_moves.specs.Modes.{is_fifo};
+ghost use Rattle.line_steps.specs.Modes.{is_fifo};
 
 /// How links deliver.
 #[derive(Clone, Copy, Debug, PartialEq, Eq)]

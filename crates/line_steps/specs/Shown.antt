@@ -1,16 +1,16 @@
 -- The step that is asked for with what it carries lent.
 use Rattle.std.specs.Prelude.{◌≤◌, length}
 use Rattle.line_names.specs.declared.limits.TheConstants.{MOST_BODY}
-use Rattle.line_world.specs.declared.steps.Step.{Step}
-use Rattle.line_world.specs.declared.steps.Step.TheVariants.{Send, Deliver, Check, Begin, Turn}
-use Rattle.line_world.specs.declared.steps.Step.TheVariants.{Damage, Bar, Recover}
-use Rattle.line_world.specs.declared.steps.StepRef.{StepRef}
-use Rattle.line_world.specs.declared.steps.StepRef.TheVariants.{Send as SendRef}
-use Rattle.line_world.specs.declared.steps.StepRef.TheVariants.{Deliver as DeliverRef}
-use Rattle.line_world.specs.declared.steps.StepRef.TheVariants.{Check as CheckRef}
-use Rattle.line_world.specs.declared.steps.StepRef.TheVariants.{Begin as BeginRef, Turn as TurnRef}
-use Rattle.line_world.specs.declared.steps.StepRef.TheVariants.{Damage as DamageRef, Bar as BarRef}
-use Rattle.line_world.specs.declared.steps.StepRef.TheVariants.{Recover as RecoverRef}
+use Rattle.line_steps.specs.declared.steps.Step.{Step}
+use Rattle.line_steps.specs.declared.steps.Step.TheVariants.{Send, Deliver, Check, Begin, Turn}
+use Rattle.line_steps.specs.declared.steps.Step.TheVariants.{Damage, Bar, Recover}
+use Rattle.line_steps.specs.declared.steps.StepRef.{StepRef}
+use Rattle.line_steps.specs.declared.steps.StepRef.TheVariants.{Send as SendRef}
+use Rattle.line_steps.specs.declared.steps.StepRef.TheVariants.{Deliver as DeliverRef}
+use Rattle.line_steps.specs.declared.steps.StepRef.TheVariants.{Check as CheckRef}
+use Rattle.line_steps.specs.declared.steps.StepRef.TheVariants.{Begin as BeginRef, Turn as TurnRef}
+use Rattle.line_steps.specs.declared.steps.StepRef.TheVariants.{Damage as DamageRef, Bar as BarRef}
+use Rattle.line_steps.specs.declared.steps.StepRef.TheVariants.{Recover as RecoverRef}
 
 -- the step that is asked for so, its message, state or set lent
 abbrev pub step_of_ref : StepRef → Step
