@@ -14,6 +14,3 @@
 mod colours;
 
 pub use colours::{Colour, ColourError};
-
-#[cfg(test)]
-mod tests;

@@ -10,6 +10,3 @@ pub use devices::DeviceFault;
 pub use memory::{MemSink, MemSource};
 pub use sinks::{Sink, put_all};
 pub use sources::{MOST_INPUT, ReadRefused, Source, read_all};
-
-#[cfg(test)]
-mod tests;

@@ -12,6 +12,3 @@ mod blocks;
 mod kernels;
 
 pub use kernels::{all_le, count_over, first_over, first_over_from, max_into};
-
-#[cfg(test)]
-mod tests;

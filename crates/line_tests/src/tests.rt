@@ -11,8 +11,11 @@ use std::test::Fail;
 mod build;
 mod catalogues;
 mod claims;
+mod colours;
+mod lanes;
 mod markers;
 mod runs;
+mod vectors;
 
 /// a, b and c as in the picture of the README.
 const DOMINO: [Did; 9] = [

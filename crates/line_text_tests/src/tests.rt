@@ -1,4 +1,5 @@
 //! Texts over devices, what is put at once, records beside those of `csv`, and services.
+mod devices;
 mod histories;
 mod judgings;
 mod limits;

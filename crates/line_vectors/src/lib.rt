@@ -24,6 +24,3 @@ pub use laws::{
 pub use limits::LAST_NUMBER;
 pub use reaches::{Reach, ReachRef};
 pub use sents::Sent;
-
-#[cfg(test)]
-mod tests;

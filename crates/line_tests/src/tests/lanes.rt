@@ -1,9 +1,9 @@
-//! The kernels at lengths on both sides of a block's.
-use crate::{all_le, count_over, first_over, max_into};
+//! Questions of lanes at lengths on both sides of a block's.
+use line_lanes::{all_le, count_over, first_over, max_into};
 use std::alloc::Global;
 use std::test::Fail;
 
-/// What the kernels say of so many lanes of 5 beside as many, of which the last is 6 in the first
+/// What is answered of so many lanes of 5 beside as many, of which the last is 6 in the first
 /// list alone: whether none is over, the first that is, how many are, and whether the greater of
 /// both are the first list.
 fn told(alloc: Global, n: usize) -> Result<(bool, Option<usize>, usize, bool), Fail> {
