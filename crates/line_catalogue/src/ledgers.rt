@@ -1,17 +1,18 @@
 //! A history, and beside it what is left to look at, so that little tells what is in transit.
 ghost use Rattle.std.specs.Prelude.{◌≡◌, ◌≢◌, ◌<◌, ◌≤◌, ◌+◌, ℕ, length};
-ghost use Rattle.std.specs.Prelude.{IfOk, IfSome, IsOk, OnOk};
+ghost use Rattle.std.specs.Prelude.{IfOk, IfSome, IsOk, OnOk, true};
 ghost use Rattle.line_tape.specs.Event.{HasLongState, NamesBelow};
 ghost use Rattle.line_tape.specs.History.{tape_at, with_event};
 ghost use Rattle.line_tape.specs.Line.{IsConsistent, IsLine};
 ghost use Rattle.line_tape.specs.Restart.{restarted_history, HaveFurther};
 ghost use Rattle.line_tape.specs.Transit.{in_transit};
 ghost use Rattle.line_tape.specs.Views.{room_at};
-ghost use Rattle.line_catalogue.specs.Left.{AreSettledUpTo, AreStrangers};
+ghost use Rattle.line_catalogue.specs.Left.{AreClosed, AreLeft, AreSettledUpTo, AreStrangers};
 
 mod appends;
 mod starts;
 
+use crate::kept_lines::KeptLine;
 use crate::settlings::{Settled, find_settled};
 use crate::transits::find_transit;
 use line_names::{Choice, Line, MsgName, ProcId, ProcSet};
@@ -57,14 +58,15 @@ fn count_sends(history: &History) -> usize {
 
 /// After how many further events a ledger settles where it keeps a line: after as many as it would
 /// look at now, which so have paid for it, and some more.
-fn events_to_wait(history: &History, starts: &[u32], left: &[MsgName]) -> usize
-    requires { length starts.now ≡ length history.now.processes }
+fn events_to_wait(history: &History, kept: KeptLine<'_>) -> usize
+    requires { length kept.starts.now ≡ length history.now.processes }
 {
     let n = history.n();
-    let mut events = left.len().saturating_add(EVENTS_BETWEEN);
+    let mut events = kept.left.len().saturating_add(EVENTS_BETWEEN);
     for q in 0..n {
         let p = ProcId::try_new(q, n).unwrap();
-        let since = history.tape(p).sends().saturating_sub(starts[q as usize]);
+        let start = kept.starts[q as usize];
+        let since = history.tape(p).sends().saturating_sub(start);
         events = events.saturating_add(since as usize);
     }
     events
@@ -134,6 +136,21 @@ impl Ledger {
         &self.history
     }
 
+    /// The line that it keeps.
+    fn kept(&self) -> KeptLine<'_>
+        ensures left { AreLeft self.now.processes result.starts.now result.places.now
+            result.left.now }
+        ensures closed { result.closed ≡ true
+            → AreClosed self.now.processes result.starts.now result.places.now }
+    {
+        KeptLine {
+            starts: self.starts.as_slice(),
+            places: self.places.as_slice(),
+            left: self.left.as_slice(),
+            closed: self.closed,
+        }
+    }
+
     /// Goes on from where it has settled.
     fn keep_settled(&mut self, line: &Line, settled: Settled, credit: usize)
         requires line { IsLine self.old.processes line.now }
@@ -156,7 +173,7 @@ impl Ledger {
     fn wait(&mut self)
         ensures { self.new ≡ self.old }
     {
-        let wait = events_to_wait(&self.history, self.starts.as_slice(), self.left.as_slice());
+        let wait = events_to_wait(&self.history, self.kept());
         self.due = wait.saturating_add(EVENTS_LATER);
         self.credit = wait;
     }
@@ -173,15 +190,7 @@ impl Ledger {
     {
         let line = present_line(&self.history);
         let mut credit = self.credit;
-        let found = find_settled(
-            &self.history,
-            self.starts.as_slice(),
-            self.places.as_slice(),
-            self.left.as_slice(),
-            self.alloc,
-            &line,
-            &mut credit,
-        );
+        let found = find_settled(&self.history, self.kept(), self.alloc, &line, &mut credit);
         match found {
             Ok(settled) => self.keep_settled(&line, settled, credit),
             Err(AllocError) => self.wait(),
@@ -259,16 +268,7 @@ impl Ledger {
         ensures { IfOk result (λ messages.
             messages.items ≡ in_transit self.now.processes line.now) }
     {
-        find_transit(
-            &self.history,
-            self.starts.as_slice(),
-            self.places.as_slice(),
-            self.left.as_slice(),
-            self.closed,
-            strangers,
-            alloc,
-            line,
-        )
+        find_transit(&self.history, self.kept(), strangers, alloc, line)
     }
 
     /// Keeps what is in transit at a line: what is so later is found from that and from what is

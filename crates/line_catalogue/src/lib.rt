@@ -11,6 +11,7 @@ mod agreement;
 mod candidates;
 mod catalogues;
 mod ends;
+mod kept_lines;
 mod kept_rows;
 mod known;
 mod laws;

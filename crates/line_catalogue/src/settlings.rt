@@ -8,6 +8,7 @@ ghost use Rattle.line_catalogue.specs.Left.{ComeInOrder, HasOpenBeside};
 
 use crate::candidates::candidates;
 use crate::ends::ends_before;
+use crate::kept_lines::KeptLine;
 use crate::known::find_known;
 use crate::numbers::Numbers;
 use crate::senders::{add_first, add_since};
@@ -98,25 +99,23 @@ fn settle_sender(
 /// Settles each sender at a line, as far as the credit goes.
 pub fn find_settled(
     history: &History,
-    starts: &[u32],
-    places: &[u32],
-    left: &[MsgName],
+    kept: KeptLine<'_>,
     alloc: Global,
     line: &Line,
     credit: &mut usize,
 ) -> Result<Settled, AllocError>
     requires line { IsLine history.now.processes line.now }
-    requires left { AreLeft history.now.processes starts.now places.now left.now }
+    requires left { AreLeft history.now.processes kept.starts.now kept.places.now kept.left.now }
     ensures { IfOk result (λ settled. AreSettledUpTo history.now.processes line.now
         settled.starts.items settled.left.items) }
 {
     let n = history.n();
-    let bounds = ends_before(history, starts, alloc, line)?;
+    let bounds = ends_before(history, kept.starts, alloc, line)?;
     let ends = bounds.as_slice();
-    let rows = candidates(history, ends, places, &ProcSet::empty(), alloc, line)?;
-    let received = find_known(history, ends, places, left.len(), alloc, line);
+    let rows = candidates(history, ends, kept.places, &ProcSet::empty(), alloc, line)?;
+    let received = find_known(history, ends, kept.places, kept.left.len(), alloc, line);
     let mut moved = Vec::with_capacity(alloc, n as usize)?;
-    let mut messages = Vec::with_capacity(alloc, left.len())?;
+    let mut messages = Vec::with_capacity(alloc, kept.left.len())?;
     for sender in 0..n {
         let p = ProcId::try_new(sender, n).unwrap();
         let start = settle_sender(
@@ -124,7 +123,7 @@ pub fn find_settled(
             line,
             p,
             ends[sender as usize],
-            left,
+            kept.left,
             &rows[sender as usize],
             received.base(sender),
             received.row(sender),

@@ -9,6 +9,7 @@ ghost use Rattle.line_catalogue.specs.Left.{AreStrangers, ComeInOrder, HasOpenBe
 
 use crate::candidates::candidates;
 use crate::ends::ends_before;
+use crate::kept_lines::KeptLine;
 use crate::known::{Known, find_known};
 use crate::numbers::Numbers;
 use crate::senders::{add_first, add_since};
@@ -75,31 +76,29 @@ fn add_all_open(
 /// before the line was received by the strangers.
 pub fn find_transit(
     history: &History,
-    starts: &[u32],
-    places: &[u32],
-    left: &[MsgName],
-    closed: bool,
+    kept: KeptLine<'_>,
     strangers: &ProcSet,
     alloc: Global,
     line: &Line,
 ) -> Result<Vec<MsgName>, AllocError>
     requires line { IsLine history.now.processes line.now }
-    requires left { AreLeft history.now.processes starts.now places.now left.now }
-    requires closed { closed ≡ true → AreClosed history.now.processes starts.now places.now }
+    requires left { AreLeft history.now.processes kept.starts.now kept.places.now kept.left.now }
+    requires closed { kept.closed ≡ true
+        → AreClosed history.now.processes kept.starts.now kept.places.now }
     requires strangers { AreStrangers history.now.processes line.now strangers.now }
     ensures { IfOk result (λ messages. messages.items ≡ in_transit history.now.processes line.now) }
 {
-    let bounds = ends_before(history, starts, alloc, line)?;
+    let bounds = ends_before(history, kept.starts, alloc, line)?;
     let ends = bounds.as_slice();
-    let rows = candidates(history, ends, places, strangers, alloc, line)?;
-    let received = find_known(history, ends, places, left.len(), alloc, line);
-    let mut messages = Vec::with_capacity(alloc, left.len())?;
+    let rows = candidates(history, ends, kept.places, strangers, alloc, line)?;
+    let received = find_known(history, ends, kept.places, kept.left.len(), alloc, line);
+    let mut messages = Vec::with_capacity(alloc, kept.left.len())?;
     add_all_open(
         history,
         line,
         ends,
-        left,
-        closed,
+        kept.left,
+        kept.closed,
         rows.as_slice(),
         &received,
         alloc,

@@ -37,9 +37,9 @@ settle_sender-requires-clause-held c =
     let at : c.unwrap-p.result ≡ s = (rw c.unwrap-p.ensures at c.try_new.ensures).1 in
     let inside : s < length history = omega (arith, c.n-n.ensures.value) in
     let is : numbers_at c.in_ok-rows.rows.items s ≡ row = get_or_default c.in_ok-rows.rows.items s [] row (omega (arith, inside, c.in_ok-rows.ensures.count)) ∙ sym c.index.ensures in
-    let are : AreEnds history c.args.starts.now line ends = subst (AreEnds history c.args.starts.now line) (sym c.as_slice-ends.ensures.value) c.in_ok-bounds.ensures in
-    let left : List MsgName = c.args.left.now in
-    let beside : HasOpenBeside history line s end (numbers_at c.in_ok-rows.rows.items s) left = has-open history line c.args.starts.now ends c.args.places.now left c.in_ok-rows.rows.items s c.requires.left are c.in_ok-rows.ensures inside in
+    let are : AreEnds history c.args.kept.starts.now line ends = subst (AreEnds history c.args.kept.starts.now line) (sym c.as_slice-ends.ensures.value) c.in_ok-bounds.ensures in
+    let left : List MsgName = c.args.kept.left.now in
+    let beside : HasOpenBeside history line s end (numbers_at c.in_ok-rows.rows.items s) left = has-open history line c.args.kept.starts.now ends c.args.kept.places.now left c.in_ok-rows.rows.items s c.requires.left are c.in_ok-rows.ensures inside in
     subst (λ (k : ℕ). HasOpenBeside history line k end row left) (sym at) (subst (λ (r : List ℕ). HasOpenBeside history line s end r left) is beside)
 
 pub settle_sender-requires-clause-sent : goal.settle_sender-requires-clause-sent
@@ -50,10 +50,10 @@ settle_sender-requires-clause-told c =
     let history : List Process = c.args.history.now.processes in
     let line : List Choice = c.args.line.now in
     let s : ℕ = c.loop-sender.sender in
-    let left : List MsgName = c.args.left.now in
+    let left : List MsgName = c.args.kept.left.now in
     let received = c.find_known-received.result in
     let at : c.unwrap-p.result ≡ s = (rw c.unwrap-p.ensures at c.try_new.ensures).1 in
-    let told : AreAllMarksExact history line received.bases.items received.starts.items received.marks.items left = all-told history line c.args.starts.now c.args.places.now received.bases.items received.starts.items received.marks.items left c.requires.left c.find_known-received.ensures.known c.find_known-received.ensures.noted in
+    let told : AreAllMarksExact history line received.bases.items received.starts.items received.marks.items left = all-told history line c.args.kept.starts.now c.args.kept.places.now received.bases.items received.starts.items received.marks.items left c.requires.left c.find_known-received.ensures.known c.find_known-received.ensures.noted in
     subst (λ (k : ℕ). AreMarksExact history line k c.base.result c.row.result.now left) (sym at) (row-told history line received.bases.items received.starts.items received.marks.items left s c.base.result c.row.result.now told c.base.ensures c.row.ensures.within c.row.ensures.same)
 
 pub settle_sender-requires-clause-known : goal.settle_sender-requires-clause-known

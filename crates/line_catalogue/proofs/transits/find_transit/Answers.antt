@@ -14,8 +14,8 @@ add_all_open-requires-clause-held c = λ p inside.
     let history : List Process = c.args.history.now.processes in
     let line : List Choice = c.args.line.now in
     let ends : List ℕ = c.as_slice-ends.result.now in
-    let are : AreEnds history c.args.starts.now line ends = subst (AreEnds history c.args.starts.now line) (sym c.as_slice-ends.ensures.value) c.in_ok-bounds.ensures in
-    subst (λ (rows : List (List ℕ)). HasOpenBeside history line p (start_at ends p) (numbers_at rows p) c.args.left.now) (sym c.as_slice.ensures.value) (has-open history line c.args.starts.now ends c.args.places.now c.args.left.now c.in_ok-rows.rows.items p c.requires.left are c.in_ok-rows.ensures inside)
+    let are : AreEnds history c.args.kept.starts.now line ends = subst (AreEnds history c.args.kept.starts.now line) (sym c.as_slice-ends.ensures.value) c.in_ok-bounds.ensures in
+    subst (λ (rows : List (List ℕ)). HasOpenBeside history line p (start_at ends p) (numbers_at rows p) c.args.kept.left.now) (sym c.as_slice.ensures.value) (has-open history line c.args.kept.starts.now ends c.args.kept.places.now c.args.kept.left.now c.in_ok-rows.rows.items p c.requires.left are c.in_ok-rows.ensures inside)
 
 pub add_all_open-requires-clause-sent : goal.add_all_open-requires-clause-sent
 add_all_open-requires-clause-sent c = λ m among. let was = c.requires.left.each m among in (was.to, was.sent)
@@ -23,7 +23,7 @@ add_all_open-requires-clause-sent c = λ m among. let was = c.requires.left.each
 pub add_all_open-requires-clause-told : goal.add_all_open-requires-clause-told
 add_all_open-requires-clause-told c =
     let received = c.find_known-received.result in
-    all-told c.args.history.now.processes c.args.line.now c.args.starts.now c.args.places.now received.bases.items received.starts.items received.marks.items c.args.left.now c.requires.left c.find_known-received.ensures.known c.find_known-received.ensures.noted
+    all-told c.args.history.now.processes c.args.line.now c.args.kept.starts.now c.args.kept.places.now received.bases.items received.starts.items received.marks.items c.args.kept.left.now c.requires.left c.find_known-received.ensures.known c.find_known-received.ensures.noted
 
 pub add_all_open-requires-clause-since : goal.add_all_open-requires-clause-since
 add_all_open-requires-clause-since c = λ on.
@@ -31,8 +31,8 @@ add_all_open-requires-clause-since c = λ on.
     let line : List Choice = c.args.line.now in
     let ends : List ℕ = c.as_slice-ends.result.now in
     let received = c.find_known-received.result in
-    let are : AreEnds history c.args.starts.now line ends = subst (AreEnds history c.args.starts.now line) (sym c.as_slice-ends.ensures.value) c.in_ok-bounds.ensures in
-    all-told-since history line c.args.starts.now ends c.args.places.now received.bases.items received.starts.items received.marks.items (c.requires.closed on) are c.find_known-received.ensures.known c.find_known-received.ensures.noted
+    let are : AreEnds history c.args.kept.starts.now line ends = subst (AreEnds history c.args.kept.starts.now line) (sym c.as_slice-ends.ensures.value) c.in_ok-bounds.ensures in
+    all-told-since history line c.args.kept.starts.now ends c.args.kept.places.now received.bases.items received.starts.items received.marks.items (c.requires.closed on) are c.find_known-received.ensures.known c.find_known-received.ensures.noted
 
 pub returns : goal.returns
 returns c = c.in_ok-add_all_open.ensures ∙ ap (λ (xs : List MsgName). xs ++ in_transit c.args.history.now.processes c.args.line.now) c.in_ok-messages.ensures.items
