@@ -69,11 +69,21 @@ fn are_the_same(one: &Catalogue, other: &Catalogue) -> Result<bool, Fail> {
     Ok(show_the_same(one, other, process(0)?) && show_the_same(one, other, process(1)?))
 }
 
+/// Whether the catalogue that is fed what two processes did shows the same as another one.
+fn is_fed_the_same(alloc: Global, all: &[Did], other: &Catalogue) -> Result<bool, Fail> {
+    let fed = catalogue_of(alloc, all)?;
+    are_the_same(&fed, other)
+}
+
+/// Whether it shows the same as the one that is made at once.
+fn is_made_as_it_is_fed(alloc: Global, all: &[Did]) -> Result<bool, Fail> {
+    let at_once = made_at_once(alloc, all)?;
+    is_fed_the_same(alloc, all, &at_once)
+}
+
 #[test]
 fn fed_event_by_event(rt: HostRuntime) -> Result<(), Fail> {
-    let at_once = made_at_once(rt.alloc(), &ROUND)?;
-    let fed = catalogue_of(rt.alloc(), &ROUND)?;
-    assert!(rt; are_the_same(&fed, &at_once)?);
+    assert!(rt; is_made_as_it_is_fed(rt.alloc(), &ROUND)?);
     Ok(())
 }
 
@@ -100,12 +110,17 @@ fn planned(alloc: Global, catalogue: &Catalogue, lost: &ProcSet) -> Result<Outco
     ))
 }
 
+/// The same for the catalogue that is made of what two processes did at once.
+fn planned_at_once(alloc: Global, all: &[Did], lost: &ProcSet) -> Result<Outcome, Fail> {
+    let catalogue = made_at_once(alloc, all)?;
+    planned(alloc, &catalogue, lost)
+}
+
 #[test]
 fn plans_of_both_are_the_same(rt: HostRuntime) -> Result<(), Fail> {
     let lost = failed(&[0])?;
-    let catalogue = made_at_once(rt.alloc(), &DOMINO)?;
     let back = Some((Choice::Check(0), Choice::Check(0)));
-    assert!(rt; planned(rt.alloc(), &catalogue, &lost)? == (back, 3, 4, 0));
+    assert!(rt; planned_at_once(rt.alloc(), &DOMINO, &lost)? == (back, 3, 4, 0));
     Ok(())
 }
 
@@ -132,11 +147,16 @@ fn told_of_names(catalogue: &mut Catalogue) -> Result<[Option<AddError>; 5], Fai
     ])
 }
 
+/// The same of the catalogue of two processes that have done nothing yet.
+fn told_anew(alloc: Global) -> Result<[Option<AddError>; 5], Fail> {
+    let mut catalogue = Catalogue::new(alloc, 2)?;
+    told_of_names(&mut catalogue)
+}
+
 #[test]
 fn names_that_disagree(rt: HostRuntime) -> Result<(), Fail> {
-    let mut catalogue = Catalogue::new(rt.alloc(), 2)?;
     let refused = Some(AddError::NamesDisagree);
-    assert!(rt; told_of_names(&mut catalogue)? == [refused, None, refused, refused, None]);
+    assert!(rt; told_anew(rt.alloc())? == [refused, None, refused, refused, None]);
     Ok(())
 }
 
@@ -194,30 +214,55 @@ fn has_entries(alloc: Global, catalogue: &Catalogue, entries: &[Passed]) -> Resu
     Ok(plan.certificate.as_slice() == entries)
 }
 
+/// What the plan for a catalogue comes to, where nobody failed, and whether it has these entries.
+fn planned_by(
+    alloc: Global,
+    catalogue: &Catalogue,
+    entries: &[Passed],
+) -> Result<(Outcome, bool), Fail> {
+    let outcome = planned(alloc, catalogue, &ProcSet::empty())?;
+    Ok((outcome, has_entries(alloc, catalogue, entries)?))
+}
+
+/// The same for that catalogue.
+fn planned_greatest(alloc: Global, entries: &[Passed]) -> Result<(Outcome, bool), Fail> {
+    let catalogue = made_of_the_greatest(alloc)?;
+    planned_by(alloc, &catalogue, entries)
+}
+
 #[test]
 fn plans_with_the_greatest_number(rt: HostRuntime) -> Result<(), Fail> {
     let entry = passed(1, Choice::Now, 0, 4_294_967_295)?;
-    let catalogue = made_of_the_greatest(rt.alloc())?;
     let line = Some((Choice::Now, Choice::Check(0)));
-    assert!(rt; planned(rt.alloc(), &catalogue, &ProcSet::empty())? == (line, 2, 1, 0));
-    assert!(rt; has_entries(rt.alloc(), &catalogue, &[entry])?);
+    let (outcome, by_this) = planned_greatest(rt.alloc(), &[entry])?;
+    assert!(rt; outcome == (line, 2, 1, 0));
+    assert!(rt; by_this);
+    Ok(())
+}
+
+/// Makes room for three events more of the first process, and marks its check 1 as damaged.
+fn damage(catalogue: &mut Catalogue) -> Result<(), Fail> {
+    let first = process(0)?;
+    if first.get() < catalogue.n() {
+        catalogue.reserve(first, 3)?;
+        catalogue.damage(first, 1)?;
+    }
     Ok(())
 }
 
 /// The domino, its first process's only check damaged, with room for three events more.
 fn damaged_domino(alloc: Global) -> Result<Catalogue, Fail> {
     let mut catalogue = catalogue_of(alloc, &DOMINO)?;
-    let first = process(0)?;
-    if first.get() < catalogue.n() {
-        catalogue.reserve(first, 3)?;
-        catalogue.damage(first, 1)?;
-    }
+    damage(&mut catalogue)?;
     Ok(catalogue)
 }
 
-/// What a catalogue says of a failed first process: the choices below where it stands and below its
-/// initial state, and whether its check survives.
-fn choices_of(catalogue: &Catalogue) -> Result<(Option<Choice>, Option<Choice>, bool), Fail> {
+/// What is said of a process: the choices below where it stands and below its initial state, and
+/// whether its check survives.
+type Choices = (Option<Choice>, Option<Choice>, bool);
+
+/// What a catalogue says so of a failed first process.
+fn choices_of(catalogue: &Catalogue) -> Result<Choices, Fail> {
     let first = process(0)?;
     let lost = failed(&[0])?;
     if first.get() >= catalogue.n() {
@@ -230,42 +275,65 @@ fn choices_of(catalogue: &Catalogue) -> Result<(Option<Choice>, Option<Choice>, 
     ))
 }
 
+/// The same of the domino.
+fn choices_of_domino(alloc: Global) -> Result<Choices, Fail> {
+    let catalogue = catalogue_of(alloc, &DOMINO)?;
+    choices_of(&catalogue)
+}
+
 #[test]
 fn lower_choices(rt: HostRuntime) -> Result<(), Fail> {
-    let catalogue = catalogue_of(rt.alloc(), &DOMINO)?;
-    assert!(rt; choices_of(&catalogue)? == (Some(Choice::Check(1)), None, true));
+    assert!(rt; choices_of_domino(rt.alloc())? == (Some(Choice::Check(1)), None, true));
     Ok(())
+}
+
+/// The same of the damaged domino.
+fn choices_beside_damage(alloc: Global) -> Result<Choices, Fail> {
+    let catalogue = damaged_domino(alloc)?;
+    choices_of(&catalogue)
 }
 
 #[test]
 fn lower_choices_beside_damage(rt: HostRuntime) -> Result<(), Fail> {
-    let catalogue = damaged_domino(rt.alloc())?;
-    assert!(rt; choices_of(&catalogue)? == (Some(Choice::Check(0)), None, false));
+    assert!(rt; choices_beside_damage(rt.alloc())? == (Some(Choice::Check(0)), None, false));
     Ok(())
 }
 
-/// The domino, and what is answered where its second process is barred at checks 3, 1 and 2.
-fn barred_domino(alloc: Global) -> Result<(Catalogue, [Option<BarError>; 3]), Fail> {
-    let mut catalogue = catalogue_of(alloc, &DOMINO)?;
+/// What is answered where a catalogue's second process is barred at checks 3, 1 and 2.
+fn bars(catalogue: &mut Catalogue) -> Result<[Option<BarError>; 3], Fail> {
     let second = process(1)?;
-    let mut refused = [None; 3];
-    if second.get() < catalogue.n() {
-        refused = [
-            catalogue.bar(second, 3).err(),
-            catalogue.bar(second, 1).err(),
-            catalogue.bar(second, 2).err(),
-        ];
+    if second.get() >= catalogue.n() {
+        return Ok([None; 3]);
     }
-    Ok((catalogue, refused))
+    Ok([
+        catalogue.bar(second, 3).err(),
+        catalogue.bar(second, 1).err(),
+        catalogue.bar(second, 2).err(),
+    ])
+}
+
+/// The same, and what the plan comes to then, where nobody failed.
+fn bars_and_plans(
+    alloc: Global,
+    catalogue: &mut Catalogue,
+) -> Result<([Option<BarError>; 3], Outcome), Fail> {
+    let refused = bars(catalogue)?;
+    Ok((refused, planned(alloc, catalogue, &ProcSet::empty())?))
+}
+
+/// The same of the domino.
+fn barred_domino(alloc: Global) -> Result<([Option<BarError>; 3], Outcome), Fail> {
+    let mut catalogue = catalogue_of(alloc, &DOMINO)?;
+    bars_and_plans(alloc, &mut catalogue)
 }
 
 #[test]
 fn a_barred_process_goes_back(rt: HostRuntime) -> Result<(), Fail> {
-    let (catalogue, refused) = barred_domino(rt.alloc())?;
+    let (refused, plan) = barred_domino(rt.alloc())?;
     let (missing, again) = (Some(BarError::NoSuchCheck), Some(BarError::BarNotLower));
     assert!(rt; refused == [missing, None, again]);
     let back = Some((Choice::Check(0), Choice::Check(0)));
-    assert!(rt; planned(rt.alloc(), &catalogue, &ProcSet::empty())? == (back, 2, 3, 0));
+    assert!(rt; plan == (back, 2, 3, 0));
     Ok(())
 }
 
@@ -290,11 +358,16 @@ fn ends_with(catalogue: &Catalogue, p: ProcId, row: (u32, u32, bool), lanes: &[u
     (last.place, last.sends, last.damaged) == row && last.reach.lanes() == lanes
 }
 
+/// Whether the rows of the damaged domino's first process end so.
+fn damage_ends_with(alloc: Global, row: (u32, u32, bool), lanes: &[u32]) -> Result<bool, Fail> {
+    let first = process(0)?;
+    let catalogue = damaged_domino(alloc)?;
+    Ok(ends_with(&catalogue, first, row, lanes))
+}
+
 #[test]
 fn rows_of_a_damaged_check(rt: HostRuntime) -> Result<(), Fail> {
-    let first = process(0)?;
-    let catalogue = damaged_domino(rt.alloc())?;
-    assert!(rt; ends_with(&catalogue, first, (3, 1, true), &[0, 1]));
+    assert!(rt; damage_ends_with(rt.alloc(), (3, 1, true), &[0, 1])?);
     Ok(())
 }
 
