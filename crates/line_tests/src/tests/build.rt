@@ -68,12 +68,18 @@ pub fn history_of(alloc: Global, all: &[Did]) -> Result<History, Fail> {
     Ok(history)
 }
 
-/// The catalogue of two processes that did this, fed event by event.
-pub fn catalogue_of(alloc: Global, all: &[Did]) -> Result<Catalogue, Fail> {
-    let mut catalogue = Catalogue::new(alloc, 2)?;
+/// Feeds a catalogue what two processes did, event by event.
+fn feed(alloc: Global, catalogue: &mut Catalogue, all: &[Did]) -> Result<(), Fail> {
     for did in all {
         let (p, event) = event_of(alloc, *did)?;
         catalogue.add(p, event)?;
     }
+    Ok(())
+}
+
+/// The catalogue of two processes that did this, fed event by event.
+pub fn catalogue_of(alloc: Global, all: &[Did]) -> Result<Catalogue, Fail> {
+    let mut catalogue = Catalogue::new(alloc, 2)?;
+    feed(alloc, &mut catalogue, all)?;
     Ok(catalogue)
 }

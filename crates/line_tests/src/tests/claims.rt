@@ -64,17 +64,11 @@ fn marked(alloc: Global, n: u32, p: ProcId, check: u32) -> Result<Marks, Fail> {
     Ok(marks)
 }
 
-/// Whether this is said of the domino's claim, with the first process failed and such marks.
-fn is_said_with_mark(
-    alloc: Global,
-    n: u32,
-    p: ProcId,
-    check: u32,
-    want: Verdict,
-) -> Result<bool, Fail> {
+/// The verdict on the domino's claim, with the first process failed and such marks.
+fn verdict_with_mark(alloc: Global, n: u32, p: ProcId, check: u32) -> Result<Verdict, Fail> {
     let (failed, entries) = (failed(&[0])?, domino_entries()?);
     let marks = marked(alloc, n, p, check)?;
-    Ok(verdict_on(alloc, &marks, &failed, &BACK, &entries)? == want)
+    verdict_on(alloc, &marks, &failed, &BACK, &entries)
 }
 
 /// How the domino goes down: b goes with its sender's check, and all else with b.
@@ -132,13 +126,21 @@ fn are_misshapen(
     Ok(verdict(alloc, &failed(&[0])?, &BACK, &entries)? == Some((None, 16)))
 }
 
-#[test]
-fn misshapen_entries(rt: HostRuntime) -> Result<(), Fail> {
+/// Whether entries have no shape that name a check that there is not, a process that there is not,
+/// and a message of such a process.
+fn three_are_misshapen(alloc: Global) -> Result<[bool; 3], Fail> {
     let (first, second, third) = (process(0)?, process(1)?, ProcId::try_new(2, 3)?);
     let (now, one) = (Choice::Now, Choice::Check(1));
-    assert!(rt; are_misshapen(rt.alloc(), one, second, Choice::Check(4), first)?);
-    assert!(rt; are_misshapen(rt.alloc(), now, third, one, first)?);
-    assert!(rt; are_misshapen(rt.alloc(), now, second, one, third)?);
+    Ok([
+        are_misshapen(alloc, one, second, Choice::Check(4), first)?,
+        are_misshapen(alloc, now, third, one, first)?,
+        are_misshapen(alloc, now, second, one, third)?,
+    ])
+}
+
+#[test]
+fn misshapen_entries(rt: HostRuntime) -> Result<(), Fail> {
+    assert!(rt; three_are_misshapen(rt.alloc())? == [true; 3]);
     Ok(())
 }
 
@@ -154,15 +156,23 @@ fn misshapen_set(rt: HostRuntime) -> Result<(), Fail> {
     Ok(())
 }
 
+/// The verdicts with a mark on a check that there is not, and of a process that there is not; with
+/// none among three processes, and of one alone; and with a mark on the second process's check 1.
+fn verdicts_with_marks(alloc: Global) -> Result<[Verdict; 5], Fail> {
+    let (first, second, third) = (process(0)?, process(1)?, ProcId::try_new(2, 3)?);
+    Ok([
+        verdict_with_mark(alloc, 2, first, 2)?,
+        verdict_with_mark(alloc, 3, third, 1)?,
+        verdict_with_mark(alloc, 3, third, 0)?,
+        verdict_with_mark(alloc, 1, first, 0)?,
+        verdict_with_mark(alloc, 2, second, 1)?,
+    ])
+}
+
 #[test]
 fn misshapen_marks(rt: HostRuntime) -> Result<(), Fail> {
-    let (first, second, third) = (process(0)?, process(1)?, ProcId::try_new(2, 3)?);
-    let misshapen = Some((None, 16));
-    assert!(rt; is_said_with_mark(rt.alloc(), 2, first, 2, misshapen)?);
-    assert!(rt; is_said_with_mark(rt.alloc(), 3, third, 1, misshapen)?);
-    assert!(rt; is_said_with_mark(rt.alloc(), 3, third, 0, None)?);
-    assert!(rt; is_said_with_mark(rt.alloc(), 1, first, 0, None)?);
-    assert!(rt; is_said_with_mark(rt.alloc(), 2, second, 1, Some((Some(3), 11)))?);
+    let (misshapen, not_top) = (Some((None, 16)), Some((Some(3), 11)));
+    assert!(rt; verdicts_with_marks(rt.alloc())? == [misshapen, misshapen, None, None, not_top]);
     Ok(())
 }
 

@@ -44,15 +44,28 @@ fn a_message_and_a_check(alloc: Global) -> Result<Vec<Step>, Fail> {
     Ok(steps)
 }
 
-/// How many answers a run of these steps has, and the first three.
-fn answers_of(alloc: Global, n: u32, steps: &[Step]) -> Result<(usize, [Option<Told>; 3]), Fail> {
-    let mut world = World::new(alloc, n, Mode::Fifo)?;
-    let answers = world.run(alloc, steps)?;
+/// How many answers there are, and the first three.
+type Answered = (usize, [Option<Told>; 3]);
+
+/// That of these answers.
+fn counted(answers: &[Answer]) -> Answered {
     let first = answers.first().map(seen);
-    Ok((
+    (
         answers.len(),
         [first, answers.get(1).map(seen), answers.get(2).map(seen)],
-    ))
+    )
+}
+
+/// That of a run of these steps in a world.
+fn answers_in(alloc: Global, world: &mut World, steps: &[Step]) -> Result<Answered, Fail> {
+    let answers = world.run(alloc, steps)?;
+    Ok(counted(&answers))
+}
+
+/// That of a run of these steps among so many processes that have done nothing yet.
+fn answers_of(alloc: Global, n: u32, steps: &[Step]) -> Result<Answered, Fail> {
+    let mut world = World::new(alloc, n, Mode::Fifo)?;
+    answers_in(alloc, &mut world, steps)
 }
 
 #[test]
