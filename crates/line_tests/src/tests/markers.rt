@@ -25,6 +25,18 @@ fn message(number: u32) -> Result<MsgName, Fail>
     })
 }
 
+/// Begins round 1 with room, and then receives a message of another process.
+fn begin(marker: &mut Marker, first: MsgName) -> Result<(), Fail>
+    requires { (first.from < marker.old.n) × (first.from ≢ marker.old.me) }
+    ensures of { OnOk result (marker.new.n ≡ marker.old.n) }
+    ensures me { OnOk result (marker.new.me ≡ marker.old.me) }
+{
+    marker.reserve()?;
+    marker.begin(1)?;
+    marker.note(first)?;
+    Ok(())
+}
+
 /// Process 0 of three, with room, has begun round 1 and then received a message of process 1.
 fn begun(rt: HostRuntime) -> Result<Marker, Fail>
     ensures of { IfOk result (λ marker. marker.n ≡ 3) }
@@ -33,9 +45,7 @@ fn begun(rt: HostRuntime) -> Result<Marker, Fail>
     let me = process(0)?;
     let first = message(0)?;
     let mut marker = Marker::new(rt.alloc(), 3, me, 0)?;
-    marker.reserve()?;
-    marker.begin(1)?;
-    marker.note(first)?;
+    begin(&mut marker, first)?;
     Ok(marker)
 }
 
@@ -73,8 +83,11 @@ fn a_channel_ends_at_its_marker(rt: HostRuntime) -> Result<(), Fail> {
     Ok(())
 }
 
-/// What a marker of this round does, and whether round 1 is over then.
-fn hears(marker: &mut Marker, from: u32, round: u32) -> Result<(Effect, bool), Fail>
+/// What a marker does, and whether round 1 is over then.
+type Heard = (Effect, bool);
+
+/// That of a marker of this round.
+fn hears(marker: &mut Marker, from: u32, round: u32) -> Result<Heard, Fail>
     requires { (marker.old.n ≡ 3) × (marker.old.me ≡ 0) × (1 ≤ from) × (1 ≤ round) }
     ensures of { OnOk result (marker.new.n ≡ 3) }
     ensures me { OnOk result (marker.new.me ≡ 0) }
@@ -83,11 +96,23 @@ fn hears(marker: &mut Marker, from: u32, round: u32) -> Result<(Effect, bool), F
     Ok((effect, marker.is_closed(1)))
 }
 
+/// That of the markers of round 1 of both other processes.
+fn hears_both(marker: &mut Marker) -> Result<[Heard; 2], Fail>
+    requires { (marker.old.n ≡ 3) × (marker.old.me ≡ 0) }
+{
+    Ok([hears(marker, 1, 1)?, hears(marker, 2, 1)?])
+}
+
+/// The same where round 1 was begun.
+fn heard_of_both(rt: HostRuntime) -> Result<[Heard; 2], Fail> {
+    let mut marker = begun(rt)?;
+    hears_both(&mut marker)
+}
+
 #[test]
 fn a_round_is_over_with_its_last_marker(rt: HostRuntime) -> Result<(), Fail> {
-    let mut marker = begun(rt)?;
-    assert!(rt; hears(&mut marker, 1, 1)? == (Effect::Closed, false));
-    assert!(rt; hears(&mut marker, 2, 1)? == (Effect::Closed, true));
+    let (open, over) = ((Effect::Closed, false), (Effect::Closed, true));
+    assert!(rt; heard_of_both(rt)? == [open, over]);
     Ok(())
 }
 
@@ -99,13 +124,27 @@ fn is_third_alone(marker: &Marker, from: ProcId) -> bool
     marker.channel(from, 3) == Some(nothing) && marker.channel(from, 2).is_none()
 }
 
+/// What a marker of round 3 of process 2 does, and then one of round 2 of process 1, and whether
+/// round 3 is there alone then.
+fn hears_of_the_third(marker: &mut Marker) -> Result<([Heard; 2], bool), Fail>
+    requires { (marker.old.n ≡ 3) × (marker.old.me ≡ 0) }
+{
+    let two = process(2)?;
+    let heard = [hears(marker, 2, 3)?, hears(marker, 1, 2)?];
+    Ok((heard, is_third_alone(marker, two) && marker.latest() == 3))
+}
+
+/// The same where round 1 was begun.
+fn heard_of_the_third(rt: HostRuntime) -> Result<([Heard; 2], bool), Fail> {
+    let mut marker = begun(rt)?;
+    hears_of_the_third(&mut marker)
+}
+
 #[test]
 fn a_marker_forces_a_round(rt: HostRuntime) -> Result<(), Fail> {
-    let two = process(2)?;
-    let mut marker = begun(rt)?;
-    assert!(rt; hears(&mut marker, 2, 3)? == (Effect::Forced, false));
-    assert!(rt; hears(&mut marker, 1, 2)? == (Effect::Ignored, false));
-    assert!(rt; is_third_alone(&marker, two) && marker.latest() == 3);
+    let (heard, is_alone) = heard_of_the_third(rt)?;
+    assert!(rt; heard == [(Effect::Forced, false), (Effect::Ignored, false)]);
+    assert!(rt; is_alone);
     Ok(())
 }
 
