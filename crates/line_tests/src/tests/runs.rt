@@ -30,18 +30,15 @@ fn seen(answer: &Answer) -> Told {
 fn a_message_and_a_check(alloc: Global) -> Result<Vec<Step>, Fail> {
     let (from, to) = (ProcId::try_new(0, 2)?, ProcId::try_new(1, 2)?);
     let body = Body::try_new(b"a")?;
-    let nothing = State::of(Vec::new(alloc));
-    let state = State::of(Vec::new(alloc));
-    let mut steps = Vec::with_capacity(alloc, 3)?;
-    steps.push(Step::Send { from, to, body })?;
-    steps.push(Step::Deliver {
+    let send = Step::Send { from, to, body };
+    let deliver = Step::Deliver {
         from,
         to,
         pick: 0,
-        state: nothing,
-    })?;
-    steps.push(Step::Check { at: to, state })?;
-    Ok(steps)
+        state: State::of(Vec::new(alloc)),
+    };
+    let state = State::of(Vec::new(alloc));
+    Ok(vec![in alloc; send, deliver, Step::Check { at: to, state }]?)
 }
 
 /// How many answers there are, and the first three.
@@ -84,11 +81,8 @@ fn a_run_answers_each_step(rt: HostRuntime) -> Result<(), Fail> {
 fn a_refusal_in_the_middle(alloc: Global) -> Result<Vec<Step>, Fail> {
     let at = ProcId::try_new(0, 1)?;
     let state = State::of(Vec::new(alloc));
-    let mut steps = Vec::with_capacity(alloc, 3)?;
-    steps.push(Step::Check { at, state })?;
-    steps.push(Step::Damage { at, check: 0 })?;
-    steps.push(Step::Damage { at, check: 1 })?;
-    Ok(steps)
+    let (initial, first) = (Step::Damage { at, check: 0 }, Step::Damage { at, check: 1 });
+    Ok(vec![in alloc; Step::Check { at, state }, initial, first]?)
 }
 
 #[test]
