@@ -1,17 +1,82 @@
 //! Rounds at a worker.
-ghost use Rattle.std.specs.Prelude.{◌≡◌, ◌+◌, IfOk, IfErr, OnOk, OnErr, length};
+ghost use Rattle.std.specs.Prelude.{◌≡◌, ◌<◌, ◌≤◌, ◌+◌, false, IfOk, IfErr, OnOk, OnErr, length};
 ghost use Rattle.line_marker.specs.Recording.{latest};
-ghost use Rattle.line_journals.specs.Journals.{IsRecorded};
+ghost use Rattle.line_tape.specs.Rounds.{has_check_of};
+ghost use Rattle.line_rings.specs.Ends.{out_ends, HasRoomBelow};
+ghost use Rattle.line_journals.specs.Journals.{IsOpen, IsRecorded, IsSameJournal};
 ghost use Rattle.line_posts.specs.Markers.{checked_by};
+ghost use Rattle.line_posts.specs.Posts.{PostView};
 ghost use Rattle.line_posts.specs.Generations.{IsSamePost};
 ghost use Rattle.line_posts.specs.Refusals.{IsNotBegun, MayBegin};
 
 use crate::markers::push_markers;
+use crate::parcels::Parcel;
 use crate::posts::Post;
 use crate::refusals::BeginWhy;
+use line_journals::Journal;
 use line_marker::Marker;
+use line_names::ProcId;
 use line_rings::has_room;
 use line_tape::{LAST_ROUND, MOST_EVENTS, MOST_STATE, State};
+use rtrb::Producer;
+
+/// Tests whether a worker can begin a round with this state now, and makes room for its check; then
+/// each ring has a free slot. The number of the round is answered.
+fn make_round(
+    me: ProcId,
+    journal: &mut Journal,
+    outs: &mut Vec<Producer<Parcel>>,
+    state: &State,
+) -> Result<u32, BeginWhy>
+    requires me { journal.old.me ≡ me }
+    ensures tape { journal.new.tape ≡ journal.old.tape }
+    ensures rounds { journal.new.rounds ≡ journal.old.rounds }
+    ensures same { IsSameJournal journal.old journal.new }
+    ensures ends { out_ends outs.new.items ≡ out_ends outs.old.items }
+
+    // What a round wants.
+    ensures round { IfOk result (λ r. (r ≡ latest journal.old.floor journal.old.rounds + 1)
+        × (has_check_of r journal.old.tape ≡ false)) }
+    ensures lead { OnOk result (me ≡ 0) }
+    ensures short { OnOk result (length state.now ≤ MOST_STATE) }
+    ensures closed { OnOk result
+        (IsOpen journal.old.n me journal.old.floor journal.old.rounds → ⊥) }
+    ensures further { OnOk result (latest journal.old.floor journal.old.rounds < LAST_ROUND) }
+    ensures few { OnOk result (length journal.old.tape < MOST_EVENTS) }
+    ensures room { OnOk result (0 < journal.new.room) }
+    ensures ready { OnOk result (0 < journal.new.ready) }
+    ensures slots { OnOk result (HasRoomBelow (length outs.new.items) outs.new.items) }
+
+    // The refusals, in their order.
+    ensures why { IfErr result (λ e. (post : PostView) → length post.opening ≡ journal.old.n
+        → post.number ≡ me → post.tape ≡ journal.old.tape → post.outs ≡ out_ends outs.old.items
+        → post.floor ≡ journal.old.floor → post.rounds ≡ journal.old.rounds
+        → IsNotBegun post state.now e) }
+{
+    if me.get() != 0 {
+        return Err(BeginWhy::NotLead);
+    }
+    if state.bytes().len() > MOST_STATE {
+        return Err(BeginWhy::StateTooLong);
+    }
+    if journal.is_open() {
+        return Err(BeginWhy::RoundOpen);
+    }
+    let last = journal.latest();
+    if last >= LAST_ROUND {
+        return Err(BeginWhy::NoMoreRounds);
+    }
+    if journal.len() as usize >= MOST_EVENTS {
+        return Err(BeginWhy::TapeFull);
+    }
+    if !has_room(outs) {
+        return Err(BeginWhy::RingFull);
+    }
+    if journal.reserve(1).is_err() {
+        return Err(BeginWhy::OutOfMemory);
+    }
+    Ok(last + 1)
+}
 
 impl Post {
     /// The lead begins a round (Chandy and Lamport, 1985): its check, and a marker on the ring to
@@ -26,29 +91,7 @@ impl Post {
         ensures may { OnOk result (MayBegin self.old state) }
         ensures why { IfErr result (λ e. IsNotBegun self.old state e) }
     {
-        if self.me.get() != 0 {
-            return Err(BeginWhy::NotLead);
-        }
-        if state.bytes().len() > MOST_STATE {
-            return Err(BeginWhy::StateTooLong);
-        }
-        if self.journal.is_open() {
-            return Err(BeginWhy::RoundOpen);
-        }
-        let last = self.journal.latest();
-        if last >= LAST_ROUND {
-            return Err(BeginWhy::NoMoreRounds);
-        }
-        if self.journal.len() as usize >= MOST_EVENTS {
-            return Err(BeginWhy::TapeFull);
-        }
-        if !has_room(&mut self.outs) {
-            return Err(BeginWhy::RingFull);
-        }
-        if self.journal.reserve(1).is_err() {
-            return Err(BeginWhy::OutOfMemory);
-        }
-        let round = last + 1;
+        let round = make_round(self.me, &mut self.journal, &mut self.outs, &state)?;
         push_markers(&mut self.outs, self.me.get() as usize, round);
         self.journal.begin(state, round);
         Ok(round)
