@@ -21,3 +21,4 @@ pub mod OwnLemmas
 pub mod ExtensionLemmas
 pub mod RestartLemmas
 pub mod WholeLemmas
+pub mod TakeLemmas

@@ -1,9 +1,15 @@
 //! What a worker takes: messages and markers.
-ghost use Rattle.std.specs.Prelude.{◌≡◌, ◌≢◌, ◌<◌, ◌≤◌, ◌∷◌, ℕ, List, [], IfOk, IfErr, OnOk, OnErr};
-ghost use Rattle.std.specs.Prelude.{MatchOption, length, map};
+ghost use Rattle.std.specs.Prelude.{◌≡◌, ◌≢◌, ◌<◌, ◌≤◌, ◌∷◌, ◌++◌, ℕ, List, [], IfOk, IfErr, OnOk};
+ghost use Rattle.std.specs.Prelude.{OnErr, MatchOption, length, map};
 ghost use Rattle.std.specs.VecDeque.{deque_items};
-ghost use Rattle.line_rings.specs.Ends.{in_ends, known_at, row_at, with_item};
+ghost use mathlib.Core.List.{IsPrefix};
+ghost use Rattle.line_tape.specs.History.{Process};
+ghost use Rattle.line_tape.specs.declared.events.Event.{Event};
+ghost use Rattle.line_rings.specs.Ends.{End, StillKnow, in_ends, items_at, known_at, known_rows};
+ghost use Rattle.line_rings.specs.Ends.{out_ends, row_at, with_item};
+ghost use Rattle.line_journals.specs.Journals.{IsSameJournal};
 ghost use Rattle.line_posts.specs.Parcels.{packet_name};
+ghost use Rattle.line_posts.specs.Posts.{PostView, post_of};
 ghost use Rattle.line_posts.specs.Receipts.{BeginsWithMarker, BeginsWithMessage, HasReceived};
 ghost use Rattle.line_posts.specs.Receipts.{HasOnlySeen, IsMessageParcel, StillSees};
 ghost use Rattle.line_posts.specs.Generations.{IsSamePost};
@@ -18,10 +24,11 @@ use crate::parcels::{Packet, Parcel};
 use crate::posts::{Post, message_name};
 use crate::queues::{first_kept, keeps, take_kept};
 use crate::refusals::ReceiveWhy;
+use line_journals::Journal;
 use line_names::{Body, MsgName, ProcId};
 use line_rings::{front_at, has_room, look_at, take_at};
 use line_tape::{MOST_EVENTS, MOST_STATE, State};
-use rtrb::Consumer;
+use rtrb::{Consumer, Producer};
 use std::collections::VecDeque;
 use std::snapshot::Snapshot;
 
@@ -106,6 +113,89 @@ fn opened(from: ProcId, packet: Packet) -> Received
     }
 }
 
+/// Takes what comes next on the ring from another process of which no replay is kept, by the parts
+/// of a worker that it changes; a refusal changes none of them, but that more may have been seen.
+fn take_next(
+    me: ProcId,
+    journal: &mut Journal,
+    outs: &mut Vec<Producer<Parcel>>,
+    ins: &mut Vec<Consumer<Parcel>>,
+    from: ProcId,
+    state: State,
+) -> Result<Received, ReceiveWhy>
+    requires me { journal.old.me ≡ me }
+    requires within { from < length ins.old.items }
+    requires process { from < journal.old.n }
+    requires other { from ≢ me }
+    requires short { length state ≤ MOST_STATE }
+    ensures same { IsSameJournal journal.old journal.new }
+    ensures ok { (opening : List Process) (kept : List (List Packet)) (seen : List (List Parcel))
+        (line : End Event) → length opening ≡ journal.old.n → row_at kept from ≡ []
+        → IfOk result (λ r. HasReceived (post_of me opening journal.old.tape kept
+        (out_ends outs.old.items) (in_ends ins.old.items) seen line journal.old.floor
+        journal.old.rounds) from state r (post_of me opening journal.new.tape kept
+        (out_ends outs.new.items) (in_ends ins.new.items) (known_rows ins.new.items) line
+        journal.new.floor journal.new.rounds)) }
+    ensures err { OnErr result ((journal.new.tape ≡ journal.old.tape)
+        × (journal.new.rounds ≡ journal.old.rounds)
+        × (out_ends outs.new.items ≡ out_ends outs.old.items)
+        × (in_ends ins.new.items ≡ in_ends ins.old.items)) }
+    ensures seen { (rows : List (List Parcel)) → StillKnow rows ins.old.items → (k : ℕ)
+        → (popped : List Parcel)
+        × (items_at (in_ends ins.new.items) k ≡ items_at (in_ends ins.old.items) k ++ popped)
+        × IsPrefix (row_at rows k) (popped ++ row_at (known_rows ins.new.items) k) }
+    ensures why { (post : PostView) → post.tape ≡ journal.old.tape
+        → post.outs ≡ out_ends outs.old.items → MayReceive post from state
+        → row_at post.kept from ≡ [] → IfErr result (λ e.
+        IsNotReceived post (row_at (known_rows ins.new.items) from) from state e) }
+{
+    let p = from.get() as usize;
+    if !look_at(ins, p) {
+        return Err(ReceiveWhy::NothingThere);
+    }
+    let Some(round) = round_first(ins, p) else {
+        if journal.len() as usize >= MOST_EVENTS {
+            return Err(ReceiveWhy::TapeFull);
+        }
+        let name = name_first(ins, p, from);
+        if journal.receive(name).is_err() {
+            return Err(ReceiveWhy::OutOfMemory);
+        }
+        let packet = take_packet(ins, p);
+        return Ok(opened(from, packet));
+    };
+    if journal.is_checked(from, round) {
+        if journal.len() as usize >= MOST_EVENTS {
+            return Err(ReceiveWhy::TapeFull);
+        }
+        if journal.reserve(1).is_err() {
+            return Err(ReceiveWhy::OutOfMemory);
+        }
+        take_known_marker(ins, p, round);
+        journal.mark(from, round);
+        return Ok(Received::Marked {
+            round,
+            forced: false,
+        });
+    }
+    if journal.len() as usize + 1 >= MOST_EVENTS {
+        return Err(ReceiveWhy::TapeFull);
+    }
+    if !has_room(outs) {
+        return Err(ReceiveWhy::RingFull);
+    }
+    if journal.reserve(2).is_err() {
+        return Err(ReceiveWhy::OutOfMemory);
+    }
+    push_markers(outs, me.get() as usize, round);
+    take_known_marker(ins, p, round);
+    journal.force(from, state, round);
+    Ok(Received::Marked {
+        round,
+        forced: true,
+    })
+}
+
 impl Post {
     /// Takes the first of the replays that it keeps of another process.
     fn receive_replay(&mut self, from: ProcId) -> Result<Received, ReceiveWhy>
@@ -143,55 +233,16 @@ impl Post {
         ensures why { IfErr result (λ e.
             IsNotReceived self.old (row_at self.new.seen from) from state e) }
     {
-        let p = from.get() as usize;
-        if !look_at(&mut self.ins, p) {
-            return Err(ReceiveWhy::NothingThere);
-        }
+        let taken = take_next(
+            self.me,
+            &mut self.journal,
+            &mut self.outs,
+            &mut self.ins,
+            from,
+            state,
+        );
         self.shown = Snapshot::of(&self.ins);
-        let Some(round) = round_first(&self.ins, p) else {
-            if self.journal.len() as usize >= MOST_EVENTS {
-                return Err(ReceiveWhy::TapeFull);
-            }
-            let name = name_first(&self.ins, p, from);
-            if self.journal.receive(name).is_err() {
-                return Err(ReceiveWhy::OutOfMemory);
-            }
-            let packet = take_packet(&mut self.ins, p);
-            self.shown = Snapshot::of(&self.ins);
-            return Ok(opened(from, packet));
-        };
-        if self.journal.is_checked(from, round) {
-            if self.journal.len() as usize >= MOST_EVENTS {
-                return Err(ReceiveWhy::TapeFull);
-            }
-            if self.journal.reserve(1).is_err() {
-                return Err(ReceiveWhy::OutOfMemory);
-            }
-            take_known_marker(&mut self.ins, p, round);
-            self.shown = Snapshot::of(&self.ins);
-            self.journal.mark(from, round);
-            return Ok(Received::Marked {
-                round,
-                forced: false,
-            });
-        }
-        if self.journal.len() as usize + 1 >= MOST_EVENTS {
-            return Err(ReceiveWhy::TapeFull);
-        }
-        if !has_room(&mut self.outs) {
-            return Err(ReceiveWhy::RingFull);
-        }
-        if self.journal.reserve(2).is_err() {
-            return Err(ReceiveWhy::OutOfMemory);
-        }
-        push_markers(&mut self.outs, self.me.get() as usize, round);
-        take_known_marker(&mut self.ins, p, round);
-        self.shown = Snapshot::of(&self.ins);
-        self.journal.force(from, state, round);
-        Ok(Received::Marked {
-            round,
-            forced: true,
-        })
+        taken
     }
 
     /// Takes what comes next from another process: of the replays that it keeps of it first, and
