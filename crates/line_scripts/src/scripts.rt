@@ -13,8 +13,8 @@ use crate::commands::{Command, CommandRef};
 use crate::pieces::ScriptReader;
 use line_claims::{TextError, TextFault, told};
 use line_names::Body;
-use line_tape::State;
 use line_steps::{Mode, Step, StepRef};
+use line_tape::State;
 use std::alloc::{AllocError, Global};
 
 /// What a text asks of a machine.

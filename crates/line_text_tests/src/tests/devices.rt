@@ -1,9 +1,7 @@
 //! Devices over memory, and devices that fail or are without end.
 ghost use Rattle.std.specs.Prelude.{◌<◌};
 
-use line_devices::{
-    DeviceFault, MemSink, MemSource, ReadRefused, Sink, Source, put_all, read_all,
-};
+use line_devices::{DeviceFault, MemSink, MemSource, ReadRefused, Sink, Source, put_all, read_all};
 use std::alloc::Global;
 use std::test::Fail;
 

@@ -10,8 +10,8 @@ ghost use Rattle.line_world.specs.Machine.{is_open, items_on};
 use super::World;
 use crate::protocols::Protocol;
 use crate::replies::StepError;
-use line_steps::Mode;
 use line_names::{ProcId, ProcSet};
+use line_steps::Mode;
 use line_tape::{History, LAST_ROUND, MOST_EVENTS, MOST_STATE};
 
 /// Whether the tape of a process has no room for so many more events.
