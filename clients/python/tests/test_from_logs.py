@@ -337,6 +337,8 @@ class TestEnds(unittest.TestCase):
             while log:
                 log = log[program.stdin.write(log):]
             program.send_signal(signal.SIGINT)
+            # Python sees a signal that comes just before a read begins when that read ends.
+            program.stdin.close()
             told = program.stdout.read(), program.stderr.read(), program.wait()
         self.assertEqual(told, (b"", b"from_logs: interrupted\n", 130))
 
