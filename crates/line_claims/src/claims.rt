@@ -7,8 +7,9 @@ ghost use Rattle.line_claims.specs.Reads.{Yields};
 ghost use Rattle.line_claims.specs.Stages.{Goes};
 ghost use Rattle.line_claims.specs.Stages as spec;
 
-use crate::entries::{bar_of, damage_of, end_of, entry_of, failed_of, line_of};
+use crate::entries::{bar_of, damage_of, entry_of, failed_of, line_of};
 use crate::faults::{TextError, error_at, fault_at};
+use crate::numbers::want;
 use crate::parts::is_named;
 use line_fields::{Fault, FieldRow};
 use line_names::{Certificate, Line, MOST_PROCESSES, ProcSet};
@@ -67,7 +68,7 @@ fn take_end(number: u64, row: &FieldRow<'_>) -> Result<ClaimStage, TextError>
     if !is_named(row, b"end") {
         return Err(fault_at(number, Fault::BadRecord));
     }
-    match end_of(row) {
+    match want(row.len() == 1, Fault::BadRecord) {
         Ok(()) => Ok(ClaimStage::Nothing),
         Err(fault) => Err(fault_at(number, fault)),
     }

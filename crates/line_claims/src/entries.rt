@@ -96,11 +96,15 @@ pub(crate) fn line_of(version: u32, row: &FieldRow<'_>) -> Result<Line, Fault>
     choices_of(row)
 }
 
-/// The entry of `pass,P,CHOICE,FROM,INC,NUMBER`.
-#[tactic(auto, unfolding(crate::specs::Entries::passed_of, line_fields::specs::Shapes::five))]
-pub(crate) fn passed_of(n: u32, row: &FieldRow<'_>) -> Result<Passed, Fault>
+/// Adds the entry of `pass,P,CHOICE,FROM,INC,NUMBER`.
+#[tactic(auto, unfolding(crate::specs::Entries::entry_of, crate::specs::Entries::passed_of, line_fields::specs::Shapes::five))]
+pub(crate) fn entry_of(
+    certificate: &mut Certificate,
+    n: u32,
+    row: &FieldRow<'_>,
+) -> Result<(), ReadError>
     requires { n ≤ MOST_PROCESSES }
-    ensures { result ≡ spec.passed_of n row.now }
+    ensures { Steps result (spec.entry_of n certificate.old.items row.now) certificate.new.items }
 {
     want(row.len() == 6, Fault::BadRecord)?;
     let at = plain(row, 1)?;
@@ -111,31 +115,10 @@ pub(crate) fn passed_of(n: u32, row: &FieldRow<'_>) -> Result<Passed, Fault>
     let at = process(n, at)?;
     let from = process(n, from)?;
     let message = MsgName { from, inc, number };
-    Ok(Passed {
+    certificate.push(Passed {
         at,
         choice,
         message,
-    })
-}
-
-/// Adds the entry of a record.
-#[tactic(auto, unfolding(crate::specs::Entries::entry_of))]
-pub(crate) fn entry_of(
-    certificate: &mut Certificate,
-    n: u32,
-    row: &FieldRow<'_>,
-) -> Result<(), ReadError>
-    requires { n ≤ MOST_PROCESSES }
-    ensures { Steps result (spec.entry_of n certificate.old.items row.now) certificate.new.items }
-{
-    let entry = passed_of(n, row)?;
-    certificate.push(entry)?;
+    })?;
     Ok(())
-}
-
-/// Refuses a record `end` with further fields.
-pub(crate) fn end_of(row: &FieldRow<'_>) -> Result<(), Fault>
-    ensures { result ≡ spec.end_of row.now }
-{
-    want(row.len() == 1, Fault::BadRecord)
 }

@@ -14,14 +14,14 @@ ghost use Rattle.line_claims.specs.Histories as spec;
 ghost use Rattle.line_claims.specs.Reads.{FailsText, Steps, Yields, error_at};
 ghost use Rattle.line_claims.specs.Stages.{Goes, tapes_left, with_tape};
 
-use crate::events::{Kind, check_event_of, kind_of, mark_event_of, recv_event_of, send_event_of};
+use crate::events::{Kind, kind_of};
 use crate::faults::{TextError, error_at, fault_at};
-use crate::numbers::{incarnation, plain, want};
+use crate::numbers::{incarnation, plain, process, round, round_or_none, want};
 use crate::parts::is_named;
 use crate::versions::{LAST_VERSION, most_in};
-use line_fields::{Fault, FieldRow, ReadError, RecordReader};
-use line_names::ProcId;
-use line_tape::{CountError, Event, History, MOST_EVENTS};
+use line_fields::{Fault, FieldRow, ReadError, RecordReader, hex, hex_into};
+use line_names::{MOST_BODY, MsgName, ProcId};
+use line_tape::{CountError, Event, History, MOST_EVENTS, MOST_STATE, State};
 use std::alloc::Global;
 
 // The version and the number of processes that `history,V,N` announces.
@@ -88,9 +88,9 @@ fn make_room(history: &mut History, at: ProcId) -> Result<(), ReadError>
     Ok(())
 }
 
-// Adds the send of a record to the tape of a process. The bytes of the message take the place of
-// those of a list.
-#[tactic(auto, unfolding(crate::specs::Histories::event_at))]
+// Adds the event of `send,TO,INC,HEX` to the tape of a process. The bytes of the message take the
+// place of those of a list.
+#[tactic(auto, unfolding(crate::specs::Histories::event_at, crate::specs::Events::send_event_of, line_fields::specs::Shapes::three))]
 fn send_at(
     history: &mut History,
     at: ProcId,
@@ -103,14 +103,19 @@ fn send_at(
         history.new.processes }
     ensures same { length history.new.processes ≡ length history.old.processes }
 {
-    let (to, inc) = send_event_of(history.n(), row, bytes)?;
+    want(row.len() == 4, Fault::BadRecord)?;
+    let to = plain(row, 1)?;
+    let inc = incarnation(row, 2)?;
+    hex_into(bytes, row.field(3))?;
+    let to = process(history.n(), to)?;
+    want(bytes.len() <= MOST_BODY, Fault::BodyTooLong)?;
     make_room(history, at)?;
     history.append_send(at, to, inc, bytes.as_slice());
     Ok(())
 }
 
-// Adds the receipt of a record to the tape of a process.
-#[tactic(auto, unfolding(crate::specs::Histories::event_at))]
+// Adds the event of `recv,FROM,INC,NUMBER` to the tape of a process.
+#[tactic(auto, unfolding(crate::specs::Histories::event_at, crate::specs::Events::recv_event_of, line_fields::specs::Shapes::three))]
 fn recv_at(history: &mut History, at: ProcId, row: &FieldRow<'_>) -> Result<(), ReadError>
     requires there { at < length history.old.processes }
     requires kind { field row.now 0 ≡ codes "recv" }
@@ -118,15 +123,20 @@ fn recv_at(history: &mut History, at: ProcId, row: &FieldRow<'_>) -> Result<(), 
         history.new.processes }
     ensures same { length history.new.processes ≡ length history.old.processes }
 {
-    let message = recv_event_of(history.n(), row)?;
+    want(row.len() == 4, Fault::BadRecord)?;
+    let from = plain(row, 1)?;
+    let inc = incarnation(row, 2)?;
+    let number = plain(row, 3)?;
+    let from = process(history.n(), from)?;
     make_room(history, at)?;
-    history.append_receipt(at, &message);
+    history.append_receipt(at, &MsgName { from, inc, number });
     Ok(())
 }
 
-// Adds the check of a record to the tape of a process. It stands apart: its event is large.
+// Adds the event of `check,HEX,ROUND` to the tape of a process. It stands apart: its event is
+// large.
 #[inline(never)]
-#[tactic(auto, unfolding(crate::specs::Histories::event_at))]
+#[tactic(auto, unfolding(crate::specs::Histories::event_at, crate::specs::Events::check_event_of, line_fields::specs::Shapes::two))]
 fn check_at(
     alloc: Global,
     history: &mut History,
@@ -139,14 +149,18 @@ fn check_at(
         history.new.processes }
     ensures same { length history.new.processes ≡ length history.old.processes }
 {
-    let (state, round) = check_event_of(alloc, row)?;
+    want(row.len() == 3, Fault::BadRecord)?;
+    let bytes = hex(alloc, row.field(1))?;
+    let round = round_or_none(row, 2)?;
+    want(bytes.len() <= MOST_STATE, Fault::StateTooLong)?;
     make_room(history, at)?;
+    let state = State::of(bytes);
     history.append(at, Event::Check { state, round });
     Ok(())
 }
 
-// Adds the receipt of a marker of a record to the tape of a process.
-#[tactic(auto, unfolding(crate::specs::Histories::event_at))]
+// Adds the event of `mark,FROM,ROUND` to the tape of a process.
+#[tactic(auto, unfolding(crate::specs::Histories::event_at, crate::specs::Events::mark_event_of, line_fields::specs::Shapes::two))]
 fn mark_at(history: &mut History, at: ProcId, row: &FieldRow<'_>) -> Result<(), ReadError>
     requires there { at < length history.old.processes }
     requires kind { field row.now 0 ≡ codes "mark" }
@@ -154,7 +168,10 @@ fn mark_at(history: &mut History, at: ProcId, row: &FieldRow<'_>) -> Result<(), 
         history.new.processes }
     ensures same { length history.new.processes ≡ length history.old.processes }
 {
-    let (from, round) = mark_event_of(history.n(), row)?;
+    want(row.len() == 3, Fault::BadRecord)?;
+    let from = plain(row, 1)?;
+    let round = round(row, 2)?;
+    let from = process(history.n(), from)?;
     make_room(history, at)?;
     history.append_mark(at, from, round);
     Ok(())
@@ -180,60 +197,6 @@ fn event_at(
         Kind::Recv => recv_at(history, at, row),
         Kind::Check => check_at(alloc, history, at, row),
         Kind::Mark => mark_at(history, at, row),
-    }
-}
-
-// Takes the events of the tape that was begun last, from the one in the row on, and says whether
-// the row then has a record that is none. It runs for each event: a fault has no number yet.
-fn take_events<'a>(
-    alloc: Global,
-    records: &mut RecordReader<'a>,
-    history: &mut History,
-    tapes: u32,
-    number: &mut u64,
-    row: &mut FieldRow<'a>,
-    bytes: &mut Vec<u8>,
-) -> Result<bool, ReadError>
-    requires some { 0 < tapes }
-    requires there { tapes ≤ length history.old.processes }
-    requires room { number.old + length records.old + 1 < 2 ^ 64 }
-    ensures ok { IfOk result (λ more. MatchBool more
-        ((is_event row.new ≡ false)
-        × (number.new + length records.new ≤ number.old + length records.old)
-        × ((rest : List Record)
-        → tapes_left (length history.old.processes) tapes history.old.processes number.old
-        (row.old ∷ (records.old ++ rest))
-        ≡ tapes_left (length history.old.processes) tapes history.new.processes number.new
-        (row.new ∷ (records.new ++ rest))))
-        ((number.new ≤ number.old + length records.old + 1)
-        × ((rest : List Record)
-        → tapes_left (length history.old.processes) tapes history.old.processes number.old
-        (row.old ∷ (records.old ++ rest))
-        ≡ tapes_left (length history.old.processes) tapes history.new.processes number.new rest))) }
-    ensures err { IfErr result (λ error. (rest : List Record)
-        → FailsText (error_at number.new error)
-        (tapes_left (length history.old.processes) tapes history.old.processes number.old
-        (row.old ∷ (records.old ++ rest)))) }
-    ensures count { number.old ≤ number.new }
-    ensures same { length history.new.processes ≡ length history.old.processes }
-{
-    let Ok(at) = ProcId::try_new(tapes - 1, history.n()) else {
-        unreachable!()
-    };
-    'events: loop {
-        let Some(kind) = kind_of(row) else {
-            return Ok(true);
-        };
-        match event_at(alloc, history, at, kind, row, bytes) {
-            Ok(()) => {}
-            Err(error) => return Err(error),
-        }
-        *number += 1;
-        match records.next_row(row) {
-            Ok(true) => {}
-            Ok(false) => return Ok(false),
-            Err(_) => return Err(ReadError::OutOfMemory),
-        }
     }
 }
 
@@ -273,9 +236,21 @@ pub(crate) fn take_open_tape<'a>(
     if tapes == 0 {
         return Ok(true);
     }
-    match take_events(alloc, records, history, tapes, number, row, bytes) {
-        Ok(more) => Ok(more),
-        Err(error) => Err(error_at(*number, error)),
+    let Ok(at) = ProcId::try_new(tapes - 1, history.n()) else {
+        unreachable!()
+    };
+    'events: loop {
+        let Some(kind) = kind_of(row) else {
+            return Ok(true);
+        };
+        match event_at(alloc, history, at, kind, row, bytes) {
+            Ok(()) => {}
+            Err(error) => return Err(error_at(*number, error)),
+        }
+        *number += 1;
+        if !records.next_row(row)? {
+            return Ok(false);
+        }
     }
 }
 

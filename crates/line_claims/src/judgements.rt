@@ -1,7 +1,6 @@
 //! Claims, written record by record.
 
-ghost use Rattle.std.specs.Prelude.{◌≡◌, ◌≤◌, ◌++◌, ◌∷◌, [], decimal, length, map};
-ghost use Rattle.std.specs.List.{flat_map};
+ghost use Rattle.std.specs.Prelude.{◌≡◌, ◌≤◌, ◌++◌, map};
 ghost use Rattle.line_devices.specs.Devices.{Outputs};
 ghost use Rattle.line_names.specs.declared.limits.TheConstants.{MOST_PROCESSES};
 ghost use Rattle.line_fields.specs.Texts.{record_text, records_text};
@@ -18,29 +17,6 @@ use line_fields::{
 use line_names::{Choice, Line, MOST_PROCESSES, Passed, ProcId, ProcSet};
 use line_tape::{History, Marks};
 
-// Writes a comma before each process of a set, of the first `n`, and its number.
-fn add_members<K: Sink>(
-    sink: &mut K,
-    writer: &mut RecordWriter,
-    n: u32,
-    set: &ProcSet,
-) -> Result<(), DeviceFault>
-    requires { n ≤ MOST_PROCESSES }
-    ensures { Outputs result (K.taken sink.old) (K.taken sink.new) (K.faults sink.old)
-        (K.faults sink.new) writer.new
-        (writer.old ++ flat_map (λ p. 44 ∷ decimal p) (spec.members n set.now)) }
-{
-    for value in 0..n {
-        let Ok(p) = ProcId::try_new(value, n) else {
-            unreachable!()
-        };
-        if set.has(p) {
-            add_field(sink, writer, Field::Number(value as u64))?;
-        }
-    }
-    Ok(())
-}
-
 // Writes `failed,P,..`: the processes of a set, of the first `n`, in order.
 fn put_failed<K: Sink>(
     sink: &mut K,
@@ -54,25 +30,15 @@ fn put_failed<K: Sink>(
         (writer.old ++ record_text (spec.failed_record n failed.now)) }
 {
     begin_record(sink, writer, b"failed", &[])?;
-    add_members(sink, writer, n, failed)?;
-    close_record(sink, writer)
-}
-
-// Writes a comma before each of some choices, and the choice.
-fn add_choices<K: Sink>(
-    sink: &mut K,
-    writer: &mut RecordWriter,
-    choices: &[Choice],
-) -> Result<(), DeviceFault>
-    ensures { Outputs result (K.taken sink.old) (K.taken sink.new) (K.faults sink.old)
-        (K.faults sink.new) writer.new
-        (writer.old ++ flat_map (λ choice. 44 ∷ spec.choice_text choice) choices.now) }
-{
-    for i in 0..choices.len() {
-        let field = choice_field(choices[i]);
-        add_field(sink, writer, field)?;
+    for value in 0..n {
+        let Ok(p) = ProcId::try_new(value, n) else {
+            unreachable!()
+        };
+        if failed.has(p) {
+            add_field(sink, writer, Field::Number(value as u64))?;
+        }
     }
-    Ok(())
+    close_record(sink, writer)
 }
 
 // Writes `line,CHOICE,..`.
@@ -84,8 +50,12 @@ fn put_line<K: Sink>(
     ensures { Outputs result (K.taken sink.old) (K.taken sink.new) (K.faults sink.old)
         (K.faults sink.new) writer.new (writer.old ++ record_text (spec.line_record line.now)) }
 {
+    let choices = line.choices();
     begin_record(sink, writer, b"line", &[])?;
-    add_choices(sink, writer, line.choices())?;
+    for i in 0..choices.len() {
+        let field = choice_field(choices[i]);
+        add_field(sink, writer, field)?;
+    }
     close_record(sink, writer)
 }
 
@@ -155,88 +125,6 @@ fn put_passes<K: Sink>(
     Ok(())
 }
 
-// Writes `end`, the last record of a claim.
-fn put_end<K: Sink>(sink: &mut K, writer: &mut RecordWriter) -> Result<(), DeviceFault>
-    ensures { Outputs result (K.taken sink.old) (K.taken sink.new) (K.faults sink.old)
-        (K.faults sink.new) writer.new (writer.old ++ record_text spec.end_record) }
-{
-    put_numbers(sink, writer, b"end", &[])
-}
-
-// Writes the entries of a certificate, and `end`.
-fn put_entries<K: Sink>(
-    sink: &mut K,
-    writer: &mut RecordWriter,
-    certificate: &[Passed],
-) -> Result<(), DeviceFault>
-    ensures { Outputs result (K.taken sink.old) (K.taken sink.new) (K.faults sink.old)
-        (K.faults sink.new) writer.new
-        (writer.old
-        ++ records_text (map spec.pass_record certificate.now ++ spec.end_record ∷ [])) }
-{
-    put_passes(sink, writer, certificate)?;
-    put_end(sink, writer)
-}
-
-// Writes a line, the entries of its certificate, and `end`.
-fn put_chain<K: Sink>(
-    sink: &mut K,
-    writer: &mut RecordWriter,
-    line: &Line,
-    certificate: &[Passed],
-) -> Result<(), DeviceFault>
-    ensures { Outputs result (K.taken sink.old) (K.taken sink.new) (K.faults sink.old)
-        (K.faults sink.new) writer.new
-        (writer.old
-        ++ records_text
-        (spec.line_record line.now
-        ∷ (map spec.pass_record certificate.now ++ spec.end_record ∷ []))) }
-{
-    put_line(sink, writer, line)?;
-    put_entries(sink, writer, certificate)
-}
-
-// Writes what stands after the marks of a claim on a history of `n` processes: the failed processes
-// in order, the line, the entries of its certificate, and the end.
-fn put_judged<K: Sink>(
-    sink: &mut K,
-    writer: &mut RecordWriter,
-    n: u32,
-    failed: &ProcSet,
-    line: &Line,
-    certificate: &[Passed],
-) -> Result<(), DeviceFault>
-    requires { n ≤ MOST_PROCESSES }
-    ensures { Outputs result (K.taken sink.old) (K.taken sink.new) (K.faults sink.old)
-        (K.faults sink.new) writer.new
-        (writer.old ++ records_text (spec.judged_records n failed.now line.now certificate.now)) }
-{
-    put_failed(sink, writer, n, failed)?;
-    put_chain(sink, writer, line, certificate)
-}
-
-// Writes what stands after the history in a check text.
-fn put_claim<K: Sink>(
-    sink: &mut K,
-    writer: &mut RecordWriter,
-    history: &History,
-    marks: &Marks,
-    failed: &ProcSet,
-    line: &Line,
-    certificate: &[Passed],
-) -> Result<(), DeviceFault>
-    ensures { Outputs result (K.taken sink.old) (K.taken sink.new) (K.faults sink.old)
-        (K.faults sink.new) writer.new
-        (writer.old
-        ++ records_text
-        (spec.marks_records (spec.in_order history.now.processes marks.now)
-        ++ spec.judged_records (length history.now.processes) failed.now line.now
-        certificate.now)) }
-{
-    put_marks(sink, writer, history, marks)?;
-    put_judged(sink, writer, history.n(), failed, line, certificate)
-}
-
 // The version of a check text on these marks of a history: 2 where one of its processes is barred
 // or it has more than 64 of them, and else 1. It asks once for the bar of each process.
 fn version_of(history: &History, marks: &Marks) -> u32
@@ -284,5 +172,9 @@ pub fn put_check_text<K: Sink>(
 {
     let version = version_of(history, marks);
     put_history(sink, writer, version, history)?;
-    put_claim(sink, writer, history, marks, failed, line, certificate)
+    put_marks(sink, writer, history, marks)?;
+    put_failed(sink, writer, history.n(), failed)?;
+    put_line(sink, writer, line)?;
+    put_passes(sink, writer, certificate)?;
+    put_numbers(sink, writer, b"end", &[])
 }

@@ -2,7 +2,7 @@
 
 ghost use Rattle.std.specs.Prelude.{◌++◌, map};
 ghost use Rattle.line_devices.specs.Devices.{Outputs};
-ghost use Rattle.line_fields.specs.Texts.{record_text, records_text};
+ghost use Rattle.line_fields.specs.Texts.{records_text};
 ghost use Rattle.line_claims.specs.Records as spec;
 ghost use Rattle.line_tape.specs.Views.{bar_at};
 
@@ -10,20 +10,6 @@ use line_devices::{DeviceFault, Sink};
 use line_fields::{RecordWriter, put_numbers};
 use line_names::ProcId;
 use line_tape::{History, Marks};
-
-// Writes `damage,P,C`.
-fn put_damage<K: Sink>(
-    sink: &mut K,
-    writer: &mut RecordWriter,
-    p: ProcId,
-    check: u32,
-) -> Result<(), DeviceFault>
-    ensures { Outputs result (K.taken sink.old) (K.taken sink.new) (K.faults sink.old)
-        (K.faults sink.new) writer.new (writer.old ++ record_text (spec.damage_record p check)) }
-{
-    let place = p.get();
-    put_numbers(sink, writer, b"damage", &[place as u64, check as u64])
-}
 
 // Writes `damage,P,C` for each damaged check of a process, in order, of its checks up to the last
 // one.
@@ -39,10 +25,11 @@ fn put_damages_of<K: Sink>(
         (writer.old
         ++ records_text (map (spec.damage_record p) (spec.damaged_checks marks.now p last))) }
 {
+    let place = p.get();
     for before in 0..last {
         let check = before + 1;
         if marks.has(p, check) {
-            put_damage(sink, writer, p, check)?;
+            put_numbers(sink, writer, b"damage", &[place as u64, check as u64])?;
         }
     }
     Ok(())
@@ -72,20 +59,6 @@ fn put_damages<K: Sink>(
     Ok(())
 }
 
-// Writes `bar,P,C`.
-fn put_bar<K: Sink>(
-    sink: &mut K,
-    writer: &mut RecordWriter,
-    p: ProcId,
-    bar: u32,
-) -> Result<(), DeviceFault>
-    ensures { Outputs result (K.taken sink.old) (K.taken sink.new) (K.faults sink.old)
-        (K.faults sink.new) writer.new (writer.old ++ record_text (spec.bar_record p bar)) }
-{
-    let place = p.get();
-    put_numbers(sink, writer, b"bar", &[place as u64, bar as u64])
-}
-
 // Writes `bar,P,C` where process P is barred at check C, and nothing where it isn't barred.
 fn put_bar_of<K: Sink>(
     sink: &mut K,
@@ -98,7 +71,10 @@ fn put_bar_of<K: Sink>(
         (writer.old ++ records_text (spec.bar_records p (bar_at marks.now p))) }
 {
     match marks.bar_of(p) {
-        Some(bar) => put_bar(sink, writer, p, bar),
+        Some(bar) => {
+            let place = p.get();
+            put_numbers(sink, writer, b"bar", &[place as u64, bar as u64])
+        }
         None => Ok(()),
     }
 }

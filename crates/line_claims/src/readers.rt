@@ -1,16 +1,15 @@
 //! Check texts that come in pieces of whole lines.
 
-ghost use Rattle.std.specs.Prelude.{◌≡◌, ◌≤◌, ◌<◌, ◌+◌, ◌^◌, ◌++◌, ◌∷◌, ◌≢◌, ◌⊎◌, ℕ, List, false};
+ghost use Rattle.std.specs.Prelude.{◌≡◌, ◌≤◌, ◌<◌, ◌+◌, ◌^◌, ◌++◌, ◌∷◌, ◌≢◌, ℕ, List};
 ghost use Rattle.std.specs.Prelude.{length, IfErr, IfOk, IfSome, IsTrue, MatchBool, Ok, OnOk, []};
 ghost use Rattle.std.specs.Prelude.{None, Some, true};
 ghost use Rattle.line_fields.specs.Bytes.{is_input_text};
 ghost use Rattle.line_fields.specs.Records.{Record, records_of_text};
-ghost use Rattle.line_claims.specs.Events.{is_event};
 ghost use Rattle.line_claims.specs.Readings.{IsBegun};
 ghost use Rattle.line_claims.specs.Readings as spec;
 ghost use Rattle.line_claims.specs.Reads.{FailsText, Reads, Yields};
 ghost use Rattle.line_claims.specs.Stages.{Goes};
-ghost use Rattle.line_claims.specs.Texts.{check_of_text, check_text_of, check_view};
+ghost use Rattle.line_claims.specs.Texts.{check_of_text, check_view};
 
 use crate::claims::{ClaimStage, begin_claim, close_claim, take_of_claim};
 use crate::faults::{TextError, TextFault, told};
@@ -31,27 +30,11 @@ struct BegunCheck {
     text: CheckText,
 }
 
-// Takes the first record of a check text.
-fn begin_check(alloc: Global, row: &FieldRow<'_>) -> Result<BegunCheck, TextError>
-    ensures exact { Goes result check_text_of (λ begun. spec.begun_left begun 2) row.now }
-    ensures kept { IfOk result IsBegun }
-{
-    let (version, n) = head_at(row)?;
-    let history = begin_history(alloc, n)?;
-    let claim = begin_claim(alloc, n)?;
-    Ok(BegunCheck {
-        version,
-        tapes: 0,
-        stage: None,
-        text: CheckText { history, claim },
-    })
-}
-
 // Begins a check text with its first record.
 //
 // It is a function of its own, since what is begun is a large value and is made once.
 #[inline(never)]
-fn begin_with(
+fn begin_check(
     alloc: Global,
     begun: &mut Option<BegunCheck>,
     row: &FieldRow<'_>,
@@ -61,7 +44,15 @@ fn begin_with(
     ensures kept { IfSome begun.new IsBegun }
     ensures some { OnOk result (begun.new ≢ None) }
 {
-    *begun = Some(begin_check(alloc, row)?);
+    let (version, n) = head_at(row)?;
+    let history = begin_history(alloc, n)?;
+    let claim = begin_claim(alloc, n)?;
+    *begun = Some(BegunCheck {
+        version,
+        tapes: 0,
+        stage: None,
+        text: CheckText { history, claim },
+    });
     Ok(())
 }
 
@@ -87,35 +78,6 @@ fn take_in_claim(
     Ok(())
 }
 
-// Takes the record with which the next tape of a check text begins, or the first one of its claim.
-fn take_in_tapes(begun: &mut BegunCheck, number: u64, row: &FieldRow<'_>) -> Result<(), TextError>
-    requires kept { IsBegun begun.old }
-    requires tapes { begun.old.stage ≡ None }
-    requires other { (begun.old.tapes ≡ 0) ⊎ (is_event row.now ≡ false) }
-    ensures exact { Goes result (spec.begun_left begun.old number)
-        (λ _. spec.begun_left begun.new (number + 1)) row.now }
-    ensures kept { IsBegun begun.new }
-{
-    if take_next_tape(&mut begun.text.history, &mut begun.tapes, number, row)? {
-        return Ok(());
-    }
-    take_in_claim(begun, ClaimStage::Damage, number, row)
-}
-
-// Takes a record of a check text after the first that is no event.
-fn take_of_check(begun: &mut BegunCheck, number: u64, row: &FieldRow<'_>) -> Result<(), TextError>
-    requires kept { IsBegun begun.old }
-    requires other { spec.IsBeyondTape begun.old row.now }
-    ensures exact { Goes result (spec.begun_left begun.old number)
-        (λ _. spec.begun_left begun.new (number + 1)) row.now }
-    ensures kept { IsBegun begun.new }
-{
-    match begun.stage {
-        None => take_in_tapes(begun, number, row),
-        Some(stage) => take_in_claim(begun, stage, number, row),
-    }
-}
-
 // Takes a record of a check text that is no event.
 fn take_row(
     alloc: Global,
@@ -132,10 +94,16 @@ fn take_row(
     ensures some { OnOk result (begun.new ≢ None) }
     ensures none { begun.new ≡ None → begun.old ≡ None }
 {
-    match begun {
-        Some(begun) => take_of_check(begun, number, row),
-        None => begin_with(alloc, begun, row),
+    let Some(begun) = begun else {
+        return begin_check(alloc, begun, row);
+    };
+    if let Some(stage) = begun.stage {
+        return take_in_claim(begun, stage, number, row);
     }
+    if take_next_tape(&mut begun.text.history, &mut begun.tapes, number, row)? {
+        return Ok(());
+    }
+    take_in_claim(begun, ClaimStage::Damage, number, row)
 }
 
 // Takes the events of the tape that was begun last, from the record in the row on, while the tapes

@@ -117,40 +117,7 @@ fn put_events<K: Sink>(
     Ok(())
 }
 
-// Writes `tape,P,INC`, which the events of process P follow.
-fn put_tape_head<K: Sink>(
-    sink: &mut K,
-    writer: &mut RecordWriter,
-    p: ProcId,
-    inc: u16,
-) -> Result<(), DeviceFault>
-    ensures { Outputs result (K.taken sink.old) (K.taken sink.new) (K.faults sink.old)
-        (K.faults sink.new) writer.new (writer.old ++ record_text (spec.tape_record p inc)) }
-{
-    let place = p.get();
-    put_numbers(sink, writer, b"tape", &[place as u64, inc as u64])
-}
-
-// Writes `tape,P,INC` and the records of its events.
-fn put_tape<K: Sink>(
-    sink: &mut K,
-    writer: &mut RecordWriter,
-    p: ProcId,
-    inc: u16,
-    events: &Events<'_>,
-) -> Result<(), DeviceFault>
-    ensures put { Outputs result (K.taken sink.old) (K.taken sink.new) (K.faults sink.old)
-        (K.faults sink.new) writer.new
-        (writer.old
-        ++ records_text
-        (spec.tape_records p (record { incarnation = inc; tape = events.now }))) }
-    ensures fits { OnOk result (FitsProcess (record { incarnation = inc; tape = events.now })) }
-{
-    put_tape_head(sink, writer, p, inc)?;
-    put_events(sink, writer, events)
-}
-
-// Writes the tape of a process.
+// Writes `tape,P,INC` for a process, and the records of the events of its tape.
 fn put_tape_of<K: Sink>(
     sink: &mut K,
     writer: &mut RecordWriter,
@@ -165,20 +132,9 @@ fn put_tape_of<K: Sink>(
 {
     let inc = history.incarnation(p);
     let events = history.tape(p).front(Choice::Now);
-    put_tape(sink, writer, p, inc, &events)
-}
-
-// Writes `history,V,N`, which the tapes of N processes follow.
-fn put_history_head<K: Sink>(
-    sink: &mut K,
-    writer: &mut RecordWriter,
-    version: u32,
-    n: u32,
-) -> Result<(), DeviceFault>
-    ensures { Outputs result (K.taken sink.old) (K.taken sink.new) (K.faults sink.old)
-        (K.faults sink.new) writer.new (writer.old ++ record_text (spec.history_record version n)) }
-{
-    put_numbers(sink, writer, b"history", &[version as u64, n as u64])
+    let place = p.get();
+    put_numbers(sink, writer, b"tape", &[place as u64, inc as u64])?;
+    put_events(sink, writer, &events)
 }
 
 /// Writes the records of a history in a text of that version after what a writer holds.
@@ -200,7 +156,7 @@ pub fn put_history<K: Sink>(
         (AreRoundsInRange history.now.processes → IsHistoryInRange history.now.processes) }
 {
     let n = history.n();
-    put_history_head(sink, writer, version, n)?;
+    put_numbers(sink, writer, b"history", &[version as u64, n as u64])?;
     for p in 0..n {
         let Ok(p) = ProcId::try_new(p, n) else {
             unreachable!()

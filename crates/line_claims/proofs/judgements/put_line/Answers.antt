@@ -1,25 +1,26 @@
-use Rattle.std.proofs.Common.{◌++◌, ◌∷◌, ◌∙◌, [], ℕ, List, ap, append_assoc, refl}
-use Rattle.std.specs.Prelude.{codes}
-use Rattle.std.specs.List.{flat_map}
-use Rattle.line_devices.proofs.OutputLemmas.{outputs_front, outputs_on}
-use Rattle.line_fields.proofs.OutletLemmas.{join_more}
-use Rattle.line_names.specs.declared.choices.Choice.{Choice}
-use Rattle.line_claims.specs.Records.{choice_text}
+use Rattle.std.proofs.Common.{◌<◌, ◌≤◌, ◌∷◌, [], ap, arith, length}
+use Rattle.line_devices.proofs.OutputLemmas.{out_front, out_more, out_none}
+use Rattle.line_claims.proofs.WriteLemmas.{before_choices, next_choice, no_choice, out_last}
 use Rattle.line_claims.proofs.judgements.put_line.Goals as goal
-
-abbrev part : Choice → List ℕ
-part x = 44 ∷ choice_text x
 
 pub returns-in_err-begin_record : goal.returns-in_err-begin_record
 returns-in_err-begin_record g c =
-    outputs_front _ _ _ _ (codes "line") (flat_map part c.args.line.now ++ 10 ∷ []) _ (ap (λ (t : List ℕ). t ++ 10 ∷ []) (join_more choice_text (codes "line") c.args.line.now) ∙ append_assoc (codes "line") (flat_map part c.args.line.now) (10 ∷ [])) c.in_err-begin_record.ensures c.from_residual.ensures.1
+    out_front _ _ _ _ _ (before_choices c.args.line.now) (out_none _ _ _ _) c.in_err-begin_record.ensures c.from_residual.ensures.1
 
-pub returns-in_err-add_choices : goal.returns-in_err-add_choices
-returns-in_err-add_choices g c =
-    outputs_front _ _ _ _ (codes "line" ++ flat_map part c.args.line.now) (10 ∷ []) _ (ap (λ (t : List ℕ). t ++ 10 ∷ []) (join_more choice_text (codes "line") c.args.line.now))
-    (outputs_on _ (codes "line") (flat_map part c.args.line.now) _ refl c.in_ok-begin_record.ensures (rw c.choices.ensures.value at c.in_err-add_choices.ensures)) c.from_residual-in_err-add_choices.ensures.1
+pub loop-i-init : goal.loop-i-init
+loop-i-init g c = out_more _ _ (before_choices c.args.line.now) (out_none _ _ _ _) c.in_ok-begin_record.ensures
+
+pub loop-i-preserved : goal.loop-i-preserved
+loop-i-preserved g c =
+    let lt : c.loop-i.i < length c.args.line.now = omega (arith, ap length c.choices-choices.ensures.value) in
+    out_more _ _ (next_choice c.args.line.now c.loop-i.i _ lt) c.loop-i.invariant (rw (c.choice_field-field.ensures, c.choices-choices.ensures.value) at c.in_ok-add_field.ensures)
+
+pub returns-in_err-add_field : goal.returns-in_err-add_field
+returns-in_err-add_field g c =
+    let lt : c.loop-i.i < length c.args.line.now = omega (arith, ap length c.choices-choices.ensures.value) in
+    out_front _ _ _ _ _ (next_choice c.args.line.now c.loop-i.i _ lt) c.loop-i.invariant (rw (c.choice_field-field.ensures, c.choices-choices.ensures.value) at c.in_err-add_field.ensures) c.from_residual-in_err-add_field.ensures.1
 
 pub returns : goal.returns
 returns g c =
-    outputs_on _ (codes "line" ++ flat_map part c.args.line.now) (10 ∷ []) _ (ap (λ (t : List ℕ). t ++ 10 ∷ []) (join_more choice_text (codes "line") c.args.line.now))
-    (outputs_on _ (codes "line") (flat_map part c.args.line.now) _ refl c.in_ok-begin_record.ensures (rw c.choices.ensures.value at c.in_ok-add_choices.ensures)) c.close_record.ensures
+    let le : length c.args.line.now ≤ c.loop-i.i = omega (arith, ap length c.choices-choices.ensures.value) in
+    out_last (10 ∷ []) (no_choice c.args.line.now c.loop-i.i le) c.loop-i.invariant c.close_record.ensures

@@ -9,16 +9,16 @@ use Rattle.line_claims.proofs.MemoryLemmas.{front_fits, history_in_range}
 use Rattle.line_claims.proofs.PartLemmas.{next_tape, no_tape}
 use Rattle.line_claims.proofs.writers.put_history.Goals as goal
 
-pub returns-in_err-put_history_head-clause-put : goal.returns-in_err-put_history_head-clause-put
-returns-in_err-put_history_head-clause-put g c =
+pub returns-in_err-put_numbers-clause-put : goal.returns-in_err-put_numbers-clause-put
+returns-in_err-put_numbers-clause-put g c =
     let history : List Process = c.args.history.now.processes in
-    outputs_front _ _ _ _ (record_text (history_record c.args.version (length history))) (records_text (tapes_records 0 history)) _ refl (rw c.n-n.ensures.value at c.in_err-put_history_head.ensures) c.from_residual.ensures.1
+    outputs_front _ _ _ _ (record_text (history_record c.args.version (length history))) (records_text (tapes_records 0 history)) _ refl (rw c.n-n.ensures.value at c.in_err-put_numbers.ensures) c.from_residual.ensures.1
 
 pub loop-p-init : goal.loop-p-init
 loop-p-init g c =
     let history : List Process = c.args.history.now.processes in
     record {
-      part = out_more (record_text (history_record c.args.version (length history))) (records_text (tapes_records 0 history)) refl (out_none _ _ _ _) (rw c.n-n.ensures.value at c.in_ok-put_history_head.ensures);
+      part = out_more (record_text (history_record c.args.version (length history))) (records_text (tapes_records 0 history)) refl (out_none _ _ _ _) (rw c.n-n.ensures.value at c.in_ok-put_numbers.ensures);
       fits = tt;
     }
 

@@ -1,7 +1,7 @@
 use Rattle.std.proofs.Common.{◌≡◌, ◌≤◌, ◌+◌, ◌++◌, ◌∷◌, List, length}
 use Rattle.line_fields.specs.Records.{Record}
 use Rattle.line_claims.specs.Stages.{tapes_left}
-use Rattle.line_claims.proofs.histories.take_events.Given as goal
+use Rattle.line_claims.proofs.histories.take_open_tape.Given as goal
 
 abbrev pub invariant-events : goal.invariant-events
 invariant-events l = record {
