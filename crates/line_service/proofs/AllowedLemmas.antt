@@ -5,7 +5,7 @@ use Rattle.std.proofs.lemmas.List.{append-nil, drop_all, drop_more, take-append-
 use Rattle.std.specs.Prelude.{◌==◌, not}
 use Rattle.line_fields.specs.Bytes.{begins_with_feed, is_input_byte, is_input_text, is_line_byte, is_line_text}
 use Rattle.line_fields.specs.Records.{without}
-use Rattle.line_service.specs.Lines.{Kept, Pending, ended_record, has_no_feed, last_record, record_of}
+use Rattle.line_service.specs.Lines.{Kept, Pending, has_no_feed, last_record, record_of}
 use Rattle.line_service.proofs.LineLemmas.{both_true, no_feed_of, no_feed_parts}
 
 -- a byte that is no line feed, and before none
@@ -139,9 +139,6 @@ pub last_is : (bytes : List ℕ) → has_no_feed bytes ≡ true → record_of (i
 last_is bytes none = sym (same_record (is_input_text bytes) (is_line_text bytes) (without 13 bytes) bytes (allowed_last bytes none) (without_all bytes))
 
 -- of a line that is pending
-pub ended_of : (pending : Pending) (line : List ℕ) → pending ≡ Kept line → ended_record (Kept line) ≡ ended_record pending
-ended_of pending line is = ap ended_record (sym is)
-
 pub last_of : (pending : Pending) (line : List ℕ) → pending ≡ Kept line → has_no_feed line ≡ true → record_of (is_line_text line) line ≡ last_record pending
 last_of pending line is none = last_is line none ∙ ap last_record (sym is)
 

@@ -2,47 +2,33 @@
 use Rattle.std.proofs.Common.{◌≡◌, ℕ, Bool, cond, List, [], ◌∷◌, ◌++◌, append_assoc, length, refl, sym, ap, ◌∙◌, subst}
 use Rattle.std.specs.Prelude.{Option, Some, Result, Ok}
 use Rattle.std.proofs.lemmas.List.{append-nil}
-use Rattle.line_answers.specs.Answers.{DoesCommand, command_answer_records}
+use Rattle.line_answers.specs.Answers.{DoesCommand, DoesFront, command_answer_records}
 use Rattle.line_devices.specs.Devices.{PutsButEnd, PutsFront}
 use Rattle.line_devices.proofs.PutLemmas.{front_of_front, holds_more, puts_front_of_held, puts_of_held}
 use Rattle.line_fields.specs.declared.faults.Fault.{Fault}
 use Rattle.line_fields.specs.declared.faults.ReadError.{ReadError}
-use Rattle.line_fields.specs.declared.faults.ReadError.TheVariants as errors
-use Rattle.line_fields.specs.Fields.{Fails}
 use Rattle.line_fields.specs.Records.{Record}
 use Rattle.line_fields.specs.Texts.{record_text, records_text}
 use Rattle.line_scripts.specs.declared.commands.Command.{Command}
 use Rattle.line_scripts.specs.Scripts.{command_in}
 use Rattle.line_service.specs.declared.outcomes.Outcome.{Outcome}
 use Rattle.line_service.specs.declared.outcomes.Outcome.TheVariants as outcomes
-use Rattle.line_service.specs.declared.seats.Stop.{Stop}
-use Rattle.line_service.specs.declared.seats.Stop.TheVariants as stops
-use Rattle.line_service.specs.Progress.{AnswersRecords, AnswersOne, Spot, StopsOne, TellsNone, TellsOne}
+use Rattle.line_service.specs.Progress.{AnswersRecords, AnswersOne, Spot}
 use Rattle.line_service.specs.Services.{Faulted, Replied, Hears, service_answer_records, answer_text, error_code, fault_record, worse}
 use Rattle.line_service.specs.Turns.{PutsAnswersFront}
 use Rattle.line_service.proofs.HeardLemmas.{one_answered, one_front, worse_faulted}
 use Rattle.line_world.specs.Machine.{Machine}
 
 -- a command that was done
-pub done_told : (old new : Machine) (command : Command) (taken now : Option (List ℕ)) (held later : List ℕ) (refused : Bool) (outcome : Outcome) → DoesCommand old command new taken now held later refused
-    → outcome ≡ cond refused outcomes.Refused outcomes.Done → TellsOne old command new taken now held later outcome
-done_told old new command taken now held later refused outcome h is =
-    record { told = h.told; tells = h.tells; outcome_is = is ∙ ap (λ (b : Bool). cond b outcomes.Refused outcomes.Done) h.counted; put = h.put }
+pub done_told : (old new : Machine) (r : Record) (command : Command) (taken now : Option (List ℕ)) (held later : List ℕ) (refused : Bool) (outcome : Outcome) → command_in (length old.history) r ≡ Ok command
+    → DoesCommand old command new taken now held later refused → outcome ≡ cond refused outcomes.Refused outcomes.Done → AnswersOne (Some old) (Ok r) (Some new) taken now held later outcome
+done_told old new r command taken now held later refused outcome spelt h is =
+    record { answer = Replied h.told; heard = (command, spelt, new, h.tells, refl); outcome_is = is ∙ ap (λ (b : Bool). cond b outcomes.Refused outcomes.Done) h.counted; put = h.put }
 
--- a command that was told something
-pub told_one : (old new : Machine) (r : Record) (command : Command) (taken now : Option (List ℕ)) (held later : List ℕ) (outcome : Outcome) → command_in (length old.history) r ≡ Ok command
-    → TellsOne old command new taken now held later outcome → AnswersOne (Some old) (Ok r) (Some new) taken now held later outcome
-told_one old new r command taken now held later outcome spelt h =
-    record { answer = Replied h.told; heard = (command, spelt, new, h.tells, refl); outcome_is = h.outcome_is; put = h.put }
-
--- a command that was told nothing
-out_of_memory : {A : Type 0} (error : ReadError) (read : Result A Fault) → error ≡ errors.OutOfMemory → Fails error read
-out_of_memory {A} error read is = subst (λ (e : ReadError). Fails e read) (sym is) tt
-
-pub told_none : (stop : Stop) (old new : Machine) (r : Record) (command : Command) (taken now : Option (List ℕ)) (held later : List ℕ) → command_in (length old.history) r ≡ Ok command
-    → TellsNone stop old command new taken now held later → StopsOne stop (Some old) (Ok r) (Some new) taken now held later
-told_none (stops.Fault error) old new r command taken now held later spelt (is, same, put, kept) = ((out_of_memory error (command_in (length old.history) r) is, ap Some same), put, kept)
-told_none stops.Write old new r command taken now held later spelt h =
+-- a command of whose answer a front was put
+pub front_told : (old new : Machine) (r : Record) (command : Command) (taken now : Option (List ℕ)) (held : List ℕ) → command_in (length old.history) r ≡ Ok command → DoesFront old command new taken now held
+    → PutsAnswersFront (Some old) held (Ok r ∷ []) taken now
+front_told old new r command taken now held spelt h =
     one_front (Some old) (Some new) held (Ok r) (Replied h.told) taken now (command, spelt, new, h.tells, refl)
     (subst (λ (t : List ℕ). PutsFront taken now t) (append_assoc held (records_text (command_answer_records h.told)) (10 ∷ [])) (front_of_front taken now (held ++ records_text (command_answer_records h.told)) (10 ∷ []) h.put))
 

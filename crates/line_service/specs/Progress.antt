@@ -1,42 +1,22 @@
 -- What the parts of a service do, record by record. No contract that a caller reads needs this.
 use Rattle.std.specs.Prelude.{◌≡◌, ℕ, ◌++◌, List, [], ◌∷◌, ◌==◌, Option, None, Some, Result, Ok}
 use Rattle.std.specs.Prelude.{Err, if◌then◌else◌, nat_le, take, true}
-use Rattle.line_answers.specs.Answers.{DoesFront, Tells, CommandAnswer, command_answer_records}
-use Rattle.line_devices.specs.Devices.{Puts, PutsButEnd, one_more}
+use Rattle.line_devices.specs.Devices.{PutsButEnd, one_more}
 use Rattle.line_fields.specs.declared.faults.Fault.{Fault}
 use Rattle.line_fields.specs.declared.faults.Fault.TheVariants.{BadRecord}
-use Rattle.line_fields.specs.declared.faults.ReadError.TheVariants as errors
 use Rattle.line_fields.specs.Records.{Record}
 use Rattle.line_fields.specs.Texts.{records_text}
-use Rattle.line_scripts.specs.declared.commands.Command.{Command}
 use Rattle.line_service.specs.declared.limits.TheConstants.{MOST_LINE}
 use Rattle.line_service.specs.declared.outcomes.Outcome.{Outcome}
 use Rattle.line_service.specs.declared.seats.Seat.{Seat}
 use Rattle.line_service.specs.declared.seats.Stop.{Stop}
 use Rattle.line_service.specs.declared.seats.Stop.TheVariants as stops
 use Rattle.line_service.specs.Lines.{IsFirstFeed, Kept, ended_record, has_no_feed, pending_after}
-use Rattle.line_service.specs.Services.{ServiceAnswer, Faulted, Hears, HearsAll, Replied}
+use Rattle.line_service.specs.Services.{ServiceAnswer, Faulted, Hears, HearsAll}
 use Rattle.line_service.specs.Services.{service_answer_records}
 use Rattle.line_service.specs.Services.{answers_text, outcome_of, records_ending_in, worst}
 use Rattle.line_service.specs.Turns.{PutsAnswersFront}
 use Rattle.line_world.specs.Machine.{Machine}
-
--- a command was told something: what was held and the records of that were put but for their end,
--- which is held
-pub record TellsOne (old : Machine) (command : Command) (new : Machine)
-    (taken now : Option (List ℕ)) (held later : List ℕ) (outcome : Outcome) : Type 0 where
-  pub told : CommandAnswer
-  pub tells : Tells old command told new
-  pub outcome_is : outcome ≡ outcome_of (Replied told)
-  pub put : PutsButEnd taken now later (held ++ records_text (command_answer_records told))
-
--- memory did not suffice for a command, and nothing changed; or the sink failed
-abbrev pub TellsNone : Stop → Machine → Command → Machine → Option (List ℕ) → Option (List ℕ)
-    → List ℕ → List ℕ → Type 0
-TellsNone (stops.Fault error) old command new taken now held later = (error ≡ errors.OutOfMemory)
-    × (new ≡ old) × (now ≡ taken) × (later ≡ held)
-TellsNone stops.Write old command new taken now held later =
-    DoesFront old command new taken now held
 
 -- a record was answered, but for the empty line: what was held and the records of the answer were
 -- put but for their end, which is held
@@ -100,11 +80,3 @@ pub record AnswersWhole (old : Spot) (bytes left : List ℕ) (new : Spot)
   pub parts : bytes ≡ done ++ left
   pub none_pending : pending_after (Kept []) done ≡ Kept []
   pub answered : AnswersRecords old (records_ending_in (Kept []) done) new taken now
-
--- records were answered, and the text of the answers was put
-pub record PutsAll (old : Spot) (records : List (Result Record Fault)) (new : Spot)
-    (taken now : Option (List ℕ)) : Type 0 where
-  pub answers : List ServiceAnswer
-  pub heard : HearsAll old.world records answers new.world
-  pub outcome : new.outcome ≡ worst old.outcome answers
-  pub put : Puts taken now (answers_text answers)

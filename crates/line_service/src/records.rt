@@ -89,25 +89,6 @@ fn answer_whole<K: Sink>(seat: &mut Seat, line: &[u8], sink: &mut K) -> Result<(
     answer_line(seat, line, sink)
 }
 
-/// Answers the record of a line that was pending and has ended.
-fn answer_pending<K: Sink>(
-    pending: &PendingLine,
-    seat: &mut Seat,
-    sink: &mut K,
-) -> Result<(), DeviceFault>
-    ensures ok { OnOk result (spec.AnswersRecords (spec.spot seat.old) (ended_record pending.now)
-        (spec.spot seat.new) (K.taken sink.old) (K.taken sink.new)) }
-    ensures err { OnErr result (PutsAnswersFront seat.old.world seat.old.writer
-        (ended_record pending.now) (K.taken sink.old) (K.taken sink.new)) }
-    ensures sound { OnOk result (K.faults sink.new ≡ K.faults sink.old) }
-    ensures failed { OnErr result (K.faults sink.new ≡ one_more (K.faults sink.old)) }
-{
-    match pending.bytes() {
-        Some(line) => answer_line(seat, line, sink),
-        None => answer_fault(seat, ReadError::Fault(Fault::BadRecord), sink),
-    }
-}
-
 /// Answers the record of the line that was pending, whose last bytes these are.
 pub(crate) fn answer_first<K: Sink>(
     pending: &mut PendingLine,
@@ -130,32 +111,12 @@ pub(crate) fn answer_first<K: Sink>(
         return answer_whole(seat, bytes, sink);
     }
     pending.add(bytes);
-    answer_pending(pending, seat, sink)?;
+    let answered = match pending.bytes() {
+        Some(line) => answer_line(seat, line, sink),
+        None => answer_fault(seat, ReadError::Fault(Fault::BadRecord), sink),
+    };
     pending.clear();
-    Ok(())
-}
-
-/// Answers the first line of bytes that came, where it ends within them, and says where its line
-/// feed stands.
-fn answer_next<K: Sink>(
-    seat: &mut Seat,
-    bytes: &[u8],
-    sink: &mut K,
-) -> Result<Option<usize>, DeviceFault>
-    ensures ok { IfOk result (λ at. spec.AnswersNext (spec.spot seat.old) bytes.now at
-        (spec.spot seat.new) (K.taken sink.old) (K.taken sink.new)) }
-    ensures err { OnErr result (PutsAnswersFront seat.old.world seat.old.writer
-        (records_ending_in (Kept []) bytes.now) (K.taken sink.old) (K.taken sink.new)) }
-    ensures sound { OnOk result (K.faults sink.new ≡ K.faults sink.old) }
-    ensures failed { OnErr result (K.faults sink.new ≡ one_more (K.faults sink.old)) }
-{
-    match first_feed(bytes) {
-        Some(at) => {
-            answer_whole(seat, &bytes[..at], sink)?;
-            Ok(Some(at))
-        }
-        None => Ok(None),
-    }
+    answered
 }
 
 /// Answers the record that was read into a row, of a line of so many bytes with the carriage
@@ -184,37 +145,9 @@ fn answer_row<K: Sink>(
     answer_record(seat, row, sink)
 }
 
-/// The same as `answer_next` of bytes that are known to be plain, which are then looked at many at
-/// a time.
-fn answer_plain<'a, K: Sink>(
-    seat: &mut Seat,
-    row: &mut FieldRow<'a>,
-    bytes: &'a [u8],
-    sink: &mut K,
-) -> Result<Option<usize>, DeviceFault>
-    requires { is_input_text bytes.now ≡ true }
-    ensures ok { IfOk result (λ at. spec.AnswersNext (spec.spot seat.old) bytes.now at
-        (spec.spot seat.new) (K.taken sink.old) (K.taken sink.new)) }
-    ensures err { OnErr result (PutsAnswersFront seat.old.world seat.old.writer
-        (records_ending_in (Kept []) bytes.now) (K.taken sink.old) (K.taken sink.new)) }
-    ensures sound { OnOk result (K.faults sink.new ≡ K.faults sink.old) }
-    ensures failed { OnErr result (K.faults sink.new ≡ one_more (K.faults sink.old)) }
-{
-    match row.take_line(bytes) {
-        Ok(end) => {
-            if end == bytes.len() {
-                return Ok(None);
-            }
-            let at = feed_after(bytes, end);
-            answer_row(seat, row, at, end, sink)?;
-            Ok(Some(at))
-        }
-        Err(_) => answer_next(seat, bytes, sink),
-    }
-}
-
-/// The one or the other.
-fn answer_either<'a, K: Sink>(
+/// Answers the first line of bytes that came, where it ends within them, and says where its line
+/// feed stands. Bytes that are known to be plain are looked at many at a time.
+fn answer_next<'a, K: Sink>(
     seat: &mut Seat,
     row: &mut FieldRow<'a>,
     bytes: &'a [u8],
@@ -230,9 +163,21 @@ fn answer_either<'a, K: Sink>(
     ensures failed { OnErr result (K.faults sink.new ≡ one_more (K.faults sink.old)) }
 {
     if plain {
-        answer_plain(seat, row, bytes, sink)
-    } else {
-        answer_next(seat, bytes, sink)
+        if let Ok(end) = row.take_line(bytes) {
+            if end == bytes.len() {
+                return Ok(None);
+            }
+            let at = feed_after(bytes, end);
+            answer_row(seat, row, at, end, sink)?;
+            return Ok(Some(at));
+        }
+    }
+    match first_feed(bytes) {
+        Some(at) => {
+            answer_whole(seat, &bytes[..at], sink)?;
+            Ok(Some(at))
+        }
+        None => Ok(None),
     }
 }
 
@@ -255,7 +200,7 @@ pub(crate) fn answer_lines<'a, K: Sink>(
     let mut row = FieldRow::new(seat.alloc);
     let mut rest = bytes;
     'lines: loop {
-        match answer_either(seat, &mut row, rest, plain, sink)? {
+        match answer_next(seat, &mut row, rest, plain, sink)? {
             Some(at) => rest = &rest[at + 1..],
             None => return Ok(rest),
         }

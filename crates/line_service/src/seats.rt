@@ -1,12 +1,10 @@
 //! The machine of a service, and what reads a record and writes its answer.
 
-ghost use Rattle.std.specs.Prelude.{◌≡◌, ◌++◌, ◌∷◌, [], None, Some, Ok, Result, if◌then◌else◌};
+ghost use Rattle.std.specs.Prelude.{◌≡◌, ◌∷◌, [], None, Some, Ok, Result};
 ghost use Rattle.std.specs.Prelude.{IfErr, IfOk, OnErr, OnOk};
 ghost use Rattle.line_devices.specs.Devices.{one_more};
 ghost use Rattle.line_fields.specs.declared.faults.Fault.{Fault};
 ghost use Rattle.line_fields.specs.Records.{Record};
-ghost use Rattle.line_scripts.specs.Shown.{HasShortBodyInStep, command_of_ref};
-ghost use Rattle.line_service.specs.declared.outcomes.Outcome.TheVariants as outcomes;
 ghost use Rattle.line_service.specs.Progress as spec;
 ghost use Rattle.line_service.specs.Services.{Began, Faulted, Hears};
 ghost use Rattle.line_service.specs.Turns.{PutsAnswersFront};
@@ -16,7 +14,7 @@ use crate::outcomes::Outcome;
 use line_answers::{Halt, do_command};
 use line_devices::{DeviceFault, Sink};
 use line_fields::{FieldRow, ReadError, RecordWriter, close_record};
-use line_scripts::{CommandReader, CommandRef, world_of};
+use line_scripts::{CommandReader, world_of};
 use line_tape::CountError;
 use line_world::World;
 use std::alloc::Global;
@@ -65,43 +63,6 @@ fn begin(alloc: Global, world: &mut Option<World>, row: &FieldRow<'_>) -> Result
     }
 }
 
-/// What came of a command that was refused, or was not.
-fn outcome_of(refused: bool) -> Outcome
-    ensures { result ≡ (if refused then outcomes.Refused else outcomes.Done) }
-{
-    if refused {
-        Outcome::Refused
-    } else {
-        Outcome::Done
-    }
-}
-
-/// Does a command, and writes what it is told.
-fn tell<K: Sink>(
-    alloc: Global,
-    world: &mut World,
-    command: &CommandRef<'_>,
-    writer: &mut RecordWriter,
-    sink: &mut K,
-) -> Result<Outcome, Stop>
-    requires { HasShortBodyInStep command.now }
-    ensures ok { IfOk result
-        (λ outcome. spec.TellsOne world.old (command_of_ref command.now) world.new
-        (K.taken sink.old) (K.taken sink.new) writer.old writer.new outcome) }
-    ensures err { IfErr result
-        (λ stop. spec.TellsNone stop world.old (command_of_ref command.now) world.new
-        (K.taken sink.old) (K.taken sink.new) writer.old writer.new) }
-    ensures sound { OnOk result (K.faults sink.new ≡ K.faults sink.old) }
-    ensures blamed { IfErr result (λ stop. spec.BlamesSink stop (K.faults sink.old)
-        (K.faults sink.new)) }
-{
-    match do_command(alloc, world, sink, writer, command) {
-        Ok(refused) => Ok(outcome_of(refused)),
-        Err(Halt::Memory) => Err(Stop::Fault(ReadError::OutOfMemory)),
-        Err(Halt::Write) => Err(Stop::Write),
-    }
-}
-
 /// Does the command that a record spells, and writes what it is told.
 fn obey<K: Sink>(
     alloc: Global,
@@ -121,7 +82,12 @@ fn obey<K: Sink>(
 {
     let n = world.history().n();
     match command.read(n, row) {
-        Ok(()) => tell(alloc, world, &command.command(), writer, sink),
+        Ok(()) => match do_command(alloc, world, sink, writer, &command.command()) {
+            Ok(true) => Ok(Outcome::Refused),
+            Ok(false) => Ok(Outcome::Done),
+            Err(Halt::Memory) => Err(Stop::Fault(ReadError::OutOfMemory)),
+            Err(Halt::Write) => Err(Stop::Write),
+        },
         Err(fault) => Err(Stop::Fault(fault)),
     }
 }

@@ -6,7 +6,7 @@ ghost use Rattle.line_service.specs.Lines.{last_record};
 ghost use Rattle.line_service.specs.Services.{first_standing, records_ending_in};
 ghost use Rattle.line_service.specs.Turns.{PutsAnswers, PutsAnswersFront, PutsLast};
 
-use crate::hearings::{answer_bytes, answer_end};
+use crate::hearings::{hear_bytes, hear_end, put_held};
 use crate::lines::PendingLine;
 use crate::outcomes::Outcome;
 use crate::seats::Seat;
@@ -77,7 +77,13 @@ impl Service {
         ensures sound { OnOk result (K.faults sink.new ≡ K.faults sink.old) }
         ensures failed { OnErr result (K.faults sink.new ≡ one_more (K.faults sink.old)) }
     {
-        answer_bytes(&mut self.pending, &mut self.seat, bytes, sink)
+        match hear_bytes(&mut self.pending, &mut self.seat, bytes, sink) {
+            Ok(()) => put_held(&mut self.seat.writer, sink),
+            Err(failed) => {
+                self.seat.writer.clear();
+                Err(failed)
+            }
+        }
     }
 
     /// Answers what is pending, as the last line of an input that has ended without a line feed,
@@ -90,7 +96,16 @@ impl Service {
         ensures sound { OnOk result (K.faults sink.new ≡ K.faults sink.old) }
         ensures failed { OnErr result (K.faults sink.new ≡ one_more (K.faults sink.old)) }
     {
-        answer_end(&mut self.pending, &mut self.seat, sink)
+        let heard = hear_end(&self.pending, &mut self.seat, sink);
+        self.pending.clear();
+        let writer = &mut self.seat.writer;
+        match heard {
+            Ok(()) => put_held(writer, sink),
+            Err(failed) => {
+                writer.clear();
+                Err(failed)
+            }
+        }
     }
 
     /// What came of the records so far.
